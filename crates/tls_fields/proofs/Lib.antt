@@ -1,0 +1,9 @@
+pub mod Numbers
+pub mod Ends
+pub mod OneAnswer
+pub mod Lacking
+pub mod Stable
+pub mod Gives
+pub mod Tables
+pub mod Times
+pub mod ListItems

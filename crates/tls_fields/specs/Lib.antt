@@ -1,0 +1,6 @@
+pub mod Bytes
+pub mod Layout
+pub mod Meaning
+pub mod Reading
+pub mod Stable
+pub mod Answers

@@ -1,0 +1,74 @@
+//! Numbers of one to eight bytes, big-endian.
+ghost use Rattle.tls_fields.specs.Layout.{number};
+ghost use Rattle.tls_fields.specs.Answers.{Gives};
+
+use crate::result::{Err, IResult, Needed};
+
+/// A number of 1 byte (`uint8`; RFC 8446, section 3.3).
+///
+/// `Incomplete` of 1 where there is no byte.
+#[tactic(auto, using(crate::proofs::Gives::reads), unfolding(crate::specs::Reading::split_at, crate::specs::Reading::number_at))]
+pub fn number1(i: &[u8]) -> IResult<&[u8], u8>
+    ensures { Gives (λ v. v) (number 1) i.now result }
+{
+    match i {
+        [a, rest @ ..] => Ok((rest, *a)),
+        [] => Err(Err::Incomplete(Needed::Size(1))),
+    }
+}
+
+/// A number of 2 bytes, big-endian (`uint16`; RFC 8446, section 3.3).
+///
+/// `Incomplete` of the missing bytes where there are fewer than 2.
+#[tactic(auto, using(crate::proofs::Gives::reads), unfolding(crate::specs::Reading::split_at, crate::specs::Reading::number_at))]
+pub fn number2(i: &[u8]) -> IResult<&[u8], u16>
+    ensures { Gives (λ v. v) (number 2) i.now result }
+{
+    match i {
+        [a, b, rest @ ..] => Ok((rest, u16::from_be_bytes([*a, *b]))),
+        _ => Err(Err::Incomplete(Needed::Size(2 - i.len()))),
+    }
+}
+
+/// A number of 3 bytes, big-endian (`uint24`; RFC 8446, section 3.3).
+///
+/// `Incomplete` of the missing bytes where there are fewer than 3.
+#[tactic(auto, using(crate::proofs::Gives::reads), unfolding(crate::specs::Reading::split_at, crate::specs::Reading::number_at))]
+pub fn number3(i: &[u8]) -> IResult<&[u8], u32>
+    ensures { Gives (λ v. v) (number 3) i.now result }
+{
+    match i {
+        [a, b, c, rest @ ..] => Ok((rest, u32::from_be_bytes([0, *a, *b, *c]))),
+        _ => Err(Err::Incomplete(Needed::Size(3 - i.len()))),
+    }
+}
+
+/// A number of 4 bytes, big-endian (`uint32`; RFC 8446, section 3.3).
+///
+/// `Incomplete` of the missing bytes where there are fewer than 4.
+#[tactic(auto, using(crate::proofs::Gives::reads), unfolding(crate::specs::Reading::split_at, crate::specs::Reading::number_at))]
+pub fn number4(i: &[u8]) -> IResult<&[u8], u32>
+    ensures { Gives (λ v. v) (number 4) i.now result }
+{
+    match i {
+        [a, b, c, d, rest @ ..] => Ok((rest, u32::from_be_bytes([*a, *b, *c, *d]))),
+        _ => Err(Err::Incomplete(Needed::Size(4 - i.len()))),
+    }
+}
+
+/// A number of 8 bytes, big-endian (`uint64`; RFC 8446, section 3.3).
+///
+/// `Incomplete` of the missing bytes where there are fewer than 8.
+#[tactic(auto, using(crate::proofs::Gives::reads), unfolding(crate::specs::Reading::split_at, crate::specs::Reading::number_at))]
+pub fn number8(i: &[u8]) -> IResult<&[u8], u64>
+    ensures { Gives (λ v. v) (number 8) i.now result }
+{
+    if i.len() < 8 {
+        return Err(Err::Incomplete(Needed::Size(8 - i.len())));
+    }
+    let (front, rest) = i.split_at(8);
+    let n = u64::from_be_bytes([
+        front[0], front[1], front[2], front[3], front[4], front[5], front[6], front[7],
+    ]);
+    Ok((rest, n))
+}
