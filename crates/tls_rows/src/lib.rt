@@ -6,4 +6,6 @@
 #[cfg(test)]
 mod fields;
 #[cfg(test)]
+mod parser;
+#[cfg(test)]
 mod support;

@@ -1,0 +1,4 @@
+pub use Rattle.tls_fields.specs.Bytes
+pub use Rattle.tls_fields.specs.Layout
+pub use Rattle.tls_fields.specs.Meaning
+pub use Rattle.tls_fields.specs.Answers

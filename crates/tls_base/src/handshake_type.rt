@@ -1,0 +1,56 @@
+ghost use Rattle.tls_fields.specs.Layout.{number};
+ghost use Rattle.tls_fields.specs.Answers.{Gives};
+
+use tls_fields::{IResult, number1};
+
+/// Which handshake message follows: the HandshakeType of RFC 5246, 7.4.
+#[derive(Clone, Copy, Debug, PartialEq, Eq)]
+pub struct TlsHandshakeType(pub u8);
+
+impl TlsHandshakeType {
+    pub const HelloRequest: TlsHandshakeType = TlsHandshakeType(0);
+
+    pub const ClientHello: TlsHandshakeType = TlsHandshakeType(1);
+
+    pub const ServerHello: TlsHandshakeType = TlsHandshakeType(2);
+
+    pub const HelloVerifyRequest: TlsHandshakeType = TlsHandshakeType(3);
+
+    pub const NewSessionTicket: TlsHandshakeType = TlsHandshakeType(4);
+
+    pub const EndOfEarlyData: TlsHandshakeType = TlsHandshakeType(5);
+
+    pub const HelloRetryRequest: TlsHandshakeType = TlsHandshakeType(6);
+
+    pub const EncryptedExtensions: TlsHandshakeType = TlsHandshakeType(8);
+
+    pub const Certificate: TlsHandshakeType = TlsHandshakeType(11);
+
+    pub const ServerKeyExchange: TlsHandshakeType = TlsHandshakeType(12);
+
+    pub const CertificateRequest: TlsHandshakeType = TlsHandshakeType(13);
+
+    pub const ServerDone: TlsHandshakeType = TlsHandshakeType(14);
+
+    pub const CertificateVerify: TlsHandshakeType = TlsHandshakeType(15);
+
+    pub const ClientKeyExchange: TlsHandshakeType = TlsHandshakeType(16);
+
+    pub const Finished: TlsHandshakeType = TlsHandshakeType(20);
+
+    pub const CertificateURL: TlsHandshakeType = TlsHandshakeType(21);
+
+    pub const CertificateStatus: TlsHandshakeType = TlsHandshakeType(22);
+
+    pub const KeyUpdate: TlsHandshakeType = TlsHandshakeType(24);
+
+    pub const NextProtocol: TlsHandshakeType = TlsHandshakeType(67);
+
+    /// Reads one byte. Refused as `Incomplete(1)` where there is none.
+    pub fn parse(i: &[u8]) -> IResult<&[u8], Self>
+        ensures { Gives (λ v. v.0) (number 1) i.now result }
+    {
+        let (i, n) = number1(i)?;
+        Ok((i, TlsHandshakeType(n)))
+    }
+}

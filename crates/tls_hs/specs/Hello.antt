@@ -1,0 +1,68 @@
+-- The ClientHello (RFC 5246, section 7.4.1.2).
+use Rattle.std.specs.Prelude.{ℕ, ◌/◌, ◌%◌, List, map, Option, Some, None, nat_le, ◌==◌, ◌&&◌, if◌then◌else◌}
+use Rattle.std.specs.Option.{option_map}
+use Rattle.tls_fields.specs.Bytes.{Bytes}
+use Rattle.tls_fields.specs.Layout.{Layout, done, number, block, left, maybe, ◌>>=◌, ◌>>◌, test, counted, times}
+use Rattle.tls_fields.specs.declared.result.ErrorKind.TheVariants.{LengthValue, Verify}
+use Rattle.tls_hs.specs.declared.hello.TlsClientHelloContents.{TlsClientHelloContents}
+
+-- A ClientHello, apart from where it lies in memory; the extensions are one undivided block.
+pub record ClientHello : Type 0 where
+  pub client_version : ℕ
+  pub random : Bytes
+  pub session_id : Option Bytes
+  pub cipher_suites : List ℕ
+  pub compression_methods : List ℕ
+  pub extensions : Option Bytes
+
+abbrev pub view_client_hello : TlsClientHelloContents → ClientHello
+view_client_hello h = record {
+  client_version = h.version.0;
+  random = h.random.now;
+  session_id = option_map (λ x. x.now) h.session_id;
+  cipher_suites = map (λ x. x.0) h.ciphers.items;
+  compression_methods = map (λ x. x.0) h.comp.items;
+  extensions = option_map (λ x. x.now) h.ext;
+}
+
+-- opaque SessionID<0..32>; one of no bytes says that there is none.
+unfoldable pub session_id : Layout (Option Bytes)
+session_id = do
+  n ← number 1
+  test (nat_le n 32) Verify
+  id ← block n
+  done (if n == 0 then None else Some id)
+
+-- CipherSuite cipher_suites<0..2^16-2>, counted in bytes; the count is tested before the suites are read.
+unfoldable pub cipher_suites : Layout (List ℕ)
+cipher_suites = do
+  k ← number 2
+  n ← left
+  test (k % 2 == 0 && nat_le k n) LengthValue
+  times (k / 2) (number 2)
+
+-- CompressionMethod compression_methods<0..2^8-1>; the count is tested before the methods are read.
+unfoldable pub compression_methods : Layout (List ℕ)
+compression_methods = do
+  k ← number 1
+  n ← left
+  test (nat_le k n) LengthValue
+  times k (number 1)
+
+-- The body of a ClientHello; its extensions may be absent.
+unfoldable pub client_hello : Layout ClientHello
+client_hello = do
+  version ← number 2
+  random ← block 32
+  id ← session_id
+  suites ← cipher_suites
+  methods ← compression_methods
+  extensions ← maybe (counted 2)
+  done (record {
+    client_version = version;
+    random = random;
+    session_id = id;
+    cipher_suites = suites;
+    compression_methods = methods;
+    extensions = extensions;
+  })

@@ -1,0 +1,4 @@
+pub mod LineLemmas
+pub mod TransferLemmas
+pub mod StatementLemmas
+pub mod RecordLemmas

@@ -1,0 +1,13 @@
+-- The signs of the two directions.
+use Rattle.std.specs.Prelude.{ℕ, ◌==◌, if◌then◌else◌, Option, Some, None}
+use Rattle.tlsview.specs.declared.direction.Direction as rust
+use Rattle.tlsview.specs.declared.direction.Direction.TheVariants.{ToServer, FromServer}
+
+-- `>` and `<`
+abbrev pub sign_of : rust.Direction → ℕ
+sign_of ToServer = 62
+sign_of FromServer = 60
+
+-- the direction whose sign that is
+abbrev pub direction_of : ℕ → Option rust.Direction
+direction_of sign = if sign == 62 then Some ToServer else if sign == 60 then Some FromServer else None

@@ -1,0 +1,6 @@
+pub mod Lines
+pub mod Direction
+pub mod Exit
+pub mod Statement
+pub mod Fault
+pub mod Out

@@ -1,0 +1,29 @@
+//! How a run ends.
+ghost use Rattle.std.specs.Prelude.{◌≡◌};
+ghost use Rattle.tlsview.specs.Exit.{status_of};
+
+/// How a run ends; each has its own exit status.
+#[derive(Clone, Copy, Debug, PartialEq, Eq)]
+pub enum Exit {
+    /// All lines were printed.
+    Clean,
+    /// A record is refused.
+    Fault,
+    /// A line has another form.
+    BadLine,
+    /// Memory ran out, or reading or writing failed.
+    Failed,
+}
+
+impl From<Exit> for u8 {
+    ghost from_gives = { λ exit status. status ≡ status_of exit };
+
+    fn from(exit: Exit) -> u8 {
+        match exit {
+            Exit::Clean => 0,
+            Exit::Fault => 1,
+            Exit::BadLine => 2,
+            Exit::Failed => 3,
+        }
+    }
+}

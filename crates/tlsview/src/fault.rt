@@ -1,0 +1,74 @@
+//! What ends a run before its last line.
+ghost use Rattle.std.specs.Prelude.{◌≡◌, IfOk, OnErr, Some};
+ghost use Rattle.tls_fields.specs.Answers.{HadMemory, IsRefusal, refusal_of};
+ghost use Rattle.tlsview.specs.Fault.{kind_name as name_of_kind, Refused, fault_status, fault_text, view_fault};
+ghost use Rattle.tlsview.specs.Exit.{status_of};
+
+use crate::exit::Exit;
+use std::alloc::AllocError;
+use std::fmt;
+use tls_parser::{Err, Error, ErrorKind, Needed};
+
+/// What ends a run before its last line.
+#[derive(Clone, Copy, Debug, PartialEq, Eq)]
+pub enum Fault {
+    /// So many bytes of a record are missing.
+    Incomplete(usize),
+    /// A record breaks a rule.
+    Error(ErrorKind),
+    /// A line has another form.
+    BadLine,
+}
+
+fn kind_name(kind: ErrorKind) -> &'static str
+    ensures { result.now ≡ name_of_kind kind }
+{
+    match kind {
+        ErrorKind::TooLarge => "TooLarge",
+        ErrorKind::LengthValue => "LengthValue",
+        ErrorKind::Verify => "Verify",
+        ErrorKind::Switch => "Switch",
+        ErrorKind::Tag => "Tag",
+        ErrorKind::Complete => "Complete",
+    }
+}
+
+impl Fault {
+    /// The fault that a refusal is, unless memory ran out.
+    pub fn of_refusal(refusal: Err<Error<&[u8]>>) -> Result<Self, AllocError>
+        requires { HadMemory refusal → IsRefusal refusal }
+        ensures ok { IfOk result (λ fault. HadMemory refusal.entry × (view_fault fault ≡ Refused (refusal_of refusal.entry))) }
+        ensures err { OnErr result (refusal.entry ≡ Err.OutOfMemory) }
+    {
+        match refusal {
+            Err::Incomplete(Needed::Size(missing)) => Ok(Fault::Incomplete(missing)),
+            Err::Error(error) => Ok(Fault::Error(error.code)),
+            Err::OutOfMemory => Err(AllocError),
+            Err::Incomplete(Needed::Unknown) | Err::Failure(_) => unreachable!(),
+        }
+    }
+
+    pub fn exit(self) -> Exit
+        ensures { status_of result ≡ fault_status (view_fault self) }
+    {
+        match self {
+            Fault::Incomplete(_) | Fault::Error(_) => Exit::Fault,
+            Fault::BadLine => Exit::BadLine,
+        }
+    }
+}
+
+impl fmt::Display for Fault {
+    ghost output = { λ fault. Some (fault_text (view_fault fault)) };
+
+    fn fmt<W: fmt::Write>(&self, f: &mut fmt::Formatter<W>) -> fmt::Result {
+        match self {
+            Fault::Incomplete(missing) => write!(f, "incomplete {missing}"),
+            Fault::Error(kind) => {
+                let name = kind_name(*kind);
+                write!(f, "error {name}")
+            }
+            Fault::BadLine => write!(f, "bad line"),
+        }
+    }
+}

@@ -1,0 +1,34 @@
+//! What the definitions say.
+ghost use Rattle.std.specs.Prelude.{◌≡◌, ◌≢◌, [], ℕ, ◌↔◌, List, IsSome};
+ghost use Rattle.tls_fields.specs.Bytes.{Bytes};
+ghost use Rattle.tls_fields.specs.Reading.{reading};
+ghost use Rattle.tls_parser.specs.Record.{plaintext};
+ghost use Rattle.tlsview.specs.Out.{bytes_part, out, record_part};
+ghost use Rattle.tlsview.specs.Exit.{status_of};
+ghost use Rattle.tlsview.specs.Statement.{IsStatement, said_by};
+ghost use Rattle.tlsview.specs.declared.direction.Direction.{Direction};
+
+use crate::exit::Exit;
+use crate::program::view;
+use std::alloc::Global;
+
+/// A line says something exactly where it is a sign, a space and an even number of digits.
+pub fn statement_form()
+    ensures { (line : List ℕ) → IsSome (said_by line) ↔ IsStatement line }
+{}
+
+/// Where bytes are left, the next record is read, and then what it leaves is read in the same way.
+pub fn record_by_record()
+    ensures { (direction : Direction) (b : Bytes) → b ≢ []
+        → bytes_part direction b ≡ record_part direction (reading plaintext b) (bytes_part direction) }
+{}
+
+/// At a slice and a vector the run is `out`.
+pub fn view_bytes(alloc: Global, input: &[u8]) -> (Vec<u8>, u8)
+    ensures { result.1 ≢ status_of Exit.Failed → (result.0.items, result.1) ≡ out input.now }
+{
+    let mut reader = input;
+    let mut writer = Vec::new(alloc);
+    let status = view(alloc, &mut reader, &mut writer);
+    (writer, status)
+}

@@ -1,0 +1,66 @@
+//! The whole run, over any reader and writer.
+ghost use Rattle.std.specs.Prelude.{◌≡◌, ◌≢◌, ◌≤◌, ◌⊎◌, ℕ, [], false, true, take, Some, IfSome, IfErr, IfOk};
+ghost use Rattle.std.specs.Io.KnownBytes.{Appends};
+ghost use Rattle.tlsview.specs.Out.{out};
+ghost use Rattle.tlsview.specs.Exit.{status_of};
+
+use crate::exit::Exit;
+use crate::report::report_of;
+use crate::sink::Sink;
+use crate::tally::{MAX_READS, Tally};
+use crate::transfer::{Failure, read_whole, write_whole};
+use std::alloc::Global;
+use std::io::{Read, Write};
+
+fn run<R: Read, W: Write>(
+    alloc: Global,
+    r: &mut Tally<'_, R>,
+    w: &mut Sink<'_, W>,
+) -> Result<Exit, Failure>
+    requires fresh_reader { (r.old.calls ≡ 0) × (r.old.has_failed ≡ false) }
+    requires fresh_writer { w.old.has_failed ≡ false }
+    ensures same_reader { r.new.reader.ghost_name ≡ r.old.reader.ghost_name }
+    ensures same_writer { w.new.writer.ghost_name ≡ w.old.writer.ghost_name }
+    ensures told { IfOk result (λ exit. IfSome (R.remaining r.old.reader.now) (λ x.
+        (R.remaining r.new.reader.now ≡ Some [])
+        × Appends (W.contents w.old.writer.now) (W.contents w.new.writer.now) (out x).0
+        × (status_of exit ≡ (out x).1))) }
+    ensures exit { IfOk result (λ exit. exit ≢ Exit.Failed) }
+
+    // It fails for want of memory, at a fault of the reader or after all of its calls, or at a fault of the writer.
+    ensures cause { IfErr result (λ e. (e ≡ Failure.Memory)
+        ⊎ (((e ≡ Failure.Reading) × ((r.new.has_failed ≡ true) ⊎ (r.new.calls ≡ MAX_READS)))
+        ⊎ ((e ≡ Failure.Writing) × (w.new.has_failed ≡ true)))) }
+    ensures unwritten { IfErr result (λ e. e ≢ Failure.Writing → w.new.writer.now ≡ w.old.writer.now) }
+    ensures partly_written { IfErr result (λ e. e ≡ Failure.Writing → IfSome (R.remaining r.old.reader.now) (λ x.
+        (R.remaining r.new.reader.now ≡ Some [])
+        × (n : ℕ) × Appends (W.contents w.old.writer.now) (W.contents w.new.writer.now) (take n (out x).0))) }
+{
+    let input = read_whole(alloc, r)?;
+    let report = report_of(alloc, input.as_slice())?;
+    write_whole(w, report.text.as_bytes())?;
+    Ok(report.exit)
+}
+
+/// Reads all there is, prints what it says, and answers the exit status: 0, or 1 where a record is refused, 2 at a line
+/// of another form, 3 where memory ran out, reading failed or writing failed.
+///
+/// Reading fails at the first fault of a read, and where [`MAX_READS`] calls don't come to the reader's end. Writing
+/// fails at the first fault of a write, and where a write takes nothing. There is no call of either after its fault.
+pub fn view<R: Read, W: Write>(alloc: Global, r: &mut R, w: &mut W) -> u8
+    // A run that doesn't fail has read all, and has written and answered what `out` says.
+    ensures told { result ≢ status_of Exit.Failed → IfSome (R.remaining r.old) (λ x. (R.remaining r.new ≡ Some [])
+        × Appends (W.contents w.old) (W.contents w.new) (out x).0 × (result ≡ (out x).1)) }
+    ensures status { result ≤ status_of Exit.Failed }
+    // A run that fails hasn't written, or has read all and written a front of what `out` says.
+    ensures failed { result ≡ status_of Exit.Failed → (w.new ≡ w.old) ⊎ IfSome (R.remaining r.old) (λ x.
+        (R.remaining r.new ≡ Some []) × (n : ℕ) × Appends (W.contents w.old) (W.contents w.new) (take n (out x).0)) }
+{
+    let mut reader = Tally::new(r);
+    let mut writer = Sink::new(w);
+    let exit = match run(alloc, &mut reader, &mut writer) {
+        Ok(exit) => exit,
+        Err(_) => Exit::Failed,
+    };
+    u8::from(exit)
+}
