@@ -2,3 +2,11 @@ pub use Rattle.tls_fields.specs.Bytes
 pub use Rattle.tls_fields.specs.Layout
 pub use Rattle.tls_fields.specs.Meaning
 pub use Rattle.tls_fields.specs.Answers
+pub mod Names
+pub mod Constants
+pub mod KeyExchange
+pub mod Alert
+pub mod Signature
+pub mod Timestamp
+pub mod Cipher
+pub mod CipherTable

@@ -1,18 +1,29 @@
-ghost use Rattle.std.specs.Prelude.{ℕ};
+ghost use Rattle.std.specs.Prelude.{ℕ, Some, codes, ◌≡◌};
 ghost use Rattle.tls_fields.specs.Layout.{number};
 ghost use Rattle.tls_fields.specs.Answers.{Gives};
+ghost use Rattle.tls_base.specs.Names.{name};
+ghost use Rattle.tls_base.specs.Constants.{compression_methods};
 
+use crate::name::{names, write_name};
 use std::alloc::Global;
+use std::fmt;
 use tls_fields::{IResult, Item, number1};
 
 /// The number of a compression method: the CompressionMethod of RFC 5246, 7.4.1.2.
-#[derive(Clone, Copy, Debug, PartialEq, Eq)]
+#[derive(Clone, Copy, Debug, Default, PartialEq, Eq)]
 pub struct TlsCompressionID(pub u8);
 
 impl TlsCompressionID {
     pub const Null: TlsCompressionID = TlsCompressionID(0);
 
     pub const Deflate: TlsCompressionID = TlsCompressionID(1);
+
+    /// The number.
+    pub fn as_ref(&self) -> &u8
+        ensures { result.now ≡ self.now.0 }
+    {
+        &self.0
+    }
 
     /// Reads one byte. Refused as `Incomplete(1)` where there is none.
     pub fn parse(i: &[u8]) -> IResult<&[u8], Self>
@@ -32,5 +43,24 @@ impl<'a> Item<'a> for TlsCompressionID {
 
     fn read(_alloc: Global, i: &'a [u8]) -> IResult<&'a [u8], Self> {
         TlsCompressionID::parse(i)
+    }
+}
+
+/// The constants, each with its number and its name.
+const NAMES: [(u16, &str); 2] = names!(TlsCompressionID: Null, Deflate);
+
+impl fmt::Display for TlsCompressionID {
+    ghost output = { λ v. Some (name (codes "TlsCompressionID") compression_methods v.0) };
+
+    fn fmt<W: fmt::Write>(&self, f: &mut fmt::Formatter<W>) -> fmt::Result {
+        write_name(f, "TlsCompressionID", &NAMES, self.0 as u16)
+    }
+}
+
+impl From<TlsCompressionID> for u8 {
+    ghost from_gives = { λ v n. n ≡ v.0 };
+
+    fn from(v: TlsCompressionID) -> u8 {
+        v.0
     }
 }

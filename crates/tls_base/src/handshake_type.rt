@@ -1,6 +1,11 @@
+ghost use Rattle.std.specs.Prelude.{Some, codes, ◌≡◌};
 ghost use Rattle.tls_fields.specs.Layout.{number};
 ghost use Rattle.tls_fields.specs.Answers.{Gives};
+ghost use Rattle.tls_base.specs.Names.{name};
+ghost use Rattle.tls_base.specs.Constants.{handshake_types};
 
+use crate::name::{names, write_name};
+use std::fmt;
 use tls_fields::{IResult, number1};
 
 /// Which handshake message follows: the HandshakeType of RFC 5246, 7.4.
@@ -52,5 +57,29 @@ impl TlsHandshakeType {
     {
         let (i, n) = number1(i)?;
         Ok((i, TlsHandshakeType(n)))
+    }
+}
+
+/// The constants, each with its number and its name.
+const NAMES: [(u16, &str); 19] = names!(
+    TlsHandshakeType: HelloRequest, ClientHello, ServerHello, HelloVerifyRequest, NewSessionTicket,
+    EndOfEarlyData, HelloRetryRequest, EncryptedExtensions, Certificate, ServerKeyExchange,
+    CertificateRequest, ServerDone, CertificateVerify, ClientKeyExchange, Finished, CertificateURL,
+    CertificateStatus, KeyUpdate, NextProtocol
+);
+
+impl fmt::Display for TlsHandshakeType {
+    ghost output = { λ v. Some (name (codes "TlsHandshakeType") handshake_types v.0) };
+
+    fn fmt<W: fmt::Write>(&self, f: &mut fmt::Formatter<W>) -> fmt::Result {
+        write_name(f, "TlsHandshakeType", &NAMES, self.0 as u16)
+    }
+}
+
+impl From<TlsHandshakeType> for u8 {
+    ghost from_gives = { λ v n. n ≡ v.0 };
+
+    fn from(v: TlsHandshakeType) -> u8 {
+        v.0
     }
 }

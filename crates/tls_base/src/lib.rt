@@ -3,16 +3,70 @@
 //! Each is the number that stands in the bytes. Numbers without a name are read and kept.
 #![tactic(auto, using(tls_fields::proofs::OneAnswer::read_allowed))]
 
+mod alert;
+mod alert_description;
+mod alert_severity;
+mod cipher;
+mod cipher_suite;
 mod cipher_suite_id;
+mod cipher_table;
 mod compression_id;
+mod ct_version;
+mod curve_type;
+mod dh;
+mod ec;
+mod extension_type;
 mod handshake_type;
+mod hash_algorithm;
+mod heartbeat_type;
 pub mod laws;
+mod name;
+mod named_group;
+mod psk_mode;
 mod record_type;
+mod sign_algorithm;
+mod signature;
+mod signature_scheme;
+mod sni_type;
+mod status_type;
+mod timestamp;
 mod version;
 
+pub use alert::TlsMessageAlert;
+pub use alert_description::TlsAlertDescription;
+pub use alert_severity::TlsAlertSeverity;
+pub use cipher::{
+    TlsCipherAu, TlsCipherEnc, TlsCipherEncMode, TlsCipherKx, TlsCipherMac, TlsPRF, UnknownNumber,
+};
+pub use cipher_suite::TlsCipherSuite;
 pub use cipher_suite_id::TlsCipherSuiteID;
+pub use cipher_table::{CipherSuiteNotFound, CipherTable, CipherTableError, CipherTableFault};
 pub use compression_id::TlsCompressionID;
+pub use ct_version::CtVersion;
+pub use curve_type::ECCurveType;
+pub use dh::{ServerDHParams, parse_dh_params};
+pub use ec::{
+    ECCurve, ECParameters, ECParametersContent, ECPoint, ExplicitPrimeContent, ServerECDHParams,
+    parse_ec_parameters, parse_ecdh_params, parse_named_groups,
+};
+pub use extension_type::TlsExtensionType;
 pub use handshake_type::TlsHandshakeType;
+pub use hash_algorithm::HashAlgorithm;
+pub use heartbeat_type::TlsHeartbeatMessageType;
+pub use named_group::NamedGroup;
+pub use psk_mode::PskKeyExchangeMode;
 pub use record_type::TlsRecordType;
+pub use sign_algorithm::SignAlgorithm;
+pub use signature::{
+    DigitallySigned, SignatureAndHashAlgorithm, parse_content_and_signature,
+    parse_digitally_signed, parse_digitally_signed_old,
+};
+pub use signature_scheme::SignatureScheme;
+pub use sni_type::SNIType;
+pub use status_type::CertificateStatusType;
+pub use timestamp::{
+    CtExtensions, CtLogID, SignedCertificateTimestamp, parse_ct_signed_certificate_timestamp,
+    parse_ct_signed_certificate_timestamp_list,
+};
 pub use tls_fields::{Err, Error, ErrorKind, IResult, Needed, OutOfMemory};
 pub use version::TlsVersion;

@@ -1,6 +1,11 @@
+ghost use Rattle.std.specs.Prelude.{Some, codes, ◌≡◌};
 ghost use Rattle.tls_fields.specs.Layout.{number};
 ghost use Rattle.tls_fields.specs.Answers.{Gives};
+ghost use Rattle.tls_base.specs.Names.{name};
+ghost use Rattle.tls_base.specs.Constants.{content_types};
 
+use crate::name::{names, write_name};
+use std::fmt;
 use tls_fields::{IResult, number1};
 
 /// What a record carries: the ContentType of RFC 5246, 6.2.1.
@@ -24,5 +29,26 @@ impl TlsRecordType {
     {
         let (i, n) = number1(i)?;
         Ok((i, TlsRecordType(n)))
+    }
+}
+
+/// The constants, each with its number and its name.
+const NAMES: [(u16, &str); 5] = names!(
+    TlsRecordType: ChangeCipherSpec, Alert, Handshake, ApplicationData, Heartbeat
+);
+
+impl fmt::Display for TlsRecordType {
+    ghost output = { λ v. Some (name (codes "TlsRecordType") content_types v.0) };
+
+    fn fmt<W: fmt::Write>(&self, f: &mut fmt::Formatter<W>) -> fmt::Result {
+        write_name(f, "TlsRecordType", &NAMES, self.0 as u16)
+    }
+}
+
+impl From<TlsRecordType> for u8 {
+    ghost from_gives = { λ v n. n ≡ v.0 };
+
+    fn from(v: TlsRecordType) -> u8 {
+        v.0
     }
 }

@@ -1,12 +1,19 @@
+ghost use Rattle.std.specs.Prelude.{ℕ, Some, codes, ◌≡◌, IfOk, string_bytes};
 ghost use Rattle.tls_fields.specs.Layout.{number};
 ghost use Rattle.tls_fields.specs.Answers.{Gives};
+ghost use Rattle.tls_base.specs.Names.{name, hexadecimal};
+ghost use Rattle.tls_base.specs.Constants.{protocol_versions};
+ghost use Rattle.tls_fields.specs.Bytes.{bytes_of};
 
-use tls_fields::{IResult, number2};
+use crate::name::{names, write_name};
+use std::alloc::Global;
+use std::fmt;
+use tls_fields::{IResult, Item, OutOfMemory, number2};
 
 /// A version of TLS or DTLS: the ProtocolVersion of RFC 5246, 6.2.1, its two bytes as one number.
 ///
 /// Only the version in a hello message tells what is spoken; that of a record may be an older one.
-#[derive(Clone, Copy, Debug, PartialEq, Eq)]
+#[derive(Clone, Copy, Debug, Default, PartialEq, Eq)]
 pub struct TlsVersion(pub u16);
 
 impl TlsVersion {
@@ -38,11 +45,62 @@ impl TlsVersion {
 
     pub const DTls12: TlsVersion = TlsVersion(0xfefd);
 
+    /// The two bytes of the number, big-endian.
+    pub fn to_be_bytes(&self) -> [u8; 2]
+        ensures { result ≡ bytes_of 2 self.now.0 }
+    {
+        self.0.to_be_bytes()
+    }
+
+    /// The number in lower hexadecimal, without a prefix and without zeros in front.
+    ///
+    /// It refuses for memory alone.
+    pub fn lower_hex(&self, alloc: Global) -> Result<String, OutOfMemory>
+        ensures { IfOk result (λ s. string_bytes s ≡ hexadecimal self.now.0) }
+    {
+        let n = self.0;
+        Ok(format!(in alloc; "{n:x}")?)
+    }
+
     /// Reads two bytes, big-endian. Refused as `Incomplete` of the count that is missing, 2 or 1.
     pub fn parse(i: &[u8]) -> IResult<&[u8], Self>
         ensures { Gives (λ v. v.0) (number 2) i.now result }
     {
         let (i, n) = number2(i)?;
         Ok((i, TlsVersion(n)))
+    }
+}
+
+impl<'a> Item<'a> for TlsVersion {
+    ghost Value = { ℕ };
+
+    ghost view = { λ v. v.0 };
+
+    ghost layout = { number 2 };
+
+    fn read(_alloc: Global, i: &'a [u8]) -> IResult<&'a [u8], Self> {
+        TlsVersion::parse(i)
+    }
+}
+
+/// The constants, each with its number and its name.
+const NAMES: [(u16, &str); 14] = names!(
+    TlsVersion: Ssl30, Tls10, Tls11, Tls12, Tls13, Tls13Draft18, Tls13Draft19, Tls13Draft20,
+    Tls13Draft21, Tls13Draft22, Tls13Draft23, DTls10, DTls11, DTls12
+);
+
+impl fmt::Display for TlsVersion {
+    ghost output = { λ v. Some (name (codes "TlsVersion") protocol_versions v.0) };
+
+    fn fmt<W: fmt::Write>(&self, f: &mut fmt::Formatter<W>) -> fmt::Result {
+        write_name(f, "TlsVersion", &NAMES, self.0)
+    }
+}
+
+impl From<TlsVersion> for u16 {
+    ghost from_gives = { λ v n. n ≡ v.0 };
+
+    fn from(v: TlsVersion) -> u16 {
+        v.0
     }
 }

@@ -1,20 +1,131 @@
 -- Handshake messages (RFC 5246, section 7.4).
-use Rattle.std.specs.Prelude.{ℕ, ◌==◌}
-use Rattle.tls_fields.specs.Layout.{Layout, done, refuse, ◌>>=◌, choose}
+use Rattle.std.specs.Prelude.{ℕ, List, ◌==◌}
+use Rattle.tls_fields.specs.Bytes.{Bytes}
+use Rattle.tls_fields.specs.Layout.{Layout, done, refuse, number, block, look, ◌>>=◌, choose}
 use Rattle.tls_fields.specs.declared.result.ErrorKind.TheVariants.{Switch}
 use Rattle.tls_hs.specs.Hello as hello
+use Rattle.tls_hs.specs.ServerHello as server
+use Rattle.tls_hs.specs.Certificate as certificates
+use Rattle.tls_hs.specs.Session as session
 use Rattle.tls_hs.specs.declared.handshake.TlsMessageHandshake.{TlsMessageHandshake}
 use Rattle.tls_hs.specs.declared.handshake.TlsMessageHandshake.TheVariants as tls_handshake
 
 -- A handshake message, apart from where it lies in memory.
 pub data Handshake : Type 0 where
+  HelloRequest : Handshake
   ClientHello : hello.ClientHello → Handshake
+  ServerHello : server.ServerHello → Handshake
+  ServerHelloV13Draft18 : server.ServerHelloDraft18 → Handshake
+  NewSessionTicket : session.NewSessionTicket → Handshake
+  EndOfEarlyData : Handshake
+  HelloRetryRequest : server.HelloRetryRequest → Handshake
+  Certificate : List Bytes → Handshake
+  ServerKeyExchange : Bytes → Handshake
+  CertificateRequest : certificates.CertificateRequest → Handshake
+  ServerDone : Bytes → Handshake
+  CertificateVerify : Bytes → Handshake
+  ClientKeyExchange : session.ClientKeyExchange → Handshake
+  Finished : Bytes → Handshake
+  CertificateStatus : certificates.CertificateStatus → Handshake
+  NextProtocol : session.NextProtocol → Handshake
+  KeyUpdate : ℕ → Handshake
 
 abbrev pub view_handshake : TlsMessageHandshake → Handshake
+view_handshake tls_handshake.HelloRequest = HelloRequest
 view_handshake (tls_handshake.ClientHello h) = ClientHello (hello.view_client_hello h)
+view_handshake (tls_handshake.ServerHello h) = ServerHello (server.view_server_hello h)
+view_handshake (tls_handshake.ServerHelloV13Draft18 h) = ServerHelloV13Draft18 (server.view_server_hello_draft18 h)
+view_handshake (tls_handshake.NewSessionTicket t) = NewSessionTicket (session.view_new_session_ticket t)
+view_handshake tls_handshake.EndOfEarlyData = EndOfEarlyData
+view_handshake (tls_handshake.HelloRetryRequest r) = HelloRetryRequest (server.view_hello_retry_request r)
+view_handshake (tls_handshake.Certificate c) = Certificate (certificates.view_certificate c)
+view_handshake (tls_handshake.ServerKeyExchange k) = ServerKeyExchange k.parameters.now
+view_handshake (tls_handshake.CertificateRequest r) = CertificateRequest (certificates.view_certificate_request r)
+view_handshake (tls_handshake.ServerDone b) = ServerDone b.now
+view_handshake (tls_handshake.CertificateVerify b) = CertificateVerify b.now
+view_handshake (tls_handshake.ClientKeyExchange k) = ClientKeyExchange (session.view_client_key_exchange k)
+view_handshake (tls_handshake.Finished b) = Finished b.now
+view_handshake (tls_handshake.CertificateStatus s) = CertificateStatus (certificates.view_certificate_status s)
+view_handshake (tls_handshake.NextProtocol p) = NextProtocol (session.view_next_protocol p)
+view_handshake (tls_handshake.KeyUpdate n) = KeyUpdate n
 
--- The body of a message of that HandshakeType.
-unfoldable pub handshake_body : ℕ → Layout Handshake
-handshake_body kind =
-    choose (kind == 1) (hello.client_hello >>= λ h. done (ClientHello h)) (
-    refuse Switch)
+-- The bodies, as messages. Of a HelloRequest nothing is read.
+unfoldable pub hello_request_body : Layout Handshake
+hello_request_body = done HelloRequest
+
+unfoldable pub client_hello_body : Layout Handshake
+client_hello_body = hello.client_hello >>= λ h. done (ClientHello h)
+
+-- Its version, which is looked at and not taken, tells draft 18 of TLS 1.3 from the others.
+unfoldable pub server_hello_body : Layout Handshake
+server_hello_body = do
+  version ← look (number 2)
+  choose (version == 0x7f12) (server.server_hello_draft18 >>= λ h. done (ServerHelloV13Draft18 h)) (
+      server.server_hello >>= λ h. done (ServerHello h))
+
+unfoldable pub new_session_ticket_body : ℕ → Layout Handshake
+new_session_ticket_body length = session.new_session_ticket length >>= λ t. done (NewSessionTicket t)
+
+unfoldable pub hello_retry_request_body : Layout Handshake
+hello_retry_request_body = server.hello_retry_request >>= λ r. done (HelloRetryRequest r)
+
+unfoldable pub certificate_body : Layout Handshake
+certificate_body = certificates.certificate >>= λ c. done (Certificate c)
+
+unfoldable pub server_key_exchange_body : ℕ → Layout Handshake
+server_key_exchange_body length = block length >>= λ b. done (ServerKeyExchange b)
+
+unfoldable pub certificate_request_body : Layout Handshake
+certificate_request_body = certificates.certificate_request >>= λ r. done (CertificateRequest r)
+
+unfoldable pub server_done_body : ℕ → Layout Handshake
+server_done_body length = block length >>= λ b. done (ServerDone b)
+
+unfoldable pub certificate_verify_body : ℕ → Layout Handshake
+certificate_verify_body length = block length >>= λ b. done (CertificateVerify b)
+
+unfoldable pub client_key_exchange_body : ℕ → Layout Handshake
+client_key_exchange_body length = block length >>= λ b. done (ClientKeyExchange (session.Unknown b))
+
+unfoldable pub finished_body : ℕ → Layout Handshake
+finished_body length = block length >>= λ b. done (Finished b)
+
+unfoldable pub certificate_status_body : Layout Handshake
+certificate_status_body = certificates.certificate_status >>= λ s. done (CertificateStatus s)
+
+unfoldable pub next_protocol_body : Layout Handshake
+next_protocol_body = session.next_protocol >>= λ p. done (NextProtocol p)
+
+unfoldable pub key_update_body : Layout Handshake
+key_update_body = number 1 >>= λ n. done (KeyUpdate n)
+
+-- select (HandshakeType) of a body of that length, in bytes: the types from 20 on.
+unfoldable pub closing_body : ℕ → ℕ → Layout Handshake
+closing_body kind length =
+    choose (kind == 20) (finished_body length) (
+    choose (kind == 22) certificate_status_body (
+    choose (kind == 24) key_update_body (
+    choose (kind == 67) next_protocol_body (
+    refuse Switch))))
+
+-- The types from 11 on.
+unfoldable pub exchange_body : ℕ → ℕ → Layout Handshake
+exchange_body kind length =
+    choose (kind == 11) certificate_body (
+    choose (kind == 12) (server_key_exchange_body length) (
+    choose (kind == 13) certificate_request_body (
+    choose (kind == 14) (server_done_body length) (
+    choose (kind == 15) (certificate_verify_body length) (
+    choose (kind == 16) (client_key_exchange_body length) (
+    closing_body kind length))))))
+
+-- All types. Of an EndOfEarlyData (RFC 8446, section 4.5) nothing is read.
+unfoldable pub handshake_body : ℕ → ℕ → Layout Handshake
+handshake_body kind length =
+    choose (kind == 0) hello_request_body (
+    choose (kind == 1) client_hello_body (
+    choose (kind == 2) server_hello_body (
+    choose (kind == 4) (new_session_ticket_body length) (
+    choose (kind == 5) (done EndOfEarlyData) (
+    choose (kind == 6) hello_retry_request_body (
+    exchange_body kind length))))))

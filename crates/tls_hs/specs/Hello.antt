@@ -1,7 +1,7 @@
 -- The ClientHello (RFC 5246, section 7.4.1.2).
-use Rattle.std.specs.Prelude.{ℕ, ◌/◌, ◌%◌, List, map, Option, Some, None, nat_le, ◌==◌, ◌&&◌, if◌then◌else◌}
+use Rattle.std.specs.Prelude.{ℕ, ◌/◌, ◌%◌, List, map, take, drop, length, Option, Some, None, nat_le, nat_lt, ◌==◌, ◌&&◌, if◌then◌else◌}
 use Rattle.std.specs.Option.{option_map}
-use Rattle.tls_fields.specs.Bytes.{Bytes}
+use Rattle.tls_fields.specs.Bytes.{Bytes, number_of}
 use Rattle.tls_fields.specs.Layout.{Layout, done, number, block, left, maybe, ◌>>=◌, ◌>>◌, test, counted, times}
 use Rattle.tls_fields.specs.declared.result.ErrorKind.TheVariants.{LengthValue, Verify}
 use Rattle.tls_hs.specs.declared.hello.TlsClientHelloContents.{TlsClientHelloContents}
@@ -66,3 +66,11 @@ client_hello = do
     compression_methods = methods;
     extensions = extensions;
   })
+
+-- uint32 gmt_unix_time: the first 4 bytes of a random as a number, 0 where there are fewer.
+abbrev pub random_time : Bytes → ℕ
+random_time random = if nat_lt (length random) 4 then 0 else number_of (take 4 random)
+
+-- opaque random_bytes[28]: what follows the first 4 bytes of a random, none where there are fewer.
+abbrev pub random_bytes : Bytes → Bytes
+random_bytes random = drop 4 random

@@ -1,4 +1,7 @@
 pub mod Hello
+pub mod ServerHello
+pub mod Certificate
+pub mod Session
 pub mod Handshake
 pub mod Message
 pub use Rattle.tls_fields.specs.Bytes

@@ -1,15 +1,37 @@
 -- The messages of records.
-use Rattle.tls_fields.specs.Layout.{Layout, done, number, window, ◌>>=◌}
+use Rattle.std.specs.Prelude.{ℕ, List, [], ◌∷◌, nat_le, ◌==◌}
+use Rattle.tls_fields.specs.Bytes.{Bytes}
+use Rattle.tls_fields.specs.Layout.{Layout, done, number, block, window, ◌>>=◌, ◌>>◌, test, rest}
+use Rattle.tls_fields.specs.declared.result.ErrorKind.TheVariants.{Verify}
+use Rattle.tls_base.specs.Alert as alerts
 use Rattle.tls_hs.specs.Handshake as handshakes
 use Rattle.tls_hs.specs.declared.message.TlsMessage.{TlsMessage}
 use Rattle.tls_hs.specs.declared.message.TlsMessage.TheVariants as tls_message
+use Rattle.tls_hs.specs.declared.message.TlsMessageHeartbeat.{TlsMessageHeartbeat}
+
+-- A HeartbeatMessage (RFC 6520, section 4), apart from where it lies in memory; its padding isn't kept.
+pub record HeartbeatMessage : Type 0 where
+  pub kind : ℕ
+  pub payload_length : ℕ
+  pub payload : Bytes
+
+abbrev pub view_heartbeat : TlsMessageHeartbeat → HeartbeatMessage
+view_heartbeat h = record { kind = h.heartbeat_type.0; payload_length = h.payload_len; payload = h.payload.now }
 
 -- A message, apart from where it lies in memory.
 pub data Message : Type 0 where
   Handshake : handshakes.Handshake → Message
+  ChangeCipherSpec : Message
+  Alert : alerts.Alert → Message
+  ApplicationData : Bytes → Message
+  Heartbeat : HeartbeatMessage → Message
 
 abbrev pub view_message : TlsMessage → Message
 view_message (tls_message.Handshake h) = Handshake (handshakes.view_handshake h)
+view_message tls_message.ChangeCipherSpec = ChangeCipherSpec
+view_message (tls_message.Alert a) = Alert (alerts.view_alert a)
+view_message (tls_message.ApplicationData d) = ApplicationData d.blob.now
+view_message (tls_message.Heartbeat h) = Heartbeat (view_heartbeat h)
 
 -- A handshake message (RFC 5246, section 7.4): its HandshakeType, its length, and its body, which is read within that
 -- length alone.
@@ -17,5 +39,30 @@ unfoldable pub handshake : Layout Message
 handshake = do
   kind ← number 1
   n ← number 3
-  body ← window n (handshakes.handshake_body kind)
+  body ← window n (handshakes.handshake_body kind n)
   done (Handshake body)
+
+-- ChangeCipherSpec (RFC 5246, section 7.1): one byte, which is 1.
+unfoldable pub change_cipher_spec : Layout Message
+change_cipher_spec = do
+  n ← number 1
+  test (n == 1) Verify
+  done ChangeCipherSpec
+
+-- An alert (RFC 5246, section 7.2).
+unfoldable pub alert : Layout Message
+alert = alerts.alert >>= λ a. done (Alert a)
+
+-- Application data (RFC 5246, section 10): all bytes.
+unfoldable pub application_data : Layout Message
+application_data = rest >>= λ b. done (ApplicationData b)
+
+-- HeartbeatMessage (RFC 6520, section 4), in a record of that length, which is at least that of the message's two
+-- numbers. A record has one.
+unfoldable pub heartbeat : ℕ → Layout (List Message)
+heartbeat length = do
+  kind ← number 1
+  n ← number 2
+  test (nat_le 3 length) Verify
+  payload ← block n
+  done (Heartbeat (record { kind = kind; payload_length = n; payload = payload }) ∷ [])

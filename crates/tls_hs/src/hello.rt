@@ -1,11 +1,13 @@
-ghost use Rattle.std.specs.Prelude.{◌≡◌, map};
+ghost use Rattle.std.specs.Prelude.{◌≡◌, map, IfOk};
+ghost use Rattle.tls_fields.specs.Answers.{GivesOrMemory};
+ghost use Rattle.tls_base.specs.CipherTable.{suite_of_id};
 ghost use Rattle.std.specs.Option.{option_map};
-ghost use Rattle.tls_fields.specs.Answers.{Gives, GivesOrMemory};
-ghost use Rattle.tls_hs.specs.Hello.{view_client_hello, session_id as session_id_layout, cipher_suites as cipher_suites_layout, compression_methods as compression_methods_layout, client_hello};
+ghost use Rattle.tls_hs.specs.Hello.{view_client_hello, client_hello};
 
+use crate::parts::{cipher_suites, compressions, session_id};
 use std::alloc::Global;
-use tls_base::{TlsCipherSuiteID, TlsCompressionID, TlsVersion};
-use tls_fields::{Err, Error, ErrorKind, IResult, block, items_times, maybe2, number1, number2};
+use tls_base::{CipherTable, TlsCipherSuite, TlsCipherSuiteID, TlsCompressionID, TlsVersion};
+use tls_fields::{IResult, OutOfMemory, block, maybe2};
 
 /// The body of a ClientHello (RFC 5246, section 7.4.1.2).
 #[derive(Debug, PartialEq, Drop)]
@@ -24,62 +26,72 @@ pub struct TlsClientHelloContents<'a> {
     pub ext: Option<&'a [u8]>,
 }
 
-/// A session id: 1 byte of length, at most 32, and so many bytes; no bytes are `None`.
-///
-/// `Error` of kind `Verify` where the length is above 32.
-#[tactic(auto, using(tls_fields::proofs::OneAnswer::read_allowed), unfolding(crate::specs::Hello::session_id))]
-fn session_id(i: &[u8]) -> IResult<&[u8], Option<&[u8]>>
-    ensures { Gives (λ v. option_map (λ x. x.now) v) session_id_layout i.now result }
-{
-    let (rest, n) = number1(i)?;
-    if n > 32 {
-        return Err(Err::Error(Error {
-            input: i,
-            code: ErrorKind::Verify,
-        }));
+impl<'a> TlsClientHelloContents<'a> {
+    /// A ClientHello of these fields, in the order of the type.
+    pub fn new(
+        v: u16,
+        random: &'a [u8],
+        sid: Option<&'a [u8]>,
+        c: Vec<TlsCipherSuiteID>,
+        co: Vec<TlsCompressionID>,
+        e: Option<&'a [u8]>,
+    ) -> Self
+        ensures version { result.version.0 ≡ v }
+        ensures random { result.random ≡ random.entry }
+        ensures session_id { result.session_id ≡ sid.entry }
+        ensures ciphers { result.ciphers ≡ c }
+        ensures comp { result.comp ≡ co }
+        ensures ext { result.ext ≡ e.entry }
+    {
+        TlsClientHelloContents {
+            version: TlsVersion(v),
+            random,
+            session_id: sid,
+            ciphers: c,
+            comp: co,
+            ext: e,
+        }
     }
-    let (rest, id) = block(rest, n as usize)?;
-    if n == 0 {
-        Ok((rest, None))
-    } else {
-        Ok((rest, Some(id)))
-    }
-}
 
-/// Cipher suites: 2 bytes of length, and so many bytes, 2 for each suite.
-///
-/// `Error` of kind `LengthValue` where the length is odd, or above the bytes that are left.
-#[tactic(auto, using(tls_fields::proofs::OneAnswer::read_allowed), unfolding(crate::specs::Hello::cipher_suites))]
-fn cipher_suites(alloc: Global, i: &[u8]) -> IResult<&[u8], Vec<TlsCipherSuiteID>>
-    ensures { GivesOrMemory (λ v. map (λ x. x.0) v.items) cipher_suites_layout i.now result }
-{
-    let (rest, k) = number2(i)?;
-    let k = k as usize;
-    if k % 2 != 0 || k > rest.len() {
-        return Err(Err::Error(Error {
-            input: i,
-            code: ErrorKind::LengthValue,
-        }));
+    /// The version that the client offers.
+    pub fn get_version(&self) -> TlsVersion
+        ensures { result ≡ self.now.version }
+    {
+        self.version
     }
-    items_times(alloc, rest, k / 2)
-}
 
-/// Compression methods: 1 byte of length, and so many bytes, 1 for each method.
-///
-/// `Error` of kind `LengthValue` where the length is above the bytes that are left.
-#[tactic(auto, using(tls_fields::proofs::OneAnswer::read_allowed), unfolding(crate::specs::Hello::compression_methods))]
-fn compression_methods(alloc: Global, i: &[u8]) -> IResult<&[u8], Vec<TlsCompressionID>>
-    ensures { GivesOrMemory (λ v. map (λ x. x.0) v.items) compression_methods_layout i.now result }
-{
-    let (rest, k) = number1(i)?;
-    let k = k as usize;
-    if k > rest.len() {
-        return Err(Err::Error(Error {
-            input: i,
-            code: ErrorKind::LengthValue,
-        }));
+    /// The suite that `table` has for each cipher suite that the client offers, in its order; `None` where it has none.
+    ///
+    /// `OutOfMemory` where the list could not be held.
+    pub fn get_ciphers<'t>(
+        &self,
+        alloc: Global,
+        table: &'t CipherTable,
+    ) -> Result<Vec<Option<&'t TlsCipherSuite>>, OutOfMemory>
+        ensures { IfOk result (λ v. map (option_map (λ s. s.now)) v.items ≡ map (suite_of_id table.now) (view_client_hello self.now).cipher_suites) }
+    {
+        let mut suites = Vec::with_capacity(alloc, self.ciphers.len())?;
+        for cipher in &self.ciphers {
+            suites.push_reserved(table.by_id(cipher.0));
+        }
+        Ok(suites)
     }
-    items_times(alloc, rest, k)
+
+    /// The same ClientHello again, with lists of its own.
+    ///
+    /// `OutOfMemory` where a list could not be held.
+    pub fn try_clone(&self, alloc: Global) -> Result<Self, OutOfMemory>
+        ensures { IfOk result (λ h. view_client_hello h ≡ view_client_hello self.now) }
+    {
+        Ok(TlsClientHelloContents {
+            version: self.version,
+            random: self.random,
+            session_id: self.session_id,
+            ciphers: Vec::from_slice(alloc, &self.ciphers)?,
+            comp: Vec::from_slice(alloc, &self.comp)?,
+            ext: self.ext,
+        })
+    }
 }
 
 /// Reads the body of a ClientHello (RFC 5246, section 7.4.1.2): 2 bytes of version, 32 of random, a session id behind
@@ -95,6 +107,7 @@ fn compression_methods(alloc: Global, i: &[u8]) -> IResult<&[u8], Vec<TlsCompres
 ///
 /// Extensions that aren't there whole are no refusal: `ext` is `None`, and they are the rest.
 #[tactic(auto, using(tls_fields::proofs::OneAnswer::read_allowed), unfolding(crate::specs::Hello::client_hello))]
+#[inline(always)]
 pub fn parse_tls_handshake_client_hello(
     alloc: Global,
     i: &[u8],
@@ -105,7 +118,7 @@ pub fn parse_tls_handshake_client_hello(
     let (i, random) = block(i, 32)?;
     let (i, session_id) = session_id(i)?;
     let (i, ciphers) = cipher_suites(alloc, i)?;
-    let (i, comp) = compression_methods(alloc, i)?;
+    let (i, comp) = compressions(alloc, i)?;
     let (i, ext) = maybe2(i)?;
     let hello = TlsClientHelloContents {
         version,

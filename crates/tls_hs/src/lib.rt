@@ -1,14 +1,51 @@
-//! Handshake messages: what stands in records of type 22 (RFC 5246, section 7.4).
+//! Handshake messages: what stands in records of type 22 (RFC 5246, section 7.4), and the messages of other records.
 //!
 //! Each call answers what a layout of `specs/` allows on the bytes: the value and the exact rest, or the refusal of the
 //! leftmost part that can't be read. Slices in a value are parts of the input.
 #![tactic(auto, using(tls_fields::proofs::OneAnswer::read_allowed))]
 
+mod bodies;
+mod certificate;
+mod certificate_request;
+mod client_hello;
 mod handshake;
 mod hello;
 pub mod laws;
 mod message;
+pub mod parts;
+mod server_hello;
+mod session;
 
+pub use bodies::{
+    parse_tls_handshake_msg_certificate, parse_tls_handshake_msg_certificaterequest,
+    parse_tls_handshake_msg_certificatestatus, parse_tls_handshake_msg_certificateverify,
+    parse_tls_handshake_msg_client_hello, parse_tls_handshake_msg_clientkeyexchange,
+    parse_tls_handshake_msg_finished, parse_tls_handshake_msg_hello_request,
+    parse_tls_handshake_msg_hello_retry_request, parse_tls_handshake_msg_key_update,
+    parse_tls_handshake_msg_newsessionticket, parse_tls_handshake_msg_next_protocol,
+    parse_tls_handshake_msg_server_hello, parse_tls_handshake_msg_serverdone,
+    parse_tls_handshake_msg_serverkeyexchange,
+};
+pub use certificate::{
+    RawCertificate, TlsCertificateContents, TlsCertificateStatusContents,
+    parse_tls_handshake_certificatestatus,
+};
+pub use certificate_request::{
+    TlsCertificateRequestContents, parse_tls_handshake_certificaterequest,
+};
+pub use client_hello::ClientHello;
 pub use handshake::TlsMessageHandshake;
 pub use hello::{TlsClientHelloContents, parse_tls_handshake_client_hello};
-pub use message::{TlsMessage, parse_tls_message_handshake};
+pub use message::{
+    TlsMessage, TlsMessageApplicationData, TlsMessageHeartbeat, parse_tls_message_alert,
+    parse_tls_message_applicationdata, parse_tls_message_changecipherspec,
+    parse_tls_message_handshake, parse_tls_message_heartbeat,
+};
+pub use server_hello::{
+    TlsHelloRetryRequestContents, TlsServerHelloContents, TlsServerHelloV13Draft18Contents,
+    parse_tls_handshake_server_hello,
+};
+pub use session::{
+    KeyUpdateRequest, TlsClientKeyExchangeContents, TlsNewSessionTicketContent,
+    TlsNextProtocolContent, TlsServerKeyExchangeContents, parse_tls_handshake_next_protocol,
+};

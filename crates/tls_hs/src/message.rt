@@ -1,23 +1,63 @@
-ghost use Rattle.tls_fields.specs.Answers.{GivesOrMemory};
-ghost use Rattle.tls_hs.specs.Message.{Message, view_message, handshake};
+ghost use Rattle.std.specs.Prelude.{◌≡◌, map, IfOk};
+ghost use Rattle.tls_fields.specs.Answers.{Gives, GivesOrMemory};
+ghost use Rattle.tls_hs.specs.Message.{Message, view_message, handshake, change_cipher_spec, alert as alert_layout, application_data, heartbeat};
 
 use crate::handshake::{TlsMessageHandshake, handshake_body};
 use std::alloc::Global;
-use tls_base::TlsHandshakeType;
-use tls_fields::{IResult, Item, block, number3};
+use tls_base::{TlsHandshakeType, TlsHeartbeatMessageType, TlsMessageAlert};
+use tls_fields::{
+    Err, Error, ErrorKind, IResult, Item, OutOfMemory, block, number1, number2, number3,
+};
+
+/// Application data (RFC 5246, section 10).
+#[derive(Clone, Debug, PartialEq, Drop)]
+pub struct TlsMessageApplicationData<'a> {
+    pub blob: &'a [u8],
+}
+
+/// A Heartbeat message (RFC 6520, section 4).
+#[derive(Clone, Debug, PartialEq, Drop)]
+pub struct TlsMessageHeartbeat<'a> {
+    pub heartbeat_type: TlsHeartbeatMessageType,
+    /// The length of `payload`, in bytes.
+    pub payload_len: u16,
+    pub payload: &'a [u8],
+}
 
 /// A message of a record.
 #[derive(Debug, PartialEq, Drop)]
 pub enum TlsMessage<'a> {
     Handshake(TlsMessageHandshake<'a>),
+    ChangeCipherSpec,
+    Alert(TlsMessageAlert),
+    ApplicationData(TlsMessageApplicationData<'a>),
+    Heartbeat(TlsMessageHeartbeat<'a>),
+}
+
+impl<'a> TlsMessage<'a> {
+    /// The same message again, with lists of its own.
+    ///
+    /// `OutOfMemory` where a list could not be held.
+    pub fn try_clone(&self, alloc: Global) -> Result<Self, OutOfMemory>
+        ensures { IfOk result (λ m. view_message m ≡ view_message self.now) }
+    {
+        let message = match self {
+            TlsMessage::Handshake(h) => TlsMessage::Handshake(h.try_clone(alloc)?),
+            TlsMessage::ChangeCipherSpec => TlsMessage::ChangeCipherSpec,
+            TlsMessage::Alert(a) => TlsMessage::Alert(a.clone()?),
+            TlsMessage::ApplicationData(d) => TlsMessage::ApplicationData(d.clone()?),
+            TlsMessage::Heartbeat(h) => TlsMessage::Heartbeat(h.clone()?),
+        };
+        Ok(message)
+    }
 }
 
 /// Reads a whole handshake message (RFC 5246, section 7.4): 1 byte of type, 3 bytes of length, big-endian, and a body
 /// of so many bytes. The body is read within these bytes alone, and what it leaves of them is dropped.
 ///
 /// - `Incomplete` of the count of missing bytes, where the message isn't whole.
-/// - `Error` of kind `Switch` where the message is whole and its type isn't 1, a ClientHello.
-/// - What [`crate::parse_tls_handshake_client_hello`] refuses in the body, `Incomplete` too.
+/// - `Error` of kind `Switch` where the message is whole and no body has its type.
+/// - What the body's own call refuses, `Incomplete` too.
 /// - `OutOfMemory` where a list could not be held.
 #[tactic(auto, using(tls_fields::proofs::OneAnswer::read_allowed), unfolding(crate::specs::Message::handshake))]
 pub fn parse_tls_message_handshake(alloc: Global, i: &[u8]) -> IResult<&[u8], TlsMessage>
@@ -26,8 +66,81 @@ pub fn parse_tls_message_handshake(alloc: Global, i: &[u8]) -> IResult<&[u8], Tl
     let (i, kind) = TlsHandshakeType::parse(i)?;
     let (i, n) = number3(i)?;
     let (i, window) = block(i, n as usize)?;
-    let (_, message) = handshake_body(alloc, window, kind)?;
+    let (_, message) = handshake_body(alloc, window, kind, n as usize)?;
     Ok((i, TlsMessage::Handshake(message)))
+}
+
+/// Reads a ChangeCipherSpec (RFC 5246, section 7.1): 1 byte, which is 1.
+///
+/// `Incomplete` of 1 where there is no byte; `Error` of kind `Verify` where it isn't 1.
+#[tactic(auto, using(tls_fields::proofs::OneAnswer::read_allowed), unfolding(crate::specs::Message::change_cipher_spec))]
+pub fn parse_tls_message_changecipherspec(i: &[u8]) -> IResult<&[u8], TlsMessage>
+    ensures { Gives view_message change_cipher_spec i.now result }
+{
+    let (rest, n) = number1(i)?;
+    if n != 1 {
+        return Err(Err::Error(Error {
+            input: i,
+            code: ErrorKind::Verify,
+        }));
+    }
+    Ok((rest, TlsMessage::ChangeCipherSpec))
+}
+
+/// Reads an alert (RFC 5246, section 7.2): 1 byte of severity and 1 of description.
+///
+/// `Incomplete` of 1 where either is missing.
+#[tactic(auto, using(tls_fields::proofs::OneAnswer::read_allowed), unfolding(crate::specs::Message::alert))]
+pub fn parse_tls_message_alert(i: &[u8]) -> IResult<&[u8], TlsMessage>
+    ensures { Gives view_message alert_layout i.now result }
+{
+    let (i, alert) = TlsMessageAlert::parse(i)?;
+    Ok((i, TlsMessage::Alert(alert)))
+}
+
+/// Reads application data (RFC 5246, section 10): all bytes, perhaps none. It never refuses.
+#[tactic(auto, using(tls_fields::proofs::OneAnswer::read_allowed), unfolding(crate::specs::Message::application_data))]
+pub fn parse_tls_message_applicationdata(i: &[u8]) -> IResult<&[u8], TlsMessage>
+    ensures { Gives view_message application_data i.now result }
+{
+    let (i, blob) = block(i, i.len())?;
+    Ok((
+        i,
+        TlsMessage::ApplicationData(TlsMessageApplicationData { blob }),
+    ))
+}
+
+/// Reads a Heartbeat message (RFC 6520, section 4) in a record whose length is `tls_plaintext_len`, in bytes: 1 byte of
+/// type, 2 of payload length, big-endian, and the payload. It answers a list of one; the padding is the rest.
+///
+/// - `Incomplete` of the count of missing bytes.
+/// - `Error` of kind `Verify` where `tls_plaintext_len` is below 3, once the type and the length are there.
+/// - `OutOfMemory` where the list could not be held.
+#[tactic(auto, using(tls_fields::proofs::OneAnswer::read_allowed), unfolding(crate::specs::Message::heartbeat))]
+pub fn parse_tls_message_heartbeat(
+    alloc: Global,
+    i: &[u8],
+    tls_plaintext_len: u16,
+) -> IResult<&[u8], Vec<TlsMessage>>
+    ensures { GivesOrMemory (λ v. map view_message v.items) (heartbeat tls_plaintext_len) i.now result }
+{
+    let (i, heartbeat_type) = TlsHeartbeatMessageType::parse(i)?;
+    let (i, payload_len) = number2(i)?;
+    if tls_plaintext_len < 3 {
+        return Err(Err::Error(Error {
+            input: i,
+            code: ErrorKind::Verify,
+        }));
+    }
+    let (i, payload) = block(i, payload_len as usize)?;
+    let message = TlsMessageHeartbeat {
+        heartbeat_type,
+        payload_len,
+        payload,
+    };
+    let mut messages = Vec::new(alloc);
+    messages.push(TlsMessage::Heartbeat(message))?;
+    Ok((i, messages))
 }
 
 impl<'a> Item<'a> for TlsMessage<'a> {

@@ -1,9 +1,13 @@
 pub mod Record
+pub mod DtlsHello
+pub mod DtlsHandshake
+pub mod DtlsRecord
 pub use Rattle.tls_fields.specs.Bytes
 pub use Rattle.tls_fields.specs.Layout
 pub use Rattle.tls_fields.specs.Meaning
 pub use Rattle.tls_fields.specs.Reading
 pub use Rattle.tls_fields.specs.Answers
+pub use Rattle.tls_fields.specs.Stable
 pub use Rattle.tls_hs.specs.Hello
 pub use Rattle.tls_hs.specs.Handshake
 pub use Rattle.tls_hs.specs.Message

@@ -1,14 +1,17 @@
--- Records (RFC 5246, section 6.2.1).
-use Rattle.std.specs.Prelude.{ℕ, List, map, Ok, nat_le, ◌==◌}
-use Rattle.tls_fields.specs.Bytes.{Bytes}
-use Rattle.tls_fields.specs.Layout.{Layout, done, refuse, number, block, window, list1, ◌>>=◌, ◌>>◌, test, choose}
+-- Records (RFC 5246, section 6.2).
+use Rattle.std.specs.Prelude.{ℕ, ◌+◌, ◌<◌, ◌≤◌, List, [], ◌∷◌, length, take, drop, map, Ok, Err, nat_le, ◌==◌, ⊤}
+use Rattle.tls_fields.specs.Bytes.{Bytes, number_of}
+use Rattle.tls_fields.specs.Layout.{Layout, done, refuse, number, block, window, complete, list1, ◌>>=◌, ◌>>◌, test, choose}
 use Rattle.tls_fields.specs.Meaning.{Answer}
 use Rattle.tls_fields.specs.Reading.{reading, ◌and_then◌}
+use Rattle.tls_fields.specs.Answers.{Returned}
+use Rattle.tls_fields.specs.declared.result.Err.TheVariants as failed
 use Rattle.tls_fields.specs.declared.result.ErrorKind.TheVariants.{TooLarge, Switch}
-use Rattle.tls_hs.specs.Message.{Message, view_message, handshake}
+use Rattle.tls_hs.specs.Message.{Message, view_message, change_cipher_spec, alert, handshake, application_data, heartbeat}
 use Rattle.tls_parser.specs.declared.record.TlsRecordHeader.{TlsRecordHeader}
 use Rattle.tls_parser.specs.declared.record.TlsRawRecord.{TlsRawRecord}
-use Rattle.tls_parser.specs.declared.record.TlsPlaintext.{TlsPlaintext}
+use Rattle.tls_parser.specs.declared.record.TlsEncrypted.{TlsEncrypted}
+use Rattle.tls_parser.specs.declared.plaintext.TlsPlaintext.{TlsPlaintext}
 
 -- What stands in front of a fragment; the length is that of the fragment, in bytes.
 pub record RecordHeader : Type 0 where
@@ -35,6 +38,10 @@ pub record RawRecord : Type 0 where
 abbrev pub view_raw_record : TlsRawRecord → RawRecord
 view_raw_record r = record { header = view_header r.hdr; fragment = r.bytes.now }
 
+-- An encrypted record is one of these: a TLSCiphertext (RFC 5246, section 6.2.3).
+abbrev pub view_encrypted : TlsEncrypted → RawRecord
+view_encrypted r = record { header = view_header r.hdr; fragment = r.msg.blob.now }
+
 -- A fragment has at most 2^14 + 256 bytes (RFC 8446, section 5.2), which is tested before any of them is asked for.
 unfoldable pub raw_record : Layout RawRecord
 raw_record = do
@@ -43,13 +50,18 @@ raw_record = do
   fragment ← block header.length
   done (record { header = header; fragment = fragment })
 
--- The messages that stand in the fragment of a record with that header.
+-- The messages that stand in the fragment of a record with that header. Application data is one message. So is a
+-- Heartbeat, and bytes that lack in it are those of a whole record, so no further bytes can supply them.
 unfoldable pub record_content : RecordHeader → Layout (List Message)
 record_content header =
+    choose (header.content_type == 20) (list1 change_cipher_spec) (
+    choose (header.content_type == 21) (list1 alert) (
     choose (header.content_type == 22) (list1 handshake) (
-    refuse Switch)
+    choose (header.content_type == 23) (application_data >>= λ m. done (m ∷ [])) (
+    choose (header.content_type == 24) (complete (heartbeat header.length)) (
+    refuse Switch)))))
 
--- A record with its messages.
+-- A record with its messages: a TLSPlaintext (RFC 5246, section 6.2.1).
 pub record Plaintext : Type 0 where
   pub header : RecordHeader
   pub messages : List Message
@@ -68,3 +80,22 @@ plaintext = do
 -- The record of a raw one: the messages that its fragment holds, and the rest behind the fragment.
 abbrev pub opened : RawRecord × Bytes → Answer Plaintext
 opened x = reading (record_content x.0.header) x.0.fragment and_then λ m. Ok (record { header = x.0.header; messages = m.0 }, x.1)
+
+-- The length that stands in a header: the number of its bytes 3 and 4.
+abbrev pub fragment_length : Bytes → ℕ
+fragment_length b = number_of (take 2 (drop 3 b))
+
+-- The bytes are those of a whole record: the 5 of its header, and as many more as the length there says.
+pub record IsWhole (b : Bytes) : Type 0 where
+  pub has_header : 5 ≤ length b
+  pub has_fragment : 5 + fragment_length b ≤ length b
+
+-- The length in the header is above what a record may have.
+pub record IsTooLarge (b : Bytes) : Type 0 where
+  pub has_header : 5 ≤ length b
+  pub above : 16640 < fragment_length b
+
+-- What is returned doesn't ask for more bytes.
+abbrev pub AsksNoMore : {X : Type 0} → Returned X → Type 0
+AsksNoMore (Err (failed.Incomplete n)) = ⊥
+AsksNoMore r = ⊤

@@ -4,18 +4,83 @@
 //! leftmost part that can't be read. Slices in a value are parts of the input.
 #![tactic(auto, using(tls_fields::proofs::OneAnswer::read_allowed))]
 
+mod dtls;
 pub mod laws;
+mod plaintext;
 mod record;
+mod short_messages;
 
+pub use dtls::{
+    DTLSClientHello, DTLSHelloVerifyRequest, DTLSMessage, DTLSMessageHandshake,
+    DTLSMessageHandshakeBody, DTLSPlaintext, DTLSRawRecord, DTLSRecordHeader,
+    parse_dtls_message_alert, parse_dtls_message_changecipherspec, parse_dtls_message_handshake,
+    parse_dtls_plaintext_record, parse_dtls_plaintext_records, parse_dtls_record_header,
+    parse_dtls_record_with_header,
+};
+pub use plaintext::{
+    TlsPlaintext, parse_tls_plaintext, parse_tls_record_with_header, tls_parser, tls_parser_many,
+};
 pub use record::{
-    MAX_RECORD_LEN, TlsPlaintext, TlsRawRecord, TlsRecordHeader, parse_tls_plaintext,
-    parse_tls_raw_record, parse_tls_record_header, parse_tls_record_with_header,
+    MAX_RECORD_LEN, TlsEncrypted, TlsEncryptedContent, TlsRawRecord, TlsRecordHeader,
+    parse_tls_encrypted, parse_tls_raw_record, parse_tls_record_header,
 };
+
+// Numbers with a name, key exchange, signatures, timestamps, ciphers.
 pub use tls_base::{
-    Err, Error, ErrorKind, IResult, Needed, OutOfMemory, TlsCipherSuiteID, TlsCompressionID,
-    TlsHandshakeType, TlsRecordType, TlsVersion,
+    CertificateStatusType, CipherSuiteNotFound, CipherTable, CipherTableError, CipherTableFault,
+    CtExtensions, CtLogID, CtVersion, DigitallySigned, ECCurve, ECCurveType, ECParameters,
+    ECParametersContent, ECPoint, Err, Error, ErrorKind, ExplicitPrimeContent, HashAlgorithm,
+    IResult, NamedGroup, Needed, OutOfMemory, PskKeyExchangeMode, SNIType, ServerDHParams,
+    ServerECDHParams, SignAlgorithm, SignatureAndHashAlgorithm, SignatureScheme,
+    SignedCertificateTimestamp, TlsAlertDescription, TlsAlertSeverity, TlsCipherAu, TlsCipherEnc,
+    TlsCipherEncMode, TlsCipherKx, TlsCipherMac, TlsCipherSuite, TlsCipherSuiteID,
+    TlsCompressionID, TlsExtensionType, TlsHandshakeType, TlsHeartbeatMessageType, TlsMessageAlert,
+    TlsPRF, TlsRecordType, TlsVersion, UnknownNumber, parse_content_and_signature,
+    parse_ct_signed_certificate_timestamp, parse_ct_signed_certificate_timestamp_list,
+    parse_dh_params, parse_digitally_signed, parse_digitally_signed_old, parse_ec_parameters,
+    parse_ecdh_params, parse_named_groups,
 };
+
+// Extensions.
+pub use tls_ext::{
+    KeyShareEntry, OidFilter, TlsExtension, parse_tls_client_hello_extension,
+    parse_tls_client_hello_extensions, parse_tls_extension, parse_tls_extension_alpn_content,
+    parse_tls_extension_cookie, parse_tls_extension_early_data,
+    parse_tls_extension_ec_point_formats, parse_tls_extension_ec_point_formats_content,
+    parse_tls_extension_elliptic_curves, parse_tls_extension_elliptic_curves_content,
+    parse_tls_extension_encrypt_then_mac, parse_tls_extension_encrypted_server_name,
+    parse_tls_extension_extended_master_secret, parse_tls_extension_heartbeat,
+    parse_tls_extension_heartbeat_content, parse_tls_extension_key_share,
+    parse_tls_extension_max_fragment_length, parse_tls_extension_max_fragment_length_content,
+    parse_tls_extension_pre_shared_key, parse_tls_extension_psk_key_exchange_modes,
+    parse_tls_extension_psk_key_exchange_modes_content,
+    parse_tls_extension_renegotiation_info_content, parse_tls_extension_session_ticket,
+    parse_tls_extension_signature_algorithms, parse_tls_extension_signature_algorithms_content,
+    parse_tls_extension_signed_certificate_timestamp_content, parse_tls_extension_sni,
+    parse_tls_extension_sni_content, parse_tls_extension_sni_hostname,
+    parse_tls_extension_status_request, parse_tls_extension_supported_versions,
+    parse_tls_extension_unknown, parse_tls_extensions, parse_tls_server_hello_extension,
+    parse_tls_server_hello_extensions,
+};
+
+// Handshake messages.
 pub use tls_hs::{
-    TlsClientHelloContents, TlsMessage, TlsMessageHandshake, parse_tls_handshake_client_hello,
-    parse_tls_message_handshake,
+    ClientHello, KeyUpdateRequest, RawCertificate, TlsCertificateContents,
+    TlsCertificateRequestContents, TlsCertificateStatusContents, TlsClientHelloContents,
+    TlsClientKeyExchangeContents, TlsHelloRetryRequestContents, TlsMessage,
+    TlsMessageApplicationData, TlsMessageHandshake, TlsMessageHeartbeat,
+    TlsNewSessionTicketContent, TlsNextProtocolContent, TlsServerHelloContents,
+    TlsServerHelloV13Draft18Contents, TlsServerKeyExchangeContents,
+    parse_tls_handshake_certificaterequest, parse_tls_handshake_certificatestatus,
+    parse_tls_handshake_client_hello, parse_tls_handshake_msg_certificate,
+    parse_tls_handshake_msg_certificaterequest, parse_tls_handshake_msg_certificatestatus,
+    parse_tls_handshake_msg_certificateverify, parse_tls_handshake_msg_client_hello,
+    parse_tls_handshake_msg_clientkeyexchange, parse_tls_handshake_msg_finished,
+    parse_tls_handshake_msg_hello_request, parse_tls_handshake_msg_hello_retry_request,
+    parse_tls_handshake_msg_key_update, parse_tls_handshake_msg_newsessionticket,
+    parse_tls_handshake_msg_next_protocol, parse_tls_handshake_msg_server_hello,
+    parse_tls_handshake_msg_serverdone, parse_tls_handshake_msg_serverkeyexchange,
+    parse_tls_handshake_next_protocol, parse_tls_handshake_server_hello, parse_tls_message_alert,
+    parse_tls_message_applicationdata, parse_tls_message_changecipherspec,
+    parse_tls_message_handshake, parse_tls_message_heartbeat,
 };

@@ -1,15 +1,9 @@
-ghost use Rattle.std.specs.Prelude.{◌≡◌, map};
-ghost use Rattle.std.specs.Result.{IsErr};
 ghost use Rattle.tls_fields.specs.Meaning.{AllowsOne};
-ghost use Rattle.tls_fields.specs.Reading.{reading, ◌and_then◌};
-ghost use Rattle.tls_fields.specs.Answers.{Gives, GivesOrMemory, HasMemory};
-ghost use Rattle.tls_hs.specs.Message.{view_message};
-ghost use Rattle.tls_parser.specs.Record.{view_header, record_header, view_raw_record, raw_record, record_content, view_plaintext, plaintext, opened};
+ghost use Rattle.tls_fields.specs.Answers.{Gives};
+ghost use Rattle.tls_parser.specs.Record.{view_header, record_header, view_raw_record, view_encrypted, raw_record};
 
-use std::alloc::Global;
 use tls_base::{TlsRecordType, TlsVersion};
-use tls_fields::{Err, Error, ErrorKind, IResult, block, items1, number2};
-use tls_hs::TlsMessage;
+use tls_fields::{Err, Error, ErrorKind, IResult, block, number2};
 
 /// The most bytes that a record's fragment may have: 2^14 + 256 (RFC 8446, section 5.2).
 pub const MAX_RECORD_LEN: u16 = 16640;
@@ -31,11 +25,19 @@ pub struct TlsRawRecord<'a> {
     pub bytes: &'a [u8],
 }
 
-/// A record that isn't encrypted, with its messages, of which there is at least one.
-#[derive(Debug, PartialEq, Drop)]
-pub struct TlsPlaintext<'a> {
+/// The fragment of an encrypted record.
+#[derive(Clone, Debug, PartialEq, Drop)]
+pub struct TlsEncryptedContent<'a> {
+    /// The encrypted bytes, with all that the cipher adds to them.
+    pub blob: &'a [u8],
+}
+
+/// An encrypted record (RFC 5246, section 6.2.3).
+#[derive(Clone, Debug, PartialEq, Drop)]
+pub struct TlsEncrypted<'a> {
     pub hdr: TlsRecordHeader,
-    pub msg: Vec<TlsMessage<'a>>,
+    /// The fragment, `hdr.len` bytes.
+    pub msg: TlsEncryptedContent<'a>,
 }
 
 impl TlsRecordHeader {
@@ -67,7 +69,7 @@ pub fn parse_tls_record_header(i: &[u8]) -> IResult<&[u8], TlsRecordHeader>
     TlsRecordHeader::parse(i)
 }
 
-/// Reads a record and leaves its fragment as it stands.
+/// Reads a record (RFC 5246, section 6.2.1) and leaves its fragment as it stands.
 ///
 /// - What [`parse_tls_record_header`] refuses.
 /// - `Error` of kind `TooLarge` where the length in the header is above [`MAX_RECORD_LEN`], even if the fragment isn't
@@ -89,40 +91,14 @@ pub fn parse_tls_raw_record(i: &[u8]) -> IResult<&[u8], TlsRawRecord>
     Ok((i, TlsRawRecord { hdr, bytes }))
 }
 
-/// Reads the fragment `i` of a record with the header `hdr`, as messages of the header's type, one or more. They end
-/// before the first that isn't read; what is left is no refusal.
-///
-/// - `Error` of kind `Switch` where the type isn't 22, handshake messages.
-/// - What the first message refuses, but `Error` of kind `Complete` in place of `Incomplete`.
-/// - `OutOfMemory` where a list could not be held.
-#[tactic(auto, using(tls_fields::proofs::OneAnswer::read_allowed), unfolding(crate::specs::Record::record_content))]
-pub fn parse_tls_record_with_header<'a>(
-    alloc: Global,
-    i: &'a [u8],
-    hdr: &TlsRecordHeader,
-) -> IResult<&'a [u8], Vec<TlsMessage<'a>>>
-    ensures { GivesOrMemory (λ v. map view_message v.items) (record_content (view_header hdr.now)) i.now result }
-{
-    match hdr.record_type {
-        TlsRecordType::Handshake => items1(alloc, i),
-        _ => Err(Err::Error(Error {
-            input: i,
-            code: ErrorKind::Switch,
-        })),
-    }
-}
-
-/// Reads a record and its messages: as [`parse_tls_raw_record`], and then [`parse_tls_record_with_header`] on the
-/// fragment, whose refusal is the call's. What the messages leave of the fragment is dropped.
-///
-/// `OutOfMemory` only where the record is whole and not too large.
-#[tactic(auto, using(tls_fields::proofs::OneAnswer::read_allowed, tls_fields::proofs::OneAnswer::one_answer, crate::proofs::Opened::plaintext_opened))]
-pub fn parse_tls_plaintext(alloc: Global, i: &[u8]) -> IResult<&[u8], TlsPlaintext>
-    ensures gives { GivesOrMemory view_plaintext plaintext i.now result }
-    ensures only_one { AllowsOne plaintext i.now }
-    ensures memory_if_whole { IsErr (reading raw_record i.now) → HasMemory result }
+/// Reads an encrypted record (RFC 5246, section 6.2.3), of whatever type: as [`parse_tls_raw_record`], and it refuses
+/// what that refuses. Nothing is decrypted.
+#[tactic(auto, using(tls_fields::proofs::OneAnswer::read_allowed, tls_fields::proofs::OneAnswer::one_answer))]
+pub fn parse_tls_encrypted(i: &[u8]) -> IResult<&[u8], TlsEncrypted>
+    ensures gives { Gives view_encrypted raw_record i.now result }
+    ensures only_one { AllowsOne raw_record i.now }
 {
     let (i, TlsRawRecord { hdr, bytes }) = parse_tls_raw_record(i)?;
-    let (_, msg) = parse_tls_record_with_header(alloc, bytes, &hdr)?;
-    Ok((i, TlsPlaintext { hdr, msg }))
+    let msg = TlsEncryptedContent { blob: bytes };
+    Ok((i, TlsEncrypted { hdr, msg }))
 }

@@ -2,7 +2,10 @@
 
 use std::fmt::Debug;
 use std::process::Abort;
-use tls_fields::{Err, ErrorKind, IResult, Needed};
+use tls_parser::{
+    Err, ErrorKind, IResult, Needed, OutOfMemory, TlsCipherAu, TlsCipherEnc, TlsCipherEncMode,
+    TlsCipherKx, TlsCipherMac, TlsCipherSuite, TlsCipherSuiteID, TlsPRF,
+};
 
 /// Why there is no value, apart from the slice that an error names.
 #[derive(Clone, Copy, Debug, PartialEq)]
@@ -56,5 +59,33 @@ pub fn lists<T: PartialEq + Debug + Drop>(
             assert_eq!(rt; left, rest);
         }
         Err(refused) => panic!(rt; "refused: {refused:?}"),
+    }
+}
+
+/// The suite 1.
+pub fn suite() -> TlsCipherSuite {
+    TlsCipherSuite {
+        name: "one",
+        id: TlsCipherSuiteID(1),
+        kx: TlsCipherKx::Rsa,
+        au: TlsCipherAu::Rsa,
+        enc: TlsCipherEnc::Null,
+        enc_mode: TlsCipherEncMode::Null,
+        enc_size: 0,
+        mac: TlsCipherMac::HmacMd5,
+        mac_size: 128,
+        prf: TlsPRF::Default,
+    }
+}
+
+/// Of two suites the first isn't in the table, and the second is its suite 1.
+pub fn only_second(rt: &impl Abort, suites: Result<Vec<Option<&TlsCipherSuite>>, OutOfMemory>) {
+    match suites {
+        Ok(suites) => {
+            assert_eq!(rt; suites.len(), 2);
+            assert!(rt; suites[0].is_none());
+            assert!(rt; suites[1].is_some_and(|suite| suite.id.0 == 1));
+        }
+        Err(_) => panic!(rt; "out of memory"),
     }
 }

@@ -17,8 +17,32 @@ use Rattle.tlsview.specs.declared.direction.Direction.{Direction}
 abbrev pub Part : Type 0
 Part = List ℕ × Option Fault
 
+-- the name of a handshake message is that of its HandshakeType, or of the draft whose ServerHello it is
+abbrev pub handshake_name : handshakes.Handshake → List ℕ
+handshake_name handshakes.HelloRequest = codes "HelloRequest"
+handshake_name (handshakes.ClientHello body) = codes "ClientHello"
+handshake_name (handshakes.ServerHello body) = codes "ServerHello"
+handshake_name (handshakes.ServerHelloV13Draft18 body) = codes "ServerHelloV13Draft18"
+handshake_name (handshakes.NewSessionTicket body) = codes "NewSessionTicket"
+handshake_name handshakes.EndOfEarlyData = codes "EndOfEarlyData"
+handshake_name (handshakes.HelloRetryRequest body) = codes "HelloRetryRequest"
+handshake_name (handshakes.Certificate body) = codes "Certificate"
+handshake_name (handshakes.ServerKeyExchange body) = codes "ServerKeyExchange"
+handshake_name (handshakes.CertificateRequest body) = codes "CertificateRequest"
+handshake_name (handshakes.ServerDone body) = codes "ServerDone"
+handshake_name (handshakes.CertificateVerify body) = codes "CertificateVerify"
+handshake_name (handshakes.ClientKeyExchange body) = codes "ClientKeyExchange"
+handshake_name (handshakes.Finished body) = codes "Finished"
+handshake_name (handshakes.CertificateStatus body) = codes "CertificateStatus"
+handshake_name (handshakes.NextProtocol body) = codes "NextProtocol"
+handshake_name (handshakes.KeyUpdate body) = codes "KeyUpdate"
+
 abbrev pub message_name : messages.Message → List ℕ
-message_name (messages.Handshake (handshakes.ClientHello hello)) = codes "ClientHello"
+message_name (messages.Handshake h) = handshake_name h
+message_name messages.ChangeCipherSpec = codes "ChangeCipherSpec"
+message_name (messages.Alert body) = codes "Alert"
+message_name (messages.ApplicationData body) = codes "ApplicationData"
+message_name (messages.Heartbeat body) = codes "Heartbeat"
 
 abbrev pub message_line : Direction → messages.Message → List ℕ
 message_line direction message = sign_of direction ∷ 32 ∷ (message_name message ++ codes "\n")

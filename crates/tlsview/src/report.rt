@@ -1,9 +1,10 @@
 //! What an input says, as text.
 ghost use Rattle.std.specs.Prelude.{◌≡◌, ◌++◌, ◌≢◌, flat_map, map, option_map, IfOk, OnOk};
 ghost use Rattle.std.specs.String.{string_bytes};
+ghost use Rattle.tls_hs.specs.Handshake.{view_handshake};
 ghost use Rattle.tls_hs.specs.Message.{view_message};
 ghost use Rattle.tlsview.specs.Fault.{view_fault};
-ghost use Rattle.tlsview.specs.Out.{bytes_part, line_part, message_line, message_name as name_of_message, out};
+ghost use Rattle.tlsview.specs.Out.{bytes_part, handshake_name as name_of_handshake, line_part, message_line, message_name as name_of_message, out};
 ghost use Rattle.tlsview.specs.Exit.{status_of};
 
 use crate::direction::Direction;
@@ -21,11 +22,39 @@ pub struct Report {
     pub exit: Exit,
 }
 
+fn handshake_name(message: &TlsMessageHandshake) -> &'static str
+    ensures { result.now ≡ name_of_handshake (view_handshake message.now) }
+{
+    match message {
+        TlsMessageHandshake::HelloRequest => "HelloRequest",
+        TlsMessageHandshake::ClientHello(_) => "ClientHello",
+        TlsMessageHandshake::ServerHello(_) => "ServerHello",
+        TlsMessageHandshake::ServerHelloV13Draft18(_) => "ServerHelloV13Draft18",
+        TlsMessageHandshake::NewSessionTicket(_) => "NewSessionTicket",
+        TlsMessageHandshake::EndOfEarlyData => "EndOfEarlyData",
+        TlsMessageHandshake::HelloRetryRequest(_) => "HelloRetryRequest",
+        TlsMessageHandshake::Certificate(_) => "Certificate",
+        TlsMessageHandshake::ServerKeyExchange(_) => "ServerKeyExchange",
+        TlsMessageHandshake::CertificateRequest(_) => "CertificateRequest",
+        TlsMessageHandshake::ServerDone(_) => "ServerDone",
+        TlsMessageHandshake::CertificateVerify(_) => "CertificateVerify",
+        TlsMessageHandshake::ClientKeyExchange(_) => "ClientKeyExchange",
+        TlsMessageHandshake::Finished(_) => "Finished",
+        TlsMessageHandshake::CertificateStatus(_) => "CertificateStatus",
+        TlsMessageHandshake::NextProtocol(_) => "NextProtocol",
+        TlsMessageHandshake::KeyUpdate(_) => "KeyUpdate",
+    }
+}
+
 fn message_name(message: &TlsMessage) -> &'static str
     ensures { result.now ≡ name_of_message (view_message message.now) }
 {
     match message {
-        TlsMessage::Handshake(TlsMessageHandshake::ClientHello(_)) => "ClientHello",
+        TlsMessage::Handshake(message) => handshake_name(message),
+        TlsMessage::ChangeCipherSpec => "ChangeCipherSpec",
+        TlsMessage::Alert(_) => "Alert",
+        TlsMessage::ApplicationData(_) => "ApplicationData",
+        TlsMessage::Heartbeat(_) => "Heartbeat",
     }
 }
 

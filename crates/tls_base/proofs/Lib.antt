@@ -1,0 +1,4 @@
+pub mod Names
+pub mod Rising
+pub mod Signatures
+pub mod Fronts

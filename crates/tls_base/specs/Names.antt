@@ -1,0 +1,25 @@
+-- The names that numbers have, and how a number is shown.
+use Rattle.std.specs.Prelude.{ℕ, List, ◌++◌, Option, Some, None, ◌==◌, find, codes, false}
+use Rattle.std.specs.Option.{option_map}
+use Rattle.std.specs.Fmt.{decimal, digits}
+
+-- A text, as the list of its bytes.
+abbrev pub Text : Type 0
+Text = List ℕ
+
+-- What a table has for a number: the second part of the first entry that begins with it.
+abbrev pub look_up : {A : Type 0} → List (ℕ × A) → ℕ → Option A
+look_up table n = option_map (λ x. x.1) (find (λ x. x.0 == n) table)
+
+-- A number in lower hexadecimal, with no zeros in front.
+abbrev pub hexadecimal : ℕ → Text
+hexadecimal n = digits 16 false n
+
+-- How a number of a type is shown: by its name, where it has one.
+unfoldable pub shown : Text → ℕ → Option Text → Text
+shown type n (Some t) = t
+shown type n None = type ++ codes "(" ++ decimal n ++ codes " / 0x" ++ hexadecimal n ++ codes ")"
+
+-- The same, by the table of the type's names.
+unfoldable pub name : Text → List (ℕ × Text) → ℕ → Text
+name type table n = shown type n (look_up table n)

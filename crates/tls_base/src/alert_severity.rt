@@ -1,0 +1,38 @@
+ghost use Rattle.std.specs.Prelude.{Some, codes};
+ghost use Rattle.tls_fields.specs.Layout.{number};
+ghost use Rattle.tls_fields.specs.Answers.{Gives};
+ghost use Rattle.tls_base.specs.Names.{name};
+ghost use Rattle.tls_base.specs.Constants.{alert_levels};
+
+use crate::name::{names, write_name};
+use std::fmt;
+use tls_fields::{IResult, number1};
+
+/// How severe an alert is: the AlertLevel of RFC 5246, 7.2.
+#[derive(Clone, Copy, Debug, PartialEq, Eq)]
+pub struct TlsAlertSeverity(pub u8);
+
+impl TlsAlertSeverity {
+    pub const Warning: TlsAlertSeverity = TlsAlertSeverity(1);
+
+    pub const Fatal: TlsAlertSeverity = TlsAlertSeverity(2);
+
+    /// Reads one byte. Refused as `Incomplete(1)` where there is none.
+    pub fn parse(i: &[u8]) -> IResult<&[u8], Self>
+        ensures { Gives (λ v. v.0) (number 1) i.now result }
+    {
+        let (i, n) = number1(i)?;
+        Ok((i, TlsAlertSeverity(n)))
+    }
+}
+
+/// The constants, each with its number and its name.
+const NAMES: [(u16, &str); 2] = names!(TlsAlertSeverity: Warning, Fatal);
+
+impl fmt::Display for TlsAlertSeverity {
+    ghost output = { λ v. Some (name (codes "TlsAlertSeverity") alert_levels v.0) };
+
+    fn fmt<W: fmt::Write>(&self, f: &mut fmt::Formatter<W>) -> fmt::Result {
+        write_name(f, "TlsAlertSeverity", &NAMES, self.0 as u16)
+    }
+}

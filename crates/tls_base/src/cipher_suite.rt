@@ -1,0 +1,72 @@
+ghost use Rattle.std.specs.Prelude.{◌≡◌, ◌/◌};
+ghost use Rattle.tls_base.specs.Cipher.{block_size, code_length};
+
+use crate::cipher::{
+    TlsCipherAu, TlsCipherEnc, TlsCipherEncMode, TlsCipherKx, TlsCipherMac, TlsPRF,
+};
+use crate::cipher_suite_id::TlsCipherSuiteID;
+
+/// A cipher suite, with its parameters.
+#[derive(Clone, Debug, PartialEq, Eq, Drop)]
+pub struct TlsCipherSuite {
+    /// The name in the registry of cipher suites.
+    pub name: &'static str,
+    pub id: TlsCipherSuiteID,
+    /// The key exchange.
+    pub kx: TlsCipherKx,
+    /// The authentication.
+    pub au: TlsCipherAu,
+    /// The encryption.
+    pub enc: TlsCipherEnc,
+    pub enc_mode: TlsCipherEncMode,
+    /// The bits of a key of the encryption.
+    pub enc_size: u16,
+    /// The authentication of records.
+    pub mac: TlsCipherMac,
+    /// The length of the code that authenticates a record, as the table of suites gives it.
+    pub mac_size: u16,
+    /// The pseudorandom function.
+    pub prf: TlsPRF,
+}
+
+impl TlsCipherSuite {
+    /// The bytes of a key of the encryption.
+    pub fn enc_key_size(&self) -> usize
+        ensures { result ≡ self.now.enc_size / 8 }
+    {
+        (self.enc_size / 8) as usize
+    }
+
+    /// The bytes of a block of the encryption; 0 for a stream cipher and for none.
+    pub fn enc_block_size(&self) -> usize
+        ensures { result ≡ block_size self.now.enc }
+    {
+        match self.enc {
+            TlsCipherEnc::Des | TlsCipherEnc::Idea | TlsCipherEnc::Rc2 | TlsCipherEnc::TripleDes =>
+                8,
+            TlsCipherEnc::Aes
+            | TlsCipherEnc::Aria
+            | TlsCipherEnc::Camellia
+            | TlsCipherEnc::Seed
+            | TlsCipherEnc::Sm4 => 16,
+            TlsCipherEnc::Null
+            | TlsCipherEnc::Chacha20_Poly1305
+            | TlsCipherEnc::Rc4
+            | TlsCipherEnc::Aegis => 0,
+        }
+    }
+
+    /// The bytes of the code that authenticates a record; 0 where the encryption does so, or nothing does.
+    pub fn mac_length(&self) -> usize
+        ensures { result ≡ code_length self.now.mac }
+    {
+        match self.mac {
+            TlsCipherMac::HmacMd5 => 16,
+            TlsCipherMac::HmacSha1 => 20,
+            TlsCipherMac::HmacSha256 => 32,
+            TlsCipherMac::HmacSha384 => 48,
+            TlsCipherMac::HmacSha512 => 64,
+            TlsCipherMac::Null | TlsCipherMac::Aead => 0,
+        }
+    }
+}

@@ -1,0 +1,162 @@
+//! Tables of cipher suites, in which one is found by its id or its name.
+ghost use Rattle.std.specs.Prelude.{◌≡◌, List, MatchOption, MatchResult, IsErr};
+ghost use Rattle.std.specs.Option.{option_map};
+ghost use Rattle.std.specs.Result.{IsOkAnd};
+ghost use Rattle.tls_base.specs.CipherTable.{suite_of_id, suite_of_name, has_id, has_name, Differ, IsFirstFault};
+ghost use Rattle.tls_base.specs.declared.cipher_suite.TlsCipherSuite.{TlsCipherSuite as Suite};
+
+use crate::cipher_suite::TlsCipherSuite;
+use crate::cipher_suite_id::TlsCipherSuiteID;
+use std::marker::Model;
+
+/// Why a list of suites is no table. Positions are counted from 0.
+#[derive(Debug, PartialEq, Drop)]
+pub enum CipherTableFault {
+    /// The suite at this position has the id of an earlier one.
+    SameId(usize),
+    /// The suite at this position has the name of an earlier one.
+    SameName(usize),
+}
+
+/// A list of suites that is no table, and why.
+#[derive(Debug, PartialEq, Drop)]
+pub struct CipherTableError {
+    /// The first fault.
+    pub fault: CipherTableFault,
+    /// The list, as it was handed in.
+    pub list: Vec<TlsCipherSuite>,
+}
+
+/// No suite has the id or the name that was asked for.
+#[derive(Debug, Drop)]
+pub struct CipherSuiteNotFound(());
+
+/// Cipher suites, no two of which have the same id or the same name.
+#[derive(Drop)]
+pub struct CipherTable {
+    list: Vec<TlsCipherSuite>,
+}
+
+impl Model for CipherTable {
+    ghost Value = { List Suite };
+
+    ghost view = { λ t. t.list.items };
+
+    ghost invariant = { λ t. Differ t.list.items };
+}
+
+/// Whether one of the suites has that id.
+fn any_has_id(suites: &[TlsCipherSuite], id: u16) -> bool
+    ensures { result ≡ has_id suites.now id }
+{
+    suites.iter().any(|s| s.id.0 == id)
+}
+
+/// Whether one of the suites has that name.
+fn any_has_name(suites: &[TlsCipherSuite], name: &str) -> bool
+    ensures { result ≡ has_name suites.now name.now }
+{
+    suites.iter().any(|s| s.name == name)
+}
+
+/// The first position whose id or name is that of an earlier one; the id is tested before the name.
+fn first_fault(suites: &[TlsCipherSuite]) -> Option<CipherTableFault>
+    ensures { MatchOption result (Differ suites.now) (IsFirstFault suites.now) }
+{
+    for (k, suite) in suites.iter().enumerate() {
+        if any_has_id(&suites[..k], suite.id.0) {
+            return Some(CipherTableFault::SameId(k));
+        }
+        if any_has_name(&suites[..k], suite.name) {
+            return Some(CipherTableFault::SameName(k));
+        }
+    }
+    None
+}
+
+impl CipherTable {
+    /// The table of these suites. It takes no memory.
+    ///
+    /// Refused where a suite has the id or the name of an earlier one: the fault tells the first such position, counted
+    /// from 0, by its id where it has both, and the list is handed back.
+    pub fn new(list: Vec<TlsCipherSuite>) -> Result<CipherTable, CipherTableError>
+        ensures { MatchResult result
+            (λ table. Differ list.items × (table ≡ list.items))
+            (λ e. IsFirstFault list.items e.fault × (e.list ≡ list)) }
+    {
+        match first_fault(&list) {
+            None => Ok(CipherTable { list }),
+            Some(fault) => Err(CipherTableError { fault, list }),
+        }
+    }
+
+    /// The suites, in the order in which they were handed in.
+    pub fn suites(&self) -> &[TlsCipherSuite]
+        ensures { result.now ≡ self.now }
+    {
+        &self.list
+    }
+
+    /// The suite that has the id, if there is one.
+    pub fn by_id(&self, id: u16) -> Option<&TlsCipherSuite>
+        ensures { option_map (λ s. s.now) result ≡ suite_of_id self.now id }
+    {
+        self.list.iter().find(|s| s.id.0 == id)
+    }
+
+    /// The suite that has the name, if there is one.
+    fn by_name(&self, name: &str) -> Option<&TlsCipherSuite>
+        ensures { option_map (λ s. s.now) result ≡ suite_of_name self.now name.now }
+    {
+        self.list.iter().find(|s| s.name == name)
+    }
+
+    /// The suite that has the id. Refused where there is none.
+    pub fn try_from_u16(&self, id: u16) -> Result<&TlsCipherSuite, CipherSuiteNotFound>
+        ensures { MatchOption (suite_of_id self.now id) (IsErr result) (λ s. IsOkAnd result (λ r. r.now ≡ s)) }
+    {
+        self.by_id(id).ok_or(CipherSuiteNotFound(()))
+    }
+
+    /// The suite that has the id. Refused where there is none.
+    pub fn try_from_id(&self, id: TlsCipherSuiteID) -> Result<&TlsCipherSuite, CipherSuiteNotFound>
+        ensures { MatchOption (suite_of_id self.now id.0) (IsErr result) (λ s. IsOkAnd result (λ r. r.now ≡ s)) }
+    {
+        self.try_from_u16(id.0)
+    }
+
+    /// The suite that has the name. Refused where there is none.
+    pub fn try_from_name<'a>(
+        &'a self,
+        name: &str,
+    ) -> Result<&'a TlsCipherSuite, CipherSuiteNotFound>
+        ensures { MatchOption (suite_of_name self.now name.now) (IsErr result) (λ s. IsOkAnd result (λ r. r.now ≡ s)) }
+    {
+        self.by_name(name).ok_or(CipherSuiteNotFound(()))
+    }
+}
+
+impl TlsCipherSuite {
+    /// The suite of the table that has the id, if there is one.
+    pub fn from_id(table: &CipherTable, id: u16) -> Option<&TlsCipherSuite>
+        ensures { option_map (λ s. s.now) result ≡ suite_of_id table.now id }
+    {
+        table.by_id(id)
+    }
+
+    /// The suite of the table that has the name, if there is one.
+    pub fn from_name<'a>(table: &'a CipherTable, name: &str) -> Option<&'a TlsCipherSuite>
+        ensures { option_map (λ s. s.now) result ≡ suite_of_name table.now name.now }
+    {
+        table.by_name(name)
+    }
+}
+
+impl TlsCipherSuiteID {
+    /// The suite of the table that has this id, if there is one.
+    pub fn get_ciphersuite(self, table: &CipherTable) -> Option<&TlsCipherSuite>
+        ensures { option_map (λ s. s.now) result ≡ suite_of_id table.now self.0 }
+    {
+        table.by_id(self.0)
+    }
+}

@@ -1,0 +1,40 @@
+ghost use Rattle.std.specs.Prelude.{Some, codes};
+ghost use Rattle.tls_fields.specs.Layout.{number};
+ghost use Rattle.tls_fields.specs.Answers.{Gives};
+ghost use Rattle.tls_base.specs.Names.{name};
+ghost use Rattle.tls_base.specs.Constants.{curve_types};
+
+use crate::name::{names, write_name};
+use std::fmt;
+use tls_fields::{IResult, number1};
+
+/// How the curve of a key exchange is given: the ECCurveType of RFC 8422, 5.4.
+#[derive(Clone, Copy, PartialEq, Eq)]
+pub struct ECCurveType(pub u8);
+
+impl ECCurveType {
+    pub const ExplicitPrime: ECCurveType = ECCurveType(1);
+
+    pub const ExplicitChar2: ECCurveType = ECCurveType(2);
+
+    pub const NamedGroup: ECCurveType = ECCurveType(3);
+
+    /// Reads one byte. Refused as `Incomplete(1)` where there is none.
+    pub fn parse(i: &[u8]) -> IResult<&[u8], Self>
+        ensures { Gives (λ v. v.0) (number 1) i.now result }
+    {
+        let (i, n) = number1(i)?;
+        Ok((i, ECCurveType(n)))
+    }
+}
+
+/// The constants, each with its number and its name.
+const NAMES: [(u16, &str); 3] = names!(ECCurveType: ExplicitPrime, ExplicitChar2, NamedGroup);
+
+impl fmt::Display for ECCurveType {
+    ghost output = { λ v. Some (name (codes "ECCurveType") curve_types v.0) };
+
+    fn fmt<W: fmt::Write>(&self, f: &mut fmt::Formatter<W>) -> fmt::Result {
+        write_name(f, "ECCurveType", &NAMES, self.0 as u16)
+    }
+}

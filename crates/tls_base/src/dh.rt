@@ -1,0 +1,39 @@
+//! Parameters of a Diffie-Hellman key exchange over the integers.
+ghost use Rattle.tls_fields.specs.Answers.{Gives};
+ghost use Rattle.tls_base.specs.KeyExchange.{view_dh_params, dh_params};
+
+use tls_fields::{IResult, counted2};
+
+/// What a server sends for a Diffie-Hellman key exchange (RFC 5246, section 7.4.3). All numbers are big-endian, of any
+/// length.
+#[derive(Debug, PartialEq, Drop)]
+pub struct ServerDHParams<'a> {
+    /// The prime modulus.
+    pub dh_p: &'a [u8],
+    /// The generator.
+    pub dh_g: &'a [u8],
+    /// The server's public value.
+    pub dh_ys: &'a [u8],
+}
+
+impl<'a> ServerDHParams<'a> {
+    /// Reads three blocks, each behind 2 bytes of length, big-endian: the modulus, the generator, the public value.
+    ///
+    /// `Incomplete` of the missing bytes of the first length or block that isn't whole.
+    #[tactic(auto, using(tls_fields::proofs::OneAnswer::read_allowed), unfolding(crate::specs::KeyExchange::dh_params))]
+    pub fn parse(i: &'a [u8]) -> IResult<&'a [u8], Self>
+        ensures { Gives view_dh_params dh_params i.now result }
+    {
+        let (i, dh_p) = counted2(i)?;
+        let (i, dh_g) = counted2(i)?;
+        let (i, dh_ys) = counted2(i)?;
+        Ok((i, ServerDHParams { dh_p, dh_g, dh_ys }))
+    }
+}
+
+/// Reads what a server sends for a Diffie-Hellman key exchange, as [`ServerDHParams::parse`].
+pub fn parse_dh_params(i: &[u8]) -> IResult<&[u8], ServerDHParams>
+    ensures { Gives view_dh_params dh_params i.now result }
+{
+    ServerDHParams::parse(i)
+}

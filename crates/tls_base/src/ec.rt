@@ -1,0 +1,209 @@
+//! Parameters of a Diffie-Hellman key exchange over elliptic curves.
+ghost use Rattle.std.specs.Prelude.{map};
+ghost use Rattle.tls_fields.specs.Answers.{Gives, GivesOrMemory};
+ghost use Rattle.tls_fields.specs.Layout.{pairs as pairs_layout};
+ghost use Rattle.tls_base.specs.KeyExchange.{view_curve, curve as curve_layout, view_point, point as point_layout, view_explicit_prime, explicit_prime, view_curve_parameters, curve_parameters, view_ec_parameters, ec_parameters, view_ecdh_params, ecdh_params};
+
+use crate::curve_type::ECCurveType;
+use crate::named_group::NamedGroup;
+use std::alloc::Global;
+use std::fmt;
+use tls_fields::{Err, Error, ErrorKind, IResult, counted1, pairs};
+
+/// The coefficients of an elliptic curve (RFC 4492, section 5.4).
+#[derive(Debug, PartialEq, Drop)]
+pub struct ECCurve<'a> {
+    pub a: &'a [u8],
+    pub b: &'a [u8],
+}
+
+impl<'a> ECCurve<'a> {
+    /// Reads two blocks, each behind 1 byte of length.
+    ///
+    /// `Incomplete` of the missing bytes of the first length or block that isn't whole.
+    #[tactic(auto, using(tls_fields::proofs::OneAnswer::read_allowed), unfolding(crate::specs::KeyExchange::curve))]
+    pub fn parse(i: &'a [u8]) -> IResult<&'a [u8], Self>
+        ensures { Gives view_curve curve_layout i.now result }
+    {
+        let (i, a) = counted1(i)?;
+        let (i, b) = counted1(i)?;
+        Ok((i, ECCurve { a, b }))
+    }
+}
+
+/// A point of an elliptic curve (RFC 8422, section 5.4).
+#[derive(Clone, Debug, PartialEq, Drop)]
+pub struct ECPoint<'a> {
+    pub point: &'a [u8],
+}
+
+impl<'a> ECPoint<'a> {
+    /// Reads a block behind 1 byte of length.
+    ///
+    /// `Incomplete` of the missing bytes of the length, or else of the block.
+    pub fn parse(i: &'a [u8]) -> IResult<&'a [u8], Self>
+        ensures { Gives view_point point_layout i.now result }
+    {
+        let (i, point) = counted1(i)?;
+        Ok((i, ECPoint { point }))
+    }
+}
+
+/// A curve over a prime field that is given as such (RFC 4492, section 5.4).
+#[derive(Debug, PartialEq, Drop)]
+pub struct ExplicitPrimeContent<'a> {
+    /// The prime.
+    pub prime_p: &'a [u8],
+    /// The coefficients.
+    pub curve: ECCurve<'a>,
+    /// The base point.
+    pub base: ECPoint<'a>,
+    /// The order of the base point.
+    pub order: &'a [u8],
+    /// The cofactor of that order.
+    pub cofactor: &'a [u8],
+}
+
+impl<'a> ExplicitPrimeContent<'a> {
+    /// Reads six blocks, each behind 1 byte of length: the prime, the two coefficients, the base point, its order, its
+    /// cofactor.
+    ///
+    /// `Incomplete` of the missing bytes of the first length or block that isn't whole.
+    #[tactic(auto, using(tls_fields::proofs::OneAnswer::read_allowed), unfolding(crate::specs::KeyExchange::explicit_prime))]
+    pub fn parse(i: &'a [u8]) -> IResult<&'a [u8], Self>
+        ensures { Gives view_explicit_prime explicit_prime i.now result }
+    {
+        let (i, prime_p) = counted1(i)?;
+        let (i, curve) = ECCurve::parse(i)?;
+        let (i, base) = ECPoint::parse(i)?;
+        let (i, order) = counted1(i)?;
+        let (i, cofactor) = counted1(i)?;
+        let content = ExplicitPrimeContent {
+            prime_p,
+            curve,
+            base,
+            order,
+            cofactor,
+        };
+        Ok((i, content))
+    }
+}
+
+/// The curve of a key exchange, as such or by its number (RFC 8422, section 5.4).
+#[derive(Debug, PartialEq, Drop)]
+pub enum ECParametersContent<'a> {
+    ExplicitPrime(ExplicitPrimeContent<'a>),
+    NamedGroup(NamedGroup),
+}
+
+impl<'a> ECParametersContent<'a> {
+    /// Reads what stands behind that type of curve: for an explicit prime an [`ExplicitPrimeContent`], for a named curve
+    /// the 2 bytes of its number, big-endian.
+    ///
+    /// `Error` of kind `Switch` for any other type; else `Incomplete` of the missing bytes.
+    #[tactic(auto, using(tls_fields::proofs::OneAnswer::read_allowed), unfolding(crate::specs::KeyExchange::curve_parameters))]
+    pub fn parse(i: &'a [u8], curve_type: ECCurveType) -> IResult<&'a [u8], Self>
+        ensures { Gives view_curve_parameters (curve_parameters curve_type.0) i.now result }
+    {
+        match curve_type {
+            ECCurveType::ExplicitPrime => {
+                let (i, content) = ExplicitPrimeContent::parse(i)?;
+                Ok((i, ECParametersContent::ExplicitPrime(content)))
+            }
+            ECCurveType::NamedGroup => {
+                let (i, group) = NamedGroup::parse(i)?;
+                Ok((i, ECParametersContent::NamedGroup(group)))
+            }
+            _ => Err(Err::Error(Error {
+                input: i,
+                code: ErrorKind::Switch,
+            })),
+        }
+    }
+}
+
+/// The curve of a key exchange, behind how it is given (RFC 8422, section 5.4).
+#[derive(PartialEq, Drop)]
+pub struct ECParameters<'a> {
+    /// How the curve is given.
+    pub curve_type: ECCurveType,
+    pub params_content: ECParametersContent<'a>,
+}
+
+impl<'a> ECParameters<'a> {
+    /// Reads 1 byte, the type of the curve, and what stands behind that type, as [`ECParametersContent::parse`].
+    ///
+    /// `Incomplete(1)` where there is no byte; then as that call refuses.
+    #[tactic(auto, using(tls_fields::proofs::OneAnswer::read_allowed), unfolding(crate::specs::KeyExchange::ec_parameters))]
+    pub fn parse(i: &'a [u8]) -> IResult<&'a [u8], Self>
+        ensures { Gives view_ec_parameters ec_parameters i.now result }
+    {
+        let (i, curve_type) = ECCurveType::parse(i)?;
+        let (i, params_content) = ECParametersContent::parse(i, curve_type)?;
+        let parameters = ECParameters {
+            curve_type,
+            params_content,
+        };
+        Ok((i, parameters))
+    }
+}
+
+/// Shows the type of the curve as its number.
+impl fmt::Debug for ECParameters<'_> {
+    fn fmt<W: fmt::Write>(&self, f: &mut fmt::Formatter<W>) -> fmt::Result {
+        f.debug_struct("ECParameters")
+            .field("curve_type", &self.curve_type.0)
+            .field("params_content", &self.params_content)
+            .finish()
+    }
+}
+
+/// What a server sends for a Diffie-Hellman key exchange over a curve (RFC 8422, section 5.4).
+#[derive(Debug, PartialEq, Drop)]
+pub struct ServerECDHParams<'a> {
+    /// The curve.
+    pub curve_params: ECParameters<'a>,
+    /// The server's public value.
+    pub public: ECPoint<'a>,
+}
+
+impl<'a> ServerECDHParams<'a> {
+    /// Reads an [`ECParameters`] and an [`ECPoint`].
+    ///
+    /// It refuses as the first of these does that isn't read.
+    #[tactic(auto, using(tls_fields::proofs::OneAnswer::read_allowed), unfolding(crate::specs::KeyExchange::ecdh_params))]
+    pub fn parse(i: &'a [u8]) -> IResult<&'a [u8], Self>
+        ensures { Gives view_ecdh_params ecdh_params i.now result }
+    {
+        let (i, curve_params) = ECParameters::parse(i)?;
+        let (i, public) = ECPoint::parse(i)?;
+        let params = ServerECDHParams {
+            curve_params,
+            public,
+        };
+        Ok((i, params))
+    }
+}
+
+/// Reads the curve of a key exchange, as [`ECParameters::parse`].
+pub fn parse_ec_parameters(i: &[u8]) -> IResult<&[u8], ECParameters>
+    ensures { Gives view_ec_parameters ec_parameters i.now result }
+{
+    ECParameters::parse(i)
+}
+
+/// Reads what a server sends for a Diffie-Hellman key exchange over a curve, as [`ServerECDHParams::parse`].
+pub fn parse_ecdh_params(i: &[u8]) -> IResult<&[u8], ServerECDHParams>
+    ensures { Gives view_ecdh_params ecdh_params i.now result }
+{
+    ServerECDHParams::parse(i)
+}
+
+/// Reads all bytes as numbers of groups, of 2 bytes each, big-endian (RFC 8446, section 4.2.7).
+///
+/// `Error` of kind `LengthValue` where the count of bytes is odd. `OutOfMemory` where the list could not be held.
+pub fn parse_named_groups(alloc: Global, i: &[u8]) -> IResult<&[u8], Vec<NamedGroup>>
+    ensures { GivesOrMemory (λ v. map (λ g. g.0) v.items) pairs_layout i.now result }
+{
+    pairs(alloc, i)
+}

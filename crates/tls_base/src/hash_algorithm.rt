@@ -1,0 +1,52 @@
+ghost use Rattle.std.specs.Prelude.{Some, codes};
+ghost use Rattle.tls_fields.specs.Layout.{number};
+ghost use Rattle.tls_fields.specs.Answers.{Gives};
+ghost use Rattle.tls_base.specs.Names.{name};
+ghost use Rattle.tls_base.specs.Constants.{hash_algorithms};
+
+use crate::name::{names, write_name};
+use std::fmt;
+use tls_fields::{IResult, number1};
+
+/// A hash: the HashAlgorithm of RFC 5246, 7.4.1.4.1.
+#[derive(Clone, Debug, PartialEq, Eq, Drop)]
+pub struct HashAlgorithm(pub u8);
+
+impl HashAlgorithm {
+    pub const None: HashAlgorithm = HashAlgorithm(0);
+
+    pub const Md5: HashAlgorithm = HashAlgorithm(1);
+
+    pub const Sha1: HashAlgorithm = HashAlgorithm(2);
+
+    pub const Sha224: HashAlgorithm = HashAlgorithm(3);
+
+    pub const Sha256: HashAlgorithm = HashAlgorithm(4);
+
+    pub const Sha384: HashAlgorithm = HashAlgorithm(5);
+
+    pub const Sha512: HashAlgorithm = HashAlgorithm(6);
+
+    pub const Intrinsic: HashAlgorithm = HashAlgorithm(8);
+
+    /// Reads one byte. Refused as `Incomplete(1)` where there is none.
+    pub fn parse(i: &[u8]) -> IResult<&[u8], Self>
+        ensures { Gives (λ v. v.0) (number 1) i.now result }
+    {
+        let (i, n) = number1(i)?;
+        Ok((i, HashAlgorithm(n)))
+    }
+}
+
+/// The constants, each with its number and its name.
+const NAMES: [(u16, &str); 8] = names!(
+    HashAlgorithm: None, Md5, Sha1, Sha224, Sha256, Sha384, Sha512, Intrinsic
+);
+
+impl fmt::Display for HashAlgorithm {
+    ghost output = { λ v. Some (name (codes "HashAlgorithm") hash_algorithms v.0) };
+
+    fn fmt<W: fmt::Write>(&self, f: &mut fmt::Formatter<W>) -> fmt::Result {
+        write_name(f, "HashAlgorithm", &NAMES, self.0 as u16)
+    }
+}

@@ -1,0 +1,177 @@
+ghost use Rattle.std.specs.Prelude.{ℕ, Some, codes, ◌≡◌};
+ghost use Rattle.tls_fields.specs.Layout.{number};
+ghost use Rattle.tls_fields.specs.Answers.{Gives};
+ghost use Rattle.tls_base.specs.Names.{name};
+ghost use Rattle.tls_base.specs.Constants.{key_bits as key_bits_of, named_groups};
+
+use crate::name::{find_number, names, write_name};
+use std::alloc::Global;
+use std::fmt;
+use tls_fields::{IResult, Item, number2};
+
+/// A group for a key exchange: the NamedGroup of RFC 8446, 4.2.7, its two bytes as one number, with the NamedCurve of
+/// RFC 8422, 5.1.1.
+#[derive(Clone, Copy, Debug, PartialEq, Eq)]
+pub struct NamedGroup(pub u16);
+
+impl NamedGroup {
+    pub const Sect163k1: NamedGroup = NamedGroup(1);
+
+    pub const Sect163r1: NamedGroup = NamedGroup(2);
+
+    pub const Sect163r2: NamedGroup = NamedGroup(3);
+
+    pub const Sect193r1: NamedGroup = NamedGroup(4);
+
+    pub const Sect193r2: NamedGroup = NamedGroup(5);
+
+    pub const Sect233k1: NamedGroup = NamedGroup(6);
+
+    pub const Sect233r1: NamedGroup = NamedGroup(7);
+
+    pub const Sect239k1: NamedGroup = NamedGroup(8);
+
+    pub const Sect283k1: NamedGroup = NamedGroup(9);
+
+    pub const Sect283r1: NamedGroup = NamedGroup(10);
+
+    pub const Sect409k1: NamedGroup = NamedGroup(11);
+
+    pub const Sect409r1: NamedGroup = NamedGroup(12);
+
+    pub const Sect571k1: NamedGroup = NamedGroup(13);
+
+    pub const Sect571r1: NamedGroup = NamedGroup(14);
+
+    pub const Secp160k1: NamedGroup = NamedGroup(15);
+
+    pub const Secp160r1: NamedGroup = NamedGroup(16);
+
+    pub const Secp160r2: NamedGroup = NamedGroup(17);
+
+    pub const Secp192k1: NamedGroup = NamedGroup(18);
+
+    pub const Secp192r1: NamedGroup = NamedGroup(19);
+
+    pub const Secp224k1: NamedGroup = NamedGroup(20);
+
+    pub const Secp224r1: NamedGroup = NamedGroup(21);
+
+    pub const Secp256k1: NamedGroup = NamedGroup(22);
+
+    pub const Secp256r1: NamedGroup = NamedGroup(23);
+
+    pub const Secp384r1: NamedGroup = NamedGroup(24);
+
+    pub const Secp521r1: NamedGroup = NamedGroup(25);
+
+    pub const BrainpoolP256r1: NamedGroup = NamedGroup(26);
+
+    pub const BrainpoolP384r1: NamedGroup = NamedGroup(27);
+
+    pub const BrainpoolP512r1: NamedGroup = NamedGroup(28);
+
+    pub const EcdhX25519: NamedGroup = NamedGroup(29);
+
+    pub const EcdhX448: NamedGroup = NamedGroup(30);
+
+    pub const BrainpoolP256r1tls13: NamedGroup = NamedGroup(31);
+
+    pub const BrainpoolP384r1tls13: NamedGroup = NamedGroup(32);
+
+    pub const BrainpoolP512r1tls13: NamedGroup = NamedGroup(33);
+
+    pub const Sm2: NamedGroup = NamedGroup(41);
+
+    pub const Ffdhe2048: NamedGroup = NamedGroup(0x0100);
+
+    pub const Ffdhe3072: NamedGroup = NamedGroup(0x0101);
+
+    pub const Ffdhe4096: NamedGroup = NamedGroup(0x0102);
+
+    pub const Ffdhe6144: NamedGroup = NamedGroup(0x0103);
+
+    pub const Ffdhe8192: NamedGroup = NamedGroup(0x0104);
+
+    pub const ArbitraryExplicitPrimeCurves: NamedGroup = NamedGroup(0xff01);
+
+    pub const ArbitraryExplicitChar2Curves: NamedGroup = NamedGroup(0xff02);
+
+    /// The bits of a key, for the curves of RFC 8422 and RFC 7027 and for X25519; `None` for any other group.
+    pub fn key_bits(self) -> Option<u16>
+        ensures { result ≡ key_bits_of self.0 }
+    {
+        find_number(&KEY_BITS, self.0)
+    }
+
+    /// Reads two bytes, big-endian. Refused as `Incomplete` of the count that is missing, 2 or 1.
+    pub fn parse(i: &[u8]) -> IResult<&[u8], Self>
+        ensures { Gives (λ v. v.0) (number 2) i.now result }
+    {
+        let (i, n) = number2(i)?;
+        Ok((i, NamedGroup(n)))
+    }
+}
+
+impl<'a> Item<'a> for NamedGroup {
+    ghost Value = { ℕ };
+
+    ghost view = { λ v. v.0 };
+
+    ghost layout = { number 2 };
+
+    fn read(_alloc: Global, i: &'a [u8]) -> IResult<&'a [u8], Self> {
+        NamedGroup::parse(i)
+    }
+}
+
+/// The bits of a key, for the groups that tell of them.
+const KEY_BITS: [(u16, u16); 29] = [
+    (NamedGroup::Sect163k1.0, 163),
+    (NamedGroup::Sect163r1.0, 163),
+    (NamedGroup::Sect163r2.0, 163),
+    (NamedGroup::Sect193r1.0, 193),
+    (NamedGroup::Sect193r2.0, 193),
+    (NamedGroup::Sect233k1.0, 233),
+    (NamedGroup::Sect233r1.0, 233),
+    (NamedGroup::Sect239k1.0, 239),
+    (NamedGroup::Sect283k1.0, 283),
+    (NamedGroup::Sect283r1.0, 283),
+    (NamedGroup::Sect409k1.0, 409),
+    (NamedGroup::Sect409r1.0, 409),
+    (NamedGroup::Sect571k1.0, 571),
+    (NamedGroup::Sect571r1.0, 571),
+    (NamedGroup::Secp160k1.0, 160),
+    (NamedGroup::Secp160r1.0, 160),
+    (NamedGroup::Secp160r2.0, 160),
+    (NamedGroup::Secp192k1.0, 192),
+    (NamedGroup::Secp192r1.0, 192),
+    (NamedGroup::Secp224k1.0, 224),
+    (NamedGroup::Secp224r1.0, 224),
+    (NamedGroup::Secp256k1.0, 256),
+    (NamedGroup::Secp256r1.0, 256),
+    (NamedGroup::Secp384r1.0, 384),
+    (NamedGroup::Secp521r1.0, 521),
+    (NamedGroup::BrainpoolP256r1.0, 256),
+    (NamedGroup::BrainpoolP384r1.0, 384),
+    (NamedGroup::BrainpoolP512r1.0, 512),
+    (NamedGroup::EcdhX25519.0, 253),
+];
+
+/// The constants, each with its number and its name.
+const NAMES: [(u16, &str); 41] = names!(
+    NamedGroup: Sect163k1, Sect163r1, Sect163r2, Sect193r1, Sect193r2, Sect233k1, Sect233r1,
+    Sect239k1, Sect283k1, Sect283r1, Sect409k1, Sect409r1, Sect571k1, Sect571r1, Secp160k1,
+    Secp160r1, Secp160r2, Secp192k1, Secp192r1, Secp224k1, Secp224r1, Secp256k1, Secp256r1,
+    Secp384r1, Secp521r1, BrainpoolP256r1, BrainpoolP384r1, BrainpoolP512r1, EcdhX25519, EcdhX448,
+    BrainpoolP256r1tls13, BrainpoolP384r1tls13, BrainpoolP512r1tls13, Sm2, Ffdhe2048, Ffdhe3072,
+    Ffdhe4096, Ffdhe6144, Ffdhe8192, ArbitraryExplicitPrimeCurves, ArbitraryExplicitChar2Curves
+);
+
+impl fmt::Display for NamedGroup {
+    ghost output = { λ v. Some (name (codes "NamedGroup") named_groups v.0) };
+
+    fn fmt<W: fmt::Write>(&self, f: &mut fmt::Formatter<W>) -> fmt::Result {
+        write_name(f, "NamedGroup", &NAMES, self.0)
+    }
+}

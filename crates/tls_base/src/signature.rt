@@ -1,0 +1,108 @@
+//! Signatures, and what they are made with.
+ghost use Rattle.std.specs.Prelude.{Some};
+ghost use Rattle.tls_fields.specs.Answers.{Gives};
+ghost use Rattle.tls_base.specs.Signature.{view_algorithm, algorithm, algorithm_text, view_signed, digitally_signed, digitally_signed_old, signature, GivesSignature};
+
+use crate::hash_algorithm::HashAlgorithm;
+use crate::sign_algorithm::SignAlgorithm;
+use std::fmt;
+use tls_fields::{IResult, counted2};
+
+/// How a signature is made, in the older way (RFC 5246, section 7.4.1.4.1).
+#[derive(Clone, Debug, PartialEq, Drop)]
+pub struct SignatureAndHashAlgorithm {
+    pub hash: HashAlgorithm,
+    pub sign: SignAlgorithm,
+}
+
+impl SignatureAndHashAlgorithm {
+    /// Reads 1 byte, the hash, and 1 byte, the way to sign.
+    ///
+    /// `Incomplete(1)` where one of them lacks.
+    #[tactic(auto, using(tls_fields::proofs::OneAnswer::read_allowed), unfolding(crate::specs::Signature::algorithm))]
+    pub fn parse(i: &[u8]) -> IResult<&[u8], Self>
+        ensures { Gives view_algorithm algorithm i.now result }
+    {
+        let (i, hash) = HashAlgorithm::parse(i)?;
+        let (i, sign) = SignAlgorithm::parse(i)?;
+        Ok((i, SignatureAndHashAlgorithm { hash, sign }))
+    }
+}
+
+impl fmt::Display for SignatureAndHashAlgorithm {
+    ghost output = { λ v. Some (algorithm_text v) };
+
+    fn fmt<W: fmt::Write>(&self, f: &mut fmt::Formatter<W>) -> fmt::Result {
+        write!(f, "HashSign({},{})", self.hash, self.sign)
+    }
+}
+
+/// A signature (RFC 5246, section 4.7).
+#[derive(Clone, Debug, PartialEq, Drop)]
+pub struct DigitallySigned<'a> {
+    /// How it is made; `None` in the form of the versions before TLS 1.2.
+    pub alg: Option<SignatureAndHashAlgorithm>,
+    /// The signature itself.
+    pub bytes: &'a [u8],
+}
+
+/// Reads a signature in the form of the versions before TLS 1.2 (RFC 4346, section 4.7): a block behind 2 bytes of
+/// length, big-endian.
+///
+/// `Incomplete` of the missing bytes of the length, or else of the block.
+#[tactic(auto, using(tls_fields::proofs::OneAnswer::read_allowed), unfolding(crate::specs::Signature::digitally_signed_old))]
+pub fn parse_digitally_signed_old(i: &[u8]) -> IResult<&[u8], DigitallySigned>
+    ensures { Gives view_signed digitally_signed_old i.now result }
+{
+    let (i, bytes) = counted2(i)?;
+    Ok((i, DigitallySigned { alg: None, bytes }))
+}
+
+/// Reads a signature (RFC 5246, section 4.7): 1 byte of hash, 1 byte of the way to sign, and a block behind 2 bytes of
+/// length, big-endian.
+///
+/// `Incomplete` of the missing bytes of the first part that isn't whole.
+#[tactic(auto, using(tls_fields::proofs::OneAnswer::read_allowed), unfolding(crate::specs::Signature::digitally_signed))]
+pub fn parse_digitally_signed(i: &[u8]) -> IResult<&[u8], DigitallySigned>
+    ensures { Gives view_signed digitally_signed i.now result }
+{
+    let (i, algorithm) = SignatureAndHashAlgorithm::parse(i)?;
+    let (i, bytes) = counted2(i)?;
+    let signed = DigitallySigned {
+        alg: Some(algorithm),
+        bytes,
+    };
+    Ok((i, signed))
+}
+
+/// A signature, as [`parse_digitally_signed`] where `ext`, else as [`parse_digitally_signed_old`].
+#[tactic(auto, using(tls_fields::proofs::OneAnswer::read_allowed), unfolding(crate::specs::Signature::signature))]
+fn either_signature(i: &[u8], ext: bool) -> IResult<&[u8], DigitallySigned>
+    ensures { Gives view_signed (signature ext) i.now result }
+{
+    if ext {
+        parse_digitally_signed(i)
+    } else {
+        parse_digitally_signed_old(i)
+    }
+}
+
+/// Reads with `fun`, and then a signature from what `fun` leaves: as [`parse_digitally_signed`] where `ext`, else as
+/// [`parse_digitally_signed_old`].
+///
+/// A refusal of `fun`, whatever it is, is the answer; then it refuses as the signature does.
+pub fn parse_content_and_signature<'a, F, T>(
+    i: &'a [u8],
+    fun: F,
+    ext: bool,
+) -> IResult<&'a [u8], (T, DigitallySigned<'a>)>
+where
+    F: Fn(&'a [u8]) -> IResult<&'a [u8], T>,
+    T: Drop,
+    requires { F.pre fun i }
+    ensures { (answer : _) × F.post fun i.entry answer × GivesSignature ext answer result }
+{
+    let (i, content) = fun(i)?;
+    let (i, signature) = either_signature(i, ext)?;
+    Ok((i, (content, signature)))
+}

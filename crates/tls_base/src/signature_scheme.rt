@@ -1,0 +1,101 @@
+ghost use Rattle.std.specs.Prelude.{Some, codes, ◌≡◌, ◌≤◌, ◌↔◌, ◌/◌, ◌%◌, IsTrue};
+ghost use Rattle.tls_fields.specs.Layout.{number};
+ghost use Rattle.tls_fields.specs.Answers.{Gives};
+ghost use Rattle.tls_base.specs.Names.{name};
+ghost use Rattle.tls_base.specs.Constants.{signature_schemes};
+
+use crate::name::{names, write_name};
+use std::fmt;
+use tls_fields::{IResult, number2};
+
+/// How a signature is made: the SignatureScheme of RFC 8446, 4.2.3, its two bytes as one number.
+#[derive(Debug, PartialEq, Eq, Drop)]
+pub struct SignatureScheme(pub u16);
+
+impl SignatureScheme {
+    pub const rsa_pkcs1_sha256: SignatureScheme = SignatureScheme(0x0401);
+
+    pub const rsa_pkcs1_sha384: SignatureScheme = SignatureScheme(0x0501);
+
+    pub const rsa_pkcs1_sha512: SignatureScheme = SignatureScheme(0x0601);
+
+    pub const rsa_pkcs1_sha1: SignatureScheme = SignatureScheme(0x0201);
+
+    pub const ecdsa_secp256r1_sha256: SignatureScheme = SignatureScheme(0x0403);
+
+    pub const ecdsa_secp384r1_sha384: SignatureScheme = SignatureScheme(0x0503);
+
+    pub const ecdsa_secp521r1_sha512: SignatureScheme = SignatureScheme(0x0603);
+
+    pub const ecdsa_sha1: SignatureScheme = SignatureScheme(0x0203);
+
+    pub const sm2sig_sm3: SignatureScheme = SignatureScheme(0x0708);
+
+    pub const rsa_pss_rsae_sha256: SignatureScheme = SignatureScheme(0x0804);
+
+    pub const rsa_pss_rsae_sha384: SignatureScheme = SignatureScheme(0x0805);
+
+    pub const rsa_pss_rsae_sha512: SignatureScheme = SignatureScheme(0x0806);
+
+    pub const ed25519: SignatureScheme = SignatureScheme(0x0807);
+
+    pub const ed448: SignatureScheme = SignatureScheme(0x0808);
+
+    pub const rsa_pss_pss_sha256: SignatureScheme = SignatureScheme(0x0809);
+
+    pub const rsa_pss_pss_sha384: SignatureScheme = SignatureScheme(0x080a);
+
+    pub const rsa_pss_pss_sha512: SignatureScheme = SignatureScheme(0x080b);
+
+    pub const ecdsa_brainpoolP256r1tls13_sha256: SignatureScheme = SignatureScheme(0x081a);
+
+    pub const ecdsa_brainpoolP384r1tls13_sha384: SignatureScheme = SignatureScheme(0x081b);
+
+    pub const ecdsa_brainpoolP512r1tls13_sha512: SignatureScheme = SignatureScheme(0x081c);
+
+    /// Whether the number is one of 0xfe00 to 0xfeff, which are kept for private use.
+    pub fn is_reserved(&self) -> bool
+        ensures { IsTrue result ↔ ((0xfe00 ≤ self.now.0) × (self.now.0 ≤ 0xfeff)) }
+    {
+        0xfe00 <= self.0 && self.0 <= 0xfeff
+    }
+
+    /// The first of the two bytes, which is a [`crate::HashAlgorithm`] where a signature is named in the older way.
+    pub fn hash_alg(&self) -> u8
+        ensures { result ≡ self.now.0 / 256 }
+    {
+        (self.0 >> 8) as u8
+    }
+
+    /// The second of the two bytes, which is a [`crate::SignAlgorithm`] where a signature is named in the older way.
+    pub fn sign_alg(&self) -> u8
+        ensures { result ≡ self.now.0 % 256 }
+    {
+        (self.0 & 0xff) as u8
+    }
+
+    /// Reads two bytes, big-endian. Refused as `Incomplete` of the count that is missing, 2 or 1.
+    pub fn parse(i: &[u8]) -> IResult<&[u8], Self>
+        ensures { Gives (λ v. v.0) (number 2) i.now result }
+    {
+        let (i, n) = number2(i)?;
+        Ok((i, SignatureScheme(n)))
+    }
+}
+
+/// The constants, each with its number and its name.
+const NAMES: [(u16, &str); 20] = names!(
+    SignatureScheme: rsa_pkcs1_sha256, rsa_pkcs1_sha384, rsa_pkcs1_sha512, rsa_pkcs1_sha1,
+    ecdsa_secp256r1_sha256, ecdsa_secp384r1_sha384, ecdsa_secp521r1_sha512, ecdsa_sha1, sm2sig_sm3,
+    rsa_pss_rsae_sha256, rsa_pss_rsae_sha384, rsa_pss_rsae_sha512, ed25519, ed448,
+    rsa_pss_pss_sha256, rsa_pss_pss_sha384, rsa_pss_pss_sha512, ecdsa_brainpoolP256r1tls13_sha256,
+    ecdsa_brainpoolP384r1tls13_sha384, ecdsa_brainpoolP512r1tls13_sha512
+);
+
+impl fmt::Display for SignatureScheme {
+    ghost output = { λ v. Some (name (codes "SignatureScheme") signature_schemes v.0) };
+
+    fn fmt<W: fmt::Write>(&self, f: &mut fmt::Formatter<W>) -> fmt::Result {
+        write_name(f, "SignatureScheme", &NAMES, self.0)
+    }
+}

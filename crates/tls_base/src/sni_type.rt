@@ -1,0 +1,36 @@
+ghost use Rattle.std.specs.Prelude.{Some, codes};
+ghost use Rattle.tls_fields.specs.Layout.{number};
+ghost use Rattle.tls_fields.specs.Answers.{Gives};
+ghost use Rattle.tls_base.specs.Names.{name};
+ghost use Rattle.tls_base.specs.Constants.{name_types};
+
+use crate::name::{names, write_name};
+use std::fmt;
+use tls_fields::{IResult, number1};
+
+/// What a server name is: the NameType of RFC 6066, 3.
+#[derive(Clone, Copy, Debug, PartialEq, Eq)]
+pub struct SNIType(pub u8);
+
+impl SNIType {
+    pub const HostName: SNIType = SNIType(0);
+
+    /// Reads one byte. Refused as `Incomplete(1)` where there is none.
+    pub fn parse(i: &[u8]) -> IResult<&[u8], Self>
+        ensures { Gives (λ v. v.0) (number 1) i.now result }
+    {
+        let (i, n) = number1(i)?;
+        Ok((i, SNIType(n)))
+    }
+}
+
+/// The constants, each with its number and its name.
+const NAMES: [(u16, &str); 1] = names!(SNIType: HostName);
+
+impl fmt::Display for SNIType {
+    ghost output = { λ v. Some (name (codes "SNIType") name_types v.0) };
+
+    fn fmt<W: fmt::Write>(&self, f: &mut fmt::Formatter<W>) -> fmt::Result {
+        write_name(f, "SNIType", &NAMES, self.0 as u16)
+    }
+}

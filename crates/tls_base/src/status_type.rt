@@ -1,0 +1,36 @@
+ghost use Rattle.std.specs.Prelude.{Some, codes};
+ghost use Rattle.tls_fields.specs.Layout.{number};
+ghost use Rattle.tls_fields.specs.Answers.{Gives};
+ghost use Rattle.tls_base.specs.Names.{name};
+ghost use Rattle.tls_base.specs.Constants.{certificate_status_types};
+
+use crate::name::{names, write_name};
+use std::fmt;
+use tls_fields::{IResult, number1};
+
+/// What a certificate status is: the CertificateStatusType of RFC 6066, 8.
+#[derive(Clone, Copy, Debug, PartialEq, Eq)]
+pub struct CertificateStatusType(pub u8);
+
+impl CertificateStatusType {
+    pub const OCSP: CertificateStatusType = CertificateStatusType(1);
+
+    /// Reads one byte. Refused as `Incomplete(1)` where there is none.
+    pub fn parse(i: &[u8]) -> IResult<&[u8], Self>
+        ensures { Gives (λ v. v.0) (number 1) i.now result }
+    {
+        let (i, n) = number1(i)?;
+        Ok((i, CertificateStatusType(n)))
+    }
+}
+
+/// The constants, each with its number and its name.
+const NAMES: [(u16, &str); 1] = names!(CertificateStatusType: OCSP);
+
+impl fmt::Display for CertificateStatusType {
+    ghost output = { λ v. Some (name (codes "CertificateStatusType") certificate_status_types v.0) };
+
+    fn fmt<W: fmt::Write>(&self, f: &mut fmt::Formatter<W>) -> fmt::Result {
+        write_name(f, "CertificateStatusType", &NAMES, self.0 as u16)
+    }
+}

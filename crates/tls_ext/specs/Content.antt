@@ -1,0 +1,195 @@
+-- The content of each kind of extension: what stands behind its type and its length.
+use Rattle.std.specs.Prelude.{Some, None, ◌==◌, [], ◌∷◌}
+use Rattle.tls_fields.specs.Bytes.{Bytes}
+use Rattle.tls_fields.specs.Layout.{Layout, done, number, ignored, left, list, maybe, ◌>>=◌, ◌>>◌, test, choose, rest, counted, counted_window, pairs}
+use Rattle.tls_fields.specs.declared.result.ErrorKind.TheVariants.{Verify}
+use Rattle.tls_ext.specs.Extension as ext
+use Rattle.tls_ext.specs.Extension.{Extension, ServerName, StatusRequest, OidFilter}
+
+-- NameType name_type; opaque HostName<1..2^16-1> (RFC 6066, section 3). The type may be any, and the name empty.
+unfoldable pub server_name : Layout ServerName
+server_name = do
+  kind ← number 1
+  name ← counted 2
+  done (record { name_type = kind; name = name })
+
+-- ServerName server_name_list<1..2^16-1> (RFC 6066, section 3); no bytes where a server answers.
+unfoldable pub server_names : Layout Extension
+server_names = do
+  n ← left
+  names ← choose (n == 0) (done []) (counted_window 2 (list server_name))
+  done (ext.server_name names)
+
+-- enum MaxFragmentLength, of 1 byte (RFC 6066, section 4).
+unfoldable pub max_fragment_length : Layout Extension
+max_fragment_length = do
+  code ← number 1
+  done (ext.max_fragment_length code)
+
+-- CertificateStatusType status_type, and what it says of itself; no bytes where a server answers (RFC 6066, section 8).
+unfoldable pub status_request : Layout Extension
+status_request = do
+  n ← left
+  choose (n == 0) (done (ext.status_request None)) (do
+    kind ← number 1
+    request ← rest
+    done (ext.status_request (Some (record { status_type = kind; request = request }))))
+
+-- NamedGroup named_group_list<2..2^16-1> (RFC 8446, section 4.2.7).
+unfoldable pub supported_groups : Layout Extension
+supported_groups = do
+  groups ← counted_window 2 pairs
+  done (ext.supported_groups groups)
+
+-- ECPointFormat ec_point_format_list<1..2^8-1> (RFC 8422, section 5.1.2).
+unfoldable pub ec_point_formats : Layout Extension
+ec_point_formats = do
+  formats ← counted 1
+  done (ext.ec_point_formats formats)
+
+-- SignatureScheme supported_signature_algorithms<2..2^16-2> (RFC 8446, section 4.2.3).
+unfoldable pub signature_algorithms : Layout Extension
+signature_algorithms = do
+  algorithms ← counted_window 2 (list (number 2))
+  done (ext.signature_algorithms algorithms)
+
+-- HeartbeatMode mode, of 1 byte (RFC 6520, section 2).
+unfoldable pub heartbeat : Layout Extension
+heartbeat = do
+  mode ← number 1
+  done (ext.heartbeat mode)
+
+-- ProtocolName protocol_name_list<2..2^16-1>, each an opaque<1..2^8-1> (RFC 7301, section 3.1).
+unfoldable pub application_layer_protocol_negotiation : Layout Extension
+application_layer_protocol_negotiation = do
+  names ← counted_window 2 (list (counted 1))
+  done (ext.application_layer_protocol_negotiation names)
+
+-- A SignedCertificateTimestampList, as it stands behind its length (RFC 6962, section 3.3.1); none where a client asks.
+unfoldable pub signed_certificate_timestamp : Layout Extension
+signed_certificate_timestamp = do
+  timestamps ← maybe (counted 2)
+  done (ext.signed_certificate_timestamp timestamps)
+
+-- All bytes that are left are the value of that kind.
+abbrev pub opaque_content : (Bytes → Extension) → Layout Extension
+opaque_content kind = do
+  bytes ← rest
+  done (kind bytes)
+
+-- The content of an extension that says all by being there: no bytes.
+abbrev pub empty_content : Extension → Layout Extension
+empty_content kind = do
+  n ← left
+  test (n == 0) Verify
+  done kind
+
+-- Zeros, of any number (RFC 7685, section 3); no call tests that they are zeros.
+unfoldable pub padding : Layout Extension
+padding = opaque_content ext.padding
+
+-- RFC 7366, section 2.
+unfoldable pub encrypt_then_mac : Layout Extension
+encrypt_then_mac = empty_content ext.encrypt_then_mac
+
+-- RFC 7627, section 5.1.
+unfoldable pub extended_master_secret : Layout Extension
+extended_master_secret = empty_content ext.extended_master_secret
+
+-- uint16 RecordSizeLimit (RFC 8449, section 4).
+unfoldable pub record_size_limit : Layout Extension
+record_size_limit = do
+  limit ← number 2
+  done (ext.record_size_limit limit)
+
+-- A ticket, with no length of its own (RFC 5077, section 3.2).
+unfoldable pub session_ticket : Layout Extension
+session_ticket = opaque_content ext.session_ticket
+
+-- Key shares under the number that drafts of RFC 8446 gave them.
+unfoldable pub key_share_old : Layout Extension
+key_share_old = opaque_content ext.key_share_old
+
+-- PreSharedKeyExtension, undivided (RFC 8446, section 4.2.11).
+unfoldable pub pre_shared_key : Layout Extension
+pre_shared_key = opaque_content ext.pre_shared_key
+
+-- uint32 max_early_data_size in a NewSessionTicket, else no bytes (RFC 8446, section 4.2.10).
+unfoldable pub early_data : Layout Extension
+early_data = do
+  n ← left
+  choose (n == 0) (done (ext.early_data None)) (do
+    size ← number 4
+    done (ext.early_data (Some size)))
+
+-- ProtocolVersion selected_version, of 2 bytes; else ProtocolVersion versions<2..254> (RFC 8446, section 4.2.1), whose
+-- length is not tested.
+unfoldable pub supported_versions : Layout Extension
+supported_versions = do
+  n ← left
+  choose (n == 2)
+      (do
+        version ← number 2
+        done (ext.supported_versions (version ∷ [])))
+      (do
+        ignored 1
+        versions ← pairs
+        done (ext.supported_versions versions))
+
+-- Cookie, undivided (RFC 8446, section 4.2.2).
+unfoldable pub cookie : Layout Extension
+cookie = opaque_content ext.cookie
+
+-- PskKeyExchangeMode ke_modes<1..255> (RFC 8446, section 4.2.9).
+unfoldable pub psk_key_exchange_modes : Layout Extension
+psk_key_exchange_modes = do
+  modes ← counted 1
+  done (ext.psk_key_exchange_modes modes)
+
+-- opaque certificate_extension_oid<1..2^8-1>; opaque certificate_extension_values<0..2^16-1> (RFC 8446, section 4.2.5).
+unfoldable pub oid_filter : Layout OidFilter
+oid_filter = do
+  oid ← counted 1
+  values ← counted 2
+  done (record { certificate_extension_oid = oid; certificate_extension_values = values })
+
+-- OIDFilter filters<0..2^16-1> (RFC 8446, section 4.2.5).
+unfoldable pub oid_filters : Layout Extension
+oid_filters = do
+  filters ← counted_window 2 (list oid_filter)
+  done (ext.oid_filters filters)
+
+-- RFC 8446, section 4.2.6.
+unfoldable pub post_handshake_auth : Layout Extension
+post_handshake_auth = empty_content ext.post_handshake_auth
+
+-- KeyShareClientHello, KeyShareServerHello or KeyShareHelloRetryRequest, undivided (RFC 8446, section 4.2.8).
+unfoldable pub key_share : Layout Extension
+key_share = opaque_content ext.key_share
+
+-- The draft for next protocol negotiation (draft-agl-tls-nextprotoneg-04, section 3).
+unfoldable pub next_protocol_negotiation : Layout Extension
+next_protocol_negotiation = empty_content ext.next_protocol_negotiation
+
+-- opaque renegotiated_connection<0..255> (RFC 5746, section 3.2).
+unfoldable pub renegotiation_info : Layout Extension
+renegotiation_info = do
+  bytes ← counted 1
+  done (ext.renegotiation_info bytes)
+
+-- CipherSuite suite; KeyShareEntry key_share; opaque record_digest<0..2^16-1>; opaque encrypted_sni<0..2^16-1>
+-- (draft-ietf-tls-esni-02, section 5.1).
+unfoldable pub encrypted_server_name : Layout Extension
+encrypted_server_name = do
+  suite ← number 2
+  group ← number 2
+  share ← counted 2
+  digest ← counted 2
+  sni ← counted 2
+  done (ext.encrypted_server_name (record {
+    suite = suite;
+    key_share_group = group;
+    key_exchange = share;
+    record_digest = digest;
+    encrypted_sni = sni;
+  }))

@@ -1,0 +1,9 @@
+pub mod Extension
+pub mod Content
+pub mod Tagged
+pub mod Dispatch
+pub mod Kinds
+pub use Rattle.tls_fields.specs.Bytes
+pub use Rattle.tls_fields.specs.Layout
+pub use Rattle.tls_fields.specs.Meaning
+pub use Rattle.tls_fields.specs.Answers

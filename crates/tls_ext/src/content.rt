@@ -1,0 +1,297 @@
+//! The contents of extensions: what stands behind an extension's type and its length.
+//!
+//! Each call reads the front of its input and leaves the rest. All numbers are big-endian.
+ghost use Rattle.std.specs.Prelude.{ℕ, map};
+ghost use Rattle.tls_fields.specs.Layout.{Layout, number, rest};
+ghost use Rattle.tls_fields.specs.Answers.{Gives, GivesOrMemory};
+ghost use Rattle.tls_ext.specs.Extension.{OidFilter as OIDFilter, view_oid_filter, view_server_name, view};
+ghost use Rattle.tls_ext.specs.Content as content;
+ghost use Rattle.tls_ext.specs.Content.{server_name, oid_filter};
+
+use crate::entry::{Entry, entries};
+use crate::extension::{OidFilter, TlsExtension};
+use std::alloc::Global;
+use tls_base::{CertificateStatusType, NamedGroup, SNIType, TlsCipherSuiteID, TlsVersion};
+use tls_fields::{
+    Err, Error, ErrorKind, IResult, Item, block, counted1, counted2, items, maybe2, number1,
+    number2, number4, pairs,
+};
+
+/// All bytes of `i`. It never refuses.
+pub(crate) fn all_bytes(i: &[u8]) -> IResult<&[u8], &[u8]>
+    ensures { Gives (λ v. v.now) rest i.now result }
+{
+    block(i, i.len())
+}
+
+/// Reads the name of a server (RFC 6066, section 3): 1 byte of type, 2 bytes of length, and so many bytes.
+///
+/// `Incomplete` of the count of missing bytes.
+pub fn parse_tls_extension_sni_hostname(i: &[u8]) -> IResult<&[u8], (SNIType, &[u8])>
+    ensures { Gives view_server_name server_name i.now result }
+{
+    Entry::read_entry(i)
+}
+
+/// Reads the names of a server (RFC 6066, section 3): none where `i` is empty; else 2 bytes of length, and in so many
+/// bytes the names, each as [`parse_tls_extension_sni_hostname`] reads it. They end before the first that isn't read,
+/// and what is left of these bytes is dropped.
+///
+/// - `Incomplete` of the count of missing bytes of the length, or else of the list.
+/// - `OutOfMemory` where the list could not be held.
+#[tactic(auto, using(tls_fields::proofs::OneAnswer::read_allowed), unfolding(crate::specs::Content::server_names))]
+pub fn parse_tls_extension_sni_content(alloc: Global, i: &[u8]) -> IResult<&[u8], TlsExtension>
+    ensures { GivesOrMemory view content.server_names i.now result }
+{
+    if i.is_empty() {
+        return Ok((i, TlsExtension::SNI(Vec::new(alloc))));
+    }
+    let (i, n) = number2(i)?;
+    let (i, window) = block(i, n as usize)?;
+    let (_, names) = entries(alloc, window)?;
+    Ok((i, TlsExtension::SNI(names)))
+}
+
+/// Reads the code of a greatest fragment length (RFC 6066, section 4), 1 byte.
+///
+/// `Incomplete(1)` where there is none.
+#[tactic(auto, using(tls_fields::proofs::OneAnswer::read_allowed), unfolding(crate::specs::Content::max_fragment_length))]
+pub fn parse_tls_extension_max_fragment_length_content(i: &[u8]) -> IResult<&[u8], TlsExtension>
+    ensures { Gives view content.max_fragment_length i.now result }
+{
+    let (i, code) = number1(i)?;
+    Ok((i, TlsExtension::MaxFragmentLength(code)))
+}
+
+/// A status request (RFC 6066, section 8): `None` where `i` is empty; else 1 byte of type, and all bytes behind it.
+///
+/// It never refuses.
+#[tactic(auto, using(tls_fields::proofs::OneAnswer::read_allowed), unfolding(crate::specs::Content::status_request))]
+pub(crate) fn status_request_content(i: &[u8]) -> IResult<&[u8], TlsExtension>
+    ensures { Gives view content.status_request i.now result }
+{
+    if i.is_empty() {
+        return Ok((i, TlsExtension::StatusRequest(None)));
+    }
+    let (i, status_type) = CertificateStatusType::parse(i)?;
+    let (i, request) = all_bytes(i)?;
+    Ok((i, TlsExtension::StatusRequest(Some((status_type, request)))))
+}
+
+/// Reads the supported groups (RFC 8422, section 5.1.1; RFC 8446, section 4.2.7): 2 bytes of length, and in so many
+/// bytes the groups, 2 bytes each.
+///
+/// - `Incomplete` of the count of missing bytes of the length, or else of the groups.
+/// - `Error` of kind `LengthValue` where the length is odd.
+/// - `OutOfMemory` where the list could not be held.
+#[tactic(auto, using(tls_fields::proofs::OneAnswer::read_allowed), unfolding(crate::specs::Content::supported_groups))]
+pub fn parse_tls_extension_elliptic_curves_content(
+    alloc: Global,
+    i: &[u8],
+) -> IResult<&[u8], TlsExtension>
+    ensures { GivesOrMemory view content.supported_groups i.now result }
+{
+    let (i, n) = number2(i)?;
+    let (i, window) = block(i, n as usize)?;
+    let (_, groups) = pairs::<NamedGroup>(alloc, window)?;
+    Ok((i, TlsExtension::EllipticCurves(groups)))
+}
+
+/// Reads the supported point formats (RFC 8422, section 5.1.2): 1 byte of length, and so many bytes, one each.
+///
+/// `Incomplete` of the count of missing bytes of the length, or else of the formats.
+#[tactic(auto, using(tls_fields::proofs::OneAnswer::read_allowed), unfolding(crate::specs::Content::ec_point_formats))]
+pub fn parse_tls_extension_ec_point_formats_content(i: &[u8]) -> IResult<&[u8], TlsExtension>
+    ensures { Gives view content.ec_point_formats i.now result }
+{
+    let (i, formats) = counted1(i)?;
+    Ok((i, TlsExtension::EcPointFormats(formats)))
+}
+
+/// Reads the supported signature algorithms (RFC 8446, section 4.2.3): 2 bytes of length, and in so many bytes the
+/// numbers, 2 bytes each. An odd byte at their end is dropped.
+///
+/// - `Incomplete` of the count of missing bytes of the length, or else of the list.
+/// - `OutOfMemory` where the list could not be held.
+#[tactic(auto, using(crate::proofs::Entries::map_same, tls_fields::proofs::OneAnswer::read_allowed), unfolding(crate::specs::Content::signature_algorithms))]
+pub fn parse_tls_extension_signature_algorithms_content(
+    alloc: Global,
+    i: &[u8],
+) -> IResult<&[u8], TlsExtension>
+    ensures { GivesOrMemory view content.signature_algorithms i.now result }
+{
+    let (i, n) = number2(i)?;
+    let (i, window) = block(i, n as usize)?;
+    let (_, algorithms) = entries(alloc, window)?;
+    Ok((i, TlsExtension::SignatureAlgorithms(algorithms)))
+}
+
+/// Reads who may send heartbeats (RFC 6520, section 2), 1 byte.
+///
+/// `Incomplete(1)` where there is none.
+#[tactic(auto, using(tls_fields::proofs::OneAnswer::read_allowed), unfolding(crate::specs::Content::heartbeat))]
+pub fn parse_tls_extension_heartbeat_content(i: &[u8]) -> IResult<&[u8], TlsExtension>
+    ensures { Gives view content.heartbeat i.now result }
+{
+    let (i, mode) = number1(i)?;
+    Ok((i, TlsExtension::Heartbeat(mode)))
+}
+
+/// Reads the names of application protocols (RFC 7301, section 3.1): 2 bytes of length, and in so many bytes the names,
+/// each behind 1 byte of length. They end before the first that isn't whole, and what is left of these bytes is dropped.
+///
+/// - `Incomplete` of the count of missing bytes of the length, or else of the list.
+/// - `OutOfMemory` where the list could not be held.
+#[tactic(auto, using(tls_fields::proofs::OneAnswer::read_allowed), unfolding(crate::specs::Content::application_layer_protocol_negotiation))]
+pub fn parse_tls_extension_alpn_content(alloc: Global, i: &[u8]) -> IResult<&[u8], TlsExtension>
+    ensures { GivesOrMemory view content.application_layer_protocol_negotiation i.now result }
+{
+    let (i, n) = number2(i)?;
+    let (i, window) = block(i, n as usize)?;
+    let (_, names) = entries(alloc, window)?;
+    Ok((i, TlsExtension::ALPN(names)))
+}
+
+/// Reads the list of certificate timestamps (RFC 6962, section 3.3.1), undivided: 2 bytes of length and so many bytes,
+/// or `None` where they don't stand whole.
+///
+/// It never refuses.
+#[tactic(auto, using(tls_fields::proofs::OneAnswer::read_allowed), unfolding(crate::specs::Content::signed_certificate_timestamp))]
+pub fn parse_tls_extension_signed_certificate_timestamp_content(
+    i: &[u8],
+) -> IResult<&[u8], TlsExtension>
+    ensures { Gives view content.signed_certificate_timestamp i.now result }
+{
+    let (i, timestamps) = maybe2(i)?;
+    Ok((i, TlsExtension::SignedCertificateTimestamp(timestamps)))
+}
+
+/// The greatest length of a record's content (RFC 8449, section 4), 2 bytes.
+///
+/// `Incomplete` of the count of missing bytes.
+#[tactic(auto, using(tls_fields::proofs::OneAnswer::read_allowed), unfolding(crate::specs::Content::record_size_limit))]
+pub(crate) fn record_size_limit_content(i: &[u8]) -> IResult<&[u8], TlsExtension>
+    ensures { Gives view content.record_size_limit i.now result }
+{
+    let (i, limit) = number2(i)?;
+    Ok((i, TlsExtension::RecordSizeLimit(limit)))
+}
+
+/// The most bytes of early data (RFC 8446, section 4.2.10): `None` where `i` is empty; else 4 bytes.
+///
+/// `Incomplete` of the count of missing bytes.
+#[tactic(auto, using(tls_fields::proofs::OneAnswer::read_allowed), unfolding(crate::specs::Content::early_data))]
+pub(crate) fn early_data_content(i: &[u8]) -> IResult<&[u8], TlsExtension>
+    ensures { Gives view content.early_data i.now result }
+{
+    if i.is_empty() {
+        return Ok((i, TlsExtension::EarlyData(None)));
+    }
+    let (i, size) = number4(i)?;
+    Ok((i, TlsExtension::EarlyData(Some(size))))
+}
+
+/// The supported versions (RFC 8446, section 4.2.1): one of 2 bytes where `i` has just these; else 1 byte of length,
+/// which isn't tested, and all bytes behind it as versions of 2 bytes each.
+///
+/// - `Incomplete(1)` where `i` is empty.
+/// - `Error` of kind `LengthValue` where an odd number of bytes stands behind the length.
+/// - `OutOfMemory` where the list could not be held.
+#[tactic(auto, using(tls_fields::proofs::OneAnswer::read_allowed), unfolding(crate::specs::Content::supported_versions, tls_fields::specs::Reading::ignored_at))]
+pub(crate) fn supported_versions_content(alloc: Global, i: &[u8]) -> IResult<&[u8], TlsExtension>
+    ensures { GivesOrMemory view content.supported_versions i.now result }
+{
+    if i.len() == 2 {
+        let (i, version) = TlsVersion::parse(i)?;
+        let mut versions = Vec::new(alloc);
+        versions.push(version)?;
+        return Ok((i, TlsExtension::SupportedVersions(versions)));
+    }
+    let (i, _) = block(i, 1)?;
+    let (i, versions) = pairs::<TlsVersion>(alloc, i)?;
+    Ok((i, TlsExtension::SupportedVersions(versions)))
+}
+
+/// Reads how pre-shared keys may be used (RFC 8446, section 4.2.9): 1 byte of length, and so many bytes, one each.
+///
+/// - `Incomplete` of the count of missing bytes of the length, or else of the modes.
+/// - `OutOfMemory` where the list could not be held.
+#[tactic(auto, using(tls_fields::proofs::OneAnswer::read_allowed), unfolding(crate::specs::Content::psk_key_exchange_modes))]
+pub fn parse_tls_extension_psk_key_exchange_modes_content(
+    alloc: Global,
+    i: &[u8],
+) -> IResult<&[u8], TlsExtension>
+    ensures { GivesOrMemory view content.psk_key_exchange_modes i.now result }
+{
+    let (i, modes) = counted1(i)?;
+    let modes = Vec::from_slice(alloc, modes)?;
+    Ok((i, TlsExtension::PskExchangeModes(modes)))
+}
+
+impl<'a> Item<'a> for OidFilter<'a> {
+    ghost Value = { OIDFilter };
+
+    ghost view = { view_oid_filter };
+
+    ghost layout = { oid_filter };
+
+    #[tactic(auto, using(tls_fields::proofs::OneAnswer::read_allowed), unfolding(crate::specs::Content::oid_filter))]
+    fn read(_alloc: Global, i: &'a [u8]) -> IResult<&'a [u8], Self> {
+        let (i, cert_ext_oid) = counted1(i)?;
+        let (i, cert_ext_val) = counted2(i)?;
+        let filter = OidFilter {
+            cert_ext_oid,
+            cert_ext_val,
+        };
+        Ok((i, filter))
+    }
+}
+
+/// The filters on certificates (RFC 8446, section 4.2.5): 2 bytes of length, and in so many bytes the filters. They end
+/// before the first that isn't whole, and what is left of these bytes is dropped.
+///
+/// - `Incomplete` of the count of missing bytes of the length, or else of the list.
+/// - `OutOfMemory` where the list could not be held.
+#[tactic(auto, using(tls_fields::proofs::OneAnswer::read_allowed), unfolding(crate::specs::Content::oid_filters))]
+pub(crate) fn oid_filters_content(alloc: Global, i: &[u8]) -> IResult<&[u8], TlsExtension>
+    ensures { GivesOrMemory view content.oid_filters i.now result }
+{
+    let (i, n) = number2(i)?;
+    let (i, window) = block(i, n as usize)?;
+    let (_, filters) = items(alloc, window)?;
+    Ok((i, TlsExtension::OidFilters(filters)))
+}
+
+/// Reads what a renegotiation is bound to (RFC 5746, section 3.2): 1 byte of length, and so many bytes.
+///
+/// `Incomplete` of the count of missing bytes of the length, or else of these.
+#[tactic(auto, using(tls_fields::proofs::OneAnswer::read_allowed), unfolding(crate::specs::Content::renegotiation_info))]
+pub fn parse_tls_extension_renegotiation_info_content(i: &[u8]) -> IResult<&[u8], TlsExtension>
+    ensures { Gives view content.renegotiation_info i.now result }
+{
+    let (i, bytes) = counted1(i)?;
+    Ok((i, TlsExtension::RenegotiationInfo(bytes)))
+}
+
+/// Reads an encrypted server name (draft-ietf-tls-esni-02, section 5.1): 2 bytes of a cipher suite, 2 bytes of a group,
+/// and a key share, a digest and the encrypted name, each behind 2 bytes of length.
+///
+/// `Incomplete` of the count of missing bytes of the first part that isn't whole.
+#[tactic(auto, using(tls_fields::proofs::OneAnswer::read_allowed), unfolding(crate::specs::Content::encrypted_server_name))]
+pub fn parse_tls_extension_encrypted_server_name(i: &[u8]) -> IResult<&[u8], TlsExtension>
+    ensures { Gives view content.encrypted_server_name i.now result }
+{
+    let (i, ciphersuite) = TlsCipherSuiteID::parse(i)?;
+    let (i, group) = NamedGroup::parse(i)?;
+    let (i, key_share) = counted2(i)?;
+    let (i, record_digest) = counted2(i)?;
+    let (i, encrypted_sni) = counted2(i)?;
+    let extension = TlsExtension::EncryptedServerName {
+        ciphersuite,
+        group,
+        key_share,
+        record_digest,
+        encrypted_sni,
+    };
+    Ok((i, extension))
+}

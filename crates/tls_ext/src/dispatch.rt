@@ -1,0 +1,231 @@
+//! Extensions of any kind, each read by the content that its type names.
+ghost use Rattle.std.specs.Prelude.{map};
+ghost use Rattle.tls_fields.specs.Answers.{Gives, GivesOrMemory};
+ghost use Rattle.tls_ext.specs.Extension.{Extension, view};
+ghost use Rattle.tls_ext.specs.Dispatch.{extension as extension_layout, extension_content as extension_content_layout, extensions};
+ghost use Rattle.tls_ext.specs.Kinds.{empty_content as empty_layout, field_content as field_layout, kind_content as kind_layout, list_content as list_layout, opaque_content as opaque_layout};
+ghost use Rattle.tls_ext.specs.declared.kind.Side.TheVariants.{General as general, Client as client, Server as server};
+
+use crate::content::{
+    all_bytes, early_data_content, oid_filters_content, parse_tls_extension_alpn_content,
+    parse_tls_extension_ec_point_formats_content, parse_tls_extension_elliptic_curves_content,
+    parse_tls_extension_encrypted_server_name, parse_tls_extension_heartbeat_content,
+    parse_tls_extension_max_fragment_length_content,
+    parse_tls_extension_psk_key_exchange_modes_content,
+    parse_tls_extension_renegotiation_info_content,
+    parse_tls_extension_signature_algorithms_content,
+    parse_tls_extension_signed_certificate_timestamp_content, parse_tls_extension_sni_content,
+    record_size_limit_content, status_request_content, supported_versions_content,
+};
+use crate::extension::TlsExtension;
+use crate::kind::{EmptyKind, FieldKind, Kind, ListKind, OpaqueKind, Side, kind_of};
+use std::alloc::Global;
+use tls_base::TlsExtensionType;
+use tls_fields::{Err, Error, ErrorKind, IResult, block, number2};
+
+/// A list.
+fn list_content(alloc: Global, i: &[u8], kind: ListKind) -> IResult<&[u8], TlsExtension>
+    ensures { GivesOrMemory view (list_layout kind) i.now result }
+{
+    match kind {
+        ListKind::ServerName => parse_tls_extension_sni_content(alloc, i),
+        ListKind::SupportedGroups => parse_tls_extension_elliptic_curves_content(alloc, i),
+        ListKind::SignatureAlgorithms => parse_tls_extension_signature_algorithms_content(alloc, i),
+        ListKind::ApplicationLayerProtocolNegotiation => parse_tls_extension_alpn_content(alloc, i),
+        ListKind::SupportedVersions => supported_versions_content(alloc, i),
+        ListKind::PskKeyExchangeModes => {
+            parse_tls_extension_psk_key_exchange_modes_content(alloc, i)
+        }
+        ListKind::OidFilters => oid_filters_content(alloc, i),
+    }
+}
+
+/// All bytes of `i`. It never refuses.
+#[tactic(auto, using(tls_fields::proofs::OneAnswer::read_allowed), unfolding(crate::specs::Content::padding, crate::specs::Content::session_ticket, crate::specs::Content::key_share_old, crate::specs::Content::pre_shared_key, crate::specs::Content::cookie, crate::specs::Content::key_share))]
+pub(crate) fn opaque_content(i: &[u8], kind: OpaqueKind) -> IResult<&[u8], TlsExtension>
+    ensures { Gives view (opaque_layout kind) i.now result }
+{
+    let (i, bytes) = all_bytes(i)?;
+    match kind {
+        OpaqueKind::Padding => Ok((i, TlsExtension::Padding(bytes))),
+        OpaqueKind::SessionTicket => Ok((i, TlsExtension::SessionTicket(bytes))),
+        OpaqueKind::KeyShareOld => Ok((i, TlsExtension::KeyShareOld(bytes))),
+        OpaqueKind::PreSharedKey => Ok((i, TlsExtension::PreSharedKey(bytes))),
+        OpaqueKind::Cookie => Ok((i, TlsExtension::Cookie(bytes))),
+        OpaqueKind::KeyShare => Ok((i, TlsExtension::KeyShare(bytes))),
+    }
+}
+
+/// No bytes: `Error` of kind `Verify` where `i` has some.
+#[tactic(auto, using(tls_fields::proofs::OneAnswer::read_allowed), unfolding(crate::specs::Content::encrypt_then_mac, crate::specs::Content::extended_master_secret, crate::specs::Content::post_handshake_auth, crate::specs::Content::next_protocol_negotiation))]
+pub(crate) fn empty_content(i: &[u8], kind: EmptyKind) -> IResult<&[u8], TlsExtension>
+    ensures { Gives view (empty_layout kind) i.now result }
+{
+    if !i.is_empty() {
+        return Err(Err::Error(Error {
+            input: i,
+            code: ErrorKind::Verify,
+        }));
+    }
+    match kind {
+        EmptyKind::EncryptThenMac => Ok((i, TlsExtension::EncryptThenMac)),
+        EmptyKind::ExtendedMasterSecret => Ok((i, TlsExtension::ExtendedMasterSecret)),
+        EmptyKind::PostHandshakeAuth => Ok((i, TlsExtension::PostHandshakeAuth)),
+        EmptyKind::NextProtocolNegotiation => Ok((i, TlsExtension::NextProtocolNegotiation)),
+    }
+}
+
+/// One or a few fields.
+fn field_content(i: &[u8], kind: FieldKind) -> IResult<&[u8], TlsExtension>
+    ensures { Gives view (field_layout kind) i.now result }
+{
+    match kind {
+        FieldKind::MaxFragmentLength => parse_tls_extension_max_fragment_length_content(i),
+        FieldKind::StatusRequest => status_request_content(i),
+        FieldKind::EcPointFormats => parse_tls_extension_ec_point_formats_content(i),
+        FieldKind::Heartbeat => parse_tls_extension_heartbeat_content(i),
+        FieldKind::SignedCertificateTimestamp => {
+            parse_tls_extension_signed_certificate_timestamp_content(i)
+        }
+        FieldKind::RecordSizeLimit => record_size_limit_content(i),
+        FieldKind::EarlyData => early_data_content(i),
+        FieldKind::RenegotiationInfo => parse_tls_extension_renegotiation_info_content(i),
+        FieldKind::EncryptedServerName => parse_tls_extension_encrypted_server_name(i),
+    }
+}
+
+/// What an extension of that kind holds.
+fn kind_content(alloc: Global, i: &[u8], kind: Kind) -> IResult<&[u8], TlsExtension>
+    ensures { GivesOrMemory view (kind_layout kind) i.now result }
+{
+    match kind {
+        Kind::List(kind) => list_content(alloc, i, kind),
+        Kind::Opaque(kind) => opaque_content(i, kind),
+        Kind::Empty(kind) => empty_content(i, kind),
+        Kind::Field(kind) => field_content(i, kind),
+    }
+}
+
+/// The content of an extension of the type `kind`, as `side` reads it.
+///
+/// It refuses as the content of that kind does. A type that is kept free, or that `side` doesn't read, has any bytes.
+#[tactic(auto, using(tls_fields::proofs::OneAnswer::read_allowed), unfolding(crate::specs::Dispatch::extension_content))]
+fn extension_content(
+    alloc: Global,
+    i: &[u8],
+    kind: TlsExtensionType,
+    side: Side,
+) -> IResult<&[u8], TlsExtension>
+    ensures { GivesOrMemory view (extension_content_layout side kind.0) i.now result }
+{
+    if kind.0 & 0x0f0f == 0x0a0a {
+        let (i, content) = all_bytes(i)?;
+        return Ok((i, TlsExtension::Grease(kind.0, content)));
+    }
+    match kind_of(kind.0, side) {
+        Some(kind) => kind_content(alloc, i, kind),
+        None => {
+            let (i, content) = all_bytes(i)?;
+            Ok((i, TlsExtension::Unknown(kind, content)))
+        }
+    }
+}
+
+/// A whole extension, as `side` reads it.
+#[tactic(auto, using(tls_fields::proofs::OneAnswer::read_allowed), unfolding(crate::specs::Dispatch::extension))]
+fn extension(alloc: Global, i: &[u8], side: Side) -> IResult<&[u8], TlsExtension>
+    ensures { GivesOrMemory view (extension_layout side) i.now result }
+{
+    let (i, kind) = TlsExtensionType::parse(i)?;
+    let (i, n) = number2(i)?;
+    let (i, window) = block(i, n as usize)?;
+    let (_, extension) = extension_content(alloc, window, kind, side)?;
+    Ok((i, extension))
+}
+
+/// Reads an extension of any message (RFC 8446, section 4.2): 2 bytes of type, 2 bytes of length, and a content of so
+/// many bytes, which is read within them alone; what is left of them is dropped. All numbers are big-endian.
+///
+/// A type whose bytes both end in the hexadecimal digit a is kept free (RFC 8701): it is `Grease`, with its content. A
+/// type whose content no call reads is `Unknown`, with its content.
+///
+/// - `Incomplete` of the count of missing bytes, where the extension isn't whole.
+/// - What the content refuses, `Incomplete` too; each kind's own call tells it.
+/// - `OutOfMemory` where a list could not be held.
+pub fn parse_tls_extension(alloc: Global, i: &[u8]) -> IResult<&[u8], TlsExtension>
+    ensures { GivesOrMemory view (extension_layout general) i.now result }
+{
+    extension(alloc, i, Side::General)
+}
+
+/// Reads an extension of a ClientHello: as [`parse_tls_extension`], but a type that a client doesn't send, the older
+/// number of key shares, is `Unknown`.
+pub fn parse_tls_client_hello_extension(alloc: Global, i: &[u8]) -> IResult<&[u8], TlsExtension>
+    ensures { GivesOrMemory view (extension_layout client) i.now result }
+{
+    extension(alloc, i, Side::Client)
+}
+
+/// Reads an extension of a ServerHello: as [`parse_tls_extension`], but a type that a server doesn't send there is
+/// `Unknown`: supported groups, padding, the older number of key shares, modes of pre-shared keys, filters on
+/// certificates, authentication after the handshake, and an encrypted server name.
+pub fn parse_tls_server_hello_extension(alloc: Global, i: &[u8]) -> IResult<&[u8], TlsExtension>
+    ensures { GivesOrMemory view (extension_layout server) i.now result }
+{
+    extension(alloc, i, Side::Server)
+}
+
+/// Zero or more extensions, as `side` reads them, up to the first that isn't read; what is left begins there.
+fn extension_list(alloc: Global, i: &[u8], side: Side) -> IResult<&[u8], Vec<TlsExtension>>
+    ensures { GivesOrMemory (λ v. map view v.items) (extensions side) i.now result }
+{
+    let mut list = Vec::new(alloc);
+    let mut rest = i;
+    loop {
+        match extension(alloc, rest, side) {
+            Ok((after, extension)) => {
+                if after.len() >= rest.len() {
+                    return Ok((rest, list));
+                }
+                list.push(extension)?;
+                rest = after;
+            }
+            Err(e) => match e {
+                Err::OutOfMemory => return Err(Err::OutOfMemory),
+                _ => return Ok((rest, list)),
+            },
+        }
+    }
+}
+
+/// Reads zero or more extensions, each as [`parse_tls_extension`] reads it, up to the first that isn't read, by `Error`
+/// or `Incomplete`; what is left begins there.
+///
+/// It refuses for memory alone: `OutOfMemory` where a list could not be held.
+pub fn parse_tls_extensions(alloc: Global, i: &[u8]) -> IResult<&[u8], Vec<TlsExtension>>
+    ensures { GivesOrMemory (λ v. map view v.items) (extensions general) i.now result }
+{
+    extension_list(alloc, i, Side::General)
+}
+
+/// Reads the extensions of a ClientHello: as [`parse_tls_extensions`], but each as
+/// [`parse_tls_client_hello_extension`] reads it.
+pub fn parse_tls_client_hello_extensions(
+    alloc: Global,
+    i: &[u8],
+) -> IResult<&[u8], Vec<TlsExtension>>
+    ensures { GivesOrMemory (λ v. map view v.items) (extensions client) i.now result }
+{
+    extension_list(alloc, i, Side::Client)
+}
+
+/// Reads the extensions of a ServerHello: as [`parse_tls_extensions`], but each as
+/// [`parse_tls_server_hello_extension`] reads it.
+pub fn parse_tls_server_hello_extensions(
+    alloc: Global,
+    i: &[u8],
+) -> IResult<&[u8], Vec<TlsExtension>>
+    ensures { GivesOrMemory (λ v. map view v.items) (extensions server) i.now result }
+{
+    extension_list(alloc, i, Side::Server)
+}

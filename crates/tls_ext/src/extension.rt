@@ -1,0 +1,215 @@
+//! Extensions and what they hold.
+ghost use Rattle.std.specs.Prelude.{◌≡◌, IfOk, map};
+ghost use Rattle.tls_ext.specs.Extension.{view, view_oid_filter, extension_type};
+
+use std::alloc::{AllocError, Global};
+use tls_base::{
+    CertificateStatusType, NamedGroup, OutOfMemory, SNIType, TlsCipherSuiteID, TlsExtensionType,
+    TlsVersion,
+};
+
+/// A key share of one group: the KeyShareEntry of RFC 8446, section 4.2.8.
+#[derive(Clone, Debug, PartialEq, Drop)]
+pub struct KeyShareEntry<'a> {
+    pub group: NamedGroup,
+    /// The public value of the key exchange.
+    pub kx: &'a [u8],
+}
+
+/// A filter on a certificate extension: the OIDFilter of RFC 8446, section 4.2.5.
+#[derive(Clone, Debug, PartialEq, Drop)]
+pub struct OidFilter<'a> {
+    /// The object identifier, DER-encoded.
+    pub cert_ext_oid: &'a [u8],
+    /// The values of the extension, DER-encoded.
+    pub cert_ext_val: &'a [u8],
+}
+
+/// An extension of a hello message or a certificate request (RFC 8446, section 4.2).
+#[derive(Debug, PartialEq, Drop)]
+pub enum TlsExtension<'a> {
+    /// The names of the server that is asked for: each its type and its bytes (RFC 6066, section 3).
+    SNI(Vec<(SNIType, &'a [u8])>),
+    /// The code of a greatest fragment length (RFC 6066, section 4).
+    MaxFragmentLength(u8),
+    /// The type of a status request and the request; `None` where a server answers (RFC 6066, section 8).
+    StatusRequest(Option<(CertificateStatusType, &'a [u8])>),
+    /// The supported groups (RFC 8422, section 5.1.1; RFC 8446, section 4.2.7).
+    EllipticCurves(Vec<NamedGroup>),
+    /// The supported point formats, a byte each (RFC 8422, section 5.1.2).
+    EcPointFormats(&'a [u8]),
+    /// The supported signature algorithms, by number (RFC 8446, section 4.2.3).
+    SignatureAlgorithms(Vec<u16>),
+    /// Who may send heartbeats (RFC 6520, section 2).
+    Heartbeat(u8),
+    /// The names of the application protocols (RFC 7301, section 3.1).
+    ALPN(Vec<&'a [u8]>),
+    /// The list of certificate timestamps, as it stands behind its length (RFC 6962, section 3.3.1).
+    SignedCertificateTimestamp(Option<&'a [u8]>),
+    /// The padding (RFC 7685, section 3).
+    Padding(&'a [u8]),
+    /// RFC 7366, section 2.
+    EncryptThenMac,
+    /// RFC 7627, section 5.1.
+    ExtendedMasterSecret,
+    /// The greatest length of a record's content (RFC 8449, section 4).
+    RecordSizeLimit(u16),
+    /// A session ticket (RFC 5077, section 3.2).
+    SessionTicket(&'a [u8]),
+    /// Key shares under the number that drafts of TLS 1.3 gave them.
+    KeyShareOld(&'a [u8]),
+    /// The offered or the selected pre-shared keys (RFC 8446, section 4.2.11).
+    PreSharedKey(&'a [u8]),
+    /// The most bytes of early data; `None` outside a new session ticket (RFC 8446, section 4.2.10).
+    EarlyData(Option<u32>),
+    /// The supported versions, or the one that a server selected (RFC 8446, section 4.2.1).
+    SupportedVersions(Vec<TlsVersion>),
+    /// A cookie (RFC 8446, section 4.2.2).
+    Cookie(&'a [u8]),
+    /// How pre-shared keys may be used, a byte each (RFC 8446, section 4.2.9).
+    PskExchangeModes(Vec<u8>),
+    /// The filters on certificates (RFC 8446, section 4.2.5).
+    OidFilters(Vec<OidFilter<'a>>),
+    /// RFC 8446, section 4.2.6.
+    PostHandshakeAuth,
+    /// The key shares (RFC 8446, section 4.2.8).
+    KeyShare(&'a [u8]),
+    /// The extension of the draft for next protocol negotiation.
+    NextProtocolNegotiation,
+    /// What a renegotiation is bound to (RFC 5746, section 3.2).
+    RenegotiationInfo(&'a [u8]),
+    /// An encrypted server name, of the draft before encrypted hellos.
+    EncryptedServerName {
+        ciphersuite: TlsCipherSuiteID,
+        group: NamedGroup,
+        key_share: &'a [u8],
+        record_digest: &'a [u8],
+        encrypted_sni: &'a [u8],
+    },
+    /// A number that is kept free so that peers ignore what they don't know, and its content (RFC 8701, section 2).
+    Grease(u16, &'a [u8]),
+    /// An extension whose content isn't read: its type and its content.
+    Unknown(TlsExtensionType, &'a [u8]),
+}
+
+/// The type of an extension. `Grease` has 0xfafa, and `Unknown` the type that it holds.
+impl From<&TlsExtension<'_>> for TlsExtensionType {
+    ghost from_gives = { λ e t. t.0 ≡ extension_type (view e.now) };
+
+    fn from(extension: &TlsExtension) -> TlsExtensionType {
+        match extension {
+            TlsExtension::SNI(_) => TlsExtensionType::ServerName,
+            TlsExtension::MaxFragmentLength(_) => TlsExtensionType::MaxFragmentLength,
+            TlsExtension::StatusRequest(_) => TlsExtensionType::StatusRequest,
+            TlsExtension::EllipticCurves(_) => TlsExtensionType::SupportedGroups,
+            TlsExtension::EcPointFormats(_) => TlsExtensionType::EcPointFormats,
+            TlsExtension::SignatureAlgorithms(_) => TlsExtensionType::SignatureAlgorithms,
+            TlsExtension::Heartbeat(_) => TlsExtensionType::Heartbeat,
+            TlsExtension::ALPN(_) => TlsExtensionType::ApplicationLayerProtocolNegotiation,
+            TlsExtension::SignedCertificateTimestamp(_) => {
+                TlsExtensionType::SignedCertificateTimestamp
+            }
+            TlsExtension::Padding(_) => TlsExtensionType::Padding,
+            TlsExtension::EncryptThenMac => TlsExtensionType::EncryptThenMac,
+            TlsExtension::ExtendedMasterSecret => TlsExtensionType::ExtendedMasterSecret,
+            TlsExtension::RecordSizeLimit(_) => TlsExtensionType::RecordSizeLimit,
+            TlsExtension::SessionTicket(_) => TlsExtensionType::SessionTicketTLS,
+            TlsExtension::KeyShareOld(_) => TlsExtensionType::KeyShareOld,
+            TlsExtension::PreSharedKey(_) => TlsExtensionType::PreSharedKey,
+            TlsExtension::EarlyData(_) => TlsExtensionType::EarlyData,
+            TlsExtension::SupportedVersions(_) => TlsExtensionType::SupportedVersions,
+            TlsExtension::Cookie(_) => TlsExtensionType::Cookie,
+            TlsExtension::PskExchangeModes(_) => TlsExtensionType::PskExchangeModes,
+            TlsExtension::OidFilters(_) => TlsExtensionType::OidFilters,
+            TlsExtension::PostHandshakeAuth => TlsExtensionType::PostHandshakeAuth,
+            TlsExtension::KeyShare(_) => TlsExtensionType::KeyShare,
+            TlsExtension::NextProtocolNegotiation => TlsExtensionType::NextProtocolNegotiation,
+            TlsExtension::RenegotiationInfo(_) => TlsExtensionType::RenegotiationInfo,
+            TlsExtension::EncryptedServerName { .. } => TlsExtensionType::EncryptedServerName,
+            TlsExtension::Grease(_, _) => TlsExtensionType::Grease,
+            TlsExtension::Unknown(kind, _) => *kind,
+        }
+    }
+}
+
+/// The same items in a vector of their own.
+fn copied<T: Copy>(alloc: Global, items: &Vec<T>) -> Result<Vec<T>, AllocError>
+    ensures { IfOk result (λ v. v.items ≡ items.now.items) }
+{
+    Vec::from_slice(alloc, items.as_slice())
+}
+
+/// The same filters in a vector of their own.
+fn cloned_filters<'a>(
+    alloc: Global,
+    filters: &Vec<OidFilter<'a>>,
+) -> Result<Vec<OidFilter<'a>>, AllocError>
+    ensures { IfOk result (λ v. map view_oid_filter v.items ≡ map view_oid_filter filters.now.items) }
+{
+    filters.as_slice().to_vec(alloc)
+}
+
+impl<'a> TlsExtension<'a> {
+    /// The same variant with the same fields; slices are shared, lists are copied.
+    ///
+    /// `OutOfMemory` where a list could not be held.
+    pub fn try_clone(&self, alloc: Global) -> Result<TlsExtension<'a>, OutOfMemory>
+        ensures { IfOk result (λ e. view e ≡ view self.now) }
+    {
+        let extension = match self {
+            TlsExtension::SNI(names) => TlsExtension::SNI(copied(alloc, names)?),
+            TlsExtension::MaxFragmentLength(code) => TlsExtension::MaxFragmentLength(*code),
+            TlsExtension::StatusRequest(request) => TlsExtension::StatusRequest(*request),
+            TlsExtension::EllipticCurves(groups) => {
+                TlsExtension::EllipticCurves(copied(alloc, groups)?)
+            }
+            TlsExtension::EcPointFormats(formats) => TlsExtension::EcPointFormats(*formats),
+            TlsExtension::SignatureAlgorithms(algorithms) => {
+                TlsExtension::SignatureAlgorithms(copied(alloc, algorithms)?)
+            }
+            TlsExtension::Heartbeat(mode) => TlsExtension::Heartbeat(*mode),
+            TlsExtension::ALPN(names) => TlsExtension::ALPN(copied(alloc, names)?),
+            TlsExtension::SignedCertificateTimestamp(timestamps) => {
+                TlsExtension::SignedCertificateTimestamp(*timestamps)
+            }
+            TlsExtension::Padding(bytes) => TlsExtension::Padding(*bytes),
+            TlsExtension::EncryptThenMac => TlsExtension::EncryptThenMac,
+            TlsExtension::ExtendedMasterSecret => TlsExtension::ExtendedMasterSecret,
+            TlsExtension::RecordSizeLimit(limit) => TlsExtension::RecordSizeLimit(*limit),
+            TlsExtension::SessionTicket(ticket) => TlsExtension::SessionTicket(*ticket),
+            TlsExtension::KeyShareOld(shares) => TlsExtension::KeyShareOld(*shares),
+            TlsExtension::PreSharedKey(keys) => TlsExtension::PreSharedKey(*keys),
+            TlsExtension::EarlyData(size) => TlsExtension::EarlyData(*size),
+            TlsExtension::SupportedVersions(versions) => {
+                TlsExtension::SupportedVersions(copied(alloc, versions)?)
+            }
+            TlsExtension::Cookie(bytes) => TlsExtension::Cookie(*bytes),
+            TlsExtension::PskExchangeModes(modes) => {
+                TlsExtension::PskExchangeModes(copied(alloc, modes)?)
+            }
+            TlsExtension::OidFilters(filters) => {
+                TlsExtension::OidFilters(cloned_filters(alloc, filters)?)
+            }
+            TlsExtension::PostHandshakeAuth => TlsExtension::PostHandshakeAuth,
+            TlsExtension::KeyShare(shares) => TlsExtension::KeyShare(*shares),
+            TlsExtension::NextProtocolNegotiation => TlsExtension::NextProtocolNegotiation,
+            TlsExtension::RenegotiationInfo(bytes) => TlsExtension::RenegotiationInfo(*bytes),
+            TlsExtension::EncryptedServerName {
+                ciphersuite,
+                group,
+                key_share,
+                record_digest,
+                encrypted_sni,
+            } => TlsExtension::EncryptedServerName {
+                ciphersuite: *ciphersuite,
+                group: *group,
+                key_share: *key_share,
+                record_digest: *record_digest,
+                encrypted_sni: *encrypted_sni,
+            },
+            TlsExtension::Grease(number, content) => TlsExtension::Grease(*number, *content),
+            TlsExtension::Unknown(kind, content) => TlsExtension::Unknown(*kind, *content),
+        };
+        Ok(extension)
+    }
+}

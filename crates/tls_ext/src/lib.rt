@@ -1,0 +1,40 @@
+//! Extensions of TLS messages (RFC 8446, section 4.2).
+//!
+//! Each call answers what a layout of `specs/` allows on the bytes: the value and the exact rest, or the refusal of the
+//! leftmost part that can't be read. Slices in a value are parts of the input.
+#![tactic(auto, using(tls_fields::proofs::OneAnswer::read_allowed))]
+
+mod content;
+mod dispatch;
+mod entry;
+mod extension;
+mod kind;
+pub mod laws;
+mod tagged;
+
+pub use content::{
+    parse_tls_extension_alpn_content, parse_tls_extension_ec_point_formats_content,
+    parse_tls_extension_elliptic_curves_content, parse_tls_extension_encrypted_server_name,
+    parse_tls_extension_heartbeat_content, parse_tls_extension_max_fragment_length_content,
+    parse_tls_extension_psk_key_exchange_modes_content,
+    parse_tls_extension_renegotiation_info_content,
+    parse_tls_extension_signature_algorithms_content,
+    parse_tls_extension_signed_certificate_timestamp_content, parse_tls_extension_sni_content,
+    parse_tls_extension_sni_hostname,
+};
+pub use dispatch::{
+    parse_tls_client_hello_extension, parse_tls_client_hello_extensions, parse_tls_extension,
+    parse_tls_extensions, parse_tls_server_hello_extension, parse_tls_server_hello_extensions,
+};
+pub use extension::{KeyShareEntry, OidFilter, TlsExtension};
+pub use tagged::{
+    parse_tls_extension_cookie, parse_tls_extension_early_data,
+    parse_tls_extension_ec_point_formats, parse_tls_extension_elliptic_curves,
+    parse_tls_extension_encrypt_then_mac, parse_tls_extension_extended_master_secret,
+    parse_tls_extension_heartbeat, parse_tls_extension_key_share,
+    parse_tls_extension_max_fragment_length, parse_tls_extension_pre_shared_key,
+    parse_tls_extension_psk_key_exchange_modes, parse_tls_extension_session_ticket,
+    parse_tls_extension_signature_algorithms, parse_tls_extension_sni,
+    parse_tls_extension_status_request, parse_tls_extension_supported_versions,
+    parse_tls_extension_unknown,
+};

@@ -1,0 +1,84 @@
+-- Certificates, and requests for them.
+use Rattle.std.specs.Prelude.{ℕ, List, map, Option, Some, None}
+use Rattle.std.specs.Option.{option_map}
+use Rattle.tls_fields.specs.Bytes.{Bytes}
+use Rattle.tls_fields.specs.Layout.{Layout, done, number, list, either, ◌>>=◌, counted, counted_window}
+use Rattle.tls_hs.specs.declared.certificate.TlsCertificateContents.{TlsCertificateContents}
+use Rattle.tls_hs.specs.declared.certificate.TlsCertificateStatusContents.{TlsCertificateStatusContents}
+use Rattle.tls_hs.specs.declared.certificate_request.TlsCertificateRequestContents.{TlsCertificateRequestContents}
+
+-- A Certificate (RFC 5246, section 7.4.2), apart from where it lies in memory: its ASN.1Cert certificate_list.
+abbrev pub view_certificate : TlsCertificateContents → List Bytes
+view_certificate c = map (λ x. x.bytes.now) c.cert_chain.items
+
+-- ASN.1Cert certificate_list<0..2^24-1>, each of them opaque ASN.1Cert<1..2^24-1>.
+unfoldable pub certificate : Layout (List Bytes)
+certificate = counted_window 3 (list (counted 3))
+
+-- A CertificateRequest (RFC 5246, section 7.4.4), apart from where it lies in memory; up to TLS 1.1 it has no
+-- algorithms (RFC 4346, section 7.4.4).
+pub record CertificateRequest : Type 0 where
+  pub certificate_types : List ℕ
+  pub supported_signature_algorithms : Option (List ℕ)
+  pub certificate_authorities : List Bytes
+
+abbrev pub view_certificate_request : TlsCertificateRequestContents → CertificateRequest
+view_certificate_request r = record {
+  certificate_types = r.cert_types.items;
+  supported_signature_algorithms = option_map (λ v. v.items) r.sig_hash_algs;
+  certificate_authorities = map (λ x. x.now) r.unparsed_ca.items;
+}
+
+-- ClientCertificateType certificate_types<1..2^8-1>, perhaps none; each is one byte.
+unfoldable pub certificate_types : Layout (List ℕ)
+certificate_types = counted 1
+
+-- SignatureAndHashAlgorithm supported_signature_algorithms<2..2^16-2>, each as one number, perhaps none.
+unfoldable pub signature_algorithms : Layout (List ℕ)
+signature_algorithms = counted_window 2 (list (number 2))
+
+-- DistinguishedName certificate_authorities<0..2^16-1>, each of them opaque DistinguishedName<1..2^16-1>.
+unfoldable pub certificate_authorities : Layout (List Bytes)
+certificate_authorities = counted_window 2 (list (counted 2))
+
+-- Its body in TLS 1.2.
+unfoldable pub certificate_request_with_algorithms : Layout CertificateRequest
+certificate_request_with_algorithms = do
+  types ← certificate_types
+  algorithms ← signature_algorithms
+  authorities ← certificate_authorities
+  done (record {
+    certificate_types = types;
+    supported_signature_algorithms = Some algorithms;
+    certificate_authorities = authorities;
+  })
+
+-- Its body up to TLS 1.1.
+unfoldable pub certificate_request_without_algorithms : Layout CertificateRequest
+certificate_request_without_algorithms = do
+  types ← certificate_types
+  authorities ← certificate_authorities
+  done (record {
+    certificate_types = types;
+    supported_signature_algorithms = None;
+    certificate_authorities = authorities;
+  })
+
+-- Its body, of which nothing says which form it has: the first that is spelled.
+unfoldable pub certificate_request : Layout CertificateRequest
+certificate_request = either certificate_request_with_algorithms certificate_request_without_algorithms
+
+-- A CertificateStatus (RFC 6066, section 8), apart from where it lies in memory.
+pub record CertificateStatus : Type 0 where
+  pub status_type : ℕ
+  pub response : Bytes
+
+abbrev pub view_certificate_status : TlsCertificateStatusContents → CertificateStatus
+view_certificate_status s = record { status_type = s.status_type; response = s.blob.now }
+
+-- Its body.
+unfoldable pub certificate_status : Layout CertificateStatus
+certificate_status = do
+  kind ← number 1
+  response ← counted 3
+  done (record { status_type = kind; response = response })

@@ -1,0 +1,117 @@
+-- What a server answers to a ClientHello.
+use Rattle.std.specs.Prelude.{ℕ, Option, None, nat_le, ◌==◌, ◌&&◌}
+use Rattle.std.specs.Option.{option_map}
+use Rattle.tls_fields.specs.Bytes.{Bytes}
+use Rattle.tls_fields.specs.Layout.{Layout, done, refuse, number, block, maybe, look, ◌>>=◌, choose, counted}
+use Rattle.tls_fields.specs.declared.result.ErrorKind.TheVariants.{Tag}
+use Rattle.tls_hs.specs.Hello.{session_id}
+use Rattle.tls_hs.specs.declared.server_hello.TlsServerHelloContents.{TlsServerHelloContents}
+use Rattle.tls_hs.specs.declared.server_hello.TlsServerHelloV13Draft18Contents.{TlsServerHelloV13Draft18Contents}
+use Rattle.tls_hs.specs.declared.server_hello.TlsHelloRetryRequestContents.{TlsHelloRetryRequestContents}
+
+-- A ServerHello (RFC 5246, section 7.4.1.3), apart from where it lies in memory.
+pub record ServerHello : Type 0 where
+  pub server_version : ℕ
+  pub random : Bytes
+  pub session_id : Option Bytes
+  pub cipher_suite : ℕ
+  pub compression_method : ℕ
+  pub extensions : Option Bytes
+
+abbrev pub view_server_hello : TlsServerHelloContents → ServerHello
+view_server_hello h = record {
+  server_version = h.version.0;
+  random = h.random.now;
+  session_id = option_map (λ x. x.now) h.session_id;
+  cipher_suite = h.cipher.0;
+  compression_method = h.compression.0;
+  extensions = option_map (λ x. x.now) h.ext;
+}
+
+-- The body of a ServerHello of any version; its extensions may be absent.
+unfoldable pub server_hello_any : Layout ServerHello
+server_hello_any = do
+  version ← number 2
+  random ← block 32
+  id ← session_id
+  suite ← number 2
+  method ← number 1
+  extensions ← maybe (counted 2)
+  done (record {
+    server_version = version;
+    random = random;
+    session_id = id;
+    cipher_suite = suite;
+    compression_method = method;
+    extensions = extensions;
+  })
+
+-- The body of a ServerHello of SSL 3.0 (RFC 6101, section 5.6.1.3): there are no extensions.
+unfoldable pub server_hello_ssl30 : Layout ServerHello
+server_hello_ssl30 = do
+  version ← number 2
+  random ← block 32
+  id ← session_id
+  suite ← number 2
+  method ← number 1
+  done (record {
+    server_version = version;
+    random = random;
+    session_id = id;
+    cipher_suite = suite;
+    compression_method = method;
+    extensions = None;
+  })
+
+-- The body of a ServerHello up to TLS 1.2. Its version, which is looked at and not taken, says which form it has.
+unfoldable pub server_hello : Layout ServerHello
+server_hello = do
+  version ← look (number 2)
+  choose (version == 0x0300) server_hello_ssl30 (
+      choose (nat_le 0x0301 version && nat_le version 0x0303) server_hello_any (
+      refuse Tag))
+
+-- A ServerHello of draft 18 of TLS 1.3 (draft-ietf-tls-tls13-18, section 4.1.3), apart from where it lies in memory.
+pub record ServerHelloDraft18 : Type 0 where
+  pub version : ℕ
+  pub random : Bytes
+  pub cipher_suite : ℕ
+  pub extensions : Option Bytes
+
+abbrev pub view_server_hello_draft18 : TlsServerHelloV13Draft18Contents → ServerHelloDraft18
+view_server_hello_draft18 h = record {
+  version = h.version.0;
+  random = h.random.now;
+  cipher_suite = h.cipher.0;
+  extensions = option_map (λ x. x.now) h.ext;
+}
+
+-- Its body.
+unfoldable pub server_hello_draft18 : Layout ServerHelloDraft18
+server_hello_draft18 = do
+  version ← number 2
+  random ← block 32
+  suite ← number 2
+  extensions ← maybe (counted 2)
+  done (record { version = version; random = random; cipher_suite = suite; extensions = extensions })
+
+-- A HelloRetryRequest of draft 19 of TLS 1.3 (draft-ietf-tls-tls13-19, section 4.1.4), apart from where it lies in memory.
+pub record HelloRetryRequest : Type 0 where
+  pub server_version : ℕ
+  pub cipher_suite : ℕ
+  pub extensions : Option Bytes
+
+abbrev pub view_hello_retry_request : TlsHelloRetryRequestContents → HelloRetryRequest
+view_hello_retry_request h = record {
+  server_version = h.version.0;
+  cipher_suite = h.cipher.0;
+  extensions = option_map (λ x. x.now) h.ext;
+}
+
+-- Its body.
+unfoldable pub hello_retry_request : Layout HelloRetryRequest
+hello_retry_request = do
+  version ← number 2
+  suite ← number 2
+  extensions ← maybe (counted 2)
+  done (record { server_version = version; cipher_suite = suite; extensions = extensions })

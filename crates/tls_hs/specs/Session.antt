@@ -1,0 +1,53 @@
+-- What is neither a hello nor about certificates: key exchanges, tickets, protocols.
+use Rattle.std.specs.Prelude.{ℕ, ◌-◌, nat_le}
+use Rattle.tls_fields.specs.Bytes.{Bytes}
+use Rattle.tls_fields.specs.Layout.{Layout, done, number, block, ◌>>=◌, ◌>>◌, test, counted}
+use Rattle.tls_fields.specs.declared.result.ErrorKind.TheVariants.{Verify}
+use Rattle.tls_hs.specs.declared.session.TlsNewSessionTicketContent.{TlsNewSessionTicketContent}
+use Rattle.tls_hs.specs.declared.session.TlsClientKeyExchangeContents.{TlsClientKeyExchangeContents}
+use Rattle.tls_hs.specs.declared.session.TlsClientKeyExchangeContents.TheVariants as client_key_exchange_contents
+use Rattle.tls_hs.specs.declared.session.TlsNextProtocolContent.{TlsNextProtocolContent}
+
+-- A NewSessionTicket (RFC 5077, section 3.3), apart from where it lies in memory; its ticket is all that follows the
+-- hint, the length of the ticket too.
+pub record NewSessionTicket : Type 0 where
+  pub ticket_lifetime_hint : ℕ
+  pub ticket : Bytes
+
+abbrev pub view_new_session_ticket : TlsNewSessionTicketContent → NewSessionTicket
+view_new_session_ticket t = record { ticket_lifetime_hint = t.ticket_lifetime_hint; ticket = t.ticket.now }
+
+-- Its body of that length, in bytes.
+unfoldable pub new_session_ticket : ℕ → Layout NewSessionTicket
+new_session_ticket length = do
+  test (nat_le 4 length) Verify
+  hint ← number 4
+  ticket ← block (length - 4)
+  done (record { ticket_lifetime_hint = hint; ticket = ticket })
+
+-- A ClientKeyExchange (RFC 5246, section 7.4.7), apart from where it lies in memory. Its bytes don't say which form
+-- it has, so what is read is `Unknown`.
+pub data ClientKeyExchange : Type 0 where
+  Dh : Bytes → ClientKeyExchange
+  Ecdh : Bytes → ClientKeyExchange
+  Unknown : Bytes → ClientKeyExchange
+
+abbrev pub view_client_key_exchange : TlsClientKeyExchangeContents → ClientKeyExchange
+view_client_key_exchange (client_key_exchange_contents.Dh b) = Dh b.now
+view_client_key_exchange (client_key_exchange_contents.Ecdh p) = Ecdh p.point.now
+view_client_key_exchange (client_key_exchange_contents.Unknown b) = Unknown b.now
+
+-- A NextProtocol (draft-agl-tls-nextprotoneg-04, section 3), apart from where it lies in memory.
+pub record NextProtocol : Type 0 where
+  pub selected_protocol : Bytes
+  pub padding : Bytes
+
+abbrev pub view_next_protocol : TlsNextProtocolContent → NextProtocol
+view_next_protocol p = record { selected_protocol = p.selected_protocol.now; padding = p.padding.now }
+
+-- Its body.
+unfoldable pub next_protocol : Layout NextProtocol
+next_protocol = do
+  selected ← counted 1
+  padding ← counted 1
+  done (record { selected_protocol = selected; padding = padding })

@@ -1,0 +1,211 @@
+//! The bodies of handshake messages (RFC 5246, section 7.4), each read as a message. Where a call takes `len`, it is the
+//! length of the body in bytes, whatever `i` holds.
+ghost use Rattle.tls_fields.specs.Answers.{Gives, GivesOrMemory};
+ghost use Rattle.tls_hs.specs.Handshake.{view_handshake, hello_request_body, client_hello_body, server_hello_body, new_session_ticket_body, hello_retry_request_body, certificate_body, server_key_exchange_body, certificate_request_body, server_done_body, certificate_verify_body, client_key_exchange_body, finished_body, certificate_status_body, next_protocol_body, key_update_body};
+
+use crate::certificate::{certificate, parse_tls_handshake_certificatestatus};
+use crate::certificate_request::parse_tls_handshake_certificaterequest;
+use crate::handshake::TlsMessageHandshake;
+use crate::hello::parse_tls_handshake_client_hello;
+use crate::server_hello::{
+    hello_retry_request, parse_tls_handshake_server_hello, server_hello_draft18,
+};
+use crate::session::{
+    TlsClientKeyExchangeContents, TlsServerKeyExchangeContents, new_session_ticket,
+    parse_tls_handshake_next_protocol,
+};
+use std::alloc::Global;
+use tls_base::TlsVersion;
+use tls_fields::{IResult, block, number1};
+
+/// Reads the body of a HelloRequest (RFC 5246, section 7.4.1.1): no bytes. It never refuses.
+#[tactic(auto, using(tls_fields::proofs::OneAnswer::read_allowed), unfolding(crate::specs::Handshake::hello_request_body))]
+pub fn parse_tls_handshake_msg_hello_request(i: &[u8]) -> IResult<&[u8], TlsMessageHandshake>
+    ensures { Gives view_handshake hello_request_body i.now result }
+{
+    Ok((i, TlsMessageHandshake::HelloRequest))
+}
+
+/// Reads the body of a ClientHello: as [`parse_tls_handshake_client_hello`].
+#[tactic(auto, using(tls_fields::proofs::OneAnswer::read_allowed), unfolding(crate::specs::Handshake::client_hello_body))]
+#[inline(never)]
+pub fn parse_tls_handshake_msg_client_hello(
+    alloc: Global,
+    i: &[u8],
+) -> IResult<&[u8], TlsMessageHandshake>
+    ensures { GivesOrMemory view_handshake client_hello_body i.now result }
+{
+    let (i, hello) = parse_tls_handshake_client_hello(alloc, i)?;
+    Ok((i, TlsMessageHandshake::ClientHello(hello)))
+}
+
+/// Reads the body of a ServerHello: where its version, the first 2 bytes, is 0x7f12, that of draft 18 of TLS 1.3
+/// (draft-ietf-tls-tls13-18, section 4.1.3), with 2 bytes of version, 32 of random, 2 of cipher suite, and perhaps
+/// extensions behind 2 bytes of length; else as [`parse_tls_handshake_server_hello`].
+///
+/// `Incomplete` of the count of missing bytes, where they lack in front of the extensions; else what that call refuses.
+#[tactic(auto, using(tls_fields::proofs::OneAnswer::read_allowed), unfolding(crate::specs::Handshake::server_hello_body))]
+pub fn parse_tls_handshake_msg_server_hello(i: &[u8]) -> IResult<&[u8], TlsMessageHandshake>
+    ensures { Gives view_handshake server_hello_body i.now result }
+{
+    let (_, version) = TlsVersion::parse(i)?;
+    match version {
+        TlsVersion::Tls13Draft18 => {
+            let (i, hello) = server_hello_draft18(i)?;
+            Ok((i, TlsMessageHandshake::ServerHelloV13Draft18(hello)))
+        }
+        _ => {
+            let (i, hello) = parse_tls_handshake_server_hello(i)?;
+            Ok((i, TlsMessageHandshake::ServerHello(hello)))
+        }
+    }
+}
+
+/// Reads the body of a NewSessionTicket (RFC 5077, section 3.3) of `len` bytes: 4 bytes of hint, big-endian, and the
+/// `len - 4` that follow.
+///
+/// `Error` of kind `Verify` where `len` is below 4; else `Incomplete` of the count of missing bytes.
+#[tactic(auto, using(tls_fields::proofs::OneAnswer::read_allowed), unfolding(crate::specs::Handshake::new_session_ticket_body))]
+pub fn parse_tls_handshake_msg_newsessionticket(
+    i: &[u8],
+    len: usize,
+) -> IResult<&[u8], TlsMessageHandshake>
+    ensures { Gives view_handshake (new_session_ticket_body len) i.now result }
+{
+    let (i, ticket) = new_session_ticket(i, len)?;
+    Ok((i, TlsMessageHandshake::NewSessionTicket(ticket)))
+}
+
+/// Reads the body of a HelloRetryRequest (draft-ietf-tls-tls13-19, section 4.1.4): 2 bytes of version, 2 of cipher suite,
+/// and perhaps extensions behind 2 bytes of length.
+///
+/// `Incomplete` of the count of missing bytes, where they lack in front of the extensions.
+#[tactic(auto, using(tls_fields::proofs::OneAnswer::read_allowed), unfolding(crate::specs::Handshake::hello_retry_request_body))]
+pub fn parse_tls_handshake_msg_hello_retry_request(i: &[u8]) -> IResult<&[u8], TlsMessageHandshake>
+    ensures { Gives view_handshake hello_retry_request_body i.now result }
+{
+    let (i, request) = hello_retry_request(i)?;
+    Ok((i, TlsMessageHandshake::HelloRetryRequest(request)))
+}
+
+/// Reads the body of a Certificate: as [`crate::parts::certificate`].
+#[tactic(auto, using(tls_fields::proofs::OneAnswer::read_allowed), unfolding(crate::specs::Handshake::certificate_body))]
+pub fn parse_tls_handshake_msg_certificate(
+    alloc: Global,
+    i: &[u8],
+) -> IResult<&[u8], TlsMessageHandshake>
+    ensures { GivesOrMemory view_handshake certificate_body i.now result }
+{
+    let (i, certificate) = certificate(alloc, i)?;
+    Ok((i, TlsMessageHandshake::Certificate(certificate)))
+}
+
+/// Reads the body of a ServerKeyExchange (RFC 5246, section 7.4.3): `len` bytes.
+///
+/// `Incomplete` of the count of missing bytes.
+#[tactic(auto, using(tls_fields::proofs::OneAnswer::read_allowed), unfolding(crate::specs::Handshake::server_key_exchange_body))]
+pub fn parse_tls_handshake_msg_serverkeyexchange(
+    i: &[u8],
+    len: usize,
+) -> IResult<&[u8], TlsMessageHandshake>
+    ensures { Gives view_handshake (server_key_exchange_body len) i.now result }
+{
+    let (i, parameters) = block(i, len)?;
+    let content = TlsServerKeyExchangeContents { parameters };
+    Ok((i, TlsMessageHandshake::ServerKeyExchange(content)))
+}
+
+/// Reads the body of a CertificateRequest: as [`parse_tls_handshake_certificaterequest`].
+#[tactic(auto, using(tls_fields::proofs::OneAnswer::read_allowed), unfolding(crate::specs::Handshake::certificate_request_body))]
+pub fn parse_tls_handshake_msg_certificaterequest(
+    alloc: Global,
+    i: &[u8],
+) -> IResult<&[u8], TlsMessageHandshake>
+    ensures { GivesOrMemory view_handshake certificate_request_body i.now result }
+{
+    let (i, request) = parse_tls_handshake_certificaterequest(alloc, i)?;
+    Ok((i, TlsMessageHandshake::CertificateRequest(request)))
+}
+
+/// Reads the body of a ServerHelloDone (RFC 5246, section 7.4.5): `len` bytes, which are kept.
+///
+/// `Incomplete` of the count of missing bytes.
+#[tactic(auto, using(tls_fields::proofs::OneAnswer::read_allowed), unfolding(crate::specs::Handshake::server_done_body))]
+pub fn parse_tls_handshake_msg_serverdone(
+    i: &[u8],
+    len: usize,
+) -> IResult<&[u8], TlsMessageHandshake>
+    ensures { Gives view_handshake (server_done_body len) i.now result }
+{
+    let (i, bytes) = block(i, len)?;
+    Ok((i, TlsMessageHandshake::ServerDone(bytes)))
+}
+
+/// Reads the body of a CertificateVerify (RFC 5246, section 7.4.8): `len` bytes.
+///
+/// `Incomplete` of the count of missing bytes.
+#[tactic(auto, using(tls_fields::proofs::OneAnswer::read_allowed), unfolding(crate::specs::Handshake::certificate_verify_body))]
+pub fn parse_tls_handshake_msg_certificateverify(
+    i: &[u8],
+    len: usize,
+) -> IResult<&[u8], TlsMessageHandshake>
+    ensures { Gives view_handshake (certificate_verify_body len) i.now result }
+{
+    let (i, bytes) = block(i, len)?;
+    Ok((i, TlsMessageHandshake::CertificateVerify(bytes)))
+}
+
+/// Reads the body of a ClientKeyExchange (RFC 5246, section 7.4.7): `len` bytes, which don't say which form they have.
+///
+/// `Incomplete` of the count of missing bytes.
+#[tactic(auto, using(tls_fields::proofs::OneAnswer::read_allowed), unfolding(crate::specs::Handshake::client_key_exchange_body))]
+pub fn parse_tls_handshake_msg_clientkeyexchange(
+    i: &[u8],
+    len: usize,
+) -> IResult<&[u8], TlsMessageHandshake>
+    ensures { Gives view_handshake (client_key_exchange_body len) i.now result }
+{
+    let (i, bytes) = block(i, len)?;
+    let content = TlsClientKeyExchangeContents::Unknown(bytes);
+    Ok((i, TlsMessageHandshake::ClientKeyExchange(content)))
+}
+
+/// Reads the body of a Finished (RFC 5246, section 7.4.9): `len` bytes.
+///
+/// `Incomplete` of the count of missing bytes.
+#[tactic(auto, using(tls_fields::proofs::OneAnswer::read_allowed), unfolding(crate::specs::Handshake::finished_body))]
+pub fn parse_tls_handshake_msg_finished(i: &[u8], len: usize) -> IResult<&[u8], TlsMessageHandshake>
+    ensures { Gives view_handshake (finished_body len) i.now result }
+{
+    let (i, bytes) = block(i, len)?;
+    Ok((i, TlsMessageHandshake::Finished(bytes)))
+}
+
+/// Reads the body of a CertificateStatus: as [`parse_tls_handshake_certificatestatus`].
+#[tactic(auto, using(tls_fields::proofs::OneAnswer::read_allowed), unfolding(crate::specs::Handshake::certificate_status_body))]
+pub fn parse_tls_handshake_msg_certificatestatus(i: &[u8]) -> IResult<&[u8], TlsMessageHandshake>
+    ensures { Gives view_handshake certificate_status_body i.now result }
+{
+    let (i, status) = parse_tls_handshake_certificatestatus(i)?;
+    Ok((i, TlsMessageHandshake::CertificateStatus(status)))
+}
+
+/// Reads the body of a NextProtocol: as [`parse_tls_handshake_next_protocol`].
+#[tactic(auto, using(tls_fields::proofs::OneAnswer::read_allowed), unfolding(crate::specs::Handshake::next_protocol_body))]
+pub fn parse_tls_handshake_msg_next_protocol(i: &[u8]) -> IResult<&[u8], TlsMessageHandshake>
+    ensures { Gives view_handshake next_protocol_body i.now result }
+{
+    let (i, protocol) = parse_tls_handshake_next_protocol(i)?;
+    Ok((i, TlsMessageHandshake::NextProtocol(protocol)))
+}
+
+/// Reads the body of a KeyUpdate (RFC 8446, section 4.6.3): 1 byte, of which [`crate::KeyUpdateRequest`] names the values.
+///
+/// `Incomplete` of 1 where there is no byte.
+#[tactic(auto, using(tls_fields::proofs::OneAnswer::read_allowed), unfolding(crate::specs::Handshake::key_update_body))]
+pub fn parse_tls_handshake_msg_key_update(i: &[u8]) -> IResult<&[u8], TlsMessageHandshake>
+    ensures { Gives view_handshake key_update_body i.now result }
+{
+    let (i, update) = number1(i)?;
+    Ok((i, TlsMessageHandshake::KeyUpdate(update)))
+}

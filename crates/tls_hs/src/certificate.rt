@@ -1,0 +1,85 @@
+ghost use Rattle.std.specs.Prelude.{◌≡◌, IfOk};
+ghost use Rattle.tls_fields.specs.Bytes.{Bytes};
+ghost use Rattle.tls_fields.specs.Layout.{counted};
+ghost use Rattle.tls_fields.specs.Answers.{Gives, GivesOrMemory};
+ghost use Rattle.tls_hs.specs.Certificate.{view_certificate, certificate as certificate_layout, view_certificate_status, certificate_status};
+
+use std::alloc::Global;
+use tls_fields::{IResult, Item, OutOfMemory, counted3, items, number1};
+
+/// A certificate, as it stands behind its length.
+#[derive(Clone, Debug, PartialEq, Drop)]
+pub struct RawCertificate<'a> {
+    pub bytes: &'a [u8],
+}
+
+impl<'a> Item<'a> for RawCertificate<'a> {
+    ghost Value = { Bytes };
+
+    ghost view = { λ c. c.bytes.now };
+
+    ghost layout = { counted 3 };
+
+    fn read(_alloc: Global, i: &'a [u8]) -> IResult<&'a [u8], Self> {
+        let (i, bytes) = counted3(i)?;
+        Ok((i, RawCertificate { bytes }))
+    }
+}
+
+/// The body of a Certificate (RFC 5246, section 7.4.2).
+#[derive(Debug, PartialEq, Drop)]
+pub struct TlsCertificateContents<'a> {
+    /// The sender's own certificate first.
+    pub cert_chain: Vec<RawCertificate<'a>>,
+}
+
+impl<'a> TlsCertificateContents<'a> {
+    /// The same certificates again, in a list of their own.
+    ///
+    /// `OutOfMemory` where the list could not be held.
+    pub fn try_clone(&self, alloc: Global) -> Result<Self, OutOfMemory>
+        ensures { IfOk result (λ c. view_certificate c ≡ view_certificate self.now) }
+    {
+        Ok(TlsCertificateContents {
+            cert_chain: self.cert_chain.to_vec(alloc)?,
+        })
+    }
+}
+
+/// Reads the body of a Certificate (RFC 5246, section 7.4.2): 3 bytes of length, big-endian, and within so many bytes
+/// certificates, each behind 3 bytes of length, up to the first that isn't whole. What is left within is dropped.
+///
+/// - `Incomplete` of the count of missing bytes, where the list isn't whole.
+/// - `OutOfMemory` where the list could not be held.
+#[tactic(auto, using(tls_fields::proofs::OneAnswer::read_allowed), unfolding(crate::specs::Certificate::certificate))]
+pub fn certificate(alloc: Global, i: &[u8]) -> IResult<&[u8], TlsCertificateContents>
+    ensures { GivesOrMemory view_certificate certificate_layout i.now result }
+{
+    let (i, window) = counted3(i)?;
+    let (_, cert_chain) = items(alloc, window)?;
+    Ok((i, TlsCertificateContents { cert_chain }))
+}
+
+/// The body of a CertificateStatus (RFC 6066, section 8).
+#[derive(Clone, Debug, PartialEq, Drop)]
+pub struct TlsCertificateStatusContents<'a> {
+    /// 1 for OCSP.
+    pub status_type: u8,
+    /// The response of the certificate's authority.
+    pub blob: &'a [u8],
+}
+
+/// Reads the body of a CertificateStatus (RFC 6066, section 8): 1 byte of type, 3 bytes of length, big-endian, and so many
+/// bytes.
+///
+/// `Incomplete` of the count of missing bytes.
+#[tactic(auto, using(tls_fields::proofs::OneAnswer::read_allowed), unfolding(crate::specs::Certificate::certificate_status))]
+pub fn parse_tls_handshake_certificatestatus(
+    i: &[u8],
+) -> IResult<&[u8], TlsCertificateStatusContents>
+    ensures { Gives view_certificate_status certificate_status i.now result }
+{
+    let (i, status_type) = number1(i)?;
+    let (i, blob) = counted3(i)?;
+    Ok((i, TlsCertificateStatusContents { status_type, blob }))
+}

@@ -1,0 +1,181 @@
+ghost use Rattle.std.specs.Prelude.{◌≡◌, ℕ, map, IfOk};
+ghost use Rattle.tls_fields.specs.Bytes.{Bytes};
+ghost use Rattle.tls_fields.specs.Layout.{number, counted};
+ghost use Rattle.tls_fields.specs.Answers.{GivesOrMemory};
+ghost use Rattle.tls_hs.specs.Certificate.{view_certificate_request, certificate_types as certificate_types_layout, signature_algorithms as signature_algorithms_layout, certificate_authorities as certificate_authorities_layout, certificate_request_with_algorithms, certificate_request_without_algorithms, certificate_request};
+
+use std::alloc::{AllocError, Global};
+use tls_fields::{
+    Err, Error, ErrorKind, IResult, Item, OutOfMemory, counted1, counted2, items, number2,
+};
+
+/// The body of a CertificateRequest (RFC 5246, section 7.4.4).
+#[derive(Debug, PartialEq, Drop)]
+pub struct TlsCertificateRequestContents<'a> {
+    /// The types of certificates that the server takes.
+    pub cert_types: Vec<u8>,
+    /// The signature algorithms that the server can check; `None` up to TLS 1.1.
+    pub sig_hash_algs: Option<Vec<u16>>,
+    /// The names of the authorities that the server trusts, in DER.
+    pub unparsed_ca: Vec<&'a [u8]>,
+}
+
+impl<'a> TlsCertificateRequestContents<'a> {
+    /// The same request again, with lists of its own.
+    ///
+    /// `OutOfMemory` where a list could not be held.
+    pub fn try_clone(&self, alloc: Global) -> Result<Self, OutOfMemory>
+        ensures { IfOk result (λ r. view_certificate_request r ≡ view_certificate_request self.now) }
+    {
+        let sig_hash_algs = match &self.sig_hash_algs {
+            Some(algorithms) => Some(Vec::from_slice(alloc, algorithms)?),
+            None => None,
+        };
+        Ok(TlsCertificateRequestContents {
+            cert_types: Vec::from_slice(alloc, &self.cert_types)?,
+            sig_hash_algs,
+            unparsed_ca: Vec::from_slice(alloc, &self.unparsed_ca)?,
+        })
+    }
+}
+
+/// A signature algorithm of the list.
+#[derive(Drop)]
+struct Algorithm(u16);
+
+impl<'a> Item<'a> for Algorithm {
+    ghost Value = { ℕ };
+
+    ghost view = { λ a. a.0 };
+
+    ghost layout = { number 2 };
+
+    fn read(_alloc: Global, i: &'a [u8]) -> IResult<&'a [u8], Self> {
+        let (i, n) = number2(i)?;
+        Ok((i, Algorithm(n)))
+    }
+}
+
+/// The name of an authority in the list.
+#[derive(Drop)]
+struct Authority<'a>(&'a [u8]);
+
+impl<'a> Item<'a> for Authority<'a> {
+    ghost Value = { Bytes };
+
+    ghost view = { λ a. a.0.now };
+
+    ghost layout = { counted 2 };
+
+    fn read(_alloc: Global, i: &'a [u8]) -> IResult<&'a [u8], Self> {
+        let (i, name) = counted2(i)?;
+        Ok((i, Authority(name)))
+    }
+}
+
+/// The numbers of the algorithms.
+fn numbers(alloc: Global, algorithms: &[Algorithm]) -> Result<Vec<u16>, AllocError>
+    ensures { IfOk result (λ v. v.items ≡ map (λ a. a.0) algorithms.now) }
+{
+    algorithms.iter().map(|a| a.0).collect(alloc)
+}
+
+/// The names of the authorities.
+fn names<'a>(alloc: Global, authorities: &[Authority<'a>]) -> Result<Vec<&'a [u8]>, AllocError>
+    ensures { IfOk result (λ v. v.items ≡ map (λ a. a.0) authorities.now) }
+{
+    authorities.iter().map(|a| a.0).collect(alloc)
+}
+
+/// Certificate types: 1 byte of count, and so many bytes.
+#[tactic(auto, using(tls_fields::proofs::OneAnswer::read_allowed), unfolding(crate::specs::Certificate::certificate_types))]
+fn certificate_types(alloc: Global, i: &[u8]) -> IResult<&[u8], Vec<u8>>
+    ensures { GivesOrMemory (λ v. v.items) certificate_types_layout i.now result }
+{
+    let (i, types) = counted1(i)?;
+    Ok((i, Vec::from_slice(alloc, types)?))
+}
+
+/// Signature algorithms: 2 bytes of length, and within so many bytes numbers of 2 bytes.
+#[tactic(auto, using(tls_fields::proofs::OneAnswer::read_allowed), unfolding(crate::specs::Certificate::signature_algorithms))]
+fn signature_algorithms(alloc: Global, i: &[u8]) -> IResult<&[u8], Vec<u16>>
+    ensures { GivesOrMemory (λ v. v.items) signature_algorithms_layout i.now result }
+{
+    let (i, window) = counted2(i)?;
+    let (_, algorithms) = items(alloc, window)?;
+    Ok((i, numbers(alloc, &algorithms)?))
+}
+
+/// Names of authorities: 2 bytes of length, and within so many bytes names, each behind 2 bytes of length.
+#[tactic(auto, using(tls_fields::proofs::OneAnswer::read_allowed, crate::proofs::Authorities::names_are_seen), unfolding(crate::specs::Certificate::certificate_authorities))]
+fn certificate_authorities(alloc: Global, i: &[u8]) -> IResult<&[u8], Vec<&[u8]>>
+    ensures { GivesOrMemory (λ v. map (λ x. x.now) v.items) certificate_authorities_layout i.now result }
+{
+    let (i, window) = counted2(i)?;
+    let (_, authorities) = items(alloc, window)?;
+    Ok((i, names(alloc, &authorities)?))
+}
+
+/// A request as in TLS 1.2.
+#[tactic(auto, using(tls_fields::proofs::OneAnswer::read_allowed), unfolding(crate::specs::Certificate::certificate_request_with_algorithms))]
+fn with_algorithms(alloc: Global, i: &[u8]) -> IResult<&[u8], TlsCertificateRequestContents>
+    ensures { GivesOrMemory view_certificate_request certificate_request_with_algorithms i.now result }
+{
+    let (i, cert_types) = certificate_types(alloc, i)?;
+    let (i, algorithms) = signature_algorithms(alloc, i)?;
+    let (i, unparsed_ca) = certificate_authorities(alloc, i)?;
+    let request = TlsCertificateRequestContents {
+        cert_types,
+        sig_hash_algs: Some(algorithms),
+        unparsed_ca,
+    };
+    Ok((i, request))
+}
+
+/// A request as up to TLS 1.1.
+#[tactic(auto, using(tls_fields::proofs::OneAnswer::read_allowed), unfolding(crate::specs::Certificate::certificate_request_without_algorithms))]
+fn without_algorithms(alloc: Global, i: &[u8]) -> IResult<&[u8], TlsCertificateRequestContents>
+    ensures { GivesOrMemory view_certificate_request certificate_request_without_algorithms i.now result }
+{
+    let (i, cert_types) = certificate_types(alloc, i)?;
+    let (i, unparsed_ca) = certificate_authorities(alloc, i)?;
+    let request = TlsCertificateRequestContents {
+        cert_types,
+        sig_hash_algs: None,
+        unparsed_ca,
+    };
+    Ok((i, request))
+}
+
+/// Reads the body of a CertificateRequest (RFC 5246, section 7.4.4): 1 byte of count and so many certificate types of 1
+/// byte, signature algorithms of 2 bytes each behind 2 bytes of length, and names of authorities, each behind 2 bytes of
+/// length, behind 2 bytes of length. All numbers are big-endian.
+///
+/// Where that isn't read, the form up to TLS 1.1 is (RFC 4346, section 7.4.4), without the algorithms.
+///
+/// - `Error` of kind `Complete` where neither form is read, even where only bytes are missing.
+/// - `OutOfMemory` where a list of the form that is tried could not be held.
+#[tactic(auto, using(tls_fields::proofs::OneAnswer::read_allowed), unfolding(crate::specs::Certificate::certificate_request))]
+pub fn parse_tls_handshake_certificaterequest(
+    alloc: Global,
+    i: &[u8],
+) -> IResult<&[u8], TlsCertificateRequestContents>
+    ensures { GivesOrMemory view_certificate_request certificate_request i.now result }
+{
+    match with_algorithms(alloc, i) {
+        Ok(read) => Ok(read),
+        Err(e) => match e {
+            Err::OutOfMemory => Err(Err::OutOfMemory),
+            _ => match without_algorithms(alloc, i) {
+                Ok(read) => Ok(read),
+                Err(e) => match e {
+                    Err::OutOfMemory => Err(Err::OutOfMemory),
+                    _ => Err(Err::Error(Error {
+                        input: i,
+                        code: ErrorKind::Complete,
+                    })),
+                },
+            },
+        },
+    }
+}

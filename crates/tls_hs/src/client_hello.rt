@@ -1,0 +1,108 @@
+ghost use Rattle.std.specs.Prelude.{◌≡◌, map, IfOk};
+ghost use Rattle.std.specs.Option.{option_map};
+ghost use Rattle.tls_base.specs.CipherTable.{suite_of_id};
+ghost use Rattle.tls_hs.specs.Hello.{ClientHello as Hello, view_client_hello, random_time, random_bytes};
+
+use crate::hello::TlsClientHelloContents;
+use std::alloc::Global;
+use tls_base::{CipherTable, TlsCipherSuite, TlsCipherSuiteID, TlsCompressionID, TlsVersion};
+use tls_fields::OutOfMemory;
+
+/// What the ClientHellos of TLS and of DTLS have in common (RFC 5246, section 7.4.1.2).
+pub trait ClientHello<'a> {
+    /// What it says, apart from where it lies in memory.
+    ghost hello: { Self → Hello };
+
+    /// The version that the client offers.
+    fn version(&self) -> TlsVersion
+        ensures { result.0 ≡ (hello self.now).client_version };
+
+    /// The client's random, time included.
+    fn random(&self) -> &'a [u8]
+        ensures { result.now ≡ (hello self.now).random };
+
+    /// The first 4 bytes of the random as a number, big-endian, which some clients set to the time in seconds; 0 where
+    /// there are fewer.
+    fn rand_time(&self) -> u32
+        ensures { result ≡ random_time (hello self.now).random };
+
+    /// What follows the first 4 bytes of the random; no bytes where there are fewer.
+    fn rand_bytes(&self) -> &'a [u8]
+        ensures { result.now ≡ random_bytes (hello self.now).random };
+
+    /// The id of the session that the client would resume.
+    fn session_id(&self) -> Option<&'a [u8]>
+        ensures { option_map (λ x. x.now) result ≡ (hello self.now).session_id };
+
+    /// The cipher suites that the client offers, in its order.
+    fn ciphers(&self) -> &Vec<TlsCipherSuiteID>
+        ensures { map (λ x. x.0) result.now.items ≡ (hello self.now).cipher_suites };
+
+    /// The suite that `table` has for each of them; `None` where it has none.
+    ///
+    /// `OutOfMemory` where the list could not be held.
+    fn cipher_suites<'t>(
+        &self,
+        alloc: Global,
+        table: &'t CipherTable,
+    ) -> Result<Vec<Option<&'t TlsCipherSuite>>, OutOfMemory>
+        ensures { IfOk result (λ v. map (option_map (λ s. s.now)) v.items ≡ map (suite_of_id table.now) (hello self.now).cipher_suites) };
+
+    /// The compression methods that the client offers, in its order.
+    fn comp(&self) -> &Vec<TlsCompressionID>
+        ensures { map (λ x. x.0) result.now.items ≡ (hello self.now).compression_methods };
+
+    /// The extensions, as they stand behind their length.
+    fn ext(&self) -> Option<&'a [u8]>
+        ensures { option_map (λ x. x.now) result ≡ (hello self.now).extensions };
+}
+
+impl<'a> ClientHello<'a> for TlsClientHelloContents<'a> {
+    ghost hello = { view_client_hello };
+
+    fn version(&self) -> TlsVersion {
+        self.version
+    }
+
+    fn random(&self) -> &'a [u8] {
+        self.random
+    }
+
+    fn rand_time(&self) -> u32 {
+        match self.random {
+            [a, b, c, d, ..] => u32::from_be_bytes([*a, *b, *c, *d]),
+            _ => 0,
+        }
+    }
+
+    fn rand_bytes(&self) -> &'a [u8] {
+        match self.random {
+            [_, _, _, _, bytes @ ..] => bytes,
+            _ => &[],
+        }
+    }
+
+    fn session_id(&self) -> Option<&'a [u8]> {
+        self.session_id
+    }
+
+    fn ciphers(&self) -> &Vec<TlsCipherSuiteID> {
+        &self.ciphers
+    }
+
+    fn cipher_suites<'t>(
+        &self,
+        alloc: Global,
+        table: &'t CipherTable,
+    ) -> Result<Vec<Option<&'t TlsCipherSuite>>, OutOfMemory> {
+        self.get_ciphers(alloc, table)
+    }
+
+    fn comp(&self) -> &Vec<TlsCompressionID> {
+        &self.comp
+    }
+
+    fn ext(&self) -> Option<&'a [u8]> {
+        self.ext
+    }
+}

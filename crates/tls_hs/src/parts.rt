@@ -1,0 +1,75 @@
+//! Parts of handshake bodies that DTLS has as well (RFC 6347, section 4.2), each read alone.
+ghost use Rattle.std.specs.Prelude.{map};
+ghost use Rattle.std.specs.Option.{option_map};
+ghost use Rattle.tls_fields.specs.Answers.{Gives, GivesOrMemory};
+ghost use Rattle.tls_hs.specs.Hello.{session_id as session_id_layout, cipher_suites as cipher_suites_layout, compression_methods};
+
+pub use crate::certificate::certificate;
+pub use crate::server_hello::server_hello_any;
+use std::alloc::Global;
+use tls_base::{TlsCipherSuiteID, TlsCompressionID};
+use tls_fields::{Err, Error, ErrorKind, IResult, block, items_times, number1, number2};
+
+/// Reads a session id: 1 byte of length, at most 32, and so many bytes; no bytes are `None`.
+///
+/// `Error` of kind `Verify` where the length is above 32; else `Incomplete` of the count of missing bytes.
+#[tactic(auto, using(tls_fields::proofs::OneAnswer::read_allowed), unfolding(crate::specs::Hello::session_id))]
+pub fn session_id(i: &[u8]) -> IResult<&[u8], Option<&[u8]>>
+    ensures { Gives (λ v. option_map (λ x. x.now) v) session_id_layout i.now result }
+{
+    let (rest, n) = number1(i)?;
+    if n > 32 {
+        return Err(Err::Error(Error {
+            input: i,
+            code: ErrorKind::Verify,
+        }));
+    }
+    let (rest, id) = block(rest, n as usize)?;
+    if n == 0 {
+        Ok((rest, None))
+    } else {
+        Ok((rest, Some(id)))
+    }
+}
+
+/// Reads cipher suites: 2 bytes of length, and so many bytes, 2 for each suite, big-endian.
+///
+/// - `Incomplete` of the count that is missing of the length.
+/// - `Error` of kind `LengthValue` where the length is odd, or above the bytes that are left.
+/// - `OutOfMemory` where the list could not be held.
+#[tactic(auto, using(tls_fields::proofs::OneAnswer::read_allowed), unfolding(crate::specs::Hello::cipher_suites))]
+#[inline(always)]
+pub fn cipher_suites(alloc: Global, i: &[u8]) -> IResult<&[u8], Vec<TlsCipherSuiteID>>
+    ensures { GivesOrMemory (λ v. map (λ x. x.0) v.items) cipher_suites_layout i.now result }
+{
+    let (rest, k) = number2(i)?;
+    let k = k as usize;
+    if k % 2 != 0 || k > rest.len() {
+        return Err(Err::Error(Error {
+            input: i,
+            code: ErrorKind::LengthValue,
+        }));
+    }
+    items_times(alloc, rest, k / 2)
+}
+
+/// Reads compression methods: 1 byte of length, and so many bytes, 1 for each method.
+///
+/// - `Incomplete` of 1 where there is no length.
+/// - `Error` of kind `LengthValue` where the length is above the bytes that are left.
+/// - `OutOfMemory` where the list could not be held.
+#[tactic(auto, using(tls_fields::proofs::OneAnswer::read_allowed), unfolding(crate::specs::Hello::compression_methods))]
+#[inline(always)]
+pub fn compressions(alloc: Global, i: &[u8]) -> IResult<&[u8], Vec<TlsCompressionID>>
+    ensures { GivesOrMemory (λ v. map (λ x. x.0) v.items) compression_methods i.now result }
+{
+    let (rest, k) = number1(i)?;
+    let k = k as usize;
+    if k > rest.len() {
+        return Err(Err::Error(Error {
+            input: i,
+            code: ErrorKind::LengthValue,
+        }));
+    }
+    items_times(alloc, rest, k)
+}

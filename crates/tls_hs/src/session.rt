@@ -1,0 +1,89 @@
+ghost use Rattle.tls_fields.specs.Answers.{Gives};
+ghost use Rattle.tls_hs.specs.Session.{view_new_session_ticket, new_session_ticket as new_session_ticket_layout, view_next_protocol, next_protocol};
+
+use tls_base::ECPoint;
+use tls_fields::{Err, Error, ErrorKind, IResult, block, counted1, number4};
+
+/// The body of a NewSessionTicket (RFC 5077, section 3.3).
+#[derive(Clone, Debug, PartialEq, Drop)]
+pub struct TlsNewSessionTicketContent<'a> {
+    /// In seconds; 0 says nothing.
+    pub ticket_lifetime_hint: u32,
+    /// All that follows the hint.
+    pub ticket: &'a [u8],
+}
+
+/// The body of a ServerKeyExchange (RFC 5246, section 7.4.3).
+#[derive(Clone, Debug, PartialEq, Drop)]
+pub struct TlsServerKeyExchangeContents<'a> {
+    /// Their form depends on the cipher suite.
+    pub parameters: &'a [u8],
+}
+
+/// The body of a ClientKeyExchange (RFC 5246, section 7.4.7). Its form depends on the cipher suite, so what is read is
+/// `Unknown`.
+#[derive(Clone, Debug, PartialEq, Drop)]
+pub enum TlsClientKeyExchangeContents<'a> {
+    /// The client's public value.
+    Dh(&'a [u8]),
+    /// The client's public point (RFC 8422, section 5.7).
+    Ecdh(ECPoint<'a>),
+    /// The whole body.
+    Unknown(&'a [u8]),
+}
+
+/// The body of a NextProtocol (draft-agl-tls-nextprotoneg-04, section 3).
+#[derive(Clone, Debug, PartialEq, Drop)]
+pub struct TlsNextProtocolContent<'a> {
+    pub selected_protocol: &'a [u8],
+    pub padding: &'a [u8],
+}
+
+/// What a KeyUpdate asks of its receiver (RFC 8446, section 4.6.3).
+#[derive(Clone, Copy, PartialEq, Eq)]
+pub struct KeyUpdateRequest(pub u8);
+
+impl KeyUpdateRequest {
+    pub const NotRequested: KeyUpdateRequest = KeyUpdateRequest(0);
+
+    pub const Requested: KeyUpdateRequest = KeyUpdateRequest(1);
+}
+
+/// Reads the body of a NewSessionTicket of `len` bytes: 4 bytes of hint, big-endian, and the `len - 4` that follow.
+///
+/// `Error` of kind `Verify` where `len` is below 4; else `Incomplete` of the count of missing bytes.
+#[tactic(auto, using(tls_fields::proofs::OneAnswer::read_allowed), unfolding(crate::specs::Session::new_session_ticket))]
+pub(crate) fn new_session_ticket(i: &[u8], len: usize) -> IResult<&[u8], TlsNewSessionTicketContent>
+    ensures { Gives view_new_session_ticket (new_session_ticket_layout len) i.now result }
+{
+    if len < 4 {
+        return Err(Err::Error(Error {
+            input: i,
+            code: ErrorKind::Verify,
+        }));
+    }
+    let (i, ticket_lifetime_hint) = number4(i)?;
+    let (i, ticket) = block(i, len - 4)?;
+    let content = TlsNewSessionTicketContent {
+        ticket_lifetime_hint,
+        ticket,
+    };
+    Ok((i, content))
+}
+
+/// Reads the body of a NextProtocol (draft-agl-tls-nextprotoneg-04, section 3): the protocol and the padding, each behind
+/// 1 byte of length.
+///
+/// `Incomplete` of the count of missing bytes.
+#[tactic(auto, using(tls_fields::proofs::OneAnswer::read_allowed), unfolding(crate::specs::Session::next_protocol))]
+pub fn parse_tls_handshake_next_protocol(i: &[u8]) -> IResult<&[u8], TlsNextProtocolContent>
+    ensures { Gives view_next_protocol next_protocol i.now result }
+{
+    let (i, selected_protocol) = counted1(i)?;
+    let (i, padding) = counted1(i)?;
+    let content = TlsNextProtocolContent {
+        selected_protocol,
+        padding,
+    };
+    Ok((i, content))
+}

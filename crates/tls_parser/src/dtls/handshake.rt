@@ -1,0 +1,142 @@
+ghost use Rattle.tls_fields.specs.Answers.{GivesOrMemory};
+ghost use Rattle.tls_parser.specs.DtlsHandshake.{view_body, whole_body as whole_body_layout, body as body_layout, view_handshake, handshake as handshake_layout};
+
+use crate::dtls::hello::{
+    DTLSClientHello, DTLSHelloVerifyRequest, client_hello, hello_verify_request,
+};
+use std::alloc::Global;
+use tls_base::TlsHandshakeType;
+use tls_fields::{Err, Error, ErrorKind, IResult, block, number2, number3};
+use tls_hs::parts::{certificate, server_hello_any};
+use tls_hs::{
+    TlsCertificateContents, TlsCertificateRequestContents, TlsCertificateStatusContents,
+    TlsClientKeyExchangeContents, TlsHelloRetryRequestContents, TlsNewSessionTicketContent,
+    TlsNextProtocolContent, TlsServerHelloContents, TlsServerKeyExchangeContents,
+};
+
+/// A handshake message of DTLS (RFC 6347, section 4.2.2), or a fragment of one.
+#[derive(Debug, PartialEq, Drop)]
+pub struct DTLSMessageHandshake<'a> {
+    pub msg_type: TlsHandshakeType,
+    /// The length of the whole body, in bytes.
+    pub length: u32,
+    /// The place of the message among those of its sender.
+    pub message_seq: u16,
+    /// Where the fragment begins in the whole body, in bytes.
+    pub fragment_offset: u32,
+    /// The length of the fragment, in bytes.
+    pub fragment_length: u32,
+    pub body: DTLSMessageHandshakeBody<'a>,
+}
+
+/// The body of a handshake message of DTLS, or a part of it.
+///
+/// [`crate::parse_dtls_message_handshake`] reads `ClientHello`, `HelloVerifyRequest`, `ServerHello`, `Certificate`,
+/// `ServerDone`, `ClientKeyExchange` and `Fragment`.
+#[derive(Debug, PartialEq, Drop)]
+pub enum DTLSMessageHandshakeBody<'a> {
+    HelloRequest,
+    ClientHello(DTLSClientHello<'a>),
+    HelloVerifyRequest(DTLSHelloVerifyRequest<'a>),
+    ServerHello(TlsServerHelloContents<'a>),
+    NewSessionTicket(TlsNewSessionTicketContent<'a>),
+    HelloRetryRequest(TlsHelloRetryRequestContents<'a>),
+    Certificate(TlsCertificateContents<'a>),
+    ServerKeyExchange(TlsServerKeyExchangeContents<'a>),
+    CertificateRequest(TlsCertificateRequestContents<'a>),
+    ServerDone(&'a [u8]),
+    CertificateVerify(&'a [u8]),
+    ClientKeyExchange(TlsClientKeyExchangeContents<'a>),
+    Finished(&'a [u8]),
+    CertificateStatus(TlsCertificateStatusContents<'a>),
+    NextProtocol(TlsNextProtocolContent<'a>),
+    /// Part of a body, of whatever type.
+    Fragment(&'a [u8]),
+}
+
+/// A whole body of the type `msg_type`, of `length` bytes, from the front of `i`.
+///
+/// `Error` of kind `Switch` where no body has this type; else what the body refuses.
+#[tactic(auto, using(tls_fields::proofs::OneAnswer::read_allowed), unfolding(crate::specs::DtlsHandshake::whole_body, crate::specs::DtlsHandshake::client_hello_body, crate::specs::DtlsHandshake::server_hello_body, crate::specs::DtlsHandshake::hello_verify_request_body, crate::specs::DtlsHandshake::certificate_body, crate::specs::DtlsHandshake::server_done_body, crate::specs::DtlsHandshake::client_key_exchange_body))]
+fn whole_body(
+    alloc: Global,
+    i: &[u8],
+    msg_type: TlsHandshakeType,
+    length: usize,
+) -> IResult<&[u8], DTLSMessageHandshakeBody>
+    ensures { GivesOrMemory view_body (whole_body_layout msg_type.0 length) i.now result }
+{
+    match msg_type {
+        TlsHandshakeType::ClientHello => {
+            let (i, hello) = client_hello(alloc, i)?;
+            Ok((i, DTLSMessageHandshakeBody::ClientHello(hello)))
+        }
+        TlsHandshakeType::ServerHello => {
+            let (i, hello) = server_hello_any(i)?;
+            Ok((i, DTLSMessageHandshakeBody::ServerHello(hello)))
+        }
+        TlsHandshakeType::HelloVerifyRequest => {
+            let (i, request) = hello_verify_request(i)?;
+            Ok((i, DTLSMessageHandshakeBody::HelloVerifyRequest(request)))
+        }
+        TlsHandshakeType::Certificate => {
+            let (i, certificate) = certificate(alloc, i)?;
+            Ok((i, DTLSMessageHandshakeBody::Certificate(certificate)))
+        }
+        TlsHandshakeType::ServerDone => {
+            let (i, bytes) = block(i, length)?;
+            Ok((i, DTLSMessageHandshakeBody::ServerDone(bytes)))
+        }
+        TlsHandshakeType::ClientKeyExchange => {
+            let (i, bytes) = block(i, length)?;
+            let content = TlsClientKeyExchangeContents::Unknown(bytes);
+            Ok((i, DTLSMessageHandshakeBody::ClientKeyExchange(content)))
+        }
+        _ => Err(Err::Error(Error {
+            input: i,
+            code: ErrorKind::Switch,
+        })),
+    }
+}
+
+/// The same, or all of `i` where it is a fragment.
+#[tactic(auto, using(tls_fields::proofs::OneAnswer::read_allowed), unfolding(crate::specs::DtlsHandshake::body))]
+fn body(
+    alloc: Global,
+    i: &[u8],
+    msg_type: TlsHandshakeType,
+    length: usize,
+    is_fragment: bool,
+) -> IResult<&[u8], DTLSMessageHandshakeBody>
+    ensures { GivesOrMemory view_body (body_layout msg_type.0 length is_fragment) i.now result }
+{
+    if is_fragment {
+        let (i, bytes) = block(i, i.len())?;
+        return Ok((i, DTLSMessageHandshakeBody::Fragment(bytes)));
+    }
+    whole_body(alloc, i, msg_type, length)
+}
+
+/// Reads a handshake message, as [`crate::parse_dtls_message_handshake`] does.
+#[tactic(auto, using(tls_fields::proofs::OneAnswer::read_allowed), unfolding(crate::specs::DtlsHandshake::handshake))]
+pub(crate) fn handshake(alloc: Global, i: &[u8]) -> IResult<&[u8], DTLSMessageHandshake>
+    ensures { GivesOrMemory view_handshake handshake_layout i.now result }
+{
+    let (i, msg_type) = TlsHandshakeType::parse(i)?;
+    let (i, length) = number3(i)?;
+    let (i, message_seq) = number2(i)?;
+    let (i, fragment_offset) = number3(i)?;
+    let (i, fragment_length) = number3(i)?;
+    let (i, window) = block(i, fragment_length as usize)?;
+    let is_fragment = fragment_offset > 0 || fragment_length < length;
+    let (_, body) = body(alloc, window, msg_type, length as usize, is_fragment)?;
+    let message = DTLSMessageHandshake {
+        msg_type,
+        length,
+        message_seq,
+        fragment_offset,
+        fragment_length,
+        body,
+    };
+    Ok((i, message))
+}

@@ -1,0 +1,149 @@
+ghost use Rattle.std.specs.Prelude.{map};
+ghost use Rattle.std.specs.Result.{IsErr};
+ghost use Rattle.tls_fields.specs.Layout.{list1};
+ghost use Rattle.tls_fields.specs.Meaning.{AllowsOne};
+ghost use Rattle.tls_fields.specs.Reading.{reading};
+ghost use Rattle.tls_fields.specs.Answers.{Gives, GivesOrMemory, HasMemory};
+ghost use Rattle.tls_parser.specs.DtlsRecord.{Plaintext, view_message, view_header, record_header, view_raw_record, raw_record as raw_record_layout, record_content, view_plaintext, plaintext};
+
+use crate::dtls::message::DTLSMessage;
+use crate::dtls::short_messages::{alert_list, change_cipher_spec_list};
+use crate::record::MAX_RECORD_LEN;
+use std::alloc::Global;
+use tls_base::{TlsRecordType, TlsVersion};
+use tls_fields::{Err, Error, ErrorKind, IResult, Item, block, items1, number2, number8};
+
+/// The header of a DTLS record (RFC 6347, section 4.1), 13 bytes.
+#[derive(Debug, PartialEq, Drop)]
+pub struct DTLSRecordHeader {
+    pub content_type: TlsRecordType,
+    pub version: TlsVersion,
+    /// How often the sender has changed its cipher.
+    pub epoch: u16,
+    /// The record's number in its epoch, below 2^48.
+    pub sequence_number: u64,
+    /// The length of the fragment that follows, in bytes.
+    pub length: u16,
+}
+
+/// A DTLS record whose fragment isn't read.
+#[derive(Debug, PartialEq, Drop)]
+pub struct DTLSRawRecord<'a> {
+    pub header: DTLSRecordHeader,
+    /// The fragment, `header.length` bytes.
+    pub fragment: &'a [u8],
+}
+
+/// A DTLS record that isn't encrypted (RFC 6347, section 4.1), with its messages, of which there is at least one.
+#[derive(Debug, PartialEq, Drop)]
+pub struct DTLSPlaintext<'a> {
+    pub header: DTLSRecordHeader,
+    pub messages: Vec<DTLSMessage<'a>>,
+}
+
+/// Reads the header of a DTLS record (RFC 6347, section 4.1): 1 byte of type, 2 of version, 8 of which the upper 2 are
+/// the epoch and the others the sequence number, and 2 of length, all big-endian.
+///
+/// `Incomplete` of the count that is missing of the first of these four that isn't whole.
+#[tactic(auto, using(tls_fields::proofs::OneAnswer::read_allowed, tls_fields::proofs::OneAnswer::one_answer, crate::proofs::Counter::low_bits), unfolding(crate::specs::DtlsRecord::record_header))]
+pub fn parse_dtls_record_header(i: &[u8]) -> IResult<&[u8], DTLSRecordHeader>
+    ensures gives { Gives view_header record_header i.now result }
+    ensures only_one { AllowsOne record_header i.now }
+{
+    let (i, content_type) = TlsRecordType::parse(i)?;
+    let (i, version) = TlsVersion::parse(i)?;
+    let (i, counter) = number8(i)?;
+    let (i, length) = number2(i)?;
+    let header = DTLSRecordHeader {
+        content_type,
+        version,
+        epoch: (counter >> 48) as u16,
+        sequence_number: counter & 0xffff_ffff_ffff,
+        length,
+    };
+    Ok((i, header))
+}
+
+/// Reads a DTLS record and leaves its fragment as it stands.
+#[tactic(auto, using(tls_fields::proofs::OneAnswer::read_allowed), unfolding(crate::specs::DtlsRecord::raw_record))]
+fn raw_record(i: &[u8]) -> IResult<&[u8], DTLSRawRecord>
+    ensures { Gives view_raw_record raw_record_layout i.now result }
+{
+    let (i, header) = parse_dtls_record_header(i)?;
+    if header.length > MAX_RECORD_LEN {
+        return Err(Err::Error(Error {
+            input: i,
+            code: ErrorKind::TooLarge,
+        }));
+    }
+    let (i, fragment) = block(i, header.length as usize)?;
+    Ok((i, DTLSRawRecord { header, fragment }))
+}
+
+/// Reads the fragment `i` of a DTLS record with the header `hdr`, as messages of the header's type, one or more: 20,
+/// ChangeCipherSpec; 21, alerts; 22, handshake messages; as `parse_dtls_message_..` reads each. They end before the first
+/// that isn't read; what is left is no refusal.
+///
+/// - `Error` of kind `Switch` where the type is another.
+/// - What the first message refuses, but `Error` of kind `Complete` in place of `Incomplete`: the fragment is whole.
+/// - `OutOfMemory` where a list could not be held.
+#[tactic(auto, using(tls_fields::proofs::OneAnswer::read_allowed), unfolding(crate::specs::DtlsRecord::record_content))]
+pub fn parse_dtls_record_with_header<'a>(
+    alloc: Global,
+    i: &'a [u8],
+    hdr: &DTLSRecordHeader,
+) -> IResult<&'a [u8], Vec<DTLSMessage<'a>>>
+    ensures { GivesOrMemory (λ v. map view_message v.items) (record_content (view_header hdr.now)) i.now result }
+{
+    match hdr.content_type {
+        TlsRecordType::ChangeCipherSpec => change_cipher_spec_list(alloc, i),
+        TlsRecordType::Alert => alert_list(alloc, i),
+        TlsRecordType::Handshake => items1(alloc, i),
+        _ => Err(Err::Error(Error {
+            input: i,
+            code: ErrorKind::Switch,
+        })),
+    }
+}
+
+/// Reads a DTLS record and its messages (RFC 6347, section 4.1): its header, and as many bytes as the length there says,
+/// on which [`parse_dtls_record_with_header`] is called; its refusal is the call's. What the messages leave of these bytes
+/// is dropped.
+///
+/// - What [`parse_dtls_record_header`] refuses.
+/// - `Error` of kind `TooLarge` where the length is above [`MAX_RECORD_LEN`], even if the fragment isn't there yet.
+/// - `Incomplete` of the count of bytes that are missing of the fragment.
+/// - `OutOfMemory` only where the record is whole and not too large.
+#[tactic(auto, using(tls_fields::proofs::OneAnswer::read_allowed, tls_fields::proofs::OneAnswer::one_answer, crate::proofs::Opened::dtls_plaintext_opened))]
+pub fn parse_dtls_plaintext_record(alloc: Global, i: &[u8]) -> IResult<&[u8], DTLSPlaintext>
+    ensures gives { GivesOrMemory view_plaintext plaintext i.now result }
+    ensures only_one { AllowsOne plaintext i.now }
+    ensures memory_if_whole { IsErr (reading raw_record_layout i.now) → HasMemory result }
+{
+    let (i, DTLSRawRecord { header, fragment }) = raw_record(i)?;
+    let (_, messages) = parse_dtls_record_with_header(alloc, fragment, &header)?;
+    Ok((i, DTLSPlaintext { header, messages }))
+}
+
+impl<'a> Item<'a> for DTLSPlaintext<'a> {
+    ghost Value = { Plaintext };
+
+    ghost view = { view_plaintext };
+
+    ghost layout = { plaintext };
+
+    fn read(alloc: Global, i: &'a [u8]) -> IResult<&'a [u8], Self> {
+        parse_dtls_plaintext_record(alloc, i)
+    }
+}
+
+/// Reads one or more DTLS records, as [`parse_dtls_plaintext_record`] does, up to the first that isn't read; what is left
+/// begins there. A datagram may hold several (RFC 6347, section 4.1.1).
+///
+/// - What the first record refuses, but `Error` of kind `Complete` in place of `Incomplete`.
+/// - `OutOfMemory` where a list could not be held.
+pub fn parse_dtls_plaintext_records(alloc: Global, i: &[u8]) -> IResult<&[u8], Vec<DTLSPlaintext>>
+    ensures { GivesOrMemory (λ v. map view_plaintext v.items) (list1 plaintext) i.now result }
+{
+    items1(alloc, i)
+}

@@ -1,0 +1,141 @@
+ghost use Rattle.std.specs.Prelude.{◌≡◌, map, [], ◌∷◌, IfOk};
+ghost use Rattle.std.specs.Result.{IsErr};
+ghost use Rattle.tls_fields.specs.Layout.{chain, complete, done, list1};
+ghost use Rattle.tls_fields.specs.Meaning.{AllowsOne};
+ghost use Rattle.tls_fields.specs.Reading.{reading};
+ghost use Rattle.tls_fields.specs.Answers.{GivesOrMemory, HasMemory};
+ghost use Rattle.tls_hs.specs.Message.{view_message, application_data, heartbeat};
+ghost use Rattle.tls_parser.specs.Record.{Plaintext, view_header, raw_record, record_content, view_plaintext, plaintext, AsksNoMore};
+
+use crate::record::{TlsRawRecord, TlsRecordHeader, parse_tls_raw_record};
+use crate::short_messages::{alert_list, change_cipher_spec_list};
+use std::alloc::Global;
+use tls_base::TlsRecordType;
+use tls_fields::{Err, Error, ErrorKind, IResult, Item, OutOfMemory, items1};
+use tls_hs::{TlsMessage, parse_tls_message_applicationdata, parse_tls_message_heartbeat};
+
+/// A record that isn't encrypted (RFC 5246, section 6.2.1), with its messages, of which there is at least one.
+#[derive(Debug, PartialEq, Drop)]
+pub struct TlsPlaintext<'a> {
+    pub hdr: TlsRecordHeader,
+    pub msg: Vec<TlsMessage<'a>>,
+}
+
+impl<'a> TlsPlaintext<'a> {
+    /// The same record again, with lists of its own.
+    ///
+    /// `OutOfMemory` where a list could not be held.
+    pub fn try_clone(&self, alloc: Global) -> Result<Self, OutOfMemory>
+        ensures { IfOk result (λ p. view_plaintext p ≡ view_plaintext self.now) }
+    {
+        let mut msg = Vec::with_capacity(alloc, self.msg.len())?;
+        for message in &self.msg {
+            msg.push_reserved(message.try_clone(alloc)?);
+        }
+        Ok(TlsPlaintext { hdr: self.hdr, msg })
+    }
+}
+
+/// Application data as a list of one message.
+fn application_data_alone(alloc: Global, i: &[u8]) -> IResult<&[u8], Vec<TlsMessage>>
+    ensures { GivesOrMemory (λ v. map view_message v.items) (chain application_data (λ m. done (m ∷ []))) i.now result }
+{
+    let (i, data) = parse_tls_message_applicationdata(i)?;
+    let mut messages = Vec::new(alloc);
+    messages.push(data)?;
+    Ok((i, messages))
+}
+
+/// A Heartbeat message, of which no further bytes can supply what is missing.
+fn heartbeat_alone(alloc: Global, i: &[u8], len: u16) -> IResult<&[u8], Vec<TlsMessage>>
+    ensures { GivesOrMemory (λ v. map view_message v.items) (complete (heartbeat len)) i.now result }
+{
+    match parse_tls_message_heartbeat(alloc, i, len) {
+        Err(Err::Incomplete(_)) => Err(Err::Error(Error {
+            input: i,
+            code: ErrorKind::Complete,
+        })),
+        result => result,
+    }
+}
+
+/// Reads the fragment `i` of a record with the header `hdr`, as messages of the header's type:
+///
+/// - 20, 21, 22: one or more of ChangeCipherSpec, of alerts, of handshake messages, as `parse_tls_message_..` reads each.
+///   They end before the first that isn't read; what is left is no refusal.
+/// - 23: all bytes, perhaps none, as one ApplicationData.
+/// - 24: one Heartbeat, as [`parse_tls_message_heartbeat`] reads it with the length in the header.
+///
+/// It never answers `Incomplete`, and refuses:
+/// - `Error` of kind `Switch` where the type is another.
+/// - What the first message refuses, but `Error` of kind `Complete` in place of `Incomplete`: the fragment is whole.
+/// - `OutOfMemory` where a list could not be held.
+#[tactic(auto, using(tls_fields::proofs::OneAnswer::read_allowed, crate::proofs::NoMore::never_asked), unfolding(crate::specs::Record::record_content))]
+pub fn parse_tls_record_with_header<'a>(
+    alloc: Global,
+    i: &'a [u8],
+    hdr: &TlsRecordHeader,
+) -> IResult<&'a [u8], Vec<TlsMessage<'a>>>
+    ensures gives { GivesOrMemory (λ v. map view_message v.items) (record_content (view_header hdr.now)) i.now result }
+    ensures never_incomplete { AsksNoMore result }
+{
+    match hdr.record_type {
+        TlsRecordType::ChangeCipherSpec => change_cipher_spec_list(alloc, i),
+        TlsRecordType::Alert => alert_list(alloc, i),
+        TlsRecordType::Handshake => items1(alloc, i),
+        TlsRecordType::ApplicationData => application_data_alone(alloc, i),
+        TlsRecordType::Heartbeat => heartbeat_alone(alloc, i, hdr.len),
+        _ => Err(Err::Error(Error {
+            input: i,
+            code: ErrorKind::Switch,
+        })),
+    }
+}
+
+/// Reads a record and its messages: as [`parse_tls_raw_record`], and then [`parse_tls_record_with_header`] on the
+/// fragment, whose refusal is the call's. What the messages leave of the fragment is dropped.
+///
+/// `Incomplete` only where the record isn't whole, `OutOfMemory` only where it is whole and not too large.
+#[tactic(auto, using(tls_fields::proofs::OneAnswer::read_allowed, tls_fields::proofs::OneAnswer::one_answer, crate::proofs::Opened::plaintext_opened))]
+pub fn parse_tls_plaintext(alloc: Global, i: &[u8]) -> IResult<&[u8], TlsPlaintext>
+    ensures gives { GivesOrMemory view_plaintext plaintext i.now result }
+    ensures only_one { AllowsOne plaintext i.now }
+    ensures memory_if_whole { IsErr (reading raw_record i.now) → HasMemory result }
+{
+    let (i, TlsRawRecord { hdr, bytes }) = parse_tls_raw_record(i)?;
+    let (_, msg) = parse_tls_record_with_header(alloc, bytes, &hdr)?;
+    Ok((i, TlsPlaintext { hdr, msg }))
+}
+
+/// The same as [`parse_tls_plaintext`].
+///
+/// Deprecated: use [`parse_tls_plaintext`].
+pub fn tls_parser(alloc: Global, i: &[u8]) -> IResult<&[u8], TlsPlaintext>
+    ensures gives { GivesOrMemory view_plaintext plaintext i.now result }
+    ensures memory_if_whole { IsErr (reading raw_record i.now) → HasMemory result }
+{
+    parse_tls_plaintext(alloc, i)
+}
+
+impl<'a> Item<'a> for TlsPlaintext<'a> {
+    ghost Value = { Plaintext };
+
+    ghost view = { view_plaintext };
+
+    ghost layout = { plaintext };
+
+    fn read(alloc: Global, i: &'a [u8]) -> IResult<&'a [u8], Self> {
+        parse_tls_plaintext(alloc, i)
+    }
+}
+
+/// Reads one or more records, as [`parse_tls_plaintext`] does, up to the first that isn't read; what is left begins
+/// there.
+///
+/// - What the first record refuses, but `Error` of kind `Complete` in place of `Incomplete`.
+/// - `OutOfMemory` where a list could not be held.
+pub fn tls_parser_many(alloc: Global, i: &[u8]) -> IResult<&[u8], Vec<TlsPlaintext>>
+    ensures { GivesOrMemory (λ v. map view_plaintext v.items) (list1 plaintext) i.now result }
+{
+    items1(alloc, i)
+}
