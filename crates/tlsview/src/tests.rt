@@ -137,17 +137,34 @@ const BAD_LINE_3: &[u8] =
 const VERIFY_IN_LINE_1: &[u8] =
     b"> 1603010027010000230303000000000000000000000000000000000000000000000000000000000000000021";
 
+/// A record of each other handshake message, each as short as it may be, and one of each other kind.
+const ONE_OF_EACH: &[u8] =
+    b"< 16030300a100000000020000260300000000000000000000000000000000000000000000000000000000000000000000000000020000247f1200000000000000000000000000000000000000000000000000000000000000001301040000040000000005000000060000047f1213010b0000030000000c0000000d00000500000000000e0000000f00000010000000140000001600000401000000180000010043000002000017030300001803030003010000";
+
+const ONE_OF_EACH_TEXT: &[u8] =
+    b"< HelloRequest\n< ServerHello\n< ServerHelloV13Draft18\n< NewSessionTicket\n< EndOfEarlyData\n< HelloRetryRequest\n< Certificate\n< ServerKeyExchange\n< CertificateRequest\n< ServerDone\n< CertificateVerify\n< ClientKeyExchange\n< Finished\n< CertificateStatus\n< KeyUpdate\n< NextProtocol\n< ApplicationData\n< Heartbeat\n";
+
 const TWO_LINES_TEXT: &[u8] = b"> ClientHello\n< ClientHello\n< ClientHello\n";
 
 #[test]
 fn answers(rt: HostRuntime) -> Result<(), Fail> {
-    let table: [(&[u8], &[u8], u8); 22] = [
+    let table: [(&[u8], &[u8], u8); 28] = [
         (b"", b"", 0),
         (b"\n\r\n\n", b"", 0),
         (b"> \n< ", b"", 0),
         (TO_SERVER, b"> ClientHello\n", 0),
         (FROM_SERVER, b"< ClientHello\n", 0),
         (TWO_LINES, TWO_LINES_TEXT, 0),
+        (ONE_OF_EACH, ONE_OF_EACH_TEXT, 0),
+        (b"< 160303000400000000", b"< HelloRequest\n", 0),
+        (b"> 140303000101", b"> ChangeCipherSpec\n", 0),
+        (b"< 15030300020100", b"< Alert\n", 0),
+        (
+            b"> 15030300020228\n> 1603014101",
+            b"> Alert\nline 2: error TooLarge\n",
+            1,
+        ),
+        (b"> 1803030003010005", b"line 1: error Complete\n", 1),
         (b"> 16", b"line 1: incomplete 2\n", 1),
         (b"> 1603014100\n", b"line 1: incomplete 16640\n", 1),
         (b"> 1603014101", b"line 1: error TooLarge\n", 1),
