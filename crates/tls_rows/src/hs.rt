@@ -2,14 +2,13 @@
 ghost use Rattle.std.specs.Prelude.{◌≡◌};
 ghost use Rattle.tls_hs.specs.Hello.{random_time};
 
-use crate::support::{Refused, lists, only_second, reads, refuses, suite};
+use crate::support::{Refused, copied, lists, only_second, reads, refuses, suite};
 use std::alloc::Global;
-use std::fmt::Debug;
 use std::process::Abort;
 use std::test::Fail;
 use tls_base::{
-    CipherTable, ErrorKind, IResult, OutOfMemory, TlsAlertDescription, TlsAlertSeverity,
-    TlsCipherSuiteID, TlsCompressionID, TlsHeartbeatMessageType, TlsMessageAlert, TlsVersion,
+    CipherTable, ErrorKind, IResult, TlsAlertDescription, TlsAlertSeverity, TlsCipherSuiteID,
+    TlsCompressionID, TlsHeartbeatMessageType, TlsMessageAlert, TlsVersion,
 };
 use tls_hs::{
     ClientHello, RawCertificate, TlsCertificateContents, TlsCertificateRequestContents,
@@ -50,18 +49,6 @@ fn around_zeros(alloc: Global, front: &[u8], tail: &[u8]) -> Result<Vec<u8>, Fai
         bytes.push(*b)?;
     }
     Ok(bytes)
-}
-
-/// The copy is there, and the same.
-fn copied<T: PartialEq + Debug + Drop>(
-    rt: &impl Abort,
-    copy: Result<T, OutOfMemory>,
-    original: &T,
-) {
-    match copy {
-        Ok(copy) => assert!(rt; copy == *original),
-        Err(_) => panic!(rt; "out of memory"),
-    }
 }
 
 /// The call refused each of these bytes so, and gave a handshake message.

@@ -1,6 +1,6 @@
 //! Records of TLS, of each type.
 
-use crate::support::{Refused, answer, lists, reads, refuses};
+use crate::support::{Refused, answer, copied, lists, reads, refuses};
 use std::alloc::Global;
 use std::process::Abort;
 use std::test::Fail;
@@ -255,4 +255,13 @@ fn server_hello_of_draft_18(rt: HostRuntime) -> Result<(), Fail> {
     let share = [TlsExtension::KeyShareOld(&DRAFT_18[51..])];
     lists(&rt, parse_tls_extensions(alloc, ext), &share, &[]);
     Ok(())
+}
+
+#[test]
+fn record_copied(rt: HostRuntime) {
+    let alloc = rt.alloc();
+    match parse_tls_plaintext(alloc, &[0x15, 3, 3, 0, 4, 1, 0, 2, 0x28]) {
+        Ok((_, record)) => copied(&rt, record.try_clone(alloc), &record),
+        Err(_) => panic!(rt; "refused"),
+    }
 }

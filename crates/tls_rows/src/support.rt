@@ -89,3 +89,15 @@ pub fn only_second(rt: &impl Abort, suites: Result<Vec<Option<&TlsCipherSuite>>,
         Err(_) => panic!(rt; "out of memory"),
     }
 }
+
+/// The copy is there, and the same.
+pub fn copied<T: PartialEq + Debug + Drop>(
+    rt: &impl Abort,
+    copy: Result<T, OutOfMemory>,
+    original: &T,
+) {
+    match copy {
+        Ok(copy) => assert!(rt; copy == *original),
+        Err(_) => panic!(rt; "out of memory"),
+    }
+}
