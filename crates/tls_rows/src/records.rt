@@ -56,13 +56,10 @@ fn heartbeat(payload: &'static [u8], payload_len: u16) -> TlsMessage<'static> {
     })
 }
 
-/// A record header, and then `count` bytes `byte`.
-fn filled(alloc: Global, record_type: u8, count: usize, byte: u8) -> Result<Vec<u8>, Fail> {
-    let mut bytes = vec![in alloc; record_type, 3, 3]?;
-    for b in (count as u16).to_be_bytes() {
-        bytes.push(b)?;
-    }
-    for _ in 0..count {
+/// A record of the most bytes that one may have, 16640, each of which is `byte`.
+fn filled(alloc: Global, record_type: u8, byte: u8) -> Result<Vec<u8>, Fail> {
+    let mut bytes = vec![in alloc; record_type, 3, 3, 0x41, 0]?;
+    for _ in 0..16640 {
         bytes.push(byte)?;
     }
     Ok(bytes)
@@ -217,7 +214,7 @@ fn records_one_after_the_other(rt: HostRuntime) -> Result<(), Fail> {
 fn long_lists(rt: HostRuntime) -> Result<(), Fail> {
     let alloc = rt.alloc();
     for (record_type, byte, count) in [(20, 1, 16640), (21, 1, 8320), (22, 0, 4160)] {
-        let bytes = filled(alloc, record_type, 16640, byte)?;
+        let bytes = filled(alloc, record_type, byte)?;
         counts(&rt, alloc, &bytes, count);
     }
     Ok(())
