@@ -74,7 +74,7 @@ certificate_status_types =
     (1, codes "OCSP")
     ∷ []
 
--- The HandshakeType of RFC 5246, 7.4, with those of RFC 6347, 4.3.2, RFC 6066, 8, and RFC 8446, 4.
+-- The HandshakeType of RFC 5246, 7.4, with those of RFC 6347, 4.3.2, RFC 6066, 2, and RFC 8446, 4.
 abbrev pub handshake_types : List (ℕ × Text)
 handshake_types =
     (0, codes "HelloRequest")
@@ -112,7 +112,7 @@ compression_methods =
     ∷ (1, codes "Deflate")
     ∷ []
 
--- The ContentType of RFC 5246, 6.2.1, with that of RFC 6520, 2.
+-- The ContentType of RFC 5246, 6.2.1, with that of RFC 6520, 6.
 abbrev pub content_types : List (ℕ × Text)
 content_types =
     (20, codes "ChangeCipherSpec")

@@ -8,7 +8,9 @@ use tls_fields::IResult;
 /// An alert (RFC 5246, section 7.2).
 #[derive(Clone, Debug, PartialEq, Drop)]
 pub struct TlsMessageAlert {
+    /// How grave it is: a warning or fatal.
     pub severity: TlsAlertSeverity,
+    /// What it tells.
     pub code: TlsAlertDescription,
 }
 

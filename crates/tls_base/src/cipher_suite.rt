@@ -18,12 +18,13 @@ pub struct TlsCipherSuite {
     pub au: TlsCipherAu,
     /// The encryption.
     pub enc: TlsCipherEnc,
+    /// The mode of the encryption.
     pub enc_mode: TlsCipherEncMode,
     /// The bits of a key of the encryption.
     pub enc_size: u16,
     /// The authentication of records.
     pub mac: TlsCipherMac,
-    /// The length of the code that authenticates a record, as the table of suites gives it.
+    /// The bits of the code that authenticates a record.
     pub mac_size: u16,
     /// The pseudorandom function.
     pub prf: TlsPRF,

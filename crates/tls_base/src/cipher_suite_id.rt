@@ -40,6 +40,8 @@ impl TlsCipherSuiteID {
 }
 
 impl<'a> Item<'a> for TlsCipherSuiteID {
+    type Read = Self;
+
     ghost Value = { ℕ };
 
     ghost view = { λ v. v.0 };

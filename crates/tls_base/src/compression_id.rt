@@ -35,6 +35,8 @@ impl TlsCompressionID {
 }
 
 impl<'a> Item<'a> for TlsCompressionID {
+    type Read = Self;
+
     ghost Value = { ℕ };
 
     ghost view = { λ v. v.0 };

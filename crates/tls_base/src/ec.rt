@@ -13,7 +13,9 @@ use tls_fields::{Err, Error, ErrorKind, IResult, counted1, pairs};
 /// The coefficients of an elliptic curve (RFC 4492, section 5.4).
 #[derive(Debug, PartialEq, Drop)]
 pub struct ECCurve<'a> {
+    /// The coefficient a of the curve, big-endian.
     pub a: &'a [u8],
+    /// The coefficient b of the curve, big-endian.
     pub b: &'a [u8],
 }
 
@@ -34,6 +36,7 @@ impl<'a> ECCurve<'a> {
 /// A point of an elliptic curve (RFC 8422, section 5.4).
 #[derive(Clone, Debug, PartialEq, Drop)]
 pub struct ECPoint<'a> {
+    /// The point's bytes, in the format that their first byte says.
     pub point: &'a [u8],
 }
 
@@ -127,6 +130,7 @@ impl<'a> ECParametersContent<'a> {
 pub struct ECParameters<'a> {
     /// How the curve is given.
     pub curve_type: ECCurveType,
+    /// The curve, in that form.
     pub params_content: ECParametersContent<'a>,
 }
 
@@ -205,5 +209,5 @@ pub fn parse_ecdh_params(i: &[u8]) -> IResult<&[u8], ServerECDHParams>
 pub fn parse_named_groups(alloc: Global, i: &[u8]) -> IResult<&[u8], Vec<NamedGroup>>
     ensures { GivesOrMemory (λ v. map (λ g. g.0) v.items) pairs_layout i.now result }
 {
-    pairs(alloc, i)
+    pairs::<NamedGroup>(alloc, i)
 }

@@ -1,6 +1,8 @@
-//! Types that several TLS structures share: numbers with a name.
+//! What several TLS structures share: numbers with a name, key exchange, signatures, timestamps, alerts, and cipher
+//! suites with their tables.
 //!
-//! Each is the number that stands in the bytes. Numbers without a name are read and kept.
+//! A number with a name is the number that stands in the bytes; one without a name is read and kept. Each parse call
+//! answers what a layout of `specs/` allows on the bytes.
 #![tactic(auto, using(tls_fields::proofs::OneAnswer::read_allowed))]
 
 mod alert;

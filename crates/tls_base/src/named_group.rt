@@ -114,6 +114,8 @@ impl NamedGroup {
 }
 
 impl<'a> Item<'a> for NamedGroup {
+    type Read = Self;
+
     ghost Value = { ℕ };
 
     ghost view = { λ v. v.0 };

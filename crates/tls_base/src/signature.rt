@@ -11,7 +11,9 @@ use tls_fields::{IResult, counted2};
 /// How a signature is made, in the older way (RFC 5246, section 7.4.1.4.1).
 #[derive(Clone, Debug, PartialEq, Drop)]
 pub struct SignatureAndHashAlgorithm {
+    /// The hash that is signed.
     pub hash: HashAlgorithm,
+    /// The algorithm that signs it.
     pub sign: SignAlgorithm,
 }
 

@@ -11,6 +11,7 @@ use tls_fields::{Err, IResult, Item, Needed, block, counted2, items, number2, nu
 /// Which log signed: the hash of its key (RFC 6962, section 3.2).
 #[derive(Clone, Debug, PartialEq, Drop)]
 pub struct CtLogID<'a> {
+    /// The SHA-256 hash of the log's public key.
     pub key_id: &'a [u8; 32],
 }
 
@@ -21,11 +22,13 @@ pub struct CtExtensions<'a>(pub &'a [u8]);
 /// A signed certificate timestamp (RFC 6962, section 3.2).
 #[derive(Clone, Debug, PartialEq, Drop)]
 pub struct SignedCertificateTimestamp<'a> {
+    /// The version of the protocol that the timestamp is of.
     pub version: CtVersion,
     /// Which log signed.
     pub id: CtLogID<'a>,
     /// Milliseconds since the start of 1970.
     pub timestamp: u64,
+    /// Extensions, of which none are known.
     pub extensions: CtExtensions<'a>,
     /// The log's signature.
     pub signature: DigitallySigned<'a>,
@@ -77,6 +80,8 @@ pub fn parse_ct_signed_certificate_timestamp(i: &[u8]) -> IResult<&[u8], SignedC
 }
 
 impl<'a> Item<'a> for SignedCertificateTimestamp<'a> {
+    type Read = Self;
+
     ghost Value = { Timestamp };
 
     ghost view = { view_timestamp };
@@ -100,6 +105,6 @@ pub fn parse_ct_signed_certificate_timestamp_list(
 {
     let (i, n) = number2(i)?;
     let (i, window) = block(i, n as usize)?;
-    let (_, timestamps) = items(alloc, window)?;
+    let (_, timestamps) = items::<SignedCertificateTimestamp>(alloc, window)?;
     Ok((i, timestamps))
 }

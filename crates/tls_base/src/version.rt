@@ -72,6 +72,8 @@ impl TlsVersion {
 }
 
 impl<'a> Item<'a> for TlsVersion {
+    type Read = Self;
+
     ghost Value = { ℕ };
 
     ghost view = { λ v. v.0 };

@@ -178,7 +178,7 @@ renegotiation_info = do
   done (ext.renegotiation_info bytes)
 
 -- CipherSuite suite; KeyShareEntry key_share; opaque record_digest<0..2^16-1>; opaque encrypted_sni<0..2^16-1>
--- (draft-ietf-tls-esni-02, section 5.1).
+-- (draft-ietf-tls-esni-02, section 5).
 unfoldable pub encrypted_server_name : Layout Extension
 encrypted_server_name = do
   suite ← number 2

@@ -33,7 +33,7 @@ pub record OidFilter : Type 0 where
 abbrev pub view_oid_filter : RustOidFilter → OidFilter
 view_oid_filter f = record { certificate_extension_oid = f.cert_ext_oid.now; certificate_extension_values = f.cert_ext_val.now }
 
--- EncryptedSNI (the draft before encrypted hellos, draft-ietf-tls-esni-02, section 5.1).
+-- EncryptedSNI (the draft before encrypted hellos, draft-ietf-tls-esni-02, section 5).
 pub record EncryptedServerName : Type 0 where
   pub suite : ℕ
   pub key_share_group : ℕ

@@ -1,20 +1,20 @@
 //! The contents of extensions: what stands behind an extension's type and its length.
 //!
 //! Each call reads the front of its input and leaves the rest. All numbers are big-endian.
-ghost use Rattle.std.specs.Prelude.{ℕ, map};
-ghost use Rattle.tls_fields.specs.Layout.{Layout, number, rest};
+ghost use Rattle.tls_fields.specs.Layout.{rest};
 ghost use Rattle.tls_fields.specs.Answers.{Gives, GivesOrMemory};
-ghost use Rattle.tls_ext.specs.Extension.{OidFilter as OIDFilter, view_oid_filter, view_server_name, view};
+ghost use Rattle.tls_ext.specs.Extension.{OidFilter as OIDFilter, ServerName as ServerNameEntry, view_oid_filter, view_server_name, view};
 ghost use Rattle.tls_ext.specs.Content as content;
 ghost use Rattle.tls_ext.specs.Content.{server_name, oid_filter};
+ghost use Rattle.tls_ext.specs.Kinds.{empty_content as empty_layout, opaque_content as opaque_layout};
 
-use crate::entry::{Entry, entries};
 use crate::extension::{OidFilter, TlsExtension};
+use crate::kind::{EmptyKind, OpaqueKind};
 use std::alloc::Global;
 use tls_base::{CertificateStatusType, NamedGroup, SNIType, TlsCipherSuiteID, TlsVersion};
 use tls_fields::{
-    Err, Error, ErrorKind, IResult, Item, block, counted1, counted2, items, maybe2, number1,
-    number2, number4, pairs,
+    Counted1, Err, Error, ErrorKind, IResult, Item, Number2, block, counted1, counted2, items,
+    maybe2, number1, number2, number4, pairs,
 };
 
 /// All bytes of `i`. It never refuses.
@@ -24,13 +24,68 @@ pub(crate) fn all_bytes(i: &[u8]) -> IResult<&[u8], &[u8]>
     block(i, i.len())
 }
 
+/// All bytes of `i`. It never refuses.
+#[tactic(auto, using(tls_fields::proofs::OneAnswer::read_allowed), unfolding(crate::specs::Content::padding, crate::specs::Content::session_ticket, crate::specs::Content::key_share_old, crate::specs::Content::pre_shared_key, crate::specs::Content::cookie, crate::specs::Content::key_share))]
+pub(crate) fn opaque_content(i: &[u8], kind: OpaqueKind) -> IResult<&[u8], TlsExtension>
+    ensures { Gives view (opaque_layout kind) i.now result }
+{
+    let (i, bytes) = all_bytes(i)?;
+    match kind {
+        OpaqueKind::Padding => Ok((i, TlsExtension::Padding(bytes))),
+        OpaqueKind::SessionTicket => Ok((i, TlsExtension::SessionTicket(bytes))),
+        OpaqueKind::KeyShareOld => Ok((i, TlsExtension::KeyShareOld(bytes))),
+        OpaqueKind::PreSharedKey => Ok((i, TlsExtension::PreSharedKey(bytes))),
+        OpaqueKind::Cookie => Ok((i, TlsExtension::Cookie(bytes))),
+        OpaqueKind::KeyShare => Ok((i, TlsExtension::KeyShare(bytes))),
+    }
+}
+
+/// No bytes: `Error` of kind `Verify` where `i` has some.
+#[tactic(auto, using(tls_fields::proofs::OneAnswer::read_allowed), unfolding(crate::specs::Content::encrypt_then_mac, crate::specs::Content::extended_master_secret, crate::specs::Content::post_handshake_auth, crate::specs::Content::next_protocol_negotiation))]
+pub(crate) fn empty_content(i: &[u8], kind: EmptyKind) -> IResult<&[u8], TlsExtension>
+    ensures { Gives view (empty_layout kind) i.now result }
+{
+    if !i.is_empty() {
+        return Err(Err::Error(Error {
+            input: i,
+            code: ErrorKind::Verify,
+        }));
+    }
+    match kind {
+        EmptyKind::EncryptThenMac => Ok((i, TlsExtension::EncryptThenMac)),
+        EmptyKind::ExtendedMasterSecret => Ok((i, TlsExtension::ExtendedMasterSecret)),
+        EmptyKind::PostHandshakeAuth => Ok((i, TlsExtension::PostHandshakeAuth)),
+        EmptyKind::NextProtocolNegotiation => Ok((i, TlsExtension::NextProtocolNegotiation)),
+    }
+}
+
 /// Reads the name of a server (RFC 6066, section 3): 1 byte of type, 2 bytes of length, and so many bytes.
 ///
 /// `Incomplete` of the count of missing bytes.
+#[tactic(auto, using(tls_fields::proofs::OneAnswer::read_allowed), unfolding(crate::specs::Content::server_name))]
 pub fn parse_tls_extension_sni_hostname(i: &[u8]) -> IResult<&[u8], (SNIType, &[u8])>
     ensures { Gives view_server_name server_name i.now result }
 {
-    Entry::read_entry(i)
+    let (i, name_type) = SNIType::parse(i)?;
+    let (i, name) = counted2(i)?;
+    Ok((i, (name_type, name)))
+}
+
+/// The names of a server.
+struct ServerName;
+
+impl<'a> Item<'a> for ServerName {
+    type Read = (SNIType, &'a [u8]);
+
+    ghost Value = { ServerNameEntry };
+
+    ghost view = { view_server_name };
+
+    ghost layout = { server_name };
+
+    fn read(_alloc: Global, i: &'a [u8]) -> IResult<&'a [u8], (SNIType, &'a [u8])> {
+        parse_tls_extension_sni_hostname(i)
+    }
 }
 
 /// Reads the names of a server (RFC 6066, section 3): none where `i` is empty; else 2 bytes of length, and in so many
@@ -46,9 +101,8 @@ pub fn parse_tls_extension_sni_content(alloc: Global, i: &[u8]) -> IResult<&[u8]
     if i.is_empty() {
         return Ok((i, TlsExtension::SNI(Vec::new(alloc))));
     }
-    let (i, n) = number2(i)?;
-    let (i, window) = block(i, n as usize)?;
-    let (_, names) = entries(alloc, window)?;
+    let (i, window) = counted2(i)?;
+    let (_, names) = items::<ServerName>(alloc, window)?;
     Ok((i, TlsExtension::SNI(names)))
 }
 
@@ -91,8 +145,7 @@ pub fn parse_tls_extension_elliptic_curves_content(
 ) -> IResult<&[u8], TlsExtension>
     ensures { GivesOrMemory view content.supported_groups i.now result }
 {
-    let (i, n) = number2(i)?;
-    let (i, window) = block(i, n as usize)?;
+    let (i, window) = counted2(i)?;
     let (_, groups) = pairs::<NamedGroup>(alloc, window)?;
     Ok((i, TlsExtension::EllipticCurves(groups)))
 }
@@ -113,16 +166,15 @@ pub fn parse_tls_extension_ec_point_formats_content(i: &[u8]) -> IResult<&[u8], 
 ///
 /// - `Incomplete` of the count of missing bytes of the length, or else of the list.
 /// - `OutOfMemory` where the list could not be held.
-#[tactic(auto, using(crate::proofs::Entries::map_same, tls_fields::proofs::OneAnswer::read_allowed), unfolding(crate::specs::Content::signature_algorithms))]
+#[tactic(auto, using(tls_fields::proofs::ListItems::map_same, tls_fields::proofs::OneAnswer::read_allowed), unfolding(crate::specs::Content::signature_algorithms))]
 pub fn parse_tls_extension_signature_algorithms_content(
     alloc: Global,
     i: &[u8],
 ) -> IResult<&[u8], TlsExtension>
     ensures { GivesOrMemory view content.signature_algorithms i.now result }
 {
-    let (i, n) = number2(i)?;
-    let (i, window) = block(i, n as usize)?;
-    let (_, algorithms) = entries(alloc, window)?;
+    let (i, window) = counted2(i)?;
+    let (_, algorithms) = items::<Number2>(alloc, window)?;
     Ok((i, TlsExtension::SignatureAlgorithms(algorithms)))
 }
 
@@ -146,9 +198,8 @@ pub fn parse_tls_extension_heartbeat_content(i: &[u8]) -> IResult<&[u8], TlsExte
 pub fn parse_tls_extension_alpn_content(alloc: Global, i: &[u8]) -> IResult<&[u8], TlsExtension>
     ensures { GivesOrMemory view content.application_layer_protocol_negotiation i.now result }
 {
-    let (i, n) = number2(i)?;
-    let (i, window) = block(i, n as usize)?;
-    let (_, names) = entries(alloc, window)?;
+    let (i, window) = counted2(i)?;
+    let (_, names) = items::<Counted1>(alloc, window)?;
     Ok((i, TlsExtension::ALPN(names)))
 }
 
@@ -229,6 +280,8 @@ pub fn parse_tls_extension_psk_key_exchange_modes_content(
 }
 
 impl<'a> Item<'a> for OidFilter<'a> {
+    type Read = Self;
+
     ghost Value = { OIDFilter };
 
     ghost view = { view_oid_filter };
@@ -256,9 +309,8 @@ impl<'a> Item<'a> for OidFilter<'a> {
 pub(crate) fn oid_filters_content(alloc: Global, i: &[u8]) -> IResult<&[u8], TlsExtension>
     ensures { GivesOrMemory view content.oid_filters i.now result }
 {
-    let (i, n) = number2(i)?;
-    let (i, window) = block(i, n as usize)?;
-    let (_, filters) = items(alloc, window)?;
+    let (i, window) = counted2(i)?;
+    let (_, filters) = items::<OidFilter>(alloc, window)?;
     Ok((i, TlsExtension::OidFilters(filters)))
 }
 
@@ -273,7 +325,7 @@ pub fn parse_tls_extension_renegotiation_info_content(i: &[u8]) -> IResult<&[u8]
     Ok((i, TlsExtension::RenegotiationInfo(bytes)))
 }
 
-/// Reads an encrypted server name (draft-ietf-tls-esni-02, section 5.1): 2 bytes of a cipher suite, 2 bytes of a group,
+/// Reads an encrypted server name (draft-ietf-tls-esni-02, section 5): 2 bytes of a cipher suite, 2 bytes of a group,
 /// and a key share, a digest and the encrypted name, each behind 2 bytes of length.
 ///
 /// `Incomplete` of the count of missing bytes of the first part that isn't whole.

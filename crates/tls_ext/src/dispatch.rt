@@ -3,14 +3,14 @@ ghost use Rattle.std.specs.Prelude.{map};
 ghost use Rattle.tls_fields.specs.Answers.{Gives, GivesOrMemory};
 ghost use Rattle.tls_ext.specs.Extension.{Extension, view};
 ghost use Rattle.tls_ext.specs.Dispatch.{extension as extension_layout, extension_content as extension_content_layout, extensions};
-ghost use Rattle.tls_ext.specs.Kinds.{empty_content as empty_layout, field_content as field_layout, kind_content as kind_layout, list_content as list_layout, opaque_content as opaque_layout};
+ghost use Rattle.tls_ext.specs.Kinds.{field_content as field_layout, kind_content as kind_layout, list_content as list_layout};
 ghost use Rattle.tls_ext.specs.declared.kind.Side.TheVariants.{General as general, Client as client, Server as server};
 
 use crate::content::{
-    all_bytes, early_data_content, oid_filters_content, parse_tls_extension_alpn_content,
-    parse_tls_extension_ec_point_formats_content, parse_tls_extension_elliptic_curves_content,
-    parse_tls_extension_encrypted_server_name, parse_tls_extension_heartbeat_content,
-    parse_tls_extension_max_fragment_length_content,
+    all_bytes, early_data_content, empty_content, oid_filters_content, opaque_content,
+    parse_tls_extension_alpn_content, parse_tls_extension_ec_point_formats_content,
+    parse_tls_extension_elliptic_curves_content, parse_tls_extension_encrypted_server_name,
+    parse_tls_extension_heartbeat_content, parse_tls_extension_max_fragment_length_content,
     parse_tls_extension_psk_key_exchange_modes_content,
     parse_tls_extension_renegotiation_info_content,
     parse_tls_extension_signature_algorithms_content,
@@ -18,10 +18,10 @@ use crate::content::{
     record_size_limit_content, status_request_content, supported_versions_content,
 };
 use crate::extension::TlsExtension;
-use crate::kind::{EmptyKind, FieldKind, Kind, ListKind, OpaqueKind, Side, kind_of};
+use crate::kind::{FieldKind, Kind, ListKind, Side, kind_of};
 use std::alloc::Global;
 use tls_base::TlsExtensionType;
-use tls_fields::{Err, Error, ErrorKind, IResult, block, number2};
+use tls_fields::{IResult, Item, counted2, items};
 
 /// A list.
 fn list_content(alloc: Global, i: &[u8], kind: ListKind) -> IResult<&[u8], TlsExtension>
@@ -37,41 +37,6 @@ fn list_content(alloc: Global, i: &[u8], kind: ListKind) -> IResult<&[u8], TlsEx
             parse_tls_extension_psk_key_exchange_modes_content(alloc, i)
         }
         ListKind::OidFilters => oid_filters_content(alloc, i),
-    }
-}
-
-/// All bytes of `i`. It never refuses.
-#[tactic(auto, using(tls_fields::proofs::OneAnswer::read_allowed), unfolding(crate::specs::Content::padding, crate::specs::Content::session_ticket, crate::specs::Content::key_share_old, crate::specs::Content::pre_shared_key, crate::specs::Content::cookie, crate::specs::Content::key_share))]
-pub(crate) fn opaque_content(i: &[u8], kind: OpaqueKind) -> IResult<&[u8], TlsExtension>
-    ensures { Gives view (opaque_layout kind) i.now result }
-{
-    let (i, bytes) = all_bytes(i)?;
-    match kind {
-        OpaqueKind::Padding => Ok((i, TlsExtension::Padding(bytes))),
-        OpaqueKind::SessionTicket => Ok((i, TlsExtension::SessionTicket(bytes))),
-        OpaqueKind::KeyShareOld => Ok((i, TlsExtension::KeyShareOld(bytes))),
-        OpaqueKind::PreSharedKey => Ok((i, TlsExtension::PreSharedKey(bytes))),
-        OpaqueKind::Cookie => Ok((i, TlsExtension::Cookie(bytes))),
-        OpaqueKind::KeyShare => Ok((i, TlsExtension::KeyShare(bytes))),
-    }
-}
-
-/// No bytes: `Error` of kind `Verify` where `i` has some.
-#[tactic(auto, using(tls_fields::proofs::OneAnswer::read_allowed), unfolding(crate::specs::Content::encrypt_then_mac, crate::specs::Content::extended_master_secret, crate::specs::Content::post_handshake_auth, crate::specs::Content::next_protocol_negotiation))]
-pub(crate) fn empty_content(i: &[u8], kind: EmptyKind) -> IResult<&[u8], TlsExtension>
-    ensures { Gives view (empty_layout kind) i.now result }
-{
-    if !i.is_empty() {
-        return Err(Err::Error(Error {
-            input: i,
-            code: ErrorKind::Verify,
-        }));
-    }
-    match kind {
-        EmptyKind::EncryptThenMac => Ok((i, TlsExtension::EncryptThenMac)),
-        EmptyKind::ExtendedMasterSecret => Ok((i, TlsExtension::ExtendedMasterSecret)),
-        EmptyKind::PostHandshakeAuth => Ok((i, TlsExtension::PostHandshakeAuth)),
-        EmptyKind::NextProtocolNegotiation => Ok((i, TlsExtension::NextProtocolNegotiation)),
     }
 }
 
@@ -137,8 +102,7 @@ fn extension(alloc: Global, i: &[u8], side: Side) -> IResult<&[u8], TlsExtension
     ensures { GivesOrMemory view (extension_layout side) i.now result }
 {
     let (i, kind) = TlsExtensionType::parse(i)?;
-    let (i, n) = number2(i)?;
-    let (i, window) = block(i, n as usize)?;
+    let (i, window) = counted2(i)?;
     let (_, extension) = extension_content(alloc, window, kind, side)?;
     Ok((i, extension))
 }
@@ -175,26 +139,54 @@ pub fn parse_tls_server_hello_extension(alloc: Global, i: &[u8]) -> IResult<&[u8
     extension(alloc, i, Side::Server)
 }
 
-/// Zero or more extensions, as `side` reads them, up to the first that isn't read; what is left begins there.
-fn extension_list(alloc: Global, i: &[u8], side: Side) -> IResult<&[u8], Vec<TlsExtension>>
-    ensures { GivesOrMemory (λ v. map view v.items) (extensions side) i.now result }
-{
-    let mut list = Vec::new(alloc);
-    let mut rest = i;
-    loop {
-        match extension(alloc, rest, side) {
-            Ok((after, extension)) => {
-                if after.len() >= rest.len() {
-                    return Ok((rest, list));
-                }
-                list.push(extension)?;
-                rest = after;
-            }
-            Err(e) => match e {
-                Err::OutOfMemory => return Err(Err::OutOfMemory),
-                _ => return Ok((rest, list)),
-            },
-        }
+/// Extensions of any message.
+struct AnyExtension;
+
+impl<'a> Item<'a> for AnyExtension {
+    type Read = TlsExtension<'a>;
+
+    ghost Value = { Extension };
+
+    ghost view = { view };
+
+    ghost layout = { extension_layout general };
+
+    fn read(alloc: Global, i: &'a [u8]) -> IResult<&'a [u8], TlsExtension<'a>> {
+        parse_tls_extension(alloc, i)
+    }
+}
+
+/// Extensions of a ClientHello.
+struct ClientExtension;
+
+impl<'a> Item<'a> for ClientExtension {
+    type Read = TlsExtension<'a>;
+
+    ghost Value = { Extension };
+
+    ghost view = { view };
+
+    ghost layout = { extension_layout client };
+
+    fn read(alloc: Global, i: &'a [u8]) -> IResult<&'a [u8], TlsExtension<'a>> {
+        parse_tls_client_hello_extension(alloc, i)
+    }
+}
+
+/// Extensions of a ServerHello.
+struct ServerExtension;
+
+impl<'a> Item<'a> for ServerExtension {
+    type Read = TlsExtension<'a>;
+
+    ghost Value = { Extension };
+
+    ghost view = { view };
+
+    ghost layout = { extension_layout server };
+
+    fn read(alloc: Global, i: &'a [u8]) -> IResult<&'a [u8], TlsExtension<'a>> {
+        parse_tls_server_hello_extension(alloc, i)
     }
 }
 
@@ -205,7 +197,7 @@ fn extension_list(alloc: Global, i: &[u8], side: Side) -> IResult<&[u8], Vec<Tls
 pub fn parse_tls_extensions(alloc: Global, i: &[u8]) -> IResult<&[u8], Vec<TlsExtension>>
     ensures { GivesOrMemory (λ v. map view v.items) (extensions general) i.now result }
 {
-    extension_list(alloc, i, Side::General)
+    items::<AnyExtension>(alloc, i)
 }
 
 /// Reads the extensions of a ClientHello: as [`parse_tls_extensions`], but each as
@@ -216,7 +208,7 @@ pub fn parse_tls_client_hello_extensions(
 ) -> IResult<&[u8], Vec<TlsExtension>>
     ensures { GivesOrMemory (λ v. map view v.items) (extensions client) i.now result }
 {
-    extension_list(alloc, i, Side::Client)
+    items::<ClientExtension>(alloc, i)
 }
 
 /// Reads the extensions of a ServerHello: as [`parse_tls_extensions`], but each as
@@ -227,5 +219,5 @@ pub fn parse_tls_server_hello_extensions(
 ) -> IResult<&[u8], Vec<TlsExtension>>
     ensures { GivesOrMemory (λ v. map view v.items) (extensions server) i.now result }
 {
-    extension_list(alloc, i, Side::Server)
+    items::<ServerExtension>(alloc, i)
 }

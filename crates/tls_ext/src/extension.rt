@@ -11,6 +11,7 @@ use tls_base::{
 /// A key share of one group: the KeyShareEntry of RFC 8446, section 4.2.8.
 #[derive(Clone, Debug, PartialEq, Drop)]
 pub struct KeyShareEntry<'a> {
+    /// The group of the key exchange.
     pub group: NamedGroup,
     /// The public value of the key exchange.
     pub kx: &'a [u8],
@@ -80,10 +81,15 @@ pub enum TlsExtension<'a> {
     RenegotiationInfo(&'a [u8]),
     /// An encrypted server name, of the draft before encrypted hellos.
     EncryptedServerName {
+        /// The suite that encrypts the name.
         ciphersuite: TlsCipherSuiteID,
+        /// The group of the key share.
         group: NamedGroup,
+        /// The client's public value.
         key_share: &'a [u8],
+        /// A hash of the record with the server's keys.
         record_digest: &'a [u8],
+        /// The encrypted name.
         encrypted_sni: &'a [u8],
     },
     /// A number that is kept free so that peers ignore what they don't know, and its content (RFC 8701, section 2).
@@ -157,58 +163,52 @@ impl<'a> TlsExtension<'a> {
         ensures { IfOk result (λ e. view e ≡ view self.now) }
     {
         let extension = match self {
-            TlsExtension::SNI(names) => TlsExtension::SNI(copied(alloc, names)?),
-            TlsExtension::MaxFragmentLength(code) => TlsExtension::MaxFragmentLength(*code),
-            TlsExtension::StatusRequest(request) => TlsExtension::StatusRequest(*request),
-            TlsExtension::EllipticCurves(groups) => {
-                TlsExtension::EllipticCurves(copied(alloc, groups)?)
+            Self::SNI(names) => Self::SNI(copied(alloc, names)?),
+            Self::MaxFragmentLength(code) => Self::MaxFragmentLength(*code),
+            Self::StatusRequest(request) => Self::StatusRequest(*request),
+            Self::EllipticCurves(groups) => { Self::EllipticCurves(copied(alloc, groups)?) }
+            Self::EcPointFormats(formats) => Self::EcPointFormats(*formats),
+            Self::SignatureAlgorithms(algorithms) => {
+                Self::SignatureAlgorithms(copied(alloc, algorithms)?)
             }
-            TlsExtension::EcPointFormats(formats) => TlsExtension::EcPointFormats(*formats),
-            TlsExtension::SignatureAlgorithms(algorithms) => {
-                TlsExtension::SignatureAlgorithms(copied(alloc, algorithms)?)
+            Self::Heartbeat(mode) => Self::Heartbeat(*mode),
+            Self::ALPN(names) => Self::ALPN(copied(alloc, names)?),
+            Self::SignedCertificateTimestamp(timestamps) => {
+                Self::SignedCertificateTimestamp(*timestamps)
             }
-            TlsExtension::Heartbeat(mode) => TlsExtension::Heartbeat(*mode),
-            TlsExtension::ALPN(names) => TlsExtension::ALPN(copied(alloc, names)?),
-            TlsExtension::SignedCertificateTimestamp(timestamps) => {
-                TlsExtension::SignedCertificateTimestamp(*timestamps)
+            Self::Padding(bytes) => Self::Padding(*bytes),
+            Self::EncryptThenMac => Self::EncryptThenMac,
+            Self::ExtendedMasterSecret => Self::ExtendedMasterSecret,
+            Self::RecordSizeLimit(limit) => Self::RecordSizeLimit(*limit),
+            Self::SessionTicket(ticket) => Self::SessionTicket(*ticket),
+            Self::KeyShareOld(shares) => Self::KeyShareOld(*shares),
+            Self::PreSharedKey(keys) => Self::PreSharedKey(*keys),
+            Self::EarlyData(size) => Self::EarlyData(*size),
+            Self::SupportedVersions(versions) => {
+                Self::SupportedVersions(copied(alloc, versions)?)
             }
-            TlsExtension::Padding(bytes) => TlsExtension::Padding(*bytes),
-            TlsExtension::EncryptThenMac => TlsExtension::EncryptThenMac,
-            TlsExtension::ExtendedMasterSecret => TlsExtension::ExtendedMasterSecret,
-            TlsExtension::RecordSizeLimit(limit) => TlsExtension::RecordSizeLimit(*limit),
-            TlsExtension::SessionTicket(ticket) => TlsExtension::SessionTicket(*ticket),
-            TlsExtension::KeyShareOld(shares) => TlsExtension::KeyShareOld(*shares),
-            TlsExtension::PreSharedKey(keys) => TlsExtension::PreSharedKey(*keys),
-            TlsExtension::EarlyData(size) => TlsExtension::EarlyData(*size),
-            TlsExtension::SupportedVersions(versions) => {
-                TlsExtension::SupportedVersions(copied(alloc, versions)?)
-            }
-            TlsExtension::Cookie(bytes) => TlsExtension::Cookie(*bytes),
-            TlsExtension::PskExchangeModes(modes) => {
-                TlsExtension::PskExchangeModes(copied(alloc, modes)?)
-            }
-            TlsExtension::OidFilters(filters) => {
-                TlsExtension::OidFilters(cloned_filters(alloc, filters)?)
-            }
-            TlsExtension::PostHandshakeAuth => TlsExtension::PostHandshakeAuth,
-            TlsExtension::KeyShare(shares) => TlsExtension::KeyShare(*shares),
-            TlsExtension::NextProtocolNegotiation => TlsExtension::NextProtocolNegotiation,
-            TlsExtension::RenegotiationInfo(bytes) => TlsExtension::RenegotiationInfo(*bytes),
-            TlsExtension::EncryptedServerName {
+            Self::Cookie(bytes) => Self::Cookie(*bytes),
+            Self::PskExchangeModes(modes) => { Self::PskExchangeModes(copied(alloc, modes)?) }
+            Self::OidFilters(filters) => { Self::OidFilters(cloned_filters(alloc, filters)?) }
+            Self::PostHandshakeAuth => Self::PostHandshakeAuth,
+            Self::KeyShare(shares) => Self::KeyShare(*shares),
+            Self::NextProtocolNegotiation => Self::NextProtocolNegotiation,
+            Self::RenegotiationInfo(bytes) => Self::RenegotiationInfo(*bytes),
+            Self::EncryptedServerName {
                 ciphersuite,
                 group,
                 key_share,
                 record_digest,
                 encrypted_sni,
-            } => TlsExtension::EncryptedServerName {
+            } => Self::EncryptedServerName {
                 ciphersuite: *ciphersuite,
                 group: *group,
                 key_share: *key_share,
                 record_digest: *record_digest,
                 encrypted_sni: *encrypted_sni,
             },
-            TlsExtension::Grease(number, content) => TlsExtension::Grease(*number, *content),
-            TlsExtension::Unknown(kind, content) => TlsExtension::Unknown(*kind, *content),
+            Self::Grease(number, content) => Self::Grease(*number, *content),
+            Self::Unknown(kind, content) => Self::Unknown(*kind, *content),
         };
         Ok(extension)
     }

@@ -1,5 +1,5 @@
 //! The kinds of extensions, and the table that says which number is which kind and who reads it.
-ghost use Rattle.std.specs.Prelude.{◌≡◌, length};
+ghost use Rattle.std.specs.Prelude.{◌≡◌};
 ghost use Rattle.std.specs.List.Sorted.{IsStrictlyIncreasing};
 ghost use Rattle.tls_ext.specs.Kinds.{IsFound, sides_of};
 

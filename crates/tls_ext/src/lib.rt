@@ -6,7 +6,6 @@
 
 mod content;
 mod dispatch;
-mod entry;
 mod extension;
 mod kind;
 pub mod laws;

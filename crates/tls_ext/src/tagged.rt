@@ -9,14 +9,13 @@ ghost use Rattle.tls_ext.specs.Content as content_of;
 ghost use Rattle.tls_ext.specs.Tagged.{tagged, tagged_bytes as tagged_bytes_layout, tagged_heartbeat, unknown};
 
 use crate::content::{
-    early_data_content, parse_tls_extension_ec_point_formats_content,
-    parse_tls_extension_elliptic_curves_content, parse_tls_extension_heartbeat_content,
-    parse_tls_extension_max_fragment_length_content,
+    early_data_content, empty_content, opaque_content,
+    parse_tls_extension_ec_point_formats_content, parse_tls_extension_elliptic_curves_content,
+    parse_tls_extension_heartbeat_content, parse_tls_extension_max_fragment_length_content,
     parse_tls_extension_psk_key_exchange_modes_content,
     parse_tls_extension_signature_algorithms_content, parse_tls_extension_sni_content,
     status_request_content, supported_versions_content,
 };
-use crate::dispatch::{empty_content, opaque_content};
 use crate::extension::TlsExtension;
 use crate::kind::{EmptyKind, OpaqueKind};
 use std::alloc::Global;
@@ -279,7 +278,7 @@ pub fn parse_tls_extension_heartbeat(i: &[u8]) -> IResult<&[u8], TlsExtension>
     Ok((i, extension))
 }
 
-/// Reads an extension of any type as `Unknown`: 2 bytes of type, 2 bytes of length, and so many bytes.
+/// Reads an extension of any type as `Unknown` (RFC 8446, section 4.2): 2 bytes of type, 2 bytes of length, and so many bytes.
 ///
 /// `Incomplete` of the count of missing bytes.
 #[tactic(auto, using(tls_fields::proofs::OneAnswer::read_allowed), unfolding(crate::specs::Tagged::unknown))]

@@ -7,3 +7,4 @@ pub mod Gives
 pub mod Tables
 pub mod Times
 pub mod ListItems
+pub mod Leaves

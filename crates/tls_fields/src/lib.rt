@@ -6,6 +6,7 @@
 #![tactic(auto, using(crate::proofs::OneAnswer::read_allowed))]
 
 mod bytes;
+mod item;
 pub mod laws;
 mod list;
 mod number;
@@ -13,7 +14,8 @@ mod result;
 mod table;
 
 pub use bytes::{block, counted1, counted2, counted3, maybe2, tag};
-pub use list::{Item, items, items_times, items1, pairs};
+pub use item::{Counted1, Counted2, Item, Number2};
+pub use list::{items, items_times, items1, pairs};
 pub use number::{number1, number2, number3, number4, number8};
 pub use result::{Err, Error, ErrorKind, IResult, Needed, OutOfMemory};
 pub use table::place;

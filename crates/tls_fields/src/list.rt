@@ -1,36 +1,23 @@
-//! Lists of items, each read by the item's own reader.
+//! Lists, read item by item.
 ghost use Rattle.std.specs.Prelude.{map};
-ghost use Rattle.tls_fields.specs.Layout.{Layout, behind, complete, list, list1, pairs_of, times};
+ghost use Rattle.tls_fields.specs.Layout.{behind, complete, list, list1, pairs_of, times};
 ghost use Rattle.tls_fields.specs.Answers.{GivesOrMemory};
 
+use crate::item::Item;
 use crate::result::{Err, Error, ErrorKind, IResult};
 use std::alloc::Global;
 
-/// What lists hold: a type with a layout, and the reader of that layout.
-pub trait Item<'a>: Sized {
-    /// What a value says, apart from where it lies in memory.
-    ghost Value: { Type 0 };
-
-    ghost view: { Self → Value };
-
-    ghost layout: { Layout Value };
-
-    /// Reads one item from the front of `i`.
-    fn read(alloc: Global, i: &'a [u8]) -> IResult<&'a [u8], Self>
-        ensures { GivesOrMemory view layout i.now result };
-}
-
 /// Items behind those that are there already, as [`items`] reads them.
-fn items_behind<'a, T: Item<'a> + Drop>(
+fn items_behind<'a, T: Item<'a>>(
     alloc: Global,
     i: &'a [u8],
-    first: Vec<T>,
-) -> IResult<&'a [u8], Vec<T>>
+    first: Vec<T::Read>,
+) -> IResult<&'a [u8], Vec<T::Read>>
     ensures { GivesOrMemory (λ v. map T.view v.items) (behind (map T.view first.items) (list T.layout)) i.now result }
 {
     let mut items = first;
     let mut rest = i;
-    loop {
+    while !rest.is_empty() {
         match T::read(alloc, rest) {
             Ok((after, item)) => {
                 if after.len() >= rest.len() {
@@ -45,20 +32,21 @@ fn items_behind<'a, T: Item<'a> + Drop>(
             },
         }
     }
+    Ok((rest, items))
 }
 
 /// Zero or more items, up to the first that isn't read, by `Error` or `Incomplete`, or that would take no byte; what is
 /// left begins there.
 ///
 /// It refuses for memory alone: `OutOfMemory`, of the list or of an item.
-pub fn items<'a, T: Item<'a> + Drop>(alloc: Global, i: &'a [u8]) -> IResult<&'a [u8], Vec<T>>
+pub fn items<'a, T: Item<'a>>(alloc: Global, i: &'a [u8]) -> IResult<&'a [u8], Vec<T::Read>>
     ensures { GivesOrMemory (λ v. map T.view v.items) (list T.layout) i.now result }
 {
-    items_behind(alloc, i, Vec::new(alloc))
+    items_behind::<T>(alloc, i, Vec::new(alloc))
 }
 
 /// The first of one or more items: what bytes lack here, no further bytes can supply.
-fn item_complete<'a, T: Item<'a>>(alloc: Global, i: &'a [u8]) -> IResult<&'a [u8], T>
+fn item_complete<'a, T: Item<'a>>(alloc: Global, i: &'a [u8]) -> IResult<&'a [u8], T::Read>
     ensures { GivesOrMemory T.view (complete T.layout) i.now result }
 {
     match T::read(alloc, i) {
@@ -74,23 +62,24 @@ fn item_complete<'a, T: Item<'a>>(alloc: Global, i: &'a [u8]) -> IResult<&'a [u8
 ///
 /// Where the first isn't read, it is refused as that is, with `Incomplete` turned into `Error` of kind `Complete`.
 /// `OutOfMemory` where the list, or an item, could not be held.
-pub fn items1<'a, T: Item<'a> + Drop>(alloc: Global, i: &'a [u8]) -> IResult<&'a [u8], Vec<T>>
+pub fn items1<'a, T: Item<'a>>(alloc: Global, i: &'a [u8]) -> IResult<&'a [u8], Vec<T::Read>>
     ensures { GivesOrMemory (λ v. map T.view v.items) (list1 T.layout) i.now result }
 {
-    let (i, item) = item_complete(alloc, i)?;
-    let mut first = Vec::new(alloc);
-    first.push(item)?;
-    items_behind(alloc, i, first)
+    let (i, item) = item_complete::<T>(alloc, i)?;
+    let mut first = Vec::with_capacity(alloc, 4)?;
+    first.push_reserved(item);
+    items_behind::<T>(alloc, i, first)
 }
 
 /// `count` items. The room for them is asked for at once, so a caller has tested `count` against what `i` can hold.
 ///
 /// It refuses as its first refused item does. `OutOfMemory` where the list, or an item, could not be held.
-pub fn items_times<'a, T: Item<'a> + Drop>(
+#[inline(always)]
+pub fn items_times<'a, T: Item<'a>>(
     alloc: Global,
     i: &'a [u8],
     count: usize,
-) -> IResult<&'a [u8], Vec<T>>
+) -> IResult<&'a [u8], Vec<T::Read>>
     ensures { GivesOrMemory (λ v. map T.view v.items) (times count T.layout) i.now result }
 {
     let mut items = Vec::with_capacity(alloc, count)?;
@@ -110,7 +99,7 @@ pub fn items_times<'a, T: Item<'a> + Drop>(
 /// All bytes of `i` as items of 2 bytes each.
 ///
 /// `Error` of kind `LengthValue` where their number is odd. `OutOfMemory` where the list could not be held.
-pub fn pairs<'a, T: Item<'a> + Drop>(alloc: Global, i: &'a [u8]) -> IResult<&'a [u8], Vec<T>>
+pub fn pairs<'a, T: Item<'a>>(alloc: Global, i: &'a [u8]) -> IResult<&'a [u8], Vec<T::Read>>
     ensures { GivesOrMemory (λ v. map T.view v.items) (pairs_of T.layout) i.now result }
 {
     if i.len() % 2 != 0 {
@@ -119,5 +108,5 @@ pub fn pairs<'a, T: Item<'a> + Drop>(alloc: Global, i: &'a [u8]) -> IResult<&'a 
             code: ErrorKind::LengthValue,
         }));
     }
-    items_times(alloc, i, i.len() / 2)
+    items_times::<T>(alloc, i, i.len() / 2)
 }

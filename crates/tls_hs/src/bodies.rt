@@ -26,7 +26,7 @@ pub fn parse_tls_handshake_msg_hello_request(i: &[u8]) -> IResult<&[u8], TlsMess
     Ok((i, TlsMessageHandshake::HelloRequest))
 }
 
-/// Reads the body of a ClientHello: as [`parse_tls_handshake_client_hello`].
+/// Reads the body of a ClientHello (RFC 5246, section 7.4.1.2): as [`parse_tls_handshake_client_hello`].
 #[tactic(auto, using(tls_fields::proofs::OneAnswer::read_allowed), unfolding(crate::specs::Handshake::client_hello_body))]
 #[inline(never)]
 pub fn parse_tls_handshake_msg_client_hello(
@@ -88,7 +88,7 @@ pub fn parse_tls_handshake_msg_hello_retry_request(i: &[u8]) -> IResult<&[u8], T
     Ok((i, TlsMessageHandshake::HelloRetryRequest(request)))
 }
 
-/// Reads the body of a Certificate: as [`crate::parts::certificate`].
+/// Reads the body of a Certificate (RFC 5246, section 7.4.2): as [`crate::parts::certificate`].
 #[tactic(auto, using(tls_fields::proofs::OneAnswer::read_allowed), unfolding(crate::specs::Handshake::certificate_body))]
 pub fn parse_tls_handshake_msg_certificate(
     alloc: Global,
@@ -115,7 +115,7 @@ pub fn parse_tls_handshake_msg_serverkeyexchange(
     Ok((i, TlsMessageHandshake::ServerKeyExchange(content)))
 }
 
-/// Reads the body of a CertificateRequest: as [`parse_tls_handshake_certificaterequest`].
+/// Reads the body of a CertificateRequest (RFC 5246, section 7.4.4): as [`parse_tls_handshake_certificaterequest`].
 #[tactic(auto, using(tls_fields::proofs::OneAnswer::read_allowed), unfolding(crate::specs::Handshake::certificate_request_body))]
 pub fn parse_tls_handshake_msg_certificaterequest(
     alloc: Global,
@@ -181,7 +181,7 @@ pub fn parse_tls_handshake_msg_finished(i: &[u8], len: usize) -> IResult<&[u8], 
     Ok((i, TlsMessageHandshake::Finished(bytes)))
 }
 
-/// Reads the body of a CertificateStatus: as [`parse_tls_handshake_certificatestatus`].
+/// Reads the body of a CertificateStatus (RFC 6066, section 8): as [`parse_tls_handshake_certificatestatus`].
 #[tactic(auto, using(tls_fields::proofs::OneAnswer::read_allowed), unfolding(crate::specs::Handshake::certificate_status_body))]
 pub fn parse_tls_handshake_msg_certificatestatus(i: &[u8]) -> IResult<&[u8], TlsMessageHandshake>
     ensures { Gives view_handshake certificate_status_body i.now result }
@@ -190,7 +190,8 @@ pub fn parse_tls_handshake_msg_certificatestatus(i: &[u8]) -> IResult<&[u8], Tls
     Ok((i, TlsMessageHandshake::CertificateStatus(status)))
 }
 
-/// Reads the body of a NextProtocol: as [`parse_tls_handshake_next_protocol`].
+/// Reads the body of a NextProtocol (draft-agl-tls-nextprotoneg-04, section 3): as
+/// [`parse_tls_handshake_next_protocol`].
 #[tactic(auto, using(tls_fields::proofs::OneAnswer::read_allowed), unfolding(crate::specs::Handshake::next_protocol_body))]
 pub fn parse_tls_handshake_msg_next_protocol(i: &[u8]) -> IResult<&[u8], TlsMessageHandshake>
     ensures { Gives view_handshake next_protocol_body i.now result }

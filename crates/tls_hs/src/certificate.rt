@@ -1,3 +1,4 @@
+//! Certificates and their state.
 ghost use Rattle.std.specs.Prelude.{◌≡◌, IfOk};
 ghost use Rattle.tls_fields.specs.Bytes.{Bytes};
 ghost use Rattle.tls_fields.specs.Layout.{counted};
@@ -10,10 +11,13 @@ use tls_fields::{IResult, Item, OutOfMemory, counted3, items, number1};
 /// A certificate, as it stands behind its length.
 #[derive(Clone, Debug, PartialEq, Drop)]
 pub struct RawCertificate<'a> {
+    /// The certificate, in DER.
     pub bytes: &'a [u8],
 }
 
 impl<'a> Item<'a> for RawCertificate<'a> {
+    type Read = Self;
+
     ghost Value = { Bytes };
 
     ghost view = { λ c. c.bytes.now };
@@ -56,7 +60,7 @@ pub fn certificate(alloc: Global, i: &[u8]) -> IResult<&[u8], TlsCertificateCont
     ensures { GivesOrMemory view_certificate certificate_layout i.now result }
 {
     let (i, window) = counted3(i)?;
-    let (_, cert_chain) = items(alloc, window)?;
+    let (_, cert_chain) = items::<RawCertificate>(alloc, window)?;
     Ok((i, TlsCertificateContents { cert_chain }))
 }
 

@@ -1,12 +1,11 @@
-ghost use Rattle.std.specs.Prelude.{◌≡◌, ℕ, map, IfOk};
-ghost use Rattle.tls_fields.specs.Bytes.{Bytes};
-ghost use Rattle.tls_fields.specs.Layout.{number, counted};
+//! The CertificateRequest, in its two forms.
+ghost use Rattle.std.specs.Prelude.{◌≡◌, map, IfOk};
 ghost use Rattle.tls_fields.specs.Answers.{GivesOrMemory};
 ghost use Rattle.tls_hs.specs.Certificate.{view_certificate_request, certificate_types as certificate_types_layout, signature_algorithms as signature_algorithms_layout, certificate_authorities as certificate_authorities_layout, certificate_request_with_algorithms, certificate_request_without_algorithms, certificate_request};
 
-use std::alloc::{AllocError, Global};
+use std::alloc::Global;
 use tls_fields::{
-    Err, Error, ErrorKind, IResult, Item, OutOfMemory, counted1, counted2, items, number2,
+    Counted2, Err, Error, ErrorKind, IResult, Number2, OutOfMemory, counted1, counted2, items,
 };
 
 /// The body of a CertificateRequest (RFC 5246, section 7.4.4).
@@ -39,54 +38,6 @@ impl<'a> TlsCertificateRequestContents<'a> {
     }
 }
 
-/// A signature algorithm of the list.
-#[derive(Drop)]
-struct Algorithm(u16);
-
-impl<'a> Item<'a> for Algorithm {
-    ghost Value = { ℕ };
-
-    ghost view = { λ a. a.0 };
-
-    ghost layout = { number 2 };
-
-    fn read(_alloc: Global, i: &'a [u8]) -> IResult<&'a [u8], Self> {
-        let (i, n) = number2(i)?;
-        Ok((i, Algorithm(n)))
-    }
-}
-
-/// The name of an authority in the list.
-#[derive(Drop)]
-struct Authority<'a>(&'a [u8]);
-
-impl<'a> Item<'a> for Authority<'a> {
-    ghost Value = { Bytes };
-
-    ghost view = { λ a. a.0.now };
-
-    ghost layout = { counted 2 };
-
-    fn read(_alloc: Global, i: &'a [u8]) -> IResult<&'a [u8], Self> {
-        let (i, name) = counted2(i)?;
-        Ok((i, Authority(name)))
-    }
-}
-
-/// The numbers of the algorithms.
-fn numbers(alloc: Global, algorithms: &[Algorithm]) -> Result<Vec<u16>, AllocError>
-    ensures { IfOk result (λ v. v.items ≡ map (λ a. a.0) algorithms.now) }
-{
-    algorithms.iter().map(|a| a.0).collect(alloc)
-}
-
-/// The names of the authorities.
-fn names<'a>(alloc: Global, authorities: &[Authority<'a>]) -> Result<Vec<&'a [u8]>, AllocError>
-    ensures { IfOk result (λ v. v.items ≡ map (λ a. a.0) authorities.now) }
-{
-    authorities.iter().map(|a| a.0).collect(alloc)
-}
-
 /// Certificate types: 1 byte of count, and so many bytes.
 #[tactic(auto, using(tls_fields::proofs::OneAnswer::read_allowed), unfolding(crate::specs::Certificate::certificate_types))]
 fn certificate_types(alloc: Global, i: &[u8]) -> IResult<&[u8], Vec<u8>>
@@ -97,23 +48,23 @@ fn certificate_types(alloc: Global, i: &[u8]) -> IResult<&[u8], Vec<u8>>
 }
 
 /// Signature algorithms: 2 bytes of length, and within so many bytes numbers of 2 bytes.
-#[tactic(auto, using(tls_fields::proofs::OneAnswer::read_allowed), unfolding(crate::specs::Certificate::signature_algorithms))]
+#[tactic(auto, using(tls_fields::proofs::OneAnswer::read_allowed, tls_fields::proofs::ListItems::map_same), unfolding(crate::specs::Certificate::signature_algorithms))]
 fn signature_algorithms(alloc: Global, i: &[u8]) -> IResult<&[u8], Vec<u16>>
     ensures { GivesOrMemory (λ v. v.items) signature_algorithms_layout i.now result }
 {
     let (i, window) = counted2(i)?;
-    let (_, algorithms) = items(alloc, window)?;
-    Ok((i, numbers(alloc, &algorithms)?))
+    let (_, algorithms) = items::<Number2>(alloc, window)?;
+    Ok((i, algorithms))
 }
 
 /// Names of authorities: 2 bytes of length, and within so many bytes names, each behind 2 bytes of length.
-#[tactic(auto, using(tls_fields::proofs::OneAnswer::read_allowed, crate::proofs::Authorities::names_are_seen), unfolding(crate::specs::Certificate::certificate_authorities))]
+#[tactic(auto, using(tls_fields::proofs::OneAnswer::read_allowed), unfolding(crate::specs::Certificate::certificate_authorities))]
 fn certificate_authorities(alloc: Global, i: &[u8]) -> IResult<&[u8], Vec<&[u8]>>
     ensures { GivesOrMemory (λ v. map (λ x. x.now) v.items) certificate_authorities_layout i.now result }
 {
     let (i, window) = counted2(i)?;
-    let (_, authorities) = items(alloc, window)?;
-    Ok((i, names(alloc, &authorities)?))
+    let (_, authorities) = items::<Counted2>(alloc, window)?;
+    Ok((i, authorities))
 }
 
 /// A request as in TLS 1.2.
@@ -154,7 +105,7 @@ fn without_algorithms(alloc: Global, i: &[u8]) -> IResult<&[u8], TlsCertificateR
 /// Where that isn't read, the form up to TLS 1.1 is (RFC 4346, section 7.4.4), without the algorithms.
 ///
 /// - `Error` of kind `Complete` where neither form is read, even where only bytes are missing.
-/// - `OutOfMemory` where a list of the form that is tried could not be held.
+/// - `OutOfMemory` where a list of the form that is tried could not be held; the other form is not tried then.
 #[tactic(auto, using(tls_fields::proofs::OneAnswer::read_allowed), unfolding(crate::specs::Certificate::certificate_request))]
 pub fn parse_tls_handshake_certificaterequest(
     alloc: Global,

@@ -1,9 +1,11 @@
+//! What the ClientHellos of TLS and of DTLS have in common.
 ghost use Rattle.std.specs.Prelude.{◌≡◌, map, IfOk};
 ghost use Rattle.std.specs.Option.{option_map};
 ghost use Rattle.tls_base.specs.CipherTable.{suite_of_id};
-ghost use Rattle.tls_hs.specs.Hello.{ClientHello as Hello, view_client_hello, random_time, random_bytes};
+ghost use Rattle.tls_hs.specs.Hello.{ClientHello as Hello, view_client_hello, random_time as time_of, random_bytes as bytes_of};
 
 use crate::hello::TlsClientHelloContents;
+use crate::parts::{random_bytes, random_time};
 use std::alloc::Global;
 use tls_base::{CipherTable, TlsCipherSuite, TlsCipherSuiteID, TlsCompressionID, TlsVersion};
 use tls_fields::OutOfMemory;
@@ -24,11 +26,11 @@ pub trait ClientHello<'a> {
     /// The first 4 bytes of the random as a number, big-endian, which some clients set to the time in seconds; 0 where
     /// there are fewer.
     fn rand_time(&self) -> u32
-        ensures { result ≡ random_time (hello self.now).random };
+        ensures { result ≡ time_of (hello self.now).random };
 
     /// What follows the first 4 bytes of the random; no bytes where there are fewer.
     fn rand_bytes(&self) -> &'a [u8]
-        ensures { result.now ≡ random_bytes (hello self.now).random };
+        ensures { result.now ≡ bytes_of (hello self.now).random };
 
     /// The id of the session that the client would resume.
     fn session_id(&self) -> Option<&'a [u8]>
@@ -69,17 +71,11 @@ impl<'a> ClientHello<'a> for TlsClientHelloContents<'a> {
     }
 
     fn rand_time(&self) -> u32 {
-        match self.random {
-            [a, b, c, d, ..] => u32::from_be_bytes([*a, *b, *c, *d]),
-            _ => 0,
-        }
+        random_time(self.random)
     }
 
     fn rand_bytes(&self) -> &'a [u8] {
-        match self.random {
-            [_, _, _, _, bytes @ ..] => bytes,
-            _ => &[],
-        }
+        random_bytes(self.random)
     }
 
     fn session_id(&self) -> Option<&'a [u8]> {

@@ -1,3 +1,4 @@
+//! Handshake messages, and which body has which type.
 ghost use Rattle.std.specs.Prelude.{◌≡◌, IfOk};
 ghost use Rattle.tls_fields.specs.Answers.{Gives, GivesOrMemory};
 ghost use Rattle.tls_hs.specs.Handshake.{view_handshake, handshake_body as handshake_body_layout, exchange_body as exchange_body_layout, closing_body as closing_body_layout};
@@ -29,21 +30,37 @@ use tls_fields::{Err, Error, ErrorKind, IResult, OutOfMemory};
 /// A handshake message (RFC 5246, section 7.4).
 #[derive(Debug, PartialEq, Drop)]
 pub enum TlsMessageHandshake<'a> {
+    /// The server asks for a ClientHello (section 7.4.1.1).
     HelloRequest,
+    /// What a client offers (section 7.4.1.2).
     ClientHello(TlsClientHelloContents<'a>),
+    /// What a server chose (section 7.4.1.3).
     ServerHello(TlsServerHelloContents<'a>),
+    /// The same in draft 18 of TLS 1.3 (draft-ietf-tls-tls13-18, section 4.1.3).
     ServerHelloV13Draft18(TlsServerHelloV13Draft18Contents<'a>),
+    /// A ticket to resume the session with (RFC 5077, section 3.3).
     NewSessionTicket(TlsNewSessionTicketContent<'a>),
+    /// No more early data comes (RFC 8446, section 4.5).
     EndOfEarlyData,
+    /// The server asks for another ClientHello (draft-ietf-tls-tls13-19, section 4.1.4).
     HelloRetryRequest(TlsHelloRetryRequestContents<'a>),
+    /// The sender's certificates (section 7.4.2).
     Certificate(TlsCertificateContents<'a>),
+    /// The server's part of the key exchange (section 7.4.3).
     ServerKeyExchange(TlsServerKeyExchangeContents<'a>),
+    /// The server asks for a certificate (section 7.4.4).
     CertificateRequest(TlsCertificateRequestContents<'a>),
+    /// The end of the server's hello, with its body, which should have no bytes (section 7.4.5).
     ServerDone(&'a [u8]),
+    /// A signature over the handshake, undivided (section 7.4.8).
     CertificateVerify(&'a [u8]),
+    /// The client's part of the key exchange (section 7.4.7).
     ClientKeyExchange(TlsClientKeyExchangeContents<'a>),
+    /// A code over the handshake (section 7.4.9).
     Finished(&'a [u8]),
+    /// The state of the server's certificate (RFC 6066, section 8).
     CertificateStatus(TlsCertificateStatusContents<'a>),
+    /// The protocol that the client chose (draft-agl-tls-nextprotoneg-04, section 3).
     NextProtocol(TlsNextProtocolContent<'a>),
     /// The number of a [`crate::KeyUpdateRequest`].
     KeyUpdate(u8),
@@ -57,41 +74,23 @@ impl<'a> TlsMessageHandshake<'a> {
         ensures { IfOk result (λ m. view_handshake m ≡ view_handshake self.now) }
     {
         let message = match self {
-            TlsMessageHandshake::HelloRequest => TlsMessageHandshake::HelloRequest,
-            TlsMessageHandshake::ClientHello(h) => {
-                TlsMessageHandshake::ClientHello(h.try_clone(alloc)?)
-            }
-            TlsMessageHandshake::ServerHello(h) => TlsMessageHandshake::ServerHello(h.clone()?),
-            TlsMessageHandshake::ServerHelloV13Draft18(h) => {
-                TlsMessageHandshake::ServerHelloV13Draft18(h.clone()?)
-            }
-            TlsMessageHandshake::NewSessionTicket(t) => {
-                TlsMessageHandshake::NewSessionTicket(t.clone()?)
-            }
-            TlsMessageHandshake::EndOfEarlyData => TlsMessageHandshake::EndOfEarlyData,
-            TlsMessageHandshake::HelloRetryRequest(r) => {
-                TlsMessageHandshake::HelloRetryRequest(r.clone()?)
-            }
-            TlsMessageHandshake::Certificate(c) => {
-                TlsMessageHandshake::Certificate(c.try_clone(alloc)?)
-            }
-            TlsMessageHandshake::ServerKeyExchange(k) => {
-                TlsMessageHandshake::ServerKeyExchange(k.clone()?)
-            }
-            TlsMessageHandshake::CertificateRequest(r) => {
-                TlsMessageHandshake::CertificateRequest(r.try_clone(alloc)?)
-            }
-            TlsMessageHandshake::ServerDone(b) => TlsMessageHandshake::ServerDone(b),
-            TlsMessageHandshake::CertificateVerify(b) => TlsMessageHandshake::CertificateVerify(b),
-            TlsMessageHandshake::ClientKeyExchange(k) => {
-                TlsMessageHandshake::ClientKeyExchange(k.clone()?)
-            }
-            TlsMessageHandshake::Finished(b) => TlsMessageHandshake::Finished(b),
-            TlsMessageHandshake::CertificateStatus(s) => {
-                TlsMessageHandshake::CertificateStatus(s.clone()?)
-            }
-            TlsMessageHandshake::NextProtocol(p) => TlsMessageHandshake::NextProtocol(p.clone()?),
-            TlsMessageHandshake::KeyUpdate(n) => TlsMessageHandshake::KeyUpdate(*n),
+            Self::HelloRequest => Self::HelloRequest,
+            Self::ClientHello(h) => { Self::ClientHello(h.try_clone(alloc)?) }
+            Self::ServerHello(h) => Self::ServerHello(h.clone()?),
+            Self::ServerHelloV13Draft18(h) => { Self::ServerHelloV13Draft18(h.clone()?) }
+            Self::NewSessionTicket(t) => { Self::NewSessionTicket(t.clone()?) }
+            Self::EndOfEarlyData => Self::EndOfEarlyData,
+            Self::HelloRetryRequest(r) => { Self::HelloRetryRequest(r.clone()?) }
+            Self::Certificate(c) => { Self::Certificate(c.try_clone(alloc)?) }
+            Self::ServerKeyExchange(k) => { Self::ServerKeyExchange(k.clone()?) }
+            Self::CertificateRequest(r) => { Self::CertificateRequest(r.try_clone(alloc)?) }
+            Self::ServerDone(b) => Self::ServerDone(b),
+            Self::CertificateVerify(b) => Self::CertificateVerify(b),
+            Self::ClientKeyExchange(k) => { Self::ClientKeyExchange(k.clone()?) }
+            Self::Finished(b) => Self::Finished(b),
+            Self::CertificateStatus(s) => { Self::CertificateStatus(s.clone()?) }
+            Self::NextProtocol(p) => Self::NextProtocol(p.clone()?),
+            Self::KeyUpdate(n) => Self::KeyUpdate(*n),
         };
         Ok(message)
     }

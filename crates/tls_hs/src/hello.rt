@@ -1,10 +1,11 @@
+//! The ClientHello (RFC 5246, section 7.4.1.2).
 ghost use Rattle.std.specs.Prelude.{◌≡◌, map, IfOk};
 ghost use Rattle.tls_fields.specs.Answers.{GivesOrMemory};
 ghost use Rattle.tls_base.specs.CipherTable.{suite_of_id};
 ghost use Rattle.std.specs.Option.{option_map};
 ghost use Rattle.tls_hs.specs.Hello.{view_client_hello, client_hello};
 
-use crate::parts::{cipher_suites, compressions, session_id};
+use crate::parts::{cipher_suites, compressions, session_id, suites};
 use std::alloc::Global;
 use tls_base::{CipherTable, TlsCipherSuite, TlsCipherSuiteID, TlsCompressionID, TlsVersion};
 use tls_fields::{IResult, OutOfMemory, block, maybe2};
@@ -70,11 +71,7 @@ impl<'a> TlsClientHelloContents<'a> {
     ) -> Result<Vec<Option<&'t TlsCipherSuite>>, OutOfMemory>
         ensures { IfOk result (λ v. map (option_map (λ s. s.now)) v.items ≡ map (suite_of_id table.now) (view_client_hello self.now).cipher_suites) }
     {
-        let mut suites = Vec::with_capacity(alloc, self.ciphers.len())?;
-        for cipher in &self.ciphers {
-            suites.push_reserved(table.by_id(cipher.0));
-        }
-        Ok(suites)
+        suites(alloc, table, &self.ciphers)
     }
 
     /// The same ClientHello again, with lists of its own.

@@ -1,36 +1,43 @@
+//! The messages of records.
 ghost use Rattle.std.specs.Prelude.{◌≡◌, map, IfOk};
 ghost use Rattle.tls_fields.specs.Answers.{Gives, GivesOrMemory};
-ghost use Rattle.tls_hs.specs.Message.{Message, view_message, handshake, change_cipher_spec, alert as alert_layout, application_data, heartbeat};
+ghost use Rattle.tls_hs.specs.Message.{view_message, handshake, change_cipher_spec, alert as alert_layout, application_data, heartbeat};
 
 use crate::handshake::{TlsMessageHandshake, handshake_body};
 use std::alloc::Global;
 use tls_base::{TlsHandshakeType, TlsHeartbeatMessageType, TlsMessageAlert};
-use tls_fields::{
-    Err, Error, ErrorKind, IResult, Item, OutOfMemory, block, number1, number2, number3,
-};
+use tls_fields::{Err, Error, ErrorKind, IResult, OutOfMemory, block, number1, number2, number3};
 
 /// Application data (RFC 5246, section 10).
 #[derive(Clone, Debug, PartialEq, Drop)]
 pub struct TlsMessageApplicationData<'a> {
+    /// The data, as they stand in the record.
     pub blob: &'a [u8],
 }
 
 /// A Heartbeat message (RFC 6520, section 4).
 #[derive(Clone, Debug, PartialEq, Drop)]
 pub struct TlsMessageHeartbeat<'a> {
+    /// Whether it asks or answers.
     pub heartbeat_type: TlsHeartbeatMessageType,
     /// The length of `payload`, in bytes.
     pub payload_len: u16,
+    /// What an answer has to repeat.
     pub payload: &'a [u8],
 }
 
 /// A message of a record.
 #[derive(Debug, PartialEq, Drop)]
 pub enum TlsMessage<'a> {
+    /// RFC 5246, section 7.4.
     Handshake(TlsMessageHandshake<'a>),
+    /// RFC 5246, section 7.1.
     ChangeCipherSpec,
+    /// RFC 5246, section 7.2.
     Alert(TlsMessageAlert),
+    /// RFC 5246, section 10.
     ApplicationData(TlsMessageApplicationData<'a>),
+    /// RFC 6520, section 4.
     Heartbeat(TlsMessageHeartbeat<'a>),
 }
 
@@ -141,16 +148,4 @@ pub fn parse_tls_message_heartbeat(
     let mut messages = Vec::new(alloc);
     messages.push(TlsMessage::Heartbeat(message))?;
     Ok((i, messages))
-}
-
-impl<'a> Item<'a> for TlsMessage<'a> {
-    ghost Value = { Message };
-
-    ghost view = { view_message };
-
-    ghost layout = { handshake };
-
-    fn read(alloc: Global, i: &'a [u8]) -> IResult<&'a [u8], Self> {
-        parse_tls_message_handshake(alloc, i)
-    }
 }

@@ -1,16 +1,19 @@
 //! Parts of handshake bodies that DTLS has as well (RFC 6347, section 4.2), each read alone.
-ghost use Rattle.std.specs.Prelude.{map};
+ghost use Rattle.std.specs.Prelude.{◌≡◌, map, IfOk};
 ghost use Rattle.std.specs.Option.{option_map};
 ghost use Rattle.tls_fields.specs.Answers.{Gives, GivesOrMemory};
-ghost use Rattle.tls_hs.specs.Hello.{session_id as session_id_layout, cipher_suites as cipher_suites_layout, compression_methods};
+ghost use Rattle.tls_base.specs.CipherTable.{suite_of_id};
+ghost use Rattle.tls_hs.specs.Hello.{session_id as session_id_layout, cipher_suites as cipher_suites_layout, compression_methods, random_time as time_of, random_bytes as bytes_of};
 
 pub use crate::certificate::certificate;
 pub use crate::server_hello::server_hello_any;
 use std::alloc::Global;
-use tls_base::{TlsCipherSuiteID, TlsCompressionID};
-use tls_fields::{Err, Error, ErrorKind, IResult, block, items_times, number1, number2};
+use tls_base::{CipherTable, TlsCipherSuite, TlsCipherSuiteID, TlsCompressionID};
+use tls_fields::{
+    Err, Error, ErrorKind, IResult, OutOfMemory, block, items_times, number1, number2,
+};
 
-/// Reads a session id: 1 byte of length, at most 32, and so many bytes; no bytes are `None`.
+/// Reads a session id (RFC 5246, section 7.4.1.2): 1 byte of length, at most 32, and so many bytes; no bytes are `None`.
 ///
 /// `Error` of kind `Verify` where the length is above 32; else `Incomplete` of the count of missing bytes.
 #[tactic(auto, using(tls_fields::proofs::OneAnswer::read_allowed), unfolding(crate::specs::Hello::session_id))]
@@ -32,7 +35,7 @@ pub fn session_id(i: &[u8]) -> IResult<&[u8], Option<&[u8]>>
     }
 }
 
-/// Reads cipher suites: 2 bytes of length, and so many bytes, 2 for each suite, big-endian.
+/// Reads cipher suites (RFC 5246, section 7.4.1.2): 2 bytes of length, and so many bytes, 2 for each suite, big-endian.
 ///
 /// - `Incomplete` of the count that is missing of the length.
 /// - `Error` of kind `LengthValue` where the length is odd, or above the bytes that are left.
@@ -50,10 +53,10 @@ pub fn cipher_suites(alloc: Global, i: &[u8]) -> IResult<&[u8], Vec<TlsCipherSui
             code: ErrorKind::LengthValue,
         }));
     }
-    items_times(alloc, rest, k / 2)
+    items_times::<TlsCipherSuiteID>(alloc, rest, k / 2)
 }
 
-/// Reads compression methods: 1 byte of length, and so many bytes, 1 for each method.
+/// Reads compression methods (RFC 5246, section 7.4.1.2): 1 byte of length, and so many bytes, 1 for each method.
 ///
 /// - `Incomplete` of 1 where there is no length.
 /// - `Error` of kind `LengthValue` where the length is above the bytes that are left.
@@ -71,5 +74,42 @@ pub fn compressions(alloc: Global, i: &[u8]) -> IResult<&[u8], Vec<TlsCompressio
             code: ErrorKind::LengthValue,
         }));
     }
-    items_times(alloc, rest, k)
+    items_times::<TlsCompressionID>(alloc, rest, k)
+}
+
+/// The suite that `table` has for each of `ciphers`, in their order; `None` where it has none.
+///
+/// `OutOfMemory` where the list could not be held.
+pub fn suites<'t>(
+    alloc: Global,
+    table: &'t CipherTable,
+    ciphers: &[TlsCipherSuiteID],
+) -> Result<Vec<Option<&'t TlsCipherSuite>>, OutOfMemory>
+    ensures { IfOk result (λ v. map (option_map (λ s. s.now)) v.items ≡ map (suite_of_id table.now) (map (λ c. c.0) ciphers.now)) }
+{
+    let mut suites = Vec::with_capacity(alloc, ciphers.len())?;
+    for cipher in ciphers {
+        suites.push_reserved(table.by_id(cipher.0));
+    }
+    Ok(suites)
+}
+
+/// The first 4 bytes of a ClientHello's random as a number, big-endian; 0 where there are fewer.
+pub fn random_time(random: &[u8]) -> u32
+    ensures { result ≡ time_of random.now }
+{
+    match random {
+        [a, b, c, d, ..] => u32::from_be_bytes([*a, *b, *c, *d]),
+        _ => 0,
+    }
+}
+
+/// What follows the first 4 bytes of a ClientHello's random; no bytes where there are fewer.
+pub fn random_bytes(random: &[u8]) -> &[u8]
+    ensures { result.now ≡ bytes_of random.now }
+{
+    match random {
+        [_, _, _, _, bytes @ ..] => bytes,
+        _ => &[],
+    }
 }

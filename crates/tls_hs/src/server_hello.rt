@@ -1,3 +1,4 @@
+//! The ServerHello, and what drafts of TLS 1.3 made of it.
 ghost use Rattle.std.specs.Prelude.{◌≡◌};
 ghost use Rattle.std.specs.Option.{option_map};
 ghost use Rattle.tls_fields.specs.Answers.{Gives};

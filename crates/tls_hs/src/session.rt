@@ -1,3 +1,4 @@
+//! Tickets, key exchange, and the smaller bodies.
 ghost use Rattle.tls_fields.specs.Answers.{Gives};
 ghost use Rattle.tls_hs.specs.Session.{view_new_session_ticket, new_session_ticket as new_session_ticket_layout, view_next_protocol, next_protocol};
 
@@ -35,7 +36,9 @@ pub enum TlsClientKeyExchangeContents<'a> {
 /// The body of a NextProtocol (draft-agl-tls-nextprotoneg-04, section 3).
 #[derive(Clone, Debug, PartialEq, Drop)]
 pub struct TlsNextProtocolContent<'a> {
+    /// The protocol's name.
     pub selected_protocol: &'a [u8],
+    /// Bytes that hide how long the name is.
     pub padding: &'a [u8],
 }
 
@@ -44,8 +47,10 @@ pub struct TlsNextProtocolContent<'a> {
 pub struct KeyUpdateRequest(pub u8);
 
 impl KeyUpdateRequest {
+    /// The receiver may keep its keys.
     pub const NotRequested: KeyUpdateRequest = KeyUpdateRequest(0);
 
+    /// The receiver is to update its keys too.
     pub const Requested: KeyUpdateRequest = KeyUpdateRequest(1);
 }
 

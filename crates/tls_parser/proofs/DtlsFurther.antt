@@ -29,10 +29,10 @@ header_counts : CountsMissing record_header
 unfolding record_header
 header_counts = (tt, λ k. (tt, λ v. (tt, λ c. (tt, λ n. tt))))
 
-abbrev whole_of : RecordHeader → List Message → Plaintext
+abbrev pub whole_of : RecordHeader → List Message → Plaintext
 whole_of h m = record { header = h; messages = m }
 
-abbrev raw_of : RecordHeader → Bytes → RawRecord
+abbrev pub raw_of : RecordHeader → Bytes → RawRecord
 raw_of h f = record { header = h; fragment = f }
 
 plaintext_counts : CountsMissing plaintext

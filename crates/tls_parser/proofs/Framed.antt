@@ -24,7 +24,7 @@ module _ {H M R F : Type 0} (header : Layout H) (len : H → ℕ) (content : H �
   abbrev pub behind_header : H → Layout R
   behind_header h = chain (test (nat_le (len h) 16640) TooLarge) (λ _. chain (window (len h) (content h)) (λ m. done (whole h m)))
 
-  abbrev behind_raw_header : H → Layout F
+  abbrev pub behind_raw_header : H → Layout F
   behind_raw_header h = chain (test (nat_le (len h) 16640) TooLarge) (λ _. chain (block (len h)) (λ f. done (raw h f)))
 
   abbrev pub framed : Layout R

@@ -1,7 +1,9 @@
 pub mod Counter
 pub mod Framed
 pub mod Opened
+pub mod Headers
+pub mod Whole
 pub mod Further
 pub mod DtlsFurther
+pub mod Incomplete
 pub mod NoMore
-pub mod Short

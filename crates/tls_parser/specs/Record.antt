@@ -1,5 +1,5 @@
 -- Records (RFC 5246, section 6.2).
-use Rattle.std.specs.Prelude.{ℕ, ◌+◌, ◌<◌, ◌≤◌, List, [], ◌∷◌, length, take, drop, map, Ok, Err, nat_le, ◌==◌, ⊤}
+use Rattle.std.specs.Prelude.{ℕ, ◌+◌, ◌-◌, ◌<◌, ◌≤◌, ◌⊎◌, List, [], ◌∷◌, length, take, drop, map, Ok, Err, nat_le, ◌==◌, ⊤}
 use Rattle.tls_fields.specs.Bytes.{Bytes, number_of}
 use Rattle.tls_fields.specs.Layout.{Layout, done, refuse, number, block, window, complete, list1, ◌>>=◌, ◌>>◌, test, choose}
 use Rattle.tls_fields.specs.Meaning.{Answer}
@@ -81,21 +81,34 @@ plaintext = do
 abbrev pub opened : RawRecord × Bytes → Answer Plaintext
 opened x = reading (record_content x.0.header) x.0.fragment and_then λ m. Ok (record { header = x.0.header; messages = m.0 }, x.1)
 
--- The length that stands in a header: the number of its bytes 3 and 4.
-abbrev pub fragment_length : Bytes → ℕ
-fragment_length b = number_of (take 2 (drop 3 b))
+-- The length that stands in a header of n bytes: the number of its last 2.
+abbrev pub fragment_length : ℕ → Bytes → ℕ
+fragment_length n b = number_of (take 2 (drop (n - 2) b))
 
--- The bytes are those of a whole record: the 5 of its header, and as many more as the length there says.
-pub record IsWhole (b : Bytes) : Type 0 where
-  pub has_header : 5 ≤ length b
-  pub has_fragment : 5 + fragment_length b ≤ length b
+-- The bytes are those of a whole record: the n of its header, and as many more as the length there says.
+pub record IsWhole (n : ℕ) (b : Bytes) : Type 0 where
+  pub has_header : n ≤ length b
+  pub has_fragment : n + fragment_length n b ≤ length b
 
--- The length in the header is above what a record may have.
-pub record IsTooLarge (b : Bytes) : Type 0 where
-  pub has_header : 5 ≤ length b
-  pub above : 16640 < fragment_length b
+-- The length in a header of n bytes is above what a record may have.
+pub record IsTooLarge (n : ℕ) (b : Bytes) : Type 0 where
+  pub has_header : n ≤ length b
+  pub above : 16640 < fragment_length n b
 
--- What is returned doesn't ask for more bytes.
+-- There is no record to open: the bytes are not those of a whole one, or the length is too large.
+abbrev pub IsUnopened : ℕ → Bytes → Type 0
+IsUnopened n b = (IsWhole n b → ⊥) ⊎ IsTooLarge n b
+
+-- Further bytes are needed: the bytes are not those of a whole record, and the length isn't too large.
+abbrev pub NeedsMore : ℕ → Bytes → Type 0
+NeedsMore n b = (IsWhole n b → ⊥) × (IsTooLarge n b → ⊥)
+
+-- What is returned asks for more bytes.
+abbrev pub IsIncomplete : {X : Type 0} → Returned X → Type 0
+IsIncomplete (Err (failed.Incomplete n)) = ⊤
+IsIncomplete r = ⊥
+
+-- What is returned doesn't.
 abbrev pub AsksNoMore : {X : Type 0} → Returned X → Type 0
 AsksNoMore (Err (failed.Incomplete n)) = ⊥
 AsksNoMore r = ⊤

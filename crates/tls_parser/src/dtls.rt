@@ -1,10 +1,10 @@
 //! Records of DTLS and the messages in them (RFC 6347).
 
+mod content;
 mod handshake;
 mod hello;
 mod message;
 mod record;
-mod short_messages;
 
 pub use handshake::{DTLSMessageHandshake, DTLSMessageHandshakeBody};
 pub use hello::{DTLSClientHello, DTLSHelloVerifyRequest};

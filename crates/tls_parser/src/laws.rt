@@ -1,5 +1,5 @@
 //! What stands of the layouts alone. Each function's contract is one law; its body is empty.
-ghost use Rattle.std.specs.Prelude.{◌≡◌, ◌↔◌, ℕ, Err};
+ghost use Rattle.std.specs.Prelude.{◌≡◌, ◌↔◌, ◌<◌, ℕ, length, Ok, Err};
 ghost use Rattle.tls_fields.specs.Bytes.{Bytes, AreBytes};
 ghost use Rattle.tls_fields.specs.Layout.{list1};
 ghost use Rattle.tls_fields.specs.Meaning.{Allows, AllowsOne, Lacks};
@@ -141,8 +141,27 @@ pub fn dtls_plaintext_with_further_bytes()
     ensures counts_down { (b s : Bytes) → AreBytes b → AreBytes s → CountsDown dtls.plaintext b s }
 {}
 
-/// A record is incomplete just where its bytes are not all there, and no length above 16640 stands in its header.
-#[tactic(auto, using(crate::proofs::Further::incomplete_while_not_whole))]
+/// A record is incomplete just where its bytes are not all there, and no length above 16640 stands in its header of 5
+/// bytes.
+#[tactic(auto, using(crate::proofs::Incomplete::plaintext_lacks))]
 pub fn plaintext_is_incomplete_while_not_whole()
-    ensures { (b : Bytes) → AreBytes b → ((n : ℕ) × Allows tls.plaintext b (Err (Lacks n))) ↔ ((tls.IsWhole b → ⊥) × (tls.IsTooLarge b → ⊥)) }
+    ensures { (b : Bytes) → AreBytes b → ((n : ℕ) × Allows tls.plaintext b (Err (Lacks n))) ↔ tls.NeedsMore 5 b }
+{}
+
+/// The same of a DTLS record, whose header has 13 bytes.
+#[tactic(auto, using(crate::proofs::Incomplete::dtls_plaintext_lacks))]
+pub fn dtls_plaintext_is_incomplete_while_not_whole()
+    ensures { (b : Bytes) → AreBytes b → ((n : ℕ) × Allows dtls.plaintext b (Err (Lacks n))) ↔ tls.NeedsMore 13 b }
+{}
+
+/// A record that is read takes bytes, so a list of records ends just where none is read.
+#[tactic(auto, using(crate::proofs::Incomplete::plaintext_takes))]
+pub fn plaintext_takes_bytes()
+    ensures { (b r : Bytes) (p : tls.Plaintext) → reading tls.plaintext b ≡ Ok (p, r) → length r < length b }
+{}
+
+/// The same of a DTLS record.
+#[tactic(auto, using(crate::proofs::Incomplete::dtls_plaintext_takes))]
+pub fn dtls_plaintext_takes_bytes()
+    ensures { (b r : Bytes) (p : dtls.Plaintext) → reading dtls.plaintext b ≡ Ok (p, r) → length r < length b }
 {}

@@ -1,14 +1,14 @@
-//! A reader of TLS records and of the messages in them (RFC 5246 and RFC 8446).
+//! A reader of TLS and DTLS records and of the messages in them (RFC 5246, RFC 6347 and RFC 8446).
 //!
 //! Each call answers what a layout of `specs/` allows on the bytes: the value and the exact rest, or the refusal of the
 //! leftmost part that can't be read. Slices in a value are parts of the input.
 #![tactic(auto, using(tls_fields::proofs::OneAnswer::read_allowed))]
 
+mod content;
 mod dtls;
 pub mod laws;
 mod plaintext;
 mod record;
-mod short_messages;
 
 pub use dtls::{
     DTLSClientHello, DTLSHelloVerifyRequest, DTLSMessage, DTLSMessageHandshake,

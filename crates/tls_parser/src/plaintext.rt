@@ -1,14 +1,14 @@
-ghost use Rattle.std.specs.Prelude.{◌≡◌, map, [], ◌∷◌, IfOk};
+ghost use Rattle.std.specs.Prelude.{◌≡◌, ◌↔◌, map, [], ◌∷◌, IfOk};
 ghost use Rattle.std.specs.Result.{IsErr};
 ghost use Rattle.tls_fields.specs.Layout.{chain, complete, done, list1};
 ghost use Rattle.tls_fields.specs.Meaning.{AllowsOne};
 ghost use Rattle.tls_fields.specs.Reading.{reading};
 ghost use Rattle.tls_fields.specs.Answers.{GivesOrMemory, HasMemory};
 ghost use Rattle.tls_hs.specs.Message.{view_message, application_data, heartbeat};
-ghost use Rattle.tls_parser.specs.Record.{Plaintext, view_header, raw_record, record_content, view_plaintext, plaintext, AsksNoMore};
+ghost use Rattle.tls_parser.specs.Record.{Plaintext, view_header, raw_record, record_content, view_plaintext, plaintext, AsksNoMore, IsUnopened, NeedsMore, IsIncomplete};
 
+use crate::content::{Alert, ChangeCipherSpec, Handshake};
 use crate::record::{TlsRawRecord, TlsRecordHeader, parse_tls_raw_record};
-use crate::short_messages::{alert_list, change_cipher_spec_list};
 use std::alloc::Global;
 use tls_base::TlsRecordType;
 use tls_fields::{Err, Error, ErrorKind, IResult, Item, OutOfMemory, items1};
@@ -17,7 +17,9 @@ use tls_hs::{TlsMessage, parse_tls_message_applicationdata, parse_tls_message_he
 /// A record that isn't encrypted (RFC 5246, section 6.2.1), with its messages, of which there is at least one.
 #[derive(Debug, PartialEq, Drop)]
 pub struct TlsPlaintext<'a> {
+    /// What stands in front of the messages.
     pub hdr: TlsRecordHeader,
+    /// The messages, in their order.
     pub msg: Vec<TlsMessage<'a>>,
 }
 
@@ -59,7 +61,7 @@ fn heartbeat_alone(alloc: Global, i: &[u8], len: u16) -> IResult<&[u8], Vec<TlsM
     }
 }
 
-/// Reads the fragment `i` of a record with the header `hdr`, as messages of the header's type:
+/// Reads the fragment `i` of a record with the header `hdr` (RFC 5246, section 6.2.1), as messages of the header's type:
 ///
 /// - 20, 21, 22: one or more of ChangeCipherSpec, of alerts, of handshake messages, as `parse_tls_message_..` reads each.
 ///   They end before the first that isn't read; what is left is no refusal.
@@ -80,9 +82,9 @@ pub fn parse_tls_record_with_header<'a>(
     ensures never_incomplete { AsksNoMore result }
 {
     match hdr.record_type {
-        TlsRecordType::ChangeCipherSpec => change_cipher_spec_list(alloc, i),
-        TlsRecordType::Alert => alert_list(alloc, i),
-        TlsRecordType::Handshake => items1(alloc, i),
+        TlsRecordType::ChangeCipherSpec => items1::<ChangeCipherSpec>(alloc, i),
+        TlsRecordType::Alert => items1::<Alert>(alloc, i),
+        TlsRecordType::Handshake => items1::<Handshake>(alloc, i),
         TlsRecordType::ApplicationData => application_data_alone(alloc, i),
         TlsRecordType::Heartbeat => heartbeat_alone(alloc, i, hdr.len),
         _ => Err(Err::Error(Error {
@@ -92,19 +94,35 @@ pub fn parse_tls_record_with_header<'a>(
     }
 }
 
-/// Reads a record and its messages: as [`parse_tls_raw_record`], and then [`parse_tls_record_with_header`] on the
-/// fragment, whose refusal is the call's. What the messages leave of the fragment is dropped.
-///
-/// `Incomplete` only where the record isn't whole, `OutOfMemory` only where it is whole and not too large.
-#[tactic(auto, using(tls_fields::proofs::OneAnswer::read_allowed, tls_fields::proofs::OneAnswer::one_answer, crate::proofs::Opened::plaintext_opened))]
-pub fn parse_tls_plaintext(alloc: Global, i: &[u8]) -> IResult<&[u8], TlsPlaintext>
+/// A raw record, and its fragment by its header.
+#[tactic(auto, using(tls_fields::proofs::OneAnswer::read_allowed, crate::proofs::Opened::plaintext_opened))]
+#[inline(always)]
+fn opened_record(alloc: Global, i: &[u8]) -> IResult<&[u8], TlsPlaintext>
     ensures gives { GivesOrMemory view_plaintext plaintext i.now result }
-    ensures only_one { AllowsOne plaintext i.now }
-    ensures memory_if_whole { IsErr (reading raw_record i.now) → HasMemory result }
+    ensures memory_if_raw { IsErr (reading raw_record i.now) → HasMemory result }
 {
     let (i, TlsRawRecord { hdr, bytes }) = parse_tls_raw_record(i)?;
     let (_, msg) = parse_tls_record_with_header(alloc, bytes, &hdr)?;
     Ok((i, TlsPlaintext { hdr, msg }))
+}
+
+/// Reads a record and its messages (RFC 5246, section 6.2.1): as [`parse_tls_raw_record`], and then
+/// [`parse_tls_record_with_header`] on the fragment, whose refusal is the call's. What the messages leave of the fragment
+/// is dropped.
+///
+/// - `Incomplete` of the count of missing bytes of the header's first field that isn't whole, or else of the fragment;
+///   nowhere else.
+/// - `Error` of kind `TooLarge` where the length is above [`crate::MAX_RECORD_LEN`], even if the fragment isn't there yet.
+/// - What the fragment refuses.
+/// - `OutOfMemory` only where the record is whole and not too large.
+#[tactic(auto, using(tls_fields::proofs::OneAnswer::one_answer, crate::proofs::Incomplete::plaintext_memory, crate::proofs::Incomplete::plaintext_incomplete))]
+pub fn parse_tls_plaintext(alloc: Global, i: &[u8]) -> IResult<&[u8], TlsPlaintext>
+    ensures gives { GivesOrMemory view_plaintext plaintext i.now result }
+    ensures only_one { AllowsOne plaintext i.now }
+    ensures memory_if_whole { IsUnopened 5 i.now → HasMemory result }
+    ensures incomplete_while_not_whole { IsIncomplete result ↔ NeedsMore 5 i.now }
+{
+    opened_record(alloc, i)
 }
 
 /// The same as [`parse_tls_plaintext`].
@@ -112,12 +130,15 @@ pub fn parse_tls_plaintext(alloc: Global, i: &[u8]) -> IResult<&[u8], TlsPlainte
 /// Deprecated: use [`parse_tls_plaintext`].
 pub fn tls_parser(alloc: Global, i: &[u8]) -> IResult<&[u8], TlsPlaintext>
     ensures gives { GivesOrMemory view_plaintext plaintext i.now result }
-    ensures memory_if_whole { IsErr (reading raw_record i.now) → HasMemory result }
+    ensures memory_if_whole { IsUnopened 5 i.now → HasMemory result }
+    ensures incomplete_while_not_whole { IsIncomplete result ↔ NeedsMore 5 i.now }
 {
     parse_tls_plaintext(alloc, i)
 }
 
 impl<'a> Item<'a> for TlsPlaintext<'a> {
+    type Read = Self;
+
     ghost Value = { Plaintext };
 
     ghost view = { view_plaintext };
@@ -137,5 +158,5 @@ impl<'a> Item<'a> for TlsPlaintext<'a> {
 pub fn tls_parser_many(alloc: Global, i: &[u8]) -> IResult<&[u8], Vec<TlsPlaintext>>
     ensures { GivesOrMemory (λ v. map view_plaintext v.items) (list1 plaintext) i.now result }
 {
-    items1(alloc, i)
+    items1::<TlsPlaintext>(alloc, i)
 }

@@ -11,7 +11,9 @@ pub const MAX_RECORD_LEN: u16 = 16640;
 /// The header of a record (RFC 5246, section 6.2.1), 5 bytes.
 #[derive(Clone, Copy, Debug, PartialEq)]
 pub struct TlsRecordHeader {
+    /// What the fragment holds.
     pub record_type: TlsRecordType,
+    /// The version that the sender speaks, or a lower one that it may put here.
     pub version: TlsVersion,
     /// The length of the fragment that follows, in bytes.
     pub len: u16,
@@ -20,6 +22,7 @@ pub struct TlsRecordHeader {
 /// A record whose fragment isn't read.
 #[derive(Clone, Debug, PartialEq, Drop)]
 pub struct TlsRawRecord<'a> {
+    /// What stands in front of the fragment.
     pub hdr: TlsRecordHeader,
     /// The fragment, `hdr.len` bytes.
     pub bytes: &'a [u8],
@@ -35,6 +38,7 @@ pub struct TlsEncryptedContent<'a> {
 /// An encrypted record (RFC 5246, section 6.2.3).
 #[derive(Clone, Debug, PartialEq, Drop)]
 pub struct TlsEncrypted<'a> {
+    /// What stands in front of the fragment.
     pub hdr: TlsRecordHeader,
     /// The fragment, `hdr.len` bytes.
     pub msg: TlsEncryptedContent<'a>,

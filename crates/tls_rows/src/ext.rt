@@ -562,6 +562,35 @@ fn tagged(rt: HostRuntime) {
 }
 
 #[test]
+fn tagged_with_nothing_behind(rt: HostRuntime) {
+    let rows = [
+        (
+            parse_tls_extension_ec_point_formats(&[0, 0x0b, 0, 2, 1, 0]),
+            TlsExtension::EcPointFormats(&[0]),
+        ),
+        (
+            parse_tls_extension_heartbeat(&[0, 0x0f, 0, 1, 1]),
+            TlsExtension::Heartbeat(1),
+        ),
+        (
+            parse_tls_extension_pre_shared_key(&[0, 0x29, 0, 0]),
+            TlsExtension::PreSharedKey(&[]),
+        ),
+        (
+            parse_tls_extension_unknown(&[0, 0, 0, 0]),
+            TlsExtension::Unknown(TlsExtensionType::ServerName, &[]),
+        ),
+        (
+            parse_tls_server_hello_extension(rt.alloc(), &[0, 0x16, 0, 0]),
+            TlsExtension::EncryptThenMac,
+        ),
+    ];
+    for (answered, value) in rows {
+        reads(&rt, answered, value, &[]);
+    }
+}
+
+#[test]
 fn tagged_lists(rt: HostRuntime) -> Result<(), Fail> {
     let alloc = rt.alloc();
     let name: &[u8] = &[0x61];

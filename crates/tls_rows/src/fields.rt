@@ -1,15 +1,15 @@
 //! Readers of single fields and of lists, at their edges.
 ghost use Rattle.std.specs.Prelude.{ℕ};
-ghost use Rattle.tls_fields.specs.Layout.{Layout, number};
+ghost use Rattle.tls_fields.specs.Layout.{Layout};
 ghost use Rattle.tls_rows.specs.Samples.{digit};
 
 use crate::support::{Refused, lists, reads, refuses};
 use std::alloc::{AllocError, Global};
 use std::test::Fail;
 use tls_fields::{
-    Err, Error, ErrorKind, IResult, Item, Needed, OutOfMemory, block, counted1, counted2, counted3,
-    items, items_times, items1, maybe2, number1, number2, number3, number4, number8, pairs, place,
-    tag,
+    Counted1, Counted2, Err, Error, ErrorKind, IResult, Item, Needed, Number2, OutOfMemory, block,
+    counted1, counted2, counted3, items, items_times, items1, maybe2, number1, number2, number3,
+    number4, number8, pairs, place, tag,
 };
 
 /// A number of 1 byte that is at most 9.
@@ -17,6 +17,8 @@ use tls_fields::{
 struct Digit(u8);
 
 impl<'a> Item<'a> for Digit {
+    type Read = Self;
+
     ghost Value = { ℕ };
 
     ghost view = { λ d. d.0 };
@@ -33,24 +35,6 @@ impl<'a> Item<'a> for Digit {
             }));
         }
         Ok((rest, Digit(n)))
-    }
-}
-
-/// A number of 2 bytes.
-#[derive(Clone, Copy, Debug, PartialEq)]
-struct Number(u16);
-
-impl<'a> Item<'a> for Number {
-    ghost Value = { ℕ };
-
-    ghost view = { λ n. n.0 };
-
-    ghost layout = { number 2 };
-
-    #[tactic(auto, using(tls_fields::proofs::OneAnswer::read_allowed))]
-    fn read(_alloc: Global, i: &'a [u8]) -> IResult<&'a [u8], Self> {
-        let (i, n) = number2(i)?;
-        Ok((i, Number(n)))
     }
 }
 
@@ -151,55 +135,69 @@ fn places(rt: HostRuntime) {
 
 #[test]
 fn lists_of_any_length(rt: HostRuntime) {
-    lists::<Digit>(&rt, items(rt.alloc(), &[]), &[], &[]);
-    lists(&rt, items(rt.alloc(), &[7]), &[Digit(7)], &[]);
+    lists(&rt, items::<Digit>(rt.alloc(), &[]), &[], &[]);
+    lists(&rt, items::<Digit>(rt.alloc(), &[7]), &[Digit(7)], &[]);
     // An item that is refused ends the list, and so does one that is cut.
     let digits = [Digit(7), Digit(9)];
-    lists(&rt, items(rt.alloc(), &[7, 9, 10, 1]), &digits, &[10, 1]);
-    let numbers = [Number(0x0102), Number(0x0304)];
-    lists(&rt, items(rt.alloc(), &[1, 2, 3, 4, 5]), &numbers, &[5]);
+    lists(
+        &rt,
+        items::<Digit>(rt.alloc(), &[7, 9, 10, 1]),
+        &digits,
+        &[10, 1],
+    );
+    let numbers = items::<Number2>(rt.alloc(), &[1, 2, 3, 4, 5]);
+    lists(&rt, numbers, &[0x0102, 0x0304], &[5]);
+}
+
+#[test]
+fn lists_of_counted_bytes(rt: HostRuntime) {
+    let blocks: [&[u8]; 2] = [&[7, 8], &[]];
+    let short = items::<Counted1>(rt.alloc(), &[2, 7, 8, 0, 3, 9]);
+    lists(&rt, short, &blocks, &[3, 9]);
+    let long = items::<Counted2>(rt.alloc(), &[0, 2, 7, 8, 0, 0, 0, 3, 9]);
+    lists(&rt, long, &blocks, &[0, 3, 9]);
 }
 
 #[test]
 fn lists_of_one_or_more(rt: HostRuntime) {
     let complete = Refused::Error(ErrorKind::Complete);
-    refuses(&rt, items1::<Number>(rt.alloc(), &[1]), complete);
-    refuses(&rt, items1::<Number>(rt.alloc(), &[]), complete);
+    refuses(&rt, items1::<Number2>(rt.alloc(), &[1]), complete);
+    refuses(&rt, items1::<Number2>(rt.alloc(), &[]), complete);
     let verify = Refused::Error(ErrorKind::Verify);
     refuses(&rt, items1::<Digit>(rt.alloc(), &[10]), verify);
-    lists(&rt, items1(rt.alloc(), &[9, 10]), &[Digit(9)], &[10]);
-    let numbers = [Number(1), Number(2)];
-    lists(&rt, items1(rt.alloc(), &[0, 1, 0, 2, 0]), &numbers, &[0]);
+    lists(
+        &rt,
+        items1::<Digit>(rt.alloc(), &[9, 10]),
+        &[Digit(9)],
+        &[10],
+    );
+    lists(
+        &rt,
+        items1::<Number2>(rt.alloc(), &[0, 1, 0, 2, 0]),
+        &[1, 2],
+        &[0],
+    );
 }
 
 #[test]
 fn lists_of_a_known_length(rt: HostRuntime) {
-    lists::<Digit>(&rt, items_times(rt.alloc(), &[10], 0), &[], &[10]);
-    let numbers = [Number(1), Number(2)];
-    lists(
-        &rt,
-        items_times(rt.alloc(), &[0, 1, 0, 2, 0], 2),
-        &numbers,
-        &[0],
-    );
-    let cut = items_times::<Number>(rt.alloc(), &[0, 1, 0], 2);
+    lists(&rt, items_times::<Digit>(rt.alloc(), &[10], 0), &[], &[10]);
+    let numbers = items_times::<Number2>(rt.alloc(), &[0, 1, 0, 2, 0], 2);
+    lists(&rt, numbers, &[1, 2], &[0]);
+    let cut = items_times::<Number2>(rt.alloc(), &[0, 1, 0], 2);
     refuses(&rt, cut, Refused::Incomplete(1));
-    let verify = Refused::Error(ErrorKind::Verify);
-    refuses(
-        &rt,
-        items_times::<Digit>(rt.alloc(), &[1, 10, 11], 3),
-        verify,
-    );
+    let refused = items_times::<Digit>(rt.alloc(), &[1, 10, 11], 3);
+    refuses(&rt, refused, Refused::Error(ErrorKind::Verify));
 }
 
 #[test]
 fn lists_of_pairs(rt: HostRuntime) {
-    lists::<Number>(&rt, pairs(rt.alloc(), &[]), &[], &[]);
-    let groups = [Number(0x17), Number(0x1d)];
-    lists(&rt, pairs(rt.alloc(), &[0, 0x17, 0, 0x1d]), &groups, &[]);
+    lists(&rt, pairs::<Number2>(rt.alloc(), &[]), &[], &[]);
+    let groups = pairs::<Number2>(rt.alloc(), &[0, 0x17, 0, 0x1d]);
+    lists(&rt, groups, &[0x17, 0x1d], &[]);
     let odd = Refused::Error(ErrorKind::LengthValue);
-    refuses(&rt, pairs::<Number>(rt.alloc(), &[0]), odd);
-    refuses(&rt, pairs::<Number>(rt.alloc(), &[0, 1, 2]), odd);
+    refuses(&rt, pairs::<Number2>(rt.alloc(), &[0]), odd);
+    refuses(&rt, pairs::<Number2>(rt.alloc(), &[0, 1, 2]), odd);
 }
 
 #[test]

@@ -51,14 +51,14 @@ fn around_zeros(alloc: Global, front: &[u8], tail: &[u8]) -> Result<Vec<u8>, Fai
     Ok(bytes)
 }
 
-/// The call refused each of these bytes so, and gave a handshake message.
+/// A handshake message is refused so, of each of these bytes.
 fn messages_refused(rt: &impl Abort, alloc: Global, rows: &[(&[u8], Refused)]) {
     for (bytes, refused) in rows {
         refuses(rt, parse_tls_message_handshake(alloc, bytes), *refused);
     }
 }
 
-/// A ClientHello with an id that holds nothing, two ciphers and one method.
+/// A ClientHello with an id of one byte, two ciphers, one method, and extensions that hold nothing.
 fn client_hello(alloc: Global) -> Result<TlsClientHelloContents<'static>, Fail> {
     Ok(TlsClientHelloContents {
         version: TlsVersion::Tls12,

@@ -19,3 +19,5 @@ mod parser;
 mod records;
 #[cfg(test)]
 mod support;
+#[cfg(test)]
+mod values;

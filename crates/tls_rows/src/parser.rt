@@ -90,49 +90,6 @@ fn records_refused(rt: HostRuntime) {
 }
 
 #[test]
-fn client_hellos_refused(rt: HostRuntime) -> Result<(), Fail> {
-    let alloc = rt.alloc();
-    let rows: [(&[u8], Refused); 3] = [
-        (&[0, 0], Refused::Incomplete(1)),
-        (&[0x21], Refused::Error(ErrorKind::Verify)),
-        (&[0, 0, 2, 0xc0], Refused::Error(ErrorKind::LengthValue)),
-    ];
-    for (tail, refused) in rows {
-        let bytes = hello_bytes(alloc, tail)?;
-        refuses(
-            &rt,
-            parse_tls_handshake_client_hello(alloc, &bytes),
-            refused,
-        );
-    }
-    Ok(())
-}
-
-#[test]
-fn client_hello_of_empty_lists(rt: HostRuntime) -> Result<(), Fail> {
-    let alloc = rt.alloc();
-    let bytes = hello_bytes(alloc, &[0, 0, 0, 0])?;
-    let longer = hello_bytes(alloc, &[0, 0, 0, 0, 0])?;
-    for (bytes, rest) in [(bytes.as_slice(), [].as_slice()), (longer.as_slice(), &[0])] {
-        let hello = TlsClientHelloContents {
-            version: TlsVersion::Tls12,
-            random: &[0; 32],
-            session_id: None,
-            ciphers: Vec::new(alloc),
-            comp: Vec::new(alloc),
-            ext: None,
-        };
-        reads(
-            &rt,
-            parse_tls_handshake_client_hello(alloc, bytes),
-            hello,
-            rest,
-        );
-    }
-    Ok(())
-}
-
-#[test]
 fn record_of_one_client_hello(rt: HostRuntime) -> Result<(), Fail> {
     let alloc = rt.alloc();
     let fragment = &RECORD[5..];

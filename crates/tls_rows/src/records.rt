@@ -167,18 +167,13 @@ fn heartbeats_refused(rt: HostRuntime) {
     );
     refuses(
         &rt,
-        parse_tls_message_heartbeat(alloc, &[1, 0, 5], 3),
-        Refused::Incomplete(5),
-    );
-    refuses(
-        &rt,
         parse_tls_record_with_header(alloc, &[1, 0, 5], &header(24, 3)),
         Refused::Error(ErrorKind::Complete),
     );
 }
 
 #[test]
-fn encrypted_record(rt: HostRuntime) {
+fn encrypted_record(rt: HostRuntime) -> Result<(), Fail> {
     let record = TlsEncrypted {
         hdr: header(0x99, 2),
         msg: TlsEncryptedContent {
@@ -186,12 +181,14 @@ fn encrypted_record(rt: HostRuntime) {
         },
     };
     let bytes = [0x99, 3, 3, 0, 2, 0xaa, 0xbb, 0xcc];
+    reads(&rt, parse_tls_encrypted(&bytes[..7]), record.clone()?, &[]);
     reads(&rt, parse_tls_encrypted(&bytes), record, &[0xcc]);
     refuses(
         &rt,
         parse_tls_encrypted(&bytes[..6]),
         Refused::Incomplete(1),
     );
+    Ok(())
 }
 
 #[test]

@@ -48,6 +48,7 @@ impl Fault {
         }
     }
 
+    /// How a run ends that ends by this fault.
     pub fn exit(self) -> Exit
         ensures { status_of result ≡ fault_status (view_fault self) }
     {

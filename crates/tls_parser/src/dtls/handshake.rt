@@ -17,6 +17,7 @@ use tls_hs::{
 /// A handshake message of DTLS (RFC 6347, section 4.2.2), or a fragment of one.
 #[derive(Debug, PartialEq, Drop)]
 pub struct DTLSMessageHandshake<'a> {
+    /// What the body is.
     pub msg_type: TlsHandshakeType,
     /// The length of the whole body, in bytes.
     pub length: u32,
@@ -26,6 +27,7 @@ pub struct DTLSMessageHandshake<'a> {
     pub fragment_offset: u32,
     /// The length of the fragment, in bytes.
     pub fragment_length: u32,
+    /// The body, or a fragment of it.
     pub body: DTLSMessageHandshakeBody<'a>,
 }
 
@@ -35,20 +37,35 @@ pub struct DTLSMessageHandshake<'a> {
 /// `ServerDone`, `ClientKeyExchange` and `Fragment`.
 #[derive(Debug, PartialEq, Drop)]
 pub enum DTLSMessageHandshakeBody<'a> {
+    /// No call reads it.
     HelloRequest,
+    /// What a client offers (RFC 6347, section 4.2.1).
     ClientHello(DTLSClientHello<'a>),
+    /// The server asks for a ClientHello with its cookie (RFC 6347, section 4.2.1).
     HelloVerifyRequest(DTLSHelloVerifyRequest<'a>),
+    /// What a server chose (RFC 5246, section 7.4.1.3).
     ServerHello(TlsServerHelloContents<'a>),
+    /// No call reads it.
     NewSessionTicket(TlsNewSessionTicketContent<'a>),
+    /// No call reads it.
     HelloRetryRequest(TlsHelloRetryRequestContents<'a>),
+    /// The sender's certificates (RFC 5246, section 7.4.2).
     Certificate(TlsCertificateContents<'a>),
+    /// No call reads it.
     ServerKeyExchange(TlsServerKeyExchangeContents<'a>),
+    /// No call reads it.
     CertificateRequest(TlsCertificateRequestContents<'a>),
+    /// The end of the server's hello, with its body, which should have no bytes (RFC 5246, section 7.4.5).
     ServerDone(&'a [u8]),
+    /// No call reads it.
     CertificateVerify(&'a [u8]),
+    /// The client's part of the key exchange (RFC 5246, section 7.4.7).
     ClientKeyExchange(TlsClientKeyExchangeContents<'a>),
+    /// No call reads it.
     Finished(&'a [u8]),
+    /// No call reads it.
     CertificateStatus(TlsCertificateStatusContents<'a>),
+    /// No call reads it.
     NextProtocol(TlsNextProtocolContent<'a>),
     /// Part of a body, of whatever type.
     Fragment(&'a [u8]),

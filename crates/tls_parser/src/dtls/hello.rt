@@ -5,7 +5,7 @@ use std::alloc::Global;
 use tls_base::{CipherTable, TlsCipherSuite, TlsCipherSuiteID, TlsCompressionID, TlsVersion};
 use tls_fields::{IResult, OutOfMemory, block, counted1, maybe2};
 use tls_hs::ClientHello;
-use tls_hs::parts::{cipher_suites, compressions, session_id};
+use tls_hs::parts::{cipher_suites, compressions, random_bytes, random_time, session_id, suites};
 
 /// The body of a ClientHello of DTLS (RFC 6347, section 4.2.1).
 #[derive(Debug, PartialEq, Drop)]
@@ -38,17 +38,11 @@ impl<'a> ClientHello<'a> for DTLSClientHello<'a> {
     }
 
     fn rand_time(&self) -> u32 {
-        match self.random {
-            [a, b, c, d, ..] => u32::from_be_bytes([*a, *b, *c, *d]),
-            _ => 0,
-        }
+        random_time(self.random)
     }
 
     fn rand_bytes(&self) -> &'a [u8] {
-        match self.random {
-            [_, _, _, _, bytes @ ..] => bytes,
-            _ => &[],
-        }
+        random_bytes(self.random)
     }
 
     fn session_id(&self) -> Option<&'a [u8]> {
@@ -64,11 +58,7 @@ impl<'a> ClientHello<'a> for DTLSClientHello<'a> {
         alloc: Global,
         table: &'t CipherTable,
     ) -> Result<Vec<Option<&'t TlsCipherSuite>>, OutOfMemory> {
-        let mut suites = Vec::with_capacity(alloc, self.ciphers.len())?;
-        for cipher in &self.ciphers {
-            suites.push_reserved(table.by_id(cipher.0));
-        }
-        Ok(suites)
+        suites(alloc, table, &self.ciphers)
     }
 
     fn comp(&self) -> &Vec<TlsCompressionID> {
@@ -83,6 +73,7 @@ impl<'a> ClientHello<'a> for DTLSClientHello<'a> {
 /// The body of a HelloVerifyRequest (RFC 6347, section 4.2.1).
 #[derive(Debug, PartialEq, Drop)]
 pub struct DTLSHelloVerifyRequest<'a> {
+    /// The version that the server speaks.
     pub server_version: TlsVersion,
     /// What the client is to send back.
     pub cookie: &'a [u8],

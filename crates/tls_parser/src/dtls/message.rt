@@ -5,7 +5,7 @@ ghost use Rattle.tls_parser.specs.DtlsRecord.{Message, view_message, change_ciph
 use crate::dtls::handshake::{DTLSMessageHandshake, DTLSMessageHandshakeBody, handshake};
 use std::alloc::Global;
 use tls_base::TlsMessageAlert;
-use tls_fields::{IResult, Item};
+use tls_fields::IResult;
 use tls_hs::{TlsMessageApplicationData, TlsMessageHeartbeat, parse_tls_message_changecipherspec};
 
 /// A message of a DTLS record.
@@ -13,10 +13,15 @@ use tls_hs::{TlsMessageApplicationData, TlsMessageHeartbeat, parse_tls_message_c
 /// The calls of this crate read `Handshake`, `ChangeCipherSpec` and `Alert`.
 #[derive(Debug, PartialEq, Drop)]
 pub enum DTLSMessage<'a> {
+    /// A handshake message, or a fragment of one (RFC 6347, section 4.2.2).
     Handshake(DTLSMessageHandshake<'a>),
+    /// RFC 5246, section 7.1.
     ChangeCipherSpec,
+    /// RFC 5246, section 7.2.
     Alert(TlsMessageAlert),
+    /// RFC 5246, section 10; no call reads it.
     ApplicationData(TlsMessageApplicationData<'a>),
+    /// RFC 6520, section 4; no call reads it.
     Heartbeat(TlsMessageHeartbeat<'a>),
 }
 
@@ -70,16 +75,4 @@ pub fn parse_dtls_message_alert(i: &[u8]) -> IResult<&[u8], DTLSMessage>
 {
     let (i, alert) = TlsMessageAlert::parse(i)?;
     Ok((i, DTLSMessage::Alert(alert)))
-}
-
-impl<'a> Item<'a> for DTLSMessage<'a> {
-    ghost Value = { Message };
-
-    ghost view = { view_message };
-
-    ghost layout = { handshake_layout };
-
-    fn read(alloc: Global, i: &'a [u8]) -> IResult<&'a [u8], Self> {
-        parse_dtls_message_handshake(alloc, i)
-    }
 }

@@ -1,13 +1,14 @@
-ghost use Rattle.std.specs.Prelude.{map};
+ghost use Rattle.std.specs.Prelude.{◌↔◌, map};
 ghost use Rattle.std.specs.Result.{IsErr};
 ghost use Rattle.tls_fields.specs.Layout.{list1};
 ghost use Rattle.tls_fields.specs.Meaning.{AllowsOne};
 ghost use Rattle.tls_fields.specs.Reading.{reading};
 ghost use Rattle.tls_fields.specs.Answers.{Gives, GivesOrMemory, HasMemory};
 ghost use Rattle.tls_parser.specs.DtlsRecord.{Plaintext, view_message, view_header, record_header, view_raw_record, raw_record as raw_record_layout, record_content, view_plaintext, plaintext};
+ghost use Rattle.tls_parser.specs.Record.{AsksNoMore, IsUnopened, NeedsMore, IsIncomplete};
 
+use crate::dtls::content::{Alert, ChangeCipherSpec, Handshake};
 use crate::dtls::message::DTLSMessage;
-use crate::dtls::short_messages::{alert_list, change_cipher_spec_list};
 use crate::record::MAX_RECORD_LEN;
 use std::alloc::Global;
 use tls_base::{TlsRecordType, TlsVersion};
@@ -16,7 +17,9 @@ use tls_fields::{Err, Error, ErrorKind, IResult, Item, block, items1, number2, n
 /// The header of a DTLS record (RFC 6347, section 4.1), 13 bytes.
 #[derive(Debug, PartialEq, Drop)]
 pub struct DTLSRecordHeader {
+    /// What the fragment holds.
     pub content_type: TlsRecordType,
+    /// The version that the sender speaks, or a lower one that it may put here.
     pub version: TlsVersion,
     /// How often the sender has changed its cipher.
     pub epoch: u16,
@@ -29,6 +32,7 @@ pub struct DTLSRecordHeader {
 /// A DTLS record whose fragment isn't read.
 #[derive(Debug, PartialEq, Drop)]
 pub struct DTLSRawRecord<'a> {
+    /// What stands in front of the fragment.
     pub header: DTLSRecordHeader,
     /// The fragment, `header.length` bytes.
     pub fragment: &'a [u8],
@@ -37,7 +41,9 @@ pub struct DTLSRawRecord<'a> {
 /// A DTLS record that isn't encrypted (RFC 6347, section 4.1), with its messages, of which there is at least one.
 #[derive(Debug, PartialEq, Drop)]
 pub struct DTLSPlaintext<'a> {
+    /// What stands in front of the messages.
     pub header: DTLSRecordHeader,
+    /// The messages, in their order.
     pub messages: Vec<DTLSMessage<'a>>,
 }
 
@@ -80,30 +86,44 @@ fn raw_record(i: &[u8]) -> IResult<&[u8], DTLSRawRecord>
     Ok((i, DTLSRawRecord { header, fragment }))
 }
 
-/// Reads the fragment `i` of a DTLS record with the header `hdr`, as messages of the header's type, one or more: 20,
-/// ChangeCipherSpec; 21, alerts; 22, handshake messages; as `parse_dtls_message_..` reads each. They end before the first
-/// that isn't read; what is left is no refusal.
+/// Reads the fragment `i` of a DTLS record with the header `hdr` (RFC 6347, section 4.1), as messages of the header's
+/// type, one or more: 20, ChangeCipherSpec; 21, alerts; 22, handshake messages; as `parse_dtls_message_..` reads each.
+/// They end before the first that isn't read; what is left is no refusal.
 ///
+/// It never answers `Incomplete`, and refuses:
 /// - `Error` of kind `Switch` where the type is another.
 /// - What the first message refuses, but `Error` of kind `Complete` in place of `Incomplete`: the fragment is whole.
 /// - `OutOfMemory` where a list could not be held.
-#[tactic(auto, using(tls_fields::proofs::OneAnswer::read_allowed), unfolding(crate::specs::DtlsRecord::record_content))]
+#[tactic(auto, using(tls_fields::proofs::OneAnswer::read_allowed, crate::proofs::NoMore::list_asks), unfolding(crate::specs::DtlsRecord::record_content))]
 pub fn parse_dtls_record_with_header<'a>(
     alloc: Global,
     i: &'a [u8],
     hdr: &DTLSRecordHeader,
 ) -> IResult<&'a [u8], Vec<DTLSMessage<'a>>>
-    ensures { GivesOrMemory (λ v. map view_message v.items) (record_content (view_header hdr.now)) i.now result }
+    ensures gives { GivesOrMemory (λ v. map view_message v.items) (record_content (view_header hdr.now)) i.now result }
+    ensures never_incomplete { AsksNoMore result }
 {
     match hdr.content_type {
-        TlsRecordType::ChangeCipherSpec => change_cipher_spec_list(alloc, i),
-        TlsRecordType::Alert => alert_list(alloc, i),
-        TlsRecordType::Handshake => items1(alloc, i),
+        TlsRecordType::ChangeCipherSpec => items1::<ChangeCipherSpec>(alloc, i),
+        TlsRecordType::Alert => items1::<Alert>(alloc, i),
+        TlsRecordType::Handshake => items1::<Handshake>(alloc, i),
         _ => Err(Err::Error(Error {
             input: i,
             code: ErrorKind::Switch,
         })),
     }
+}
+
+/// A raw record, and its fragment by its header.
+#[tactic(auto, using(tls_fields::proofs::OneAnswer::read_allowed, crate::proofs::Opened::dtls_plaintext_opened))]
+#[inline(always)]
+fn opened_record(alloc: Global, i: &[u8]) -> IResult<&[u8], DTLSPlaintext>
+    ensures gives { GivesOrMemory view_plaintext plaintext i.now result }
+    ensures memory_if_raw { IsErr (reading raw_record_layout i.now) → HasMemory result }
+{
+    let (i, DTLSRawRecord { header, fragment }) = raw_record(i)?;
+    let (_, messages) = parse_dtls_record_with_header(alloc, fragment, &header)?;
+    Ok((i, DTLSPlaintext { header, messages }))
 }
 
 /// Reads a DTLS record and its messages (RFC 6347, section 4.1): its header, and as many bytes as the length there says,
@@ -114,18 +134,19 @@ pub fn parse_dtls_record_with_header<'a>(
 /// - `Error` of kind `TooLarge` where the length is above [`MAX_RECORD_LEN`], even if the fragment isn't there yet.
 /// - `Incomplete` of the count of bytes that are missing of the fragment.
 /// - `OutOfMemory` only where the record is whole and not too large.
-#[tactic(auto, using(tls_fields::proofs::OneAnswer::read_allowed, tls_fields::proofs::OneAnswer::one_answer, crate::proofs::Opened::dtls_plaintext_opened))]
+#[tactic(auto, using(tls_fields::proofs::OneAnswer::one_answer, crate::proofs::Incomplete::dtls_plaintext_memory, crate::proofs::Incomplete::dtls_plaintext_incomplete))]
 pub fn parse_dtls_plaintext_record(alloc: Global, i: &[u8]) -> IResult<&[u8], DTLSPlaintext>
     ensures gives { GivesOrMemory view_plaintext plaintext i.now result }
     ensures only_one { AllowsOne plaintext i.now }
-    ensures memory_if_whole { IsErr (reading raw_record_layout i.now) → HasMemory result }
+    ensures memory_if_whole { IsUnopened 13 i.now → HasMemory result }
+    ensures incomplete_while_not_whole { IsIncomplete result ↔ NeedsMore 13 i.now }
 {
-    let (i, DTLSRawRecord { header, fragment }) = raw_record(i)?;
-    let (_, messages) = parse_dtls_record_with_header(alloc, fragment, &header)?;
-    Ok((i, DTLSPlaintext { header, messages }))
+    opened_record(alloc, i)
 }
 
 impl<'a> Item<'a> for DTLSPlaintext<'a> {
+    type Read = Self;
+
     ghost Value = { Plaintext };
 
     ghost view = { view_plaintext };
@@ -145,5 +166,5 @@ impl<'a> Item<'a> for DTLSPlaintext<'a> {
 pub fn parse_dtls_plaintext_records(alloc: Global, i: &[u8]) -> IResult<&[u8], Vec<DTLSPlaintext>>
     ensures { GivesOrMemory (λ v. map view_plaintext v.items) (list1 plaintext) i.now result }
 {
-    items1(alloc, i)
+    items1::<DTLSPlaintext>(alloc, i)
 }

@@ -3,14 +3,12 @@ use Rattle.std.proofs.lemmas.Bool.Decides.{nat_tests}
 use Rattle.std.specs.String.{string_bytes}
 use Rattle.tls_parser.specs.Record.{view_plaintext}
 use Rattle.tlsview.specs.Out.{bytes_part}
-use Rattle.tlsview.proofs.RecordLemmas.{record_leaves_fewer, printed_more, fault_later}
+use Rattle.tls_parser.proofs.Incomplete.{plaintext_takes}
+use Rattle.tlsview.proofs.RecordLemmas.{printed_more, fault_later}
 use Rattle.tlsview.proofs.report.show_records.Goals as goal
 
 pub records-smaller : goal.records-smaller
-records-smaller c =
-    let b = c.records.rest.now in
-    let some : 0 < length b = grind (arith, nat_tests) in
-    record_leaves_fewer b c.in-Ok.behind.now (view_plaintext c.in-Ok.record) some (c.in-Ok.ensures.gives.read tt)
+records-smaller c = plaintext_takes c.records.rest.now c.in-Ok.behind.now (view_plaintext c.in-Ok.record) (c.in-Ok.ensures.gives.read tt)
 
 pub records-preserved : goal.records-preserved
 records-preserved c =

@@ -1,0 +1,78 @@
+//! What lists hold.
+ghost use Rattle.std.specs.Prelude.{ℕ};
+ghost use Rattle.tls_fields.specs.Bytes.{Bytes};
+ghost use Rattle.tls_fields.specs.Layout.{Layout, counted, number};
+ghost use Rattle.tls_fields.specs.Answers.{GivesOrMemory};
+
+use crate::bytes::{counted1, counted2};
+use crate::number::number2;
+use crate::result::IResult;
+use std::alloc::Global;
+
+/// How the items of a list are read: their layout, and its reader. Most types that are read are items of themselves.
+pub trait Item<'a> {
+    /// What is read.
+    type Read: Drop;
+
+    /// What it says, apart from where it lies in memory.
+    ghost Value: { Type 0 };
+
+    ghost view: { Self.Read → Value };
+
+    ghost layout: { Layout Value };
+
+    /// Reads one item from the front of `i`.
+    fn read(alloc: Global, i: &'a [u8]) -> IResult<&'a [u8], Self::Read>
+        ensures { GivesOrMemory view layout i.now result };
+}
+
+/// Numbers of 2 bytes.
+pub struct Number2;
+
+impl<'a> Item<'a> for Number2 {
+    type Read = u16;
+
+    ghost Value = { ℕ };
+
+    ghost view = { λ n. n };
+
+    ghost layout = { number 2 };
+
+    fn read(_alloc: Global, i: &'a [u8]) -> IResult<&'a [u8], u16> {
+        number2(i)
+    }
+}
+
+/// Bytes behind 1 byte of their count.
+pub struct Counted1;
+
+impl<'a> Item<'a> for Counted1 {
+    type Read = &'a [u8];
+
+    ghost Value = { Bytes };
+
+    ghost view = { λ bytes. bytes.now };
+
+    ghost layout = { counted 1 };
+
+    fn read(_alloc: Global, i: &'a [u8]) -> IResult<&'a [u8], &'a [u8]> {
+        counted1(i)
+    }
+}
+
+/// Bytes behind 2 bytes of their count.
+pub struct Counted2;
+
+impl<'a> Item<'a> for Counted2 {
+    type Read = &'a [u8];
+
+    ghost Value = { Bytes };
+
+    ghost view = { λ bytes. bytes.now };
+
+    ghost layout = { counted 2 };
+
+    fn read(_alloc: Global, i: &'a [u8]) -> IResult<&'a [u8], &'a [u8]> {
+        counted2(i)
+    }
+}
