@@ -114,8 +114,9 @@ const NUMBERS: [u16; 26] = [
     0xff01, 0xffce,
 ];
 
-/// Which kind each of [`NUMBERS`] is, in the same order, and which sides read it.
-const KINDS: [(Kind, Sides); 26] = [
+/// Which kind each of [`NUMBERS`] is, in the same order, and which sides read it. It is no `const`, which each look-up
+/// would build again.
+static KINDS: [(Kind, Sides); 26] = [
     (Kind::List(ListKind::ServerName), Sides::GCS),
     (Kind::Field(FieldKind::MaxFragmentLength), Sides::GCS),
     (Kind::Field(FieldKind::StatusRequest), Sides::GCS),

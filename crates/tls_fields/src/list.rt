@@ -50,11 +50,12 @@ fn item_complete<'a, T: Item<'a>>(alloc: Global, i: &'a [u8]) -> IResult<&'a [u8
     ensures { GivesOrMemory T.view (complete T.layout) i.now result }
 {
     match T::read(alloc, i) {
+        Ok(read) => Ok(read),
         Err(Err::Incomplete(_)) => Err(Err::Error(Error {
             input: i,
             code: ErrorKind::Complete,
         })),
-        result => result,
+        Err(e) => Err(e),
     }
 }
 

@@ -28,7 +28,7 @@ pub fn parse_tls_handshake_msg_hello_request(i: &[u8]) -> IResult<&[u8], TlsMess
 
 /// Reads the body of a ClientHello (RFC 5246, section 7.4.1.2): as [`parse_tls_handshake_client_hello`].
 #[tactic(auto, using(tls_fields::proofs::OneAnswer::read_allowed), unfolding(crate::specs::Handshake::client_hello_body))]
-#[inline(never)]
+#[inline(always)]
 pub fn parse_tls_handshake_msg_client_hello(
     alloc: Global,
     i: &[u8],
