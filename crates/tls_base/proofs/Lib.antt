@@ -1,4 +1,4 @@
-pub mod Names
-pub mod Rising
-pub mod Signatures
-pub mod Fronts
+pub mod NameLemmas
+pub mod RisingLemmas
+pub mod SignatureLemmas
+pub mod FrontLemmas

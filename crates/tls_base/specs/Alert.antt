@@ -3,7 +3,7 @@ use Rattle.std.specs.Prelude.{ℕ}
 use Rattle.tls_fields.specs.Layout.{Layout, done, number, ◌>>=◌}
 use Rattle.tls_base.specs.declared.alert.TlsMessageAlert.{TlsMessageAlert}
 
--- struct { AlertLevel level; AlertDescription description; } Alert (RFC 5246, 7.2).
+-- struct { AlertLevel level; AlertDescription description; } Alert (RFC 5246, section 7.2).
 pub record Alert : Type 0 where
   pub level : ℕ
   pub description : ℕ

@@ -22,14 +22,14 @@ has_id suites id = list_any (λ s. s.id.0 == id) suites
 abbrev pub has_name : List TlsCipherSuite → Text → Bool
 has_name suites name = list_any (λ s. bytes_eq s.name.now name) suites
 
--- Whether a suite in front of position k has the id of the one at k, or its name; positions are counted from 0.
+-- Whether a suite before position k has the id of the one at k, or its name; positions are counted from 0.
 abbrev pub repeats_id : List TlsCipherSuite → ℕ → Bool
 repeats_id suites k = option_map_or (λ s. has_id (take k suites) s.id.0) (slice_get suites k) false
 
 abbrev pub repeats_name : List TlsCipherSuite → ℕ → Bool
 repeats_name suites k = option_map_or (λ s. has_name (take k suites) s.name.now) (slice_get suites k) false
 
--- The suites in front of position n differ in their ids, and in their names.
+-- The suites before position n differ in their ids, and in their names.
 abbrev pub DifferBelow : List TlsCipherSuite → ℕ → Type 0
 DifferBelow suites n = (k : ℕ) → k < n → (repeats_id suites k ≡ false) × (repeats_name suites k ≡ false)
 

@@ -1,21 +1,23 @@
--- The numbers that have a name, type by type: those of the registries that the RFCs keep.
+-- The numbers that have a name, type by type: those of the registries that the RFCs keep. The code has the same numbers
+-- a second time, as constants of its types, and prints by them what stands here.
 use Rattle.std.specs.Prelude.{ℕ, List, [], ◌∷◌, Option, codes}
 use Rattle.tls_base.specs.Names.{Text, look_up}
+use Rattle.tls_base.specs.ExtensionNumbers as extension
 
--- The Version of RFC 6962, 3.2.
+-- The Version of RFC 6962, section 3.2.
 abbrev pub ct_versions : List (ℕ × Text)
 ct_versions =
     (0, codes "V1")
     ∷ []
 
--- The AlertLevel of RFC 5246, 7.2.
+-- The AlertLevel of RFC 5246, section 7.2.
 abbrev pub alert_levels : List (ℕ × Text)
 alert_levels =
     (1, codes "Warning")
     ∷ (2, codes "Fatal")
     ∷ []
 
--- The AlertDescription of RFC 8446, 6, with the alerts of earlier versions.
+-- The AlertDescription of RFC 8446, section 6, with the alerts of earlier versions.
 abbrev pub alert_descriptions : List (ℕ × Text)
 alert_descriptions =
     (0, codes "CloseNotify")
@@ -54,7 +56,7 @@ alert_descriptions =
     ∷ (120, codes "NoApplicationProtocol")
     ∷ []
 
--- The ECCurveType of RFC 8422, 5.4.
+-- The ECCurveType of RFC 4492, section 5.4, of which RFC 8422, section 5.4, deprecates the first two.
 abbrev pub curve_types : List (ℕ × Text)
 curve_types =
     (1, codes "ExplicitPrime")
@@ -62,19 +64,20 @@ curve_types =
     ∷ (3, codes "NamedGroup")
     ∷ []
 
--- The NameType of RFC 6066, 3.
+-- The NameType of RFC 6066, section 3.
 abbrev pub name_types : List (ℕ × Text)
 name_types =
     (0, codes "HostName")
     ∷ []
 
--- The CertificateStatusType of RFC 6066, 8.
+-- The CertificateStatusType of RFC 6066, section 8.
 abbrev pub certificate_status_types : List (ℕ × Text)
 certificate_status_types =
     (1, codes "OCSP")
     ∷ []
 
--- The HandshakeType of RFC 5246, 7.4, with those of RFC 6347, 4.3.2, RFC 6066, 2, and RFC 8446, 4.
+-- The HandshakeType of RFC 5246, section 7.4, with those of RFC 6347, section 4.3.2, RFC 6066, section 2, and RFC 8446,
+-- section 4. HelloRetryRequest is of drafts of TLS 1.3, and NextProtocol of draft-agl-tls-nextprotoneg.
 abbrev pub handshake_types : List (ℕ × Text)
 handshake_types =
     (0, codes "HelloRequest")
@@ -98,21 +101,21 @@ handshake_types =
     ∷ (67, codes "NextProtocol")
     ∷ []
 
--- The HeartbeatMessageType of RFC 6520, 3.
+-- The HeartbeatMessageType of RFC 6520, section 3.
 abbrev pub heartbeat_message_types : List (ℕ × Text)
 heartbeat_message_types =
     (1, codes "HeartBeatRequest")
     ∷ (2, codes "HeartBeatResponse")
     ∷ []
 
--- The CompressionMethod of RFC 5246, 6.1, with that of RFC 3749, 2.
+-- The CompressionMethod of RFC 5246, section 6.1, with that of RFC 3749, section 2.
 abbrev pub compression_methods : List (ℕ × Text)
 compression_methods =
     (0, codes "Null")
     ∷ (1, codes "Deflate")
     ∷ []
 
--- The ContentType of RFC 5246, 6.2.1, with that of RFC 6520, 6.
+-- The ContentType of RFC 5246, section 6.2.1, with that of RFC 6520, section 6.
 abbrev pub content_types : List (ℕ × Text)
 content_types =
     (20, codes "ChangeCipherSpec")
@@ -122,7 +125,7 @@ content_types =
     ∷ (24, codes "Heartbeat")
     ∷ []
 
--- The HashAlgorithm of RFC 5246, 7.4.1.4.1, with that of RFC 8422, 5.1.3.
+-- The HashAlgorithm of RFC 5246, section 7.4.1.4.1, with that of RFC 8422, section 5.1.3.
 abbrev pub hash_algorithms : List (ℕ × Text)
 hash_algorithms =
     (0, codes "None")
@@ -135,7 +138,7 @@ hash_algorithms =
     ∷ (8, codes "Intrinsic")
     ∷ []
 
--- The SignatureAlgorithm of RFC 5246, 7.4.1.4.1, with those of RFC 8422, 5.1.3.
+-- The SignatureAlgorithm of RFC 5246, section 7.4.1.4.1, with those of RFC 8422, section 5.1.3.
 abbrev pub signature_algorithms : List (ℕ × Text)
 signature_algorithms =
     (0, codes "Anonymous")
@@ -146,8 +149,8 @@ signature_algorithms =
     ∷ (8, codes "Ed448")
     ∷ []
 
--- The NamedCurve of RFC 8422, 5.1.1, with the NamedGroup of RFC 8446, 4.2.7, and the curves of RFC 7027, RFC 8734
--- and RFC 8998.
+-- The NamedCurve of RFC 4492, section 5.1.1, of which RFC 8422, section 5.1.1, deprecates 1 to 22, 0xff01 and 0xff02;
+-- with the NamedGroup of RFC 8446, section 4.2.7, and the curves of RFC 7027, RFC 8734 and RFC 8998.
 abbrev pub named_groups : List (ℕ × Text)
 named_groups =
     (1, codes "Sect163k1")
@@ -193,56 +196,58 @@ named_groups =
     ∷ (0xff02, codes "ArbitraryExplicitChar2Curves")
     ∷ []
 
--- The ExtensionType of RFC 8446, 4.2, with those of earlier versions and drafts; Grease stands for all of RFC 8701.
+-- The ExtensionType of RFC 8446, section 4.2, with those of earlier versions and of drafts. Grease is one of the
+-- sixteen values of RFC 8701, section 2; the others have no name here.
 abbrev pub extension_types : List (ℕ × Text)
 extension_types =
-    (0, codes "ServerName")
-    ∷ (1, codes "MaxFragmentLength")
+    (extension.server_name, codes "ServerName")
+    ∷ (extension.max_fragment_length, codes "MaxFragmentLength")
     ∷ (2, codes "ClientCertificate")
     ∷ (3, codes "TrustedCaKeys")
     ∷ (4, codes "TruncatedHMac")
-    ∷ (5, codes "StatusRequest")
+    ∷ (extension.status_request, codes "StatusRequest")
     ∷ (6, codes "UserMapping")
     ∷ (7, codes "ClientAuthz")
     ∷ (8, codes "ServerAuthz")
     ∷ (9, codes "CertType")
-    ∷ (10, codes "SupportedGroups")
-    ∷ (11, codes "EcPointFormats")
+    ∷ (extension.supported_groups, codes "SupportedGroups")
+    ∷ (extension.ec_point_formats, codes "EcPointFormats")
     ∷ (12, codes "Srp")
-    ∷ (13, codes "SignatureAlgorithms")
+    ∷ (extension.signature_algorithms, codes "SignatureAlgorithms")
     ∷ (14, codes "UseSrtp")
-    ∷ (15, codes "Heartbeat")
-    ∷ (16, codes "ApplicationLayerProtocolNegotiation")
+    ∷ (extension.heartbeat, codes "Heartbeat")
+    ∷ (extension.application_layer_protocol_negotiation, codes "ApplicationLayerProtocolNegotiation")
     ∷ (17, codes "StatusRequestv2")
-    ∷ (18, codes "SignedCertificateTimestamp")
+    ∷ (extension.signed_certificate_timestamp, codes "SignedCertificateTimestamp")
     ∷ (19, codes "ClientCertificateType")
     ∷ (20, codes "ServerCertificateType")
-    ∷ (21, codes "Padding")
-    ∷ (22, codes "EncryptThenMac")
-    ∷ (23, codes "ExtendedMasterSecret")
+    ∷ (extension.padding, codes "Padding")
+    ∷ (extension.encrypt_then_mac, codes "EncryptThenMac")
+    ∷ (extension.extended_master_secret, codes "ExtendedMasterSecret")
     ∷ (24, codes "TokenBinding")
     ∷ (25, codes "CachedInfo")
-    ∷ (28, codes "RecordSizeLimit")
-    ∷ (35, codes "SessionTicketTLS")
-    ∷ (40, codes "KeyShareOld")
-    ∷ (41, codes "PreSharedKey")
-    ∷ (42, codes "EarlyData")
-    ∷ (43, codes "SupportedVersions")
-    ∷ (44, codes "Cookie")
-    ∷ (45, codes "PskExchangeModes")
+    ∷ (extension.record_size_limit, codes "RecordSizeLimit")
+    ∷ (extension.session_ticket, codes "SessionTicketTLS")
+    ∷ (extension.key_share_old, codes "KeyShareOld")
+    ∷ (extension.pre_shared_key, codes "PreSharedKey")
+    ∷ (extension.early_data, codes "EarlyData")
+    ∷ (extension.supported_versions, codes "SupportedVersions")
+    ∷ (extension.cookie, codes "Cookie")
+    ∷ (extension.psk_key_exchange_modes, codes "PskExchangeModes")
     ∷ (46, codes "TicketEarlyDataInfo")
     ∷ (47, codes "CertificateAuthorities")
-    ∷ (48, codes "OidFilters")
-    ∷ (49, codes "PostHandshakeAuth")
+    ∷ (extension.oid_filters, codes "OidFilters")
+    ∷ (extension.post_handshake_auth, codes "PostHandshakeAuth")
     ∷ (50, codes "SigAlgorithmsCert")
-    ∷ (51, codes "KeyShare")
-    ∷ (13172, codes "NextProtocolNegotiation")
+    ∷ (extension.key_share, codes "KeyShare")
+    ∷ (extension.next_protocol_negotiation, codes "NextProtocolNegotiation")
     ∷ (0xfafa, codes "Grease")
-    ∷ (0xff01, codes "RenegotiationInfo")
-    ∷ (0xffce, codes "EncryptedServerName")
+    ∷ (extension.renegotiation_info, codes "RenegotiationInfo")
+    ∷ (extension.encrypted_server_name, codes "EncryptedServerName")
     ∷ []
 
--- The ProtocolVersion of RFC 5246, 6.2.1, RFC 6347, 4.1, and RFC 8446, 4.1.2, with that of its drafts.
+-- The ProtocolVersion of RFC 5246, section 6.2.1, RFC 6347, section 4.1, and RFC 8446, section 4.1.2, with those of its
+-- drafts. There is no DTLS 1.1 (RFC 6347, section 1).
 abbrev pub protocol_versions : List (ℕ × Text)
 protocol_versions =
     (0x0300, codes "Ssl30")
@@ -261,7 +266,7 @@ protocol_versions =
     ∷ (0xfefd, codes "DTls12")
     ∷ []
 
--- The SignatureScheme of RFC 8446, 4.2.3, with those of RFC 8734, 2, and RFC 8998, 3.2.1.
+-- The SignatureScheme of RFC 8446, section 4.2.3, with those of RFC 8734 and RFC 8998.
 abbrev pub signature_schemes : List (ℕ × Text)
 signature_schemes =
     (0x0401, codes "rsa_pkcs1_sha256")
@@ -286,7 +291,7 @@ signature_schemes =
     ∷ (0x081c, codes "ecdsa_brainpoolP512r1tls13_sha512")
     ∷ []
 
--- The bits of a key in the named groups 1 to 29: the number in the curve's name, and 253 for X25519.
+-- The length of a key, in bits, in the named groups 1 to 29: the number in the curve's name, and 253 for X25519.
 abbrev pub key_sizes : List (ℕ × ℕ)
 key_sizes =
     (1, 163) ∷ (2, 163) ∷ (3, 163) ∷ (4, 193) ∷ (5, 193) ∷ (6, 233) ∷ (7, 233)
@@ -296,6 +301,6 @@ key_sizes =
     ∷ (29, 253)
     ∷ []
 
--- The bits of a key in that group, where the table tells them.
+-- The length of a key in that group, where the table has it.
 abbrev pub key_bits : ℕ → Option ℕ
 key_bits n = look_up key_sizes n

@@ -1,7 +1,8 @@
--- Parameters of a key exchange.
+-- Parameters of a key exchange. Where an RFC has a lower bound of 1, as opaque point<1..2^8-1>, these layouts take a
+-- block of no bytes too.
 use Rattle.std.specs.Prelude.{ℕ, ◌==◌}
 use Rattle.tls_fields.specs.Bytes.{Bytes}
-use Rattle.tls_fields.specs.Layout.{Layout, done, refuse, number, ◌>>=◌, choose, counted}
+use Rattle.tls_fields.specs.Layout.{Layout, done, refuse, number, ◌>>=◌, mapped, choose, counted}
 use Rattle.tls_fields.specs.declared.result.ErrorKind.TheVariants.{Switch}
 use Rattle.tls_base.specs.declared.dh.ServerDHParams as dh_params_of
 use Rattle.tls_base.specs.declared.ec.ECCurve as curve_of
@@ -12,8 +13,8 @@ use Rattle.tls_base.specs.declared.ec.ECParametersContent.TheVariants as content
 use Rattle.tls_base.specs.declared.ec.ECParameters as parameters_of
 use Rattle.tls_base.specs.declared.ec.ServerECDHParams as ecdh_params_of
 
--- struct { opaque dh_p<1..2^16-1>; opaque dh_g<1..2^16-1>; opaque dh_Ys<1..2^16-1>; } ServerDHParams (RFC 5246, 7.4.3);
--- a block of no bytes is read too.
+-- struct { opaque dh_p<1..2^16-1>; opaque dh_g<1..2^16-1>; opaque dh_Ys<1..2^16-1>; } ServerDHParams (RFC 5246, section
+-- 7.4.3).
 pub record ServerDHParams : Type 0 where
   pub dh_p : Bytes
   pub dh_g : Bytes
@@ -29,7 +30,7 @@ dh_params = do
   ys ← counted 2
   done (record { dh_p = p; dh_g = g; dh_Ys = ys })
 
--- struct { opaque a<1..2^8-1>; opaque b<1..2^8-1>; } ECCurve (RFC 4492, 5.4).
+-- struct { opaque a<1..2^8-1>; opaque b<1..2^8-1>; } ECCurve (RFC 4492, section 5.4).
 pub record ECCurve : Type 0 where
   pub a : Bytes
   pub b : Bytes
@@ -43,14 +44,14 @@ curve = do
   b ← counted 1
   done (record { a = a; b = b })
 
--- struct { opaque point<1..2^8-1>; } ECPoint (RFC 8422, 5.4).
+-- struct { opaque point<1..2^8-1>; } ECPoint (RFC 8422, section 5.4).
 abbrev pub view_point : point_of.ECPoint → Bytes
 view_point p = p.point.now
 
 abbrev pub point : Layout Bytes
 point = counted 1
 
--- The curve over a prime field that stands in ECParameters as such (RFC 4492, 5.4).
+-- The parameters of a curve over a prime field, which stand in ECParameters (RFC 4492, section 5.4).
 pub record ExplicitPrime : Type 0 where
   pub prime_p : Bytes
   pub curve : ECCurve
@@ -76,7 +77,7 @@ explicit_prime = do
   cofactor ← counted 1
   done (record { prime_p = p; curve = c; base = base; order = order; cofactor = cofactor })
 
--- What stands in ECParameters behind its curve_type (RFC 8422, 5.4, and RFC 4492, 5.4).
+-- What stands in ECParameters after its curve_type (RFC 4492, section 5.4, and RFC 8422, section 5.4).
 pub data CurveParameters : Type 0 where
   OfExplicitPrime : ExplicitPrime → CurveParameters
   OfNamedCurve : ℕ → CurveParameters
@@ -88,11 +89,11 @@ view_curve_parameters (content.NamedGroup g) = OfNamedCurve g.0
 -- select (curve_type) { case explicit_prime: ..; case named_curve: NamedCurve; }
 unfoldable pub curve_parameters : ℕ → Layout CurveParameters
 curve_parameters curve_type =
-    choose (curve_type == 1) (explicit_prime >>= λ c. done (OfExplicitPrime c)) (
-    choose (curve_type == 3) (number 2 >>= λ g. done (OfNamedCurve g)) (
+    choose (curve_type == 1) (mapped OfExplicitPrime explicit_prime) (
+    choose (curve_type == 3) (mapped OfNamedCurve (number 2)) (
     refuse Switch))
 
--- struct { ECCurveType curve_type; select (curve_type) { .. }; } ECParameters (RFC 8422, 5.4).
+-- struct { ECCurveType curve_type; select (curve_type) { .. }; } ECParameters (RFC 4492, section 5.4).
 pub record ECParameters : Type 0 where
   pub curve_type : ℕ
   pub parameters : CurveParameters
@@ -106,7 +107,7 @@ ec_parameters = do
   parameters ← curve_parameters curve_type
   done (record { curve_type = curve_type; parameters = parameters })
 
--- struct { ECParameters curve_params; ECPoint public; } ServerECDHParams (RFC 8422, 5.4).
+-- struct { ECParameters curve_params; ECPoint public; } ServerECDHParams (RFC 8422, section 5.4).
 pub record ServerECDHParams : Type 0 where
   pub curve_params : ECParameters
   pub public : Bytes

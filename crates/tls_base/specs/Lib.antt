@@ -3,6 +3,7 @@ pub use Rattle.tls_fields.specs.Layout
 pub use Rattle.tls_fields.specs.Meaning
 pub use Rattle.tls_fields.specs.Answers
 pub mod Names
+pub mod ExtensionNumbers
 pub mod Constants
 pub mod KeyExchange
 pub mod Alert

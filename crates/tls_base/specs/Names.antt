@@ -7,15 +7,15 @@ use Rattle.std.specs.Fmt.{decimal, digits}
 abbrev pub Text : Type 0
 Text = List ℕ
 
--- What a table has for a number: the second part of the first entry that begins with it.
+-- What a table has beside a number, in its first entry with that number.
 abbrev pub look_up : {A : Type 0} → List (ℕ × A) → ℕ → Option A
 look_up table n = option_map (λ x. x.1) (find (λ x. x.0 == n) table)
 
--- A number in lower hexadecimal, with no zeros in front.
+-- A number in lower-case hexadecimal, without leading zeros.
 abbrev pub hexadecimal : ℕ → Text
 hexadecimal n = digits 16 false n
 
--- How a number of a type is shown: by its name, where it has one.
+-- How a number of a type is shown: by its name where it has one, else by the type and the number.
 unfoldable pub shown : Text → ℕ → Option Text → Text
 shown type n (Some t) = t
 shown type n None = type ++ codes "(" ++ decimal n ++ codes " / 0x" ++ hexadecimal n ++ codes ")"

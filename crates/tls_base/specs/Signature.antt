@@ -2,14 +2,15 @@
 use Rattle.std.specs.Prelude.{ℕ, ◌++◌, Bool, Option, Some, None, Ok, Err, ◌≡◌, codes}
 use Rattle.std.specs.Option.{option_map}
 use Rattle.tls_fields.specs.Bytes.{Bytes}
-use Rattle.tls_fields.specs.Layout.{Layout, done, number, ◌>>=◌, choose, counted}
+use Rattle.tls_fields.specs.Layout.{Layout, done, number, ◌>>=◌, mapped, choose, counted}
 use Rattle.tls_fields.specs.Answers.{Returned, Gives}
 use Rattle.tls_base.specs.Names.{Text, name}
 use Rattle.tls_base.specs.Constants.{hash_algorithms, signature_algorithms}
 use Rattle.tls_base.specs.declared.signature.SignatureAndHashAlgorithm as algorithm_of
 use Rattle.tls_base.specs.declared.signature.DigitallySigned as signed_of
 
--- struct { HashAlgorithm hash; SignatureAlgorithm signature; } SignatureAndHashAlgorithm (RFC 5246, 7.4.1.4.1).
+-- struct { HashAlgorithm hash; SignatureAlgorithm signature; } SignatureAndHashAlgorithm (RFC 5246, section
+-- 7.4.1.4.1).
 pub record SignatureAndHashAlgorithm : Type 0 where
   pub hash : ℕ
   pub signature : ℕ
@@ -32,8 +33,8 @@ algorithm_text a =
     ++ name (codes "SignAlgorithm") signature_algorithms a.sign.0
     ++ codes ")"
 
--- struct { SignatureAndHashAlgorithm algorithm; opaque signature<0..2^16-1>; } DigitallySigned (RFC 5246, 4.7); before
--- that version no algorithm stands in it (RFC 4346, 4.7).
+-- struct { SignatureAndHashAlgorithm algorithm; opaque signature<0..2^16-1>; } DigitallySigned (RFC 5246, section 4.7);
+-- before that version no algorithm stands in it (RFC 4346, section 4.7).
 pub record DigitallySigned : Type 0 where
   pub algorithm : Option SignatureAndHashAlgorithm
   pub signature : Bytes
@@ -48,21 +49,17 @@ digitally_signed = do
   done (record { algorithm = Some a; signature = signature })
 
 unfoldable pub digitally_signed_old : Layout DigitallySigned
-digitally_signed_old = do
-  signature ← counted 2
-  done (record { algorithm = None; signature = signature })
+digitally_signed_old = mapped (λ signature. record { algorithm = None; signature = signature }) (counted 2)
 
--- The one where the client sent the extension signature_algorithms, and else the other.
+-- The form of TLS 1.2 where `ext`, else the older one.
 unfoldable pub signature : Bool → Layout DigitallySigned
 signature ext = choose ext digitally_signed digitally_signed_old
 
--- A signature, beside what stands in front of it.
+-- A signature, with the content that stands before it.
 unfoldable pub beside_signature : {T : Type 0} → T → Bool → Layout (T × DigitallySigned)
-beside_signature content ext = do
-  s ← signature ext
-  done (content, s)
+beside_signature content ext = mapped (λ s. (content, s)) (signature ext)
 
--- What stands of the call behind an answer of the reader of the content: a refusal is passed on, and behind a value the
+-- What is true of the call after an answer of the reader of the content: a refusal is passed on, and after a value the
 -- signature gives the answer.
 abbrev pub GivesSignature : {T : Type 0} → Bool → Returned T → Returned (T × signed_of.DigitallySigned) → Type 0
 GivesSignature ext (Err e) result = result ≡ Err e

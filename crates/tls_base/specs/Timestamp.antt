@@ -6,7 +6,7 @@ use Rattle.tls_base.specs.Signature as signatures
 use Rattle.tls_base.specs.declared.timestamp.CtLogID as log_id_of
 use Rattle.tls_base.specs.declared.timestamp.SignedCertificateTimestamp as timestamp_of
 
--- struct { opaque key_id[32]; } LogID (RFC 6962, 3.2).
+-- struct { opaque key_id[32]; } LogID (RFC 6962, section 3.2).
 abbrev pub view_log_id : log_id_of.CtLogID → Bytes
 view_log_id i = i.key_id.now
 
@@ -14,7 +14,7 @@ abbrev pub log_id : Layout Bytes
 log_id = block 32
 
 -- struct { Version sct_version; LogID id; uint64 timestamp; CtExtensions extensions; digitally-signed struct { .. }; }
--- SignedCertificateTimestamp (RFC 6962, 3.2), where opaque CtExtensions<0..2^16-1>.
+-- SignedCertificateTimestamp (RFC 6962, section 3.2), where opaque CtExtensions<0..2^16-1>.
 pub record SignedCertificateTimestamp : Type 0 where
   pub sct_version : ℕ
   pub id : Bytes
@@ -40,10 +40,11 @@ timestamp = do
   signature ← signatures.digitally_signed
   done (record { sct_version = version; id = id; timestamp = time; extensions = extensions; signature = signature })
 
--- A SignedCertificateTimestamp within opaque SerializedSCT<1..2^16-1> (RFC 6962, 3.3).
+-- A SignedCertificateTimestamp within opaque SerializedSCT<1..2^16-1> (RFC 6962, section 3.3).
 abbrev pub serialized_timestamp : Layout SignedCertificateTimestamp
 serialized_timestamp = counted_window 2 timestamp
 
--- struct { SerializedSCT sct_list<1..2^16-1>; } SignedCertificateTimestampList (RFC 6962, 3.3); one of none is read too.
+-- struct { SerializedSCT sct_list<1..2^16-1>; } SignedCertificateTimestampList (RFC 6962, section 3.3); an empty list
+-- is read too.
 abbrev pub timestamp_list : Layout (List SignedCertificateTimestamp)
 timestamp_list = counted_window 2 (list serialized_timestamp)

@@ -1,3 +1,4 @@
+//! Alerts (RFC 5246, section 7.2).
 ghost use Rattle.tls_fields.specs.Answers.{Gives};
 ghost use Rattle.tls_base.specs.Alert.{view_alert, alert};
 
@@ -8,17 +9,17 @@ use tls_fields::IResult;
 /// An alert (RFC 5246, section 7.2).
 #[derive(Clone, Debug, PartialEq, Drop)]
 pub struct TlsMessageAlert {
-    /// How grave it is: a warning or fatal.
+    /// How severe it is: a warning or fatal.
     pub severity: TlsAlertSeverity,
-    /// What it tells.
+    /// What it says.
     pub code: TlsAlertDescription,
 }
 
 impl TlsMessageAlert {
-    /// Reads 1 byte, how severe the alert is, and 1 byte, what it says.
+    /// Reads 1 byte, the severity, and 1 byte, the description.
     ///
-    /// `Incomplete(1)` where one of them lacks.
-    #[tactic(auto, using(tls_fields::proofs::OneAnswer::read_allowed), unfolding(crate::specs::Alert::alert))]
+    /// `Incomplete(1)` where either is missing.
+    #[tactic(auto, using(tls_fields::proofs::OneAnswerLemmas::read_allowed), unfolding(crate::specs::Alert::alert))]
     pub fn parse(i: &[u8]) -> IResult<&[u8], Self>
         ensures { Gives view_alert alert i.now result }
     {

@@ -1,3 +1,4 @@
+//! How severe an alert is.
 ghost use Rattle.std.specs.Prelude.{Some, codes};
 ghost use Rattle.tls_fields.specs.Layout.{number};
 ghost use Rattle.tls_fields.specs.Answers.{Gives};
@@ -8,7 +9,7 @@ use crate::name::{names, write_name};
 use std::fmt;
 use tls_fields::{IResult, number1};
 
-/// How severe an alert is: the AlertLevel of RFC 5246, 7.2.
+/// How severe an alert is: the AlertLevel of RFC 5246, section 7.2.
 #[derive(Clone, Copy, Debug, PartialEq, Eq)]
 pub struct TlsAlertSeverity(pub u8);
 
@@ -17,7 +18,7 @@ impl TlsAlertSeverity {
 
     pub const Fatal: TlsAlertSeverity = TlsAlertSeverity(2);
 
-    /// Reads one byte. Refused as `Incomplete(1)` where there is none.
+    /// Reads 1 byte. `Incomplete(1)` where there is none.
     pub fn parse(i: &[u8]) -> IResult<&[u8], Self>
         ensures { Gives (λ v. v.0) (number 1) i.now result }
     {

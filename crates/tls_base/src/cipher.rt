@@ -2,18 +2,33 @@
 ghost use Rattle.std.specs.Prelude.{◌≡◌};
 ghost use Rattle.tls_base.specs.Cipher.{numbered, key_exchanges, authentications, encryptions, modes, macs, functions};
 
-/// A number that no member has.
+use std::error::Error;
+use std::fmt;
+
+/// A number that stands for no member of the enum that was asked for.
 #[derive(Debug, PartialEq, Drop)]
 pub struct UnknownNumber(pub u8);
 
-/// The member that stands at place `n`, counted from 0.
+impl fmt::Display for UnknownNumber {
+    fn fmt<W: fmt::Write>(&self, f: &mut fmt::Formatter<W>) -> fmt::Result {
+        write!(
+            f,
+            "no parameter of a cipher suite has the number {}",
+            self.0
+        )
+    }
+}
+
+impl Error for UnknownNumber {}
+
+/// The member at position `n`, counted from 0.
 fn find_numbered<T: Copy>(members: &[T], n: u8) -> Result<T, UnknownNumber>
     ensures { result ≡ numbered members.now n }
 {
     members.get(n as usize).copied().ok_or(UnknownNumber(n))
 }
 
-/// How keys are exchanged.
+/// How keys are exchanged. A number is the position of its member here, counted from 0.
 #[derive(Clone, Copy, Debug, PartialEq, Eq)]
 pub enum TlsCipherKx {
     Null,
@@ -56,7 +71,7 @@ impl TryFrom<u8> for TlsCipherKx {
     }
 }
 
-/// How the peers prove who they are.
+/// How the peers prove who they are. A number is the position of its member here, counted from 0.
 #[derive(Clone, Copy, Debug, PartialEq, Eq)]
 pub enum TlsCipherAu {
     Null,
@@ -99,7 +114,7 @@ impl TryFrom<u8> for TlsCipherAu {
     }
 }
 
-/// How records are encrypted.
+/// How records are encrypted. A number is the position of its member here, counted from 0.
 #[derive(Clone, Copy, Debug, PartialEq, Eq)]
 pub enum TlsCipherEnc {
     Null,
@@ -144,7 +159,7 @@ impl TryFrom<u8> for TlsCipherEnc {
     }
 }
 
-/// The mode of a block cipher.
+/// The mode of a block cipher. A number is the position of its member here, counted from 0.
 #[derive(Clone, Copy, Debug, PartialEq, Eq)]
 pub enum TlsCipherEncMode {
     Null,
@@ -171,7 +186,7 @@ impl TryFrom<u8> for TlsCipherEncMode {
     }
 }
 
-/// How records are authenticated.
+/// How records are authenticated. A number is the position of its member here, counted from 0.
 #[derive(Clone, Copy, Debug, PartialEq, Eq)]
 pub enum TlsCipherMac {
     Null,
@@ -204,7 +219,8 @@ impl TryFrom<u8> for TlsCipherMac {
     }
 }
 
-/// The pseudorandom function by which keys are made (RFC 5246, section 5).
+/// The pseudorandom function by which keys are made (RFC 5246, section 5). A number is the position of its member here,
+/// counted from 0.
 #[derive(Clone, Copy, Debug, PartialEq, Eq)]
 pub enum TlsPRF {
     Default,

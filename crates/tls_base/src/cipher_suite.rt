@@ -1,3 +1,4 @@
+//! Cipher suites and their parameters.
 ghost use Rattle.std.specs.Prelude.{◌≡◌, ◌/◌};
 ghost use Rattle.tls_base.specs.Cipher.{block_size, code_length};
 
@@ -11,6 +12,7 @@ use crate::cipher_suite_id::TlsCipherSuiteID;
 pub struct TlsCipherSuite {
     /// The name in the registry of cipher suites.
     pub name: &'static str,
+    /// The number in that registry.
     pub id: TlsCipherSuiteID,
     /// The key exchange.
     pub kx: TlsCipherKx,
@@ -20,26 +22,26 @@ pub struct TlsCipherSuite {
     pub enc: TlsCipherEnc,
     /// The mode of the encryption.
     pub enc_mode: TlsCipherEncMode,
-    /// The bits of a key of the encryption.
+    /// The length of a key of the encryption, in bits.
     pub enc_size: u16,
     /// The authentication of records.
     pub mac: TlsCipherMac,
-    /// The bits of the code that authenticates a record.
+    /// The length of the code that authenticates a record, in bits.
     pub mac_size: u16,
     /// The pseudorandom function.
     pub prf: TlsPRF,
 }
 
 impl TlsCipherSuite {
-    /// The bytes of a key of the encryption.
-    pub fn enc_key_size(&self) -> usize
+    /// The length of a key of the encryption, in bytes.
+    pub const fn enc_key_size(&self) -> usize
         ensures { result ≡ self.now.enc_size / 8 }
     {
         (self.enc_size / 8) as usize
     }
 
-    /// The bytes of a block of the encryption; 0 for a stream cipher and for none.
-    pub fn enc_block_size(&self) -> usize
+    /// The length of a block of the encryption, in bytes; 0 for a stream cipher and where nothing is encrypted.
+    pub const fn enc_block_size(&self) -> usize
         ensures { result ≡ block_size self.now.enc }
     {
         match self.enc {
@@ -57,8 +59,8 @@ impl TlsCipherSuite {
         }
     }
 
-    /// The bytes of the code that authenticates a record; 0 where the encryption does so, or nothing does.
-    pub fn mac_length(&self) -> usize
+    /// The length of the code that authenticates a record, in bytes; 0 where the encryption does so, or nothing does.
+    pub const fn mac_length(&self) -> usize
         ensures { result ≡ code_length self.now.mac }
     {
         match self.mac {

@@ -1,4 +1,5 @@
-ghost use Rattle.std.specs.Prelude.{ℕ, ◌≡◌, Some, IfOk, string_bytes};
+//! Numbers of cipher suites.
+ghost use Rattle.std.specs.Prelude.{ℕ, ◌≡◌, Some, IfOk, string_bytes, ◌≤◌, length};
 ghost use Rattle.tls_fields.specs.Layout.{number};
 ghost use Rattle.tls_fields.specs.Answers.{Gives};
 ghost use Rattle.tls_base.specs.Names.{hexadecimal};
@@ -6,16 +7,18 @@ ghost use Rattle.std.specs.Fmt.{decimal};
 
 use std::alloc::Global;
 use std::fmt;
-use tls_fields::{IResult, Item, OutOfMemory, number2};
+use std::ops::Deref;
+use tls_fields::{IResult, Item, OutOfMemory, Room, number2};
 
-/// The number of a cipher suite: the CipherSuite of RFC 5246, 7.4.1.2, its two bytes as one number.
+/// The number of a cipher suite: the CipherSuite of RFC 5246, section 7.4.1.2, its two bytes as one number,
+/// big-endian.
 #[derive(Clone, Copy, Debug, Default, PartialEq, Eq)]
 pub struct TlsCipherSuiteID(pub u16);
 
 impl TlsCipherSuiteID {
-    /// The number in lower hexadecimal, without a prefix and without zeros in front.
+    /// The number in lower-case hexadecimal, without a prefix and without leading zeros.
     ///
-    /// It refuses for memory alone.
+    /// Refused only where memory runs out.
     pub fn lower_hex(&self, alloc: Global) -> Result<String, OutOfMemory>
         ensures { IfOk result (λ s. string_bytes s ≡ hexadecimal self.now.0) }
     {
@@ -30,12 +33,30 @@ impl TlsCipherSuiteID {
         &self.0
     }
 
-    /// Reads two bytes, big-endian. Refused as `Incomplete` of the count that is missing, 2 or 1.
+    /// Reads 2 bytes, big-endian. `Incomplete` of the bytes that are missing, 2 or 1.
     pub fn parse(i: &[u8]) -> IResult<&[u8], Self>
         ensures { Gives (λ v. v.0) (number 2) i.now result }
     {
         let (i, n) = number2(i)?;
         Ok((i, TlsCipherSuiteID(n)))
+    }
+}
+
+impl AsRef<u16> for TlsCipherSuiteID {
+    fn as_ref(&self) -> &u16
+        ensures { result.now ≡ self.now.0 }
+    {
+        &self.0
+    }
+}
+
+impl Deref for TlsCipherSuiteID {
+    type Target = u16;
+
+    ghost deref_gives = { λ v n. n ≡ v.0 };
+
+    fn deref(&self) -> &u16 {
+        &self.0
     }
 }
 
@@ -53,6 +74,14 @@ impl<'a> Item<'a> for TlsCipherSuiteID {
     }
 }
 
+impl Room for TlsCipherSuiteID {
+    fn room(i: &[u8]) -> usize
+        ensures { result ≤ length i.now }
+    {
+        i.len() / 2
+    }
+}
+
 impl From<TlsCipherSuiteID> for u16 {
     ghost from_gives = { λ v n. n ≡ v.0 };
 
@@ -61,7 +90,7 @@ impl From<TlsCipherSuiteID> for u16 {
     }
 }
 
-/// Writes the decimal number.
+/// Writes the number in decimal.
 impl fmt::Display for TlsCipherSuiteID {
     ghost output = { λ v. Some (decimal v.0) };
 

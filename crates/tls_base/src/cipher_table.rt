@@ -7,6 +7,8 @@ ghost use Rattle.tls_base.specs.declared.cipher_suite.TlsCipherSuite.{TlsCipherS
 
 use crate::cipher_suite::TlsCipherSuite;
 use crate::cipher_suite_id::TlsCipherSuiteID;
+use std::error::Error;
+use std::fmt;
 use std::marker::Model;
 
 /// Why a list of suites is no table. Positions are counted from 0.
@@ -18,6 +20,23 @@ pub enum CipherTableFault {
     SameName(usize),
 }
 
+impl fmt::Display for CipherTableFault {
+    fn fmt<W: fmt::Write>(&self, f: &mut fmt::Formatter<W>) -> fmt::Result {
+        match self {
+            CipherTableFault::SameId(k) => write!(
+                f,
+                "the cipher suite at position {k} has the id of an earlier one"
+            ),
+            CipherTableFault::SameName(k) => write!(
+                f,
+                "the cipher suite at position {k} has the name of an earlier one"
+            ),
+        }
+    }
+}
+
+impl Error for CipherTableFault {}
+
 /// A list of suites that is no table, and why.
 #[derive(Debug, PartialEq, Drop)]
 pub struct CipherTableError {
@@ -27,9 +46,26 @@ pub struct CipherTableError {
     pub list: Vec<TlsCipherSuite>,
 }
 
+/// Says what its fault says.
+impl fmt::Display for CipherTableError {
+    fn fmt<W: fmt::Write>(&self, f: &mut fmt::Formatter<W>) -> fmt::Result {
+        self.fault.fmt(f)
+    }
+}
+
+impl Error for CipherTableError {}
+
 /// No suite has the id or the name that was asked for.
 #[derive(Debug, Drop)]
 pub struct CipherSuiteNotFound(());
+
+impl fmt::Display for CipherSuiteNotFound {
+    fn fmt<W: fmt::Write>(&self, f: &mut fmt::Formatter<W>) -> fmt::Result {
+        f.write_str("no cipher suite of the table has that id or name")
+    }
+}
+
+impl Error for CipherSuiteNotFound {}
 
 /// Cipher suites, no two of which have the same id or the same name.
 #[derive(Drop)]
@@ -59,7 +95,7 @@ fn any_has_name(suites: &[TlsCipherSuite], name: &str) -> bool
     suites.iter().any(|s| s.name == name)
 }
 
-/// The first position whose id or name is that of an earlier one; the id is tested before the name.
+/// The first position whose id or name an earlier one has; the id is tested before the name.
 fn first_fault(suites: &[TlsCipherSuite]) -> Option<CipherTableFault>
     ensures { MatchOption result (Differ suites.now) (IsFirstFault suites.now) }
 {
@@ -75,10 +111,10 @@ fn first_fault(suites: &[TlsCipherSuite]) -> Option<CipherTableFault>
 }
 
 impl CipherTable {
-    /// The table of these suites. It takes no memory.
+    /// The table of these suites. It allocates nothing.
     ///
-    /// Refused where a suite has the id or the name of an earlier one: the fault tells the first such position, counted
-    /// from 0, by its id where it has both, and the list is handed back.
+    /// Refused where a suite has the id or the name of an earlier one: the fault is the first such position, counted
+    /// from 0, told by its id where both are repeated, and the list is handed back.
     pub fn new(list: Vec<TlsCipherSuite>) -> Result<CipherTable, CipherTableError>
         ensures { MatchResult result
             (λ table. Differ list.items × (table ≡ list.items))

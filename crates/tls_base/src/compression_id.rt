@@ -1,4 +1,5 @@
-ghost use Rattle.std.specs.Prelude.{ℕ, Some, codes, ◌≡◌};
+//! Numbers of compression methods.
+ghost use Rattle.std.specs.Prelude.{ℕ, Some, codes, ◌≡◌, ◌≤◌, length};
 ghost use Rattle.tls_fields.specs.Layout.{number};
 ghost use Rattle.tls_fields.specs.Answers.{Gives};
 ghost use Rattle.tls_base.specs.Names.{name};
@@ -7,15 +8,18 @@ ghost use Rattle.tls_base.specs.Constants.{compression_methods};
 use crate::name::{names, write_name};
 use std::alloc::Global;
 use std::fmt;
-use tls_fields::{IResult, Item, number1};
+use std::ops::Deref;
+use tls_fields::{IResult, Item, Room, number1};
 
-/// The number of a compression method: the CompressionMethod of RFC 5246, 7.4.1.2.
+/// The number of a compression method: the CompressionMethod of RFC 5246, section 7.4.1.2.
 #[derive(Clone, Copy, Debug, Default, PartialEq, Eq)]
 pub struct TlsCompressionID(pub u8);
 
 impl TlsCompressionID {
+    /// No compression.
     pub const Null: TlsCompressionID = TlsCompressionID(0);
 
+    /// The method of RFC 3749.
     pub const Deflate: TlsCompressionID = TlsCompressionID(1);
 
     /// The number.
@@ -25,12 +29,30 @@ impl TlsCompressionID {
         &self.0
     }
 
-    /// Reads one byte. Refused as `Incomplete(1)` where there is none.
+    /// Reads 1 byte. `Incomplete(1)` where there is none.
     pub fn parse(i: &[u8]) -> IResult<&[u8], Self>
         ensures { Gives (λ v. v.0) (number 1) i.now result }
     {
         let (i, n) = number1(i)?;
         Ok((i, TlsCompressionID(n)))
+    }
+}
+
+impl AsRef<u8> for TlsCompressionID {
+    fn as_ref(&self) -> &u8
+        ensures { result.now ≡ self.now.0 }
+    {
+        &self.0
+    }
+}
+
+impl Deref for TlsCompressionID {
+    type Target = u8;
+
+    ghost deref_gives = { λ v n. n ≡ v.0 };
+
+    fn deref(&self) -> &u8 {
+        &self.0
     }
 }
 
@@ -45,6 +67,14 @@ impl<'a> Item<'a> for TlsCompressionID {
 
     fn read(_alloc: Global, i: &'a [u8]) -> IResult<&'a [u8], Self> {
         TlsCompressionID::parse(i)
+    }
+}
+
+impl Room for TlsCompressionID {
+    fn room(i: &[u8]) -> usize
+        ensures { result ≤ length i.now }
+    {
+        i.len()
     }
 }
 

@@ -1,3 +1,4 @@
+//! Versions of signed certificate timestamps.
 ghost use Rattle.std.specs.Prelude.{Some, codes};
 ghost use Rattle.tls_fields.specs.Layout.{number};
 ghost use Rattle.tls_fields.specs.Answers.{Gives};
@@ -8,14 +9,14 @@ use crate::name::{names, write_name};
 use std::fmt;
 use tls_fields::{IResult, number1};
 
-/// The version of a signed certificate timestamp: the Version of RFC 6962, 3.2.
+/// The version of a signed certificate timestamp: the Version of RFC 6962, section 3.2.
 #[derive(Clone, Copy, Debug, PartialEq, Eq)]
 pub struct CtVersion(pub u8);
 
 impl CtVersion {
     pub const V1: CtVersion = CtVersion(0);
 
-    /// Reads one byte. Refused as `Incomplete(1)` where there is none.
+    /// Reads 1 byte. `Incomplete(1)` where there is none.
     pub fn parse(i: &[u8]) -> IResult<&[u8], Self>
         ensures { Gives (λ v. v.0) (number 1) i.now result }
     {

@@ -1,3 +1,4 @@
+//! How the curve of a key exchange is given.
 ghost use Rattle.std.specs.Prelude.{Some, codes};
 ghost use Rattle.tls_fields.specs.Layout.{number};
 ghost use Rattle.tls_fields.specs.Answers.{Gives};
@@ -8,18 +9,21 @@ use crate::name::{names, write_name};
 use std::fmt;
 use tls_fields::{IResult, number1};
 
-/// How the curve of a key exchange is given: the ECCurveType of RFC 8422, 5.4.
+/// How the curve of a key exchange is given: the ECCurveType of RFC 4492, section 5.4.
 #[derive(Clone, Copy, PartialEq, Eq)]
 pub struct ECCurveType(pub u8);
 
 impl ECCurveType {
+    /// By the parameters of a curve over a prime field; RFC 8422, section 5.4, deprecates it.
     pub const ExplicitPrime: ECCurveType = ECCurveType(1);
 
+    /// By the parameters of a curve over a field of characteristic 2; RFC 8422, section 5.4, deprecates it.
     pub const ExplicitChar2: ECCurveType = ECCurveType(2);
 
+    /// By its number (RFC 8422, section 5.4).
     pub const NamedGroup: ECCurveType = ECCurveType(3);
 
-    /// Reads one byte. Refused as `Incomplete(1)` where there is none.
+    /// Reads 1 byte. `Incomplete(1)` where there is none.
     pub fn parse(i: &[u8]) -> IResult<&[u8], Self>
         ensures { Gives (λ v. v.0) (number 1) i.now result }
     {

@@ -17,10 +17,11 @@ pub struct ServerDHParams<'a> {
 }
 
 impl<'a> ServerDHParams<'a> {
-    /// Reads three blocks, each behind 2 bytes of length, big-endian: the modulus, the generator, the public value.
+    /// Reads three blocks, each after 2 bytes of length, big-endian: the modulus, the generator, the public value. It
+    /// takes empty ones too.
     ///
-    /// `Incomplete` of the missing bytes of the first length or block that isn't whole.
-    #[tactic(auto, using(tls_fields::proofs::OneAnswer::read_allowed), unfolding(crate::specs::KeyExchange::dh_params))]
+    /// `Incomplete` of the bytes that are missing of the first length or block that isn't whole.
+    #[tactic(auto, using(tls_fields::proofs::OneAnswerLemmas::read_allowed), unfolding(crate::specs::KeyExchange::dh_params))]
     pub fn parse(i: &'a [u8]) -> IResult<&'a [u8], Self>
         ensures { Gives view_dh_params dh_params i.now result }
     {

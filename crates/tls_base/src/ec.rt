@@ -1,4 +1,6 @@
 //! Parameters of a Diffie-Hellman key exchange over elliptic curves.
+#![tactic(auto, using(tls_fields::proofs::OneAnswerLemmas::read_allowed), unfolding(crate::specs::KeyExchange::curve, crate::specs::KeyExchange::explicit_prime, crate::specs::KeyExchange::curve_parameters, crate::specs::KeyExchange::ec_parameters, crate::specs::KeyExchange::ecdh_params))]
+
 ghost use Rattle.std.specs.Prelude.{map};
 ghost use Rattle.tls_fields.specs.Answers.{Gives, GivesOrMemory};
 ghost use Rattle.tls_fields.specs.Layout.{pairs as pairs_layout};
@@ -8,9 +10,9 @@ use crate::curve_type::ECCurveType;
 use crate::named_group::NamedGroup;
 use std::alloc::Global;
 use std::fmt;
-use tls_fields::{Err, Error, ErrorKind, IResult, counted1, pairs};
+use tls_fields::{ErrorKind, IResult, counted1, pairs, refused};
 
-/// The coefficients of an elliptic curve (RFC 4492, section 5.4).
+/// The coefficients of an elliptic curve (RFC 4492, section 5.4). RFC 8422 deprecates curves that are given so.
 #[derive(Debug, PartialEq, Drop)]
 pub struct ECCurve<'a> {
     /// The coefficient a of the curve, big-endian.
@@ -20,10 +22,9 @@ pub struct ECCurve<'a> {
 }
 
 impl<'a> ECCurve<'a> {
-    /// Reads two blocks, each behind 1 byte of length.
+    /// Reads two blocks, each after 1 byte of length, and takes empty ones too.
     ///
-    /// `Incomplete` of the missing bytes of the first length or block that isn't whole.
-    #[tactic(auto, using(tls_fields::proofs::OneAnswer::read_allowed), unfolding(crate::specs::KeyExchange::curve))]
+    /// `Incomplete` of the bytes that are missing of the first length or block that isn't whole.
     pub fn parse(i: &'a [u8]) -> IResult<&'a [u8], Self>
         ensures { Gives view_curve curve_layout i.now result }
     {
@@ -41,9 +42,9 @@ pub struct ECPoint<'a> {
 }
 
 impl<'a> ECPoint<'a> {
-    /// Reads a block behind 1 byte of length.
+    /// Reads a block after 1 byte of length, and takes an empty one too.
     ///
-    /// `Incomplete` of the missing bytes of the length, or else of the block.
+    /// `Incomplete` of the bytes that are missing of the length, or else of the block.
     pub fn parse(i: &'a [u8]) -> IResult<&'a [u8], Self>
         ensures { Gives view_point point_layout i.now result }
     {
@@ -52,7 +53,7 @@ impl<'a> ECPoint<'a> {
     }
 }
 
-/// A curve over a prime field that is given as such (RFC 4492, section 5.4).
+/// A curve over a prime field that is given by its parameters (RFC 4492, section 5.4; RFC 8422 deprecates it).
 #[derive(Debug, PartialEq, Drop)]
 pub struct ExplicitPrimeContent<'a> {
     /// The prime.
@@ -68,11 +69,10 @@ pub struct ExplicitPrimeContent<'a> {
 }
 
 impl<'a> ExplicitPrimeContent<'a> {
-    /// Reads six blocks, each behind 1 byte of length: the prime, the two coefficients, the base point, its order, its
-    /// cofactor.
+    /// Reads six blocks, each after 1 byte of length: the prime, the two coefficients, the base point, its order, its
+    /// cofactor. It takes empty ones too.
     ///
-    /// `Incomplete` of the missing bytes of the first length or block that isn't whole.
-    #[tactic(auto, using(tls_fields::proofs::OneAnswer::read_allowed), unfolding(crate::specs::KeyExchange::explicit_prime))]
+    /// `Incomplete` of the bytes that are missing of the first length or block that isn't whole.
     pub fn parse(i: &'a [u8]) -> IResult<&'a [u8], Self>
         ensures { Gives view_explicit_prime explicit_prime i.now result }
     {
@@ -92,7 +92,7 @@ impl<'a> ExplicitPrimeContent<'a> {
     }
 }
 
-/// The curve of a key exchange, as such or by its number (RFC 8422, section 5.4).
+/// The curve of a key exchange, by its parameters (RFC 4492, section 5.4) or by its number (RFC 8422, section 5.4).
 #[derive(Debug, PartialEq, Drop)]
 pub enum ECParametersContent<'a> {
     ExplicitPrime(ExplicitPrimeContent<'a>),
@@ -100,11 +100,10 @@ pub enum ECParametersContent<'a> {
 }
 
 impl<'a> ECParametersContent<'a> {
-    /// Reads what stands behind that type of curve: for an explicit prime an [`ExplicitPrimeContent`], for a named curve
+    /// Reads what stands after that type of curve: for an explicit prime an [`ExplicitPrimeContent`], for a named curve
     /// the 2 bytes of its number, big-endian.
     ///
-    /// `Error` of kind `Switch` for any other type; else `Incomplete` of the missing bytes.
-    #[tactic(auto, using(tls_fields::proofs::OneAnswer::read_allowed), unfolding(crate::specs::KeyExchange::curve_parameters))]
+    /// `Error` of kind `Switch` for any other type; else `Incomplete` of the bytes that are missing.
     pub fn parse(i: &'a [u8], curve_type: ECCurveType) -> IResult<&'a [u8], Self>
         ensures { Gives view_curve_parameters (curve_parameters curve_type.0) i.now result }
     {
@@ -117,15 +116,12 @@ impl<'a> ECParametersContent<'a> {
                 let (i, group) = NamedGroup::parse(i)?;
                 Ok((i, ECParametersContent::NamedGroup(group)))
             }
-            _ => Err(Err::Error(Error {
-                input: i,
-                code: ErrorKind::Switch,
-            })),
+            _ => refused(i, ErrorKind::Switch),
         }
     }
 }
 
-/// The curve of a key exchange, behind how it is given (RFC 8422, section 5.4).
+/// The curve of a key exchange, after the type that says how it is given (RFC 8422, section 5.4).
 #[derive(PartialEq, Drop)]
 pub struct ECParameters<'a> {
     /// How the curve is given.
@@ -135,10 +131,9 @@ pub struct ECParameters<'a> {
 }
 
 impl<'a> ECParameters<'a> {
-    /// Reads 1 byte, the type of the curve, and what stands behind that type, as [`ECParametersContent::parse`].
+    /// Reads 1 byte, the type of the curve, and what stands after that type, as [`ECParametersContent::parse`].
     ///
     /// `Incomplete(1)` where there is no byte; then as that call refuses.
-    #[tactic(auto, using(tls_fields::proofs::OneAnswer::read_allowed), unfolding(crate::specs::KeyExchange::ec_parameters))]
     pub fn parse(i: &'a [u8]) -> IResult<&'a [u8], Self>
         ensures { Gives view_ec_parameters ec_parameters i.now result }
     {
@@ -174,8 +169,7 @@ pub struct ServerECDHParams<'a> {
 impl<'a> ServerECDHParams<'a> {
     /// Reads an [`ECParameters`] and an [`ECPoint`].
     ///
-    /// It refuses as the first of these does that isn't read.
-    #[tactic(auto, using(tls_fields::proofs::OneAnswer::read_allowed), unfolding(crate::specs::KeyExchange::ecdh_params))]
+    /// Refused as the first of these that isn't read.
     pub fn parse(i: &'a [u8]) -> IResult<&'a [u8], Self>
         ensures { Gives view_ecdh_params ecdh_params i.now result }
     {
@@ -205,7 +199,7 @@ pub fn parse_ecdh_params(i: &[u8]) -> IResult<&[u8], ServerECDHParams>
 
 /// Reads all bytes as numbers of groups, of 2 bytes each, big-endian (RFC 8446, section 4.2.7).
 ///
-/// `Error` of kind `LengthValue` where the count of bytes is odd. `OutOfMemory` where the list could not be held.
+/// `Error` of kind `LengthValue` where the number of bytes is odd. `OutOfMemory` where there is no memory for the list.
 pub fn parse_named_groups(alloc: Global, i: &[u8]) -> IResult<&[u8], Vec<NamedGroup>>
     ensures { GivesOrMemory (λ v. map (λ g. g.0) v.items) pairs_layout i.now result }
 {

@@ -1,3 +1,4 @@
+//! Numbers of extensions.
 ghost use Rattle.std.specs.Prelude.{◌≡◌, Some, codes};
 ghost use Rattle.std.specs.List.Sorted.{IsStrictlyIncreasing};
 ghost use Rattle.tls_fields.specs.Layout.{number};
@@ -9,7 +10,8 @@ use crate::name::{numbers, texts, write_rising};
 use std::fmt;
 use tls_fields::{IResult, number2};
 
-/// What an extension is: the ExtensionType of RFC 8446, 4.2, its two bytes as one number.
+/// What an extension is: the ExtensionType of RFC 8446, section 4.2, its two bytes as one number, big-endian, with
+/// those of earlier versions and of drafts.
 #[derive(Clone, Copy, Debug, PartialEq, Eq)]
 pub struct TlsExtensionType(pub u16);
 
@@ -70,6 +72,7 @@ impl TlsExtensionType {
 
     pub const SessionTicketTLS: TlsExtensionType = TlsExtensionType(35);
 
+    /// The key_share of the drafts of TLS 1.3 up to the 22nd.
     pub const KeyShareOld: TlsExtensionType = TlsExtensionType(40);
 
     pub const PreSharedKey: TlsExtensionType = TlsExtensionType(41);
@@ -82,6 +85,7 @@ impl TlsExtensionType {
 
     pub const PskExchangeModes: TlsExtensionType = TlsExtensionType(45);
 
+    /// Of drafts of TLS 1.3 alone.
     pub const TicketEarlyDataInfo: TlsExtensionType = TlsExtensionType(46);
 
     pub const CertificateAuthorities: TlsExtensionType = TlsExtensionType(47);
@@ -94,12 +98,15 @@ impl TlsExtensionType {
 
     pub const KeyShare: TlsExtensionType = TlsExtensionType(51);
 
+    /// Of draft-agl-tls-nextprotoneg.
     pub const NextProtocolNegotiation: TlsExtensionType = TlsExtensionType(13172);
 
+    /// One of the sixteen values of RFC 8701, section 2; the others have no constant.
     pub const Grease: TlsExtensionType = TlsExtensionType(0xfafa);
 
     pub const RenegotiationInfo: TlsExtensionType = TlsExtensionType(0xff01);
 
+    /// Of early drafts of Encrypted Client Hello.
     pub const EncryptedServerName: TlsExtensionType = TlsExtensionType(0xffce);
 
     /// The type of that number.
@@ -109,7 +116,7 @@ impl TlsExtensionType {
         TlsExtensionType(t)
     }
 
-    /// Reads two bytes, big-endian. Refused as `Incomplete` of the count that is missing, 2 or 1.
+    /// Reads 2 bytes, big-endian. `Incomplete` of the bytes that are missing, 2 or 1.
     pub fn parse(i: &[u8]) -> IResult<&[u8], Self>
         ensures { Gives (λ v. v.0) (number 2) i.now result }
     {
@@ -126,7 +133,7 @@ impl From<TlsExtensionType> for u16 {
     }
 }
 
-/// The numbers of the constants, rising.
+/// The numbers of the constants, in rising order.
 const NUMBERS: [u16; 44] = numbers!(
     TlsExtensionType: ServerName, MaxFragmentLength, ClientCertificate, TrustedCaKeys,
     TruncatedHMac, StatusRequest, UserMapping, ClientAuthz, ServerAuthz, CertType, SupportedGroups,
@@ -187,7 +194,7 @@ const NAMES: [&str; 44] = texts!(
     EncryptedServerName
 );
 
-/// The numbers rise strictly, so that one is found by halving.
+/// The numbers rise strictly, so that one is found by binary search.
 fn numbers_rise()
     ensures { IsStrictlyIncreasing NUMBERS }
 {}

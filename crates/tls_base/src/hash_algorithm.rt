@@ -1,3 +1,4 @@
+//! Hashes that signatures are made over.
 ghost use Rattle.std.specs.Prelude.{Some, codes};
 ghost use Rattle.tls_fields.specs.Layout.{number};
 ghost use Rattle.tls_fields.specs.Answers.{Gives};
@@ -8,7 +9,7 @@ use crate::name::{names, write_name};
 use std::fmt;
 use tls_fields::{IResult, number1};
 
-/// A hash: the HashAlgorithm of RFC 5246, 7.4.1.4.1.
+/// A hash: the HashAlgorithm of RFC 5246, section 7.4.1.4.1.
 #[derive(Clone, Debug, PartialEq, Eq, Drop)]
 pub struct HashAlgorithm(pub u8);
 
@@ -27,9 +28,10 @@ impl HashAlgorithm {
 
     pub const Sha512: HashAlgorithm = HashAlgorithm(6);
 
+    /// The hash is part of the signature algorithm (RFC 8422, section 5.1.3).
     pub const Intrinsic: HashAlgorithm = HashAlgorithm(8);
 
-    /// Reads one byte. Refused as `Incomplete(1)` where there is none.
+    /// Reads 1 byte. `Incomplete(1)` where there is none.
     pub fn parse(i: &[u8]) -> IResult<&[u8], Self>
         ensures { Gives (λ v. v.0) (number 1) i.now result }
     {

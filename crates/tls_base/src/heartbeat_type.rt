@@ -1,3 +1,4 @@
+//! Types of heartbeat messages.
 ghost use Rattle.std.specs.Prelude.{Some, codes, ◌≡◌};
 ghost use Rattle.tls_fields.specs.Layout.{number};
 ghost use Rattle.tls_fields.specs.Answers.{Gives};
@@ -8,7 +9,7 @@ use crate::name::{names, write_name};
 use std::fmt;
 use tls_fields::{IResult, number1};
 
-/// Which way a heartbeat goes: the HeartbeatMessageType of RFC 6520, 3.
+/// Whether a heartbeat asks or answers: the HeartbeatMessageType of RFC 6520, section 3.
 #[derive(Clone, Copy, Debug, PartialEq, Eq)]
 pub struct TlsHeartbeatMessageType(pub u8);
 
@@ -17,7 +18,7 @@ impl TlsHeartbeatMessageType {
 
     pub const HeartBeatResponse: TlsHeartbeatMessageType = TlsHeartbeatMessageType(2);
 
-    /// Reads one byte. Refused as `Incomplete(1)` where there is none.
+    /// Reads 1 byte. `Incomplete(1)` where there is none.
     pub fn parse(i: &[u8]) -> IResult<&[u8], Self>
         ensures { Gives (λ v. v.0) (number 1) i.now result }
     {

@@ -1,5 +1,5 @@
-//! What stands of the layouts alone: on any bytes, each allows exactly one answer.
-#![tactic(auto, using(tls_fields::proofs::OneAnswer::one_answer))]
+//! What is true of the layouts alone: on any bytes, each allows exactly one answer.
+#![tactic(auto, using(tls_fields::proofs::OneAnswerLemmas::one_answer))]
 
 ghost use Rattle.std.specs.Prelude.{ℕ, Bool};
 ghost use Rattle.tls_fields.specs.Bytes.{Bytes, AreBytes};
@@ -40,7 +40,7 @@ pub fn explicit_prime_has_one_answer()
     ensures { (b : Bytes) → AreBytes b → AllowsOne explicit_prime b }
 {}
 
-/// What stands behind a type of curve, for each type.
+/// What stands after a type of curve, for each type.
 pub fn curve_parameters_has_one_answer()
     ensures { (curve_type : ℕ) (b : Bytes) → AreBytes b → AllowsOne (curve_parameters curve_type) b }
 {}
@@ -60,7 +60,7 @@ pub fn named_groups_has_one_answer()
     ensures { (b : Bytes) → AreBytes b → AllowsOne pairs b }
 {}
 
-/// How a signature is made.
+/// The pair of a hash and an algorithm that signs.
 pub fn algorithm_has_one_answer()
     ensures { (b : Bytes) → AreBytes b → AllowsOne algorithm b }
 {}
@@ -75,12 +75,12 @@ pub fn digitally_signed_old_has_one_answer()
     ensures { (b : Bytes) → AreBytes b → AllowsOne digitally_signed_old b }
 {}
 
-/// What a signature stands behind.
+/// What a signature stands after.
 pub trait Content {
     ghost Value: { Type 0 };
 }
 
-/// A signature of either form, on what the reader of the content left, beside the content that it read.
+/// A signature of either form on what the reader of the content left, with the content.
 pub fn beside_signature_has_one_answer<C: Content>()
     ensures { (content : C.Value) (ext : Bool) (b : Bytes) → AreBytes b → AllowsOne (beside_signature content ext) b }
 {}

@@ -3,7 +3,7 @@
 //!
 //! A number with a name is the number that stands in the bytes; one without a name is read and kept. Each parse call
 //! answers what a layout of `specs/` allows on the bytes.
-#![tactic(auto, using(tls_fields::proofs::OneAnswer::read_allowed))]
+#![tactic(auto, using(tls_fields::proofs::OneAnswerLemmas::read_allowed))]
 
 mod alert;
 mod alert_description;

@@ -36,14 +36,14 @@ macro_rules! texts {
 
 pub(crate) use texts;
 
-/// What a table has for `n`, by its first entry with that number.
+/// What a table has beside `n`, in its first entry with that number.
 pub(crate) fn find_number<T: Copy>(table: &[(u16, T)], n: u16) -> Option<T>
     ensures { result ≡ look_up table.now n }
 {
     table.iter().find(|x| x.0 == n).map(|x| x.1)
 }
 
-/// Writes a number of a type: its name where it has one, else the type, and the number in decimal and hexadecimal.
+/// Writes a number of a type: its name where it has one, else the type with the number in decimal and hexadecimal.
 #[tactic(auto, unfolding(crate::specs::Names::shown))]
 pub(crate) fn write_shown<W: fmt::Write>(
     f: &mut fmt::Formatter<W>,
@@ -71,7 +71,7 @@ pub(crate) fn write_name<W: fmt::Write>(
     write_shown(f, type_name, n, find_number(table, n))
 }
 
-/// What stands beside `n` in a table whose numbers rise, found by halving.
+/// What stands beside `n` in a table whose numbers rise, found by binary search.
 fn find_rising(numbers: &[u16], names: &[&'static str], n: u16) -> Option<&'static str>
     requires { IsStrictlyIncreasing numbers.now }
     ensures { result ≡ look_up (zip numbers.now names.now) n }

@@ -1,4 +1,5 @@
-ghost use Rattle.std.specs.Prelude.{ℕ, Some, codes, ◌≡◌};
+//! Groups for a key exchange.
+ghost use Rattle.std.specs.Prelude.{ℕ, Some, codes, ◌≡◌, ◌≤◌, length};
 ghost use Rattle.tls_fields.specs.Layout.{number};
 ghost use Rattle.tls_fields.specs.Answers.{Gives};
 ghost use Rattle.tls_base.specs.Names.{name};
@@ -7,10 +8,10 @@ ghost use Rattle.tls_base.specs.Constants.{key_bits as key_bits_of, named_groups
 use crate::name::{find_number, names, write_name};
 use std::alloc::Global;
 use std::fmt;
-use tls_fields::{IResult, Item, number2};
+use tls_fields::{IResult, Item, Room, number2};
 
-/// A group for a key exchange: the NamedGroup of RFC 8446, 4.2.7, its two bytes as one number, with the NamedCurve of
-/// RFC 8422, 5.1.1.
+/// A group for a key exchange: the NamedGroup of RFC 8446, section 4.2.7, its two bytes as one number, big-endian, with
+/// the NamedCurve of RFC 4492, section 5.1.1, of which RFC 8422, section 5.1.1, deprecates 1 to 22, 0xff01 and 0xff02.
 #[derive(Clone, Copy, Debug, PartialEq, Eq)]
 pub struct NamedGroup(pub u16);
 
@@ -65,24 +66,30 @@ impl NamedGroup {
 
     pub const Secp521r1: NamedGroup = NamedGroup(25);
 
+    /// Of RFC 7027, as the next two; those of TLS 1.3 have other numbers.
     pub const BrainpoolP256r1: NamedGroup = NamedGroup(26);
 
     pub const BrainpoolP384r1: NamedGroup = NamedGroup(27);
 
     pub const BrainpoolP512r1: NamedGroup = NamedGroup(28);
 
+    /// The x25519 of RFC 8422, section 5.1.1.
     pub const EcdhX25519: NamedGroup = NamedGroup(29);
 
+    /// The x448 of RFC 8422, section 5.1.1.
     pub const EcdhX448: NamedGroup = NamedGroup(30);
 
+    /// Of RFC 8734, as the next two.
     pub const BrainpoolP256r1tls13: NamedGroup = NamedGroup(31);
 
     pub const BrainpoolP384r1tls13: NamedGroup = NamedGroup(32);
 
     pub const BrainpoolP512r1tls13: NamedGroup = NamedGroup(33);
 
+    /// The curveSM2 of RFC 8998.
     pub const Sm2: NamedGroup = NamedGroup(41);
 
+    /// A group over the integers (RFC 7919), as the next four.
     pub const Ffdhe2048: NamedGroup = NamedGroup(0x0100);
 
     pub const Ffdhe3072: NamedGroup = NamedGroup(0x0101);
@@ -93,18 +100,21 @@ impl NamedGroup {
 
     pub const Ffdhe8192: NamedGroup = NamedGroup(0x0104);
 
+    /// Any curve over a prime field that is given by its parameters.
     pub const ArbitraryExplicitPrimeCurves: NamedGroup = NamedGroup(0xff01);
 
+    /// Any curve over a field of characteristic 2 that is given by its parameters.
     pub const ArbitraryExplicitChar2Curves: NamedGroup = NamedGroup(0xff02);
 
-    /// The bits of a key, for the curves of RFC 8422 and RFC 7027 and for X25519; `None` for any other group.
+    /// The length of a key, in bits, for the curves of RFC 4492 and RFC 7027 and for X25519 (253); `None` for any other
+    /// group.
     pub fn key_bits(self) -> Option<u16>
         ensures { result ≡ key_bits_of self.0 }
     {
         find_number(&KEY_BITS, self.0)
     }
 
-    /// Reads two bytes, big-endian. Refused as `Incomplete` of the count that is missing, 2 or 1.
+    /// Reads 2 bytes, big-endian. `Incomplete` of the bytes that are missing, 2 or 1.
     pub fn parse(i: &[u8]) -> IResult<&[u8], Self>
         ensures { Gives (λ v. v.0) (number 2) i.now result }
     {
@@ -127,7 +137,15 @@ impl<'a> Item<'a> for NamedGroup {
     }
 }
 
-/// The bits of a key, for the groups that tell of them.
+impl Room for NamedGroup {
+    fn room(i: &[u8]) -> usize
+        ensures { result ≤ length i.now }
+    {
+        i.len() / 2
+    }
+}
+
+/// The length of a key, in bits, for the groups that have one here.
 const KEY_BITS: [(u16, u16); 29] = [
     (NamedGroup::Sect163k1.0, 163),
     (NamedGroup::Sect163r1.0, 163),

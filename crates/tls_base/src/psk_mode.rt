@@ -1,18 +1,21 @@
+//! How a pre-shared key may be used.
 ghost use Rattle.tls_fields.specs.Layout.{number};
 ghost use Rattle.tls_fields.specs.Answers.{Gives};
 
 use tls_fields::{IResult, number1};
 
-/// How a pre-shared key may be used: the PskKeyExchangeMode of RFC 8446, 4.2.9.
+/// How a pre-shared key may be used: the PskKeyExchangeMode of RFC 8446, section 4.2.9.
 #[derive(Clone, Copy, Debug, PartialEq, Eq)]
 pub struct PskKeyExchangeMode(pub u8);
 
 impl PskKeyExchangeMode {
+    /// The key alone.
     pub const Psk: PskKeyExchangeMode = PskKeyExchangeMode(0);
 
+    /// The key together with a Diffie-Hellman key exchange.
     pub const PskDhe: PskKeyExchangeMode = PskKeyExchangeMode(1);
 
-    /// Reads one byte. Refused as `Incomplete(1)` where there is none.
+    /// Reads 1 byte. `Incomplete(1)` where there is none.
     pub fn parse(i: &[u8]) -> IResult<&[u8], Self>
         ensures { Gives (λ v. v.0) (number 1) i.now result }
     {

@@ -1,3 +1,4 @@
+//! Types of records.
 ghost use Rattle.std.specs.Prelude.{Some, codes, ◌≡◌};
 ghost use Rattle.tls_fields.specs.Layout.{number};
 ghost use Rattle.tls_fields.specs.Answers.{Gives};
@@ -8,7 +9,7 @@ use crate::name::{names, write_name};
 use std::fmt;
 use tls_fields::{IResult, number1};
 
-/// What a record carries: the ContentType of RFC 5246, 6.2.1.
+/// What a record carries: the ContentType of RFC 5246, section 6.2.1, with Heartbeat (RFC 6520, section 6).
 #[derive(Clone, Copy, Debug, PartialEq, Eq)]
 pub struct TlsRecordType(pub u8);
 
@@ -23,7 +24,7 @@ impl TlsRecordType {
 
     pub const Heartbeat: TlsRecordType = TlsRecordType(24);
 
-    /// Reads one byte. Refused as `Incomplete(1)` where there is none.
+    /// Reads 1 byte. `Incomplete(1)` where there is none.
     pub fn parse(i: &[u8]) -> IResult<&[u8], Self>
         ensures { Gives (λ v. v.0) (number 1) i.now result }
     {

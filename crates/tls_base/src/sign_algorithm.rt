@@ -1,3 +1,4 @@
+//! Algorithms that sign.
 ghost use Rattle.std.specs.Prelude.{Some, codes};
 ghost use Rattle.tls_fields.specs.Layout.{number};
 ghost use Rattle.tls_fields.specs.Answers.{Gives};
@@ -8,11 +9,13 @@ use crate::name::{names, write_name};
 use std::fmt;
 use tls_fields::{IResult, number1};
 
-/// A way to sign: the SignatureAlgorithm of RFC 5246, 7.4.1.4.1.
+/// An algorithm that signs: the SignatureAlgorithm of RFC 5246, section 7.4.1.4.1, with those of RFC 8422, section
+/// 5.1.3.
 #[derive(Clone, Debug, PartialEq, Eq, Drop)]
 pub struct SignAlgorithm(pub u8);
 
 impl SignAlgorithm {
+    /// No signature.
     pub const Anonymous: SignAlgorithm = SignAlgorithm(0);
 
     pub const Rsa: SignAlgorithm = SignAlgorithm(1);
@@ -25,7 +28,7 @@ impl SignAlgorithm {
 
     pub const Ed448: SignAlgorithm = SignAlgorithm(8);
 
-    /// Reads one byte. Refused as `Incomplete(1)` where there is none.
+    /// Reads 1 byte. `Incomplete(1)` where there is none.
     pub fn parse(i: &[u8]) -> IResult<&[u8], Self>
         ensures { Gives (λ v. v.0) (number 1) i.now result }
     {

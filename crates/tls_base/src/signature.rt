@@ -1,4 +1,6 @@
-//! Signatures, and what they are made with.
+//! Signatures, and the algorithms that make them.
+#![tactic(auto, using(tls_fields::proofs::OneAnswerLemmas::read_allowed), unfolding(crate::specs::Signature::algorithm, crate::specs::Signature::digitally_signed, crate::specs::Signature::digitally_signed_old, crate::specs::Signature::signature))]
+
 ghost use Rattle.std.specs.Prelude.{Some};
 ghost use Rattle.tls_fields.specs.Answers.{Gives};
 ghost use Rattle.tls_base.specs.Signature.{view_algorithm, algorithm, algorithm_text, view_signed, digitally_signed, digitally_signed_old, signature, GivesSignature};
@@ -8,7 +10,7 @@ use crate::sign_algorithm::SignAlgorithm;
 use std::fmt;
 use tls_fields::{IResult, counted2};
 
-/// How a signature is made, in the older way (RFC 5246, section 7.4.1.4.1).
+/// How a signature is made: the pair of TLS 1.2 (RFC 5246, section 7.4.1.4.1).
 #[derive(Clone, Debug, PartialEq, Drop)]
 pub struct SignatureAndHashAlgorithm {
     /// The hash that is signed.
@@ -18,10 +20,9 @@ pub struct SignatureAndHashAlgorithm {
 }
 
 impl SignatureAndHashAlgorithm {
-    /// Reads 1 byte, the hash, and 1 byte, the way to sign.
+    /// Reads 1 byte, the hash, and 1 byte, the algorithm that signs.
     ///
-    /// `Incomplete(1)` where one of them lacks.
-    #[tactic(auto, using(tls_fields::proofs::OneAnswer::read_allowed), unfolding(crate::specs::Signature::algorithm))]
+    /// `Incomplete(1)` where either is missing.
     pub fn parse(i: &[u8]) -> IResult<&[u8], Self>
         ensures { Gives view_algorithm algorithm i.now result }
     {
@@ -48,11 +49,10 @@ pub struct DigitallySigned<'a> {
     pub bytes: &'a [u8],
 }
 
-/// Reads a signature in the form of the versions before TLS 1.2 (RFC 4346, section 4.7): a block behind 2 bytes of
+/// Reads a signature in the form of the versions before TLS 1.2 (RFC 4346, section 4.7): a block after 2 bytes of
 /// length, big-endian.
 ///
-/// `Incomplete` of the missing bytes of the length, or else of the block.
-#[tactic(auto, using(tls_fields::proofs::OneAnswer::read_allowed), unfolding(crate::specs::Signature::digitally_signed_old))]
+/// `Incomplete` of the bytes that are missing of the length, or else of the block.
 pub fn parse_digitally_signed_old(i: &[u8]) -> IResult<&[u8], DigitallySigned>
     ensures { Gives view_signed digitally_signed_old i.now result }
 {
@@ -60,11 +60,10 @@ pub fn parse_digitally_signed_old(i: &[u8]) -> IResult<&[u8], DigitallySigned>
     Ok((i, DigitallySigned { alg: None, bytes }))
 }
 
-/// Reads a signature (RFC 5246, section 4.7): 1 byte of hash, 1 byte of the way to sign, and a block behind 2 bytes of
-/// length, big-endian.
+/// Reads a signature (RFC 5246, section 4.7): 1 byte, the hash, 1 byte, the algorithm that signs, and a block after 2
+/// bytes of length, big-endian.
 ///
-/// `Incomplete` of the missing bytes of the first part that isn't whole.
-#[tactic(auto, using(tls_fields::proofs::OneAnswer::read_allowed), unfolding(crate::specs::Signature::digitally_signed))]
+/// `Incomplete` of the bytes that are missing of the first part that isn't whole.
 pub fn parse_digitally_signed(i: &[u8]) -> IResult<&[u8], DigitallySigned>
     ensures { Gives view_signed digitally_signed i.now result }
 {
@@ -78,7 +77,6 @@ pub fn parse_digitally_signed(i: &[u8]) -> IResult<&[u8], DigitallySigned>
 }
 
 /// A signature, as [`parse_digitally_signed`] where `ext`, else as [`parse_digitally_signed_old`].
-#[tactic(auto, using(tls_fields::proofs::OneAnswer::read_allowed), unfolding(crate::specs::Signature::signature))]
 fn either_signature(i: &[u8], ext: bool) -> IResult<&[u8], DigitallySigned>
     ensures { Gives view_signed (signature ext) i.now result }
 {
@@ -92,7 +90,7 @@ fn either_signature(i: &[u8], ext: bool) -> IResult<&[u8], DigitallySigned>
 /// Reads with `fun`, and then a signature from what `fun` leaves: as [`parse_digitally_signed`] where `ext`, else as
 /// [`parse_digitally_signed_old`].
 ///
-/// A refusal of `fun`, whatever it is, is the answer; then it refuses as the signature does.
+/// Where `fun` refuses, its answer is passed on, whatever it is; else it is refused as the signature is.
 pub fn parse_content_and_signature<'a, F, T>(
     i: &'a [u8],
     fun: F,

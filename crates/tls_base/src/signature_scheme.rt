@@ -1,3 +1,4 @@
+//! Signature schemes.
 ghost use Rattle.std.specs.Prelude.{Some, codes, ◌≡◌, ◌≤◌, ◌↔◌, ◌/◌, ◌%◌, IsTrue};
 ghost use Rattle.tls_fields.specs.Layout.{number};
 ghost use Rattle.tls_fields.specs.Answers.{Gives};
@@ -8,7 +9,8 @@ use crate::name::{names, write_name};
 use std::fmt;
 use tls_fields::{IResult, number2};
 
-/// How a signature is made: the SignatureScheme of RFC 8446, 4.2.3, its two bytes as one number.
+/// How a signature is made: the SignatureScheme of RFC 8446, section 4.2.3, its two bytes as one number, big-endian,
+/// with those of RFC 8734 and RFC 8998.
 #[derive(Debug, PartialEq, Eq, Drop)]
 pub struct SignatureScheme(pub u16);
 
@@ -29,6 +31,7 @@ impl SignatureScheme {
 
     pub const ecdsa_sha1: SignatureScheme = SignatureScheme(0x0203);
 
+    /// Of RFC 8998.
     pub const sm2sig_sm3: SignatureScheme = SignatureScheme(0x0708);
 
     pub const rsa_pss_rsae_sha256: SignatureScheme = SignatureScheme(0x0804);
@@ -47,34 +50,36 @@ impl SignatureScheme {
 
     pub const rsa_pss_pss_sha512: SignatureScheme = SignatureScheme(0x080b);
 
+    /// Of RFC 8734, as the next two.
     pub const ecdsa_brainpoolP256r1tls13_sha256: SignatureScheme = SignatureScheme(0x081a);
 
     pub const ecdsa_brainpoolP384r1tls13_sha384: SignatureScheme = SignatureScheme(0x081b);
 
     pub const ecdsa_brainpoolP512r1tls13_sha512: SignatureScheme = SignatureScheme(0x081c);
 
-    /// Whether the number is one of 0xfe00 to 0xfeff, which are kept for private use.
+    /// Whether the number is one of 0xfe00 to 0xfeff. RFC 8446, section 4.2.3, keeps 0xfe00 to 0xffff for private use:
+    /// of these, 0xff00 to 0xffff aren't reserved by this call.
     pub fn is_reserved(&self) -> bool
         ensures { IsTrue result ↔ ((0xfe00 ≤ self.now.0) × (self.now.0 ≤ 0xfeff)) }
     {
         0xfe00 <= self.0 && self.0 <= 0xfeff
     }
 
-    /// The first of the two bytes, which is a [`crate::HashAlgorithm`] where a signature is named in the older way.
+    /// The first of the two bytes: a [`crate::HashAlgorithm`] where the number is a pair of TLS 1.2.
     pub fn hash_alg(&self) -> u8
         ensures { result ≡ self.now.0 / 256 }
     {
         (self.0 >> 8) as u8
     }
 
-    /// The second of the two bytes, which is a [`crate::SignAlgorithm`] where a signature is named in the older way.
+    /// The second of the two bytes: a [`crate::SignAlgorithm`] where the number is a pair of TLS 1.2.
     pub fn sign_alg(&self) -> u8
         ensures { result ≡ self.now.0 % 256 }
     {
         (self.0 & 0xff) as u8
     }
 
-    /// Reads two bytes, big-endian. Refused as `Incomplete` of the count that is missing, 2 or 1.
+    /// Reads 2 bytes, big-endian. `Incomplete` of the bytes that are missing, 2 or 1.
     pub fn parse(i: &[u8]) -> IResult<&[u8], Self>
         ensures { Gives (λ v. v.0) (number 2) i.now result }
     {

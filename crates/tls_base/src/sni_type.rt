@@ -1,3 +1,4 @@
+//! Types of server names.
 ghost use Rattle.std.specs.Prelude.{Some, codes};
 ghost use Rattle.tls_fields.specs.Layout.{number};
 ghost use Rattle.tls_fields.specs.Answers.{Gives};
@@ -8,14 +9,14 @@ use crate::name::{names, write_name};
 use std::fmt;
 use tls_fields::{IResult, number1};
 
-/// What a server name is: the NameType of RFC 6066, 3.
+/// What a server name is: the NameType of RFC 6066, section 3.
 #[derive(Clone, Copy, Debug, PartialEq, Eq)]
 pub struct SNIType(pub u8);
 
 impl SNIType {
     pub const HostName: SNIType = SNIType(0);
 
-    /// Reads one byte. Refused as `Incomplete(1)` where there is none.
+    /// Reads 1 byte. `Incomplete(1)` where there is none.
     pub fn parse(i: &[u8]) -> IResult<&[u8], Self>
         ensures { Gives (λ v. v.0) (number 1) i.now result }
     {

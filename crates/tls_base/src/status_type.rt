@@ -1,3 +1,4 @@
+//! Types of certificate statuses.
 ghost use Rattle.std.specs.Prelude.{Some, codes};
 ghost use Rattle.tls_fields.specs.Layout.{number};
 ghost use Rattle.tls_fields.specs.Answers.{Gives};
@@ -8,14 +9,14 @@ use crate::name::{names, write_name};
 use std::fmt;
 use tls_fields::{IResult, number1};
 
-/// What a certificate status is: the CertificateStatusType of RFC 6066, 8.
+/// What a certificate status is: the CertificateStatusType of RFC 6066, section 8.
 #[derive(Clone, Copy, Debug, PartialEq, Eq)]
 pub struct CertificateStatusType(pub u8);
 
 impl CertificateStatusType {
     pub const OCSP: CertificateStatusType = CertificateStatusType(1);
 
-    /// Reads one byte. Refused as `Incomplete(1)` where there is none.
+    /// Reads 1 byte. `Incomplete(1)` where there is none.
     pub fn parse(i: &[u8]) -> IResult<&[u8], Self>
         ensures { Gives (λ v. v.0) (number 1) i.now result }
     {

@@ -1,4 +1,4 @@
-//! Signed certificate timestamps, by which a log tells that it knows a certificate (RFC 6962).
+//! Signed certificate timestamps, by which a log says that it knows a certificate (RFC 6962).
 ghost use Rattle.std.specs.Prelude.{map};
 ghost use Rattle.tls_fields.specs.Answers.{Gives, GivesOrMemory};
 ghost use Rattle.tls_base.specs.Timestamp.{SignedCertificateTimestamp as Timestamp, view_log_id, log_id as log_id_layout, view_timestamp, timestamp as timestamp_layout, serialized_timestamp, timestamp_list};
@@ -6,7 +6,7 @@ ghost use Rattle.tls_base.specs.Timestamp.{SignedCertificateTimestamp as Timesta
 use crate::ct_version::CtVersion;
 use crate::signature::{DigitallySigned, parse_digitally_signed};
 use std::alloc::Global;
-use tls_fields::{Err, IResult, Item, Needed, block, counted2, items, number2, number8};
+use tls_fields::{Err, IResult, Item, Needed, Room, block, counted2, items, number2, number8};
 
 /// Which log signed: the hash of its key (RFC 6962, section 3.2).
 #[derive(Clone, Debug, PartialEq, Drop)]
@@ -22,7 +22,7 @@ pub struct CtExtensions<'a>(pub &'a [u8]);
 /// A signed certificate timestamp (RFC 6962, section 3.2).
 #[derive(Clone, Debug, PartialEq, Drop)]
 pub struct SignedCertificateTimestamp<'a> {
-    /// The version of the protocol that the timestamp is of.
+    /// The version of the protocol in which the timestamp is written.
     pub version: CtVersion,
     /// Which log signed.
     pub id: CtLogID<'a>,
@@ -35,7 +35,7 @@ pub struct SignedCertificateTimestamp<'a> {
 }
 
 /// 32 bytes.
-#[tactic(auto, using(tls_fields::proofs::OneAnswer::read_allowed), unfolding(tls_fields::specs::Reading::split_at))]
+#[tactic(auto, using(tls_fields::proofs::OneAnswerLemmas::read_allowed), unfolding(tls_fields::specs::Reading::split_at))]
 fn log_id(i: &[u8]) -> IResult<&[u8], CtLogID>
     ensures { Gives view_log_id log_id_layout i.now result }
 {
@@ -45,8 +45,8 @@ fn log_id(i: &[u8]) -> IResult<&[u8], CtLogID>
     }
 }
 
-/// A timestamp, without the length that stands in front of it.
-#[tactic(auto, using(tls_fields::proofs::OneAnswer::read_allowed), unfolding(crate::specs::Timestamp::timestamp))]
+/// A timestamp, without the length before it.
+#[tactic(auto, using(tls_fields::proofs::OneAnswerLemmas::read_allowed), unfolding(crate::specs::Timestamp::timestamp))]
 fn timestamp(i: &[u8]) -> IResult<&[u8], SignedCertificateTimestamp>
     ensures { Gives view_timestamp timestamp_layout i.now result }
 {
@@ -66,10 +66,10 @@ fn timestamp(i: &[u8]) -> IResult<&[u8], SignedCertificateTimestamp>
 }
 
 /// Reads a timestamp (RFC 6962, section 3.3): 2 bytes of length, and within so many bytes 1 byte of version, 32 of log,
-/// 8 of time, extensions behind 2 bytes of length, and a signature as [`parse_digitally_signed`]. What these leave of the
-/// bytes is dropped. All numbers are big-endian.
+/// 8 of time, extensions after 2 bytes of length, and a signature as [`parse_digitally_signed`]. What these leave of
+/// the bytes is dropped. All numbers are big-endian.
 ///
-/// `Incomplete` of the missing bytes of the first part that isn't whole, also of one within the length.
+/// `Incomplete` of the bytes that are missing of the first part that isn't whole, also of one within the length.
 pub fn parse_ct_signed_certificate_timestamp(i: &[u8]) -> IResult<&[u8], SignedCertificateTimestamp>
     ensures { Gives view_timestamp serialized_timestamp i.now result }
 {
@@ -93,10 +93,13 @@ impl<'a> Item<'a> for SignedCertificateTimestamp<'a> {
     }
 }
 
-/// Reads timestamps (RFC 6962, section 3.3): 2 bytes of length, big-endian, and within so many bytes timestamps up to the
-/// first that isn't read. What is left of the bytes is dropped.
+impl Room for SignedCertificateTimestamp<'_> {}
+
+/// Reads timestamps (RFC 6962, section 3.3): 2 bytes of length, big-endian, and within so many bytes timestamps up to
+/// the first that isn't read. What is left of the bytes is dropped.
 ///
-/// `Incomplete` of the missing bytes of the length, or of so many bytes. `OutOfMemory` where the list could not be held.
+/// `Incomplete` of the bytes that are missing of the length, or of so many bytes. `OutOfMemory` where there is no
+/// memory for the list.
 pub fn parse_ct_signed_certificate_timestamp_list(
     alloc: Global,
     i: &[u8],

@@ -1,4 +1,5 @@
-ghost use Rattle.std.specs.Prelude.{ℕ, Some, codes, ◌≡◌, IfOk, string_bytes};
+//! Versions of TLS and DTLS.
+ghost use Rattle.std.specs.Prelude.{ℕ, Some, codes, ◌≡◌, IfOk, string_bytes, ◌≤◌, length};
 ghost use Rattle.tls_fields.specs.Layout.{number};
 ghost use Rattle.tls_fields.specs.Answers.{Gives};
 ghost use Rattle.tls_base.specs.Names.{name, hexadecimal};
@@ -8,11 +9,13 @@ ghost use Rattle.tls_fields.specs.Bytes.{bytes_of};
 use crate::name::{names, write_name};
 use std::alloc::Global;
 use std::fmt;
-use tls_fields::{IResult, Item, OutOfMemory, number2};
+use tls_fields::{IResult, Item, OutOfMemory, Room, number2};
 
-/// A version of TLS or DTLS: the ProtocolVersion of RFC 5246, 6.2.1, its two bytes as one number.
+/// A version of TLS or DTLS: the ProtocolVersion of RFC 5246, section 6.2.1, its two bytes as one number, big-endian.
 ///
-/// Only the version in a hello message tells what is spoken; that of a record may be an older one.
+/// The version of a record may be an older one than that which is spoken. Up to TLS 1.2 this is the version of the
+/// ServerHello; in TLS 1.3 both hellos say 0x0303, and it stands in their extension supported_versions (RFC 8446,
+/// section 4.2.1).
 #[derive(Clone, Copy, Debug, Default, PartialEq, Eq)]
 pub struct TlsVersion(pub u16);
 
@@ -27,6 +30,7 @@ impl TlsVersion {
 
     pub const Tls13: TlsVersion = TlsVersion(0x0304);
 
+    /// The 18th draft of TLS 1.3; the next five are later drafts.
     pub const Tls13Draft18: TlsVersion = TlsVersion(0x7f12);
 
     pub const Tls13Draft19: TlsVersion = TlsVersion(0x7f13);
@@ -41,20 +45,21 @@ impl TlsVersion {
 
     pub const DTls10: TlsVersion = TlsVersion(0xfeff);
 
+    /// There is no such version (RFC 6347, section 1); its number is that which DTLS 1.1 would have.
     pub const DTls11: TlsVersion = TlsVersion(0xfefe);
 
     pub const DTls12: TlsVersion = TlsVersion(0xfefd);
 
     /// The two bytes of the number, big-endian.
-    pub fn to_be_bytes(&self) -> [u8; 2]
+    pub const fn to_be_bytes(&self) -> [u8; 2]
         ensures { result ≡ bytes_of 2 self.now.0 }
     {
         self.0.to_be_bytes()
     }
 
-    /// The number in lower hexadecimal, without a prefix and without zeros in front.
+    /// The number in lower-case hexadecimal, without a prefix and without leading zeros.
     ///
-    /// It refuses for memory alone.
+    /// Refused only where memory runs out.
     pub fn lower_hex(&self, alloc: Global) -> Result<String, OutOfMemory>
         ensures { IfOk result (λ s. string_bytes s ≡ hexadecimal self.now.0) }
     {
@@ -62,7 +67,7 @@ impl TlsVersion {
         Ok(format!(in alloc; "{n:x}")?)
     }
 
-    /// Reads two bytes, big-endian. Refused as `Incomplete` of the count that is missing, 2 or 1.
+    /// Reads 2 bytes, big-endian. `Incomplete` of the bytes that are missing, 2 or 1.
     pub fn parse(i: &[u8]) -> IResult<&[u8], Self>
         ensures { Gives (λ v. v.0) (number 2) i.now result }
     {
@@ -82,6 +87,14 @@ impl<'a> Item<'a> for TlsVersion {
 
     fn read(_alloc: Global, i: &'a [u8]) -> IResult<&'a [u8], Self> {
         TlsVersion::parse(i)
+    }
+}
+
+impl Room for TlsVersion {
+    fn room(i: &[u8]) -> usize
+        ensures { result ≤ length i.now }
+    {
+        i.len() / 2
     }
 }
 

@@ -1,2 +1,4 @@
-pub mod Table
-pub mod Windows
+pub mod TableLemmas
+pub mod WindowLemmas
+pub mod ExtensionTextLemmas
+pub mod WritingLemmas

@@ -1,19 +1,33 @@
--- The content of each kind of extension: what stands behind its type and its length.
+-- The content of each kind of extension: what stands after its type and its length.
+--
+-- The lower bounds of the RFCs' types, as the 1 of `opaque HostName<1..2^16-1>`, aren't tested, here or anywhere: a block
+-- or a list may be empty.
 use Rattle.std.specs.Prelude.{Some, None, ◌==◌, [], ◌∷◌}
 use Rattle.tls_fields.specs.Bytes.{Bytes}
-use Rattle.tls_fields.specs.Layout.{Layout, done, number, ignored, left, list, maybe, ◌>>=◌, ◌>>◌, test, choose, rest, counted, counted_window, pairs}
+use Rattle.tls_fields.specs.Layout.{Layout, done, number, ignored, left, list, maybe, ◌>>=◌, ◌>>◌, mapped, test, choose, rest, counted, counted_window, pairs}
 use Rattle.tls_fields.specs.declared.result.ErrorKind.TheVariants.{Verify}
 use Rattle.tls_ext.specs.Extension as ext
 use Rattle.tls_ext.specs.Extension.{Extension, ServerName, StatusRequest, OidFilter}
 
--- NameType name_type; opaque HostName<1..2^16-1> (RFC 6066, section 3). The type may be any, and the name empty.
+-- All bytes that are left are the value of that kind.
+abbrev pub opaque_content : (Bytes → Extension) → Layout Extension
+opaque_content kind = mapped kind rest
+
+-- The content of an extension that says all by being there: empty.
+abbrev pub empty_content : Extension → Layout Extension
+empty_content kind = do
+  n ← left
+  test (n == 0) Verify
+  done kind
+
+-- NameType name_type; opaque HostName<1..2^16-1> (RFC 6066, section 3). The type may be any.
 unfoldable pub server_name : Layout ServerName
 server_name = do
   kind ← number 1
   name ← counted 2
   done (record { name_type = kind; name = name })
 
--- ServerName server_name_list<1..2^16-1> (RFC 6066, section 3); no bytes where a server answers.
+-- ServerName server_name_list<1..2^16-1> (RFC 6066, section 3); empty where a server answers.
 unfoldable pub server_names : Layout Extension
 server_names = do
   n ← left
@@ -22,11 +36,10 @@ server_names = do
 
 -- enum MaxFragmentLength, of 1 byte (RFC 6066, section 4).
 unfoldable pub max_fragment_length : Layout Extension
-max_fragment_length = do
-  code ← number 1
-  done (ext.max_fragment_length code)
+max_fragment_length = mapped ext.max_fragment_length (number 1)
 
--- CertificateStatusType status_type, and what it says of itself; no bytes where a server answers (RFC 6066, section 8).
+-- CertificateStatusType status_type, and the request of that type, undivided; empty where a server answers (RFC 6066,
+-- section 8).
 unfoldable pub status_request : Layout Extension
 status_request = do
   n ← left
@@ -37,70 +50,44 @@ status_request = do
 
 -- NamedGroup named_group_list<2..2^16-1> (RFC 8446, section 4.2.7).
 unfoldable pub supported_groups : Layout Extension
-supported_groups = do
-  groups ← counted_window 2 pairs
-  done (ext.supported_groups groups)
+supported_groups = mapped ext.supported_groups (counted_window 2 pairs)
 
 -- ECPointFormat ec_point_format_list<1..2^8-1> (RFC 8422, section 5.1.2).
 unfoldable pub ec_point_formats : Layout Extension
-ec_point_formats = do
-  formats ← counted 1
-  done (ext.ec_point_formats formats)
+ec_point_formats = mapped ext.ec_point_formats (counted 1)
 
--- SignatureScheme supported_signature_algorithms<2..2^16-2> (RFC 8446, section 4.2.3).
+-- SignatureScheme supported_signature_algorithms<2..2^16-2> (RFC 8446, section 4.2.3). An odd byte at their end is
+-- dropped.
 unfoldable pub signature_algorithms : Layout Extension
-signature_algorithms = do
-  algorithms ← counted_window 2 (list (number 2))
-  done (ext.signature_algorithms algorithms)
+signature_algorithms = mapped ext.signature_algorithms (counted_window 2 (list (number 2)))
 
 -- HeartbeatMode mode, of 1 byte (RFC 6520, section 2).
 unfoldable pub heartbeat : Layout Extension
-heartbeat = do
-  mode ← number 1
-  done (ext.heartbeat mode)
+heartbeat = mapped ext.heartbeat (number 1)
 
 -- ProtocolName protocol_name_list<2..2^16-1>, each an opaque<1..2^8-1> (RFC 7301, section 3.1).
 unfoldable pub application_layer_protocol_negotiation : Layout Extension
-application_layer_protocol_negotiation = do
-  names ← counted_window 2 (list (counted 1))
-  done (ext.application_layer_protocol_negotiation names)
+application_layer_protocol_negotiation = mapped ext.application_layer_protocol_negotiation (counted_window 2 (list (counted 1)))
 
--- A SignedCertificateTimestampList, as it stands behind its length (RFC 6962, section 3.3.1); none where a client asks.
+-- A SignedCertificateTimestampList, undivided, after its length (RFC 6962, section 3.3.1); none where a client asks.
 unfoldable pub signed_certificate_timestamp : Layout Extension
-signed_certificate_timestamp = do
-  timestamps ← maybe (counted 2)
-  done (ext.signed_certificate_timestamp timestamps)
+signed_certificate_timestamp = mapped ext.signed_certificate_timestamp (maybe (counted 2))
 
--- All bytes that are left are the value of that kind.
-abbrev pub opaque_content : (Bytes → Extension) → Layout Extension
-opaque_content kind = do
-  bytes ← rest
-  done (kind bytes)
-
--- The content of an extension that says all by being there: no bytes.
-abbrev pub empty_content : Extension → Layout Extension
-empty_content kind = do
-  n ← left
-  test (n == 0) Verify
-  done kind
-
--- Zeros, of any number (RFC 7685, section 3); no call tests that they are zeros.
+-- Padding of any length (RFC 7685, section 3), of which it isn't tested that it is all zeros.
 unfoldable pub padding : Layout Extension
 padding = opaque_content ext.padding
 
--- RFC 7366, section 2.
+-- Encryption before the MAC (RFC 7366, section 2).
 unfoldable pub encrypt_then_mac : Layout Extension
 encrypt_then_mac = empty_content ext.encrypt_then_mac
 
--- RFC 7627, section 5.1.
+-- The extended master secret (RFC 7627, section 5.1).
 unfoldable pub extended_master_secret : Layout Extension
 extended_master_secret = empty_content ext.extended_master_secret
 
 -- uint16 RecordSizeLimit (RFC 8449, section 4).
 unfoldable pub record_size_limit : Layout Extension
-record_size_limit = do
-  limit ← number 2
-  done (ext.record_size_limit limit)
+record_size_limit = mapped ext.record_size_limit (number 2)
 
 -- A ticket, with no length of its own (RFC 5077, section 3.2).
 unfoldable pub session_ticket : Layout Extension
@@ -114,27 +101,22 @@ key_share_old = opaque_content ext.key_share_old
 unfoldable pub pre_shared_key : Layout Extension
 pre_shared_key = opaque_content ext.pre_shared_key
 
--- uint32 max_early_data_size in a NewSessionTicket, else no bytes (RFC 8446, section 4.2.10).
+-- uint32 max_early_data_size in a NewSessionTicket, else empty (RFC 8446, section 4.2.10).
 unfoldable pub early_data : Layout Extension
 early_data = do
   n ← left
-  choose (n == 0) (done (ext.early_data None)) (do
-    size ← number 4
-    done (ext.early_data (Some size)))
+  choose (n == 0) (done (ext.early_data None)) (mapped (λ size. ext.early_data (Some size)) (number 4))
 
 -- ProtocolVersion selected_version, of 2 bytes; else ProtocolVersion versions<2..254> (RFC 8446, section 4.2.1), whose
--- length is not tested.
+-- length isn't tested. In TLS 1.3 the version that is spoken is the one selected here: the hellos have that of TLS 1.2.
 unfoldable pub supported_versions : Layout Extension
 supported_versions = do
   n ← left
   choose (n == 2)
-      (do
-        version ← number 2
-        done (ext.supported_versions (version ∷ [])))
+      (mapped (λ version. ext.supported_versions (version ∷ [])) (number 2))
       (do
         ignored 1
-        versions ← pairs
-        done (ext.supported_versions versions))
+        mapped ext.supported_versions pairs)
 
 -- Cookie, undivided (RFC 8446, section 4.2.2).
 unfoldable pub cookie : Layout Extension
@@ -142,9 +124,7 @@ cookie = opaque_content ext.cookie
 
 -- PskKeyExchangeMode ke_modes<1..255> (RFC 8446, section 4.2.9).
 unfoldable pub psk_key_exchange_modes : Layout Extension
-psk_key_exchange_modes = do
-  modes ← counted 1
-  done (ext.psk_key_exchange_modes modes)
+psk_key_exchange_modes = mapped ext.psk_key_exchange_modes (counted 1)
 
 -- opaque certificate_extension_oid<1..2^8-1>; opaque certificate_extension_values<0..2^16-1> (RFC 8446, section 4.2.5).
 unfoldable pub oid_filter : Layout OidFilter
@@ -155,11 +135,9 @@ oid_filter = do
 
 -- OIDFilter filters<0..2^16-1> (RFC 8446, section 4.2.5).
 unfoldable pub oid_filters : Layout Extension
-oid_filters = do
-  filters ← counted_window 2 (list oid_filter)
-  done (ext.oid_filters filters)
+oid_filters = mapped ext.oid_filters (counted_window 2 (list oid_filter))
 
--- RFC 8446, section 4.2.6.
+-- Authentication after the handshake (RFC 8446, section 4.2.6).
 unfoldable pub post_handshake_auth : Layout Extension
 post_handshake_auth = empty_content ext.post_handshake_auth
 
@@ -167,15 +145,13 @@ post_handshake_auth = empty_content ext.post_handshake_auth
 unfoldable pub key_share : Layout Extension
 key_share = opaque_content ext.key_share
 
--- The draft for next protocol negotiation (draft-agl-tls-nextprotoneg-04, section 3).
+-- Next protocol negotiation (draft-agl-tls-nextprotoneg-04, section 3), as a client sends it: empty.
 unfoldable pub next_protocol_negotiation : Layout Extension
 next_protocol_negotiation = empty_content ext.next_protocol_negotiation
 
 -- opaque renegotiated_connection<0..255> (RFC 5746, section 3.2).
 unfoldable pub renegotiation_info : Layout Extension
-renegotiation_info = do
-  bytes ← counted 1
-  done (ext.renegotiation_info bytes)
+renegotiation_info = mapped ext.renegotiation_info (counted 1)
 
 -- CipherSuite suite; KeyShareEntry key_share; opaque record_digest<0..2^16-1>; opaque encrypted_sni<0..2^16-1>
 -- (draft-ietf-tls-esni-02, section 5).

@@ -1,5 +1,7 @@
--- Which content stands behind which type, for each side that reads (RFC 8446, section 4.2).
+-- Which content an extension of each type has, for each side that reads (RFC 8446, section 4.2). This table is written
+-- apart from that of the code: the two are proved to say the same.
 use Rattle.std.specs.Prelude.{ℕ, List, Bool, true, false, bit_and, ◌==◌, ◌&&◌}
+use Rattle.tls_base.specs.ExtensionNumbers as extension_number
 use Rattle.tls_fields.specs.Layout.{Layout, number, list, ◌>>=◌, choose, counted_window}
 use Rattle.tls_ext.specs.Extension as ext
 use Rattle.tls_ext.specs.Extension.{Extension}
@@ -7,24 +9,25 @@ use Rattle.tls_ext.specs.Content.{opaque_content, server_names, max_fragment_len
 use Rattle.tls_ext.specs.declared.kind.Side.{Side}
 use Rattle.tls_ext.specs.declared.kind.Side.TheVariants.{General, Client, Server}
 
--- Which sides read a kind: G that of any message, C that of a ClientHello, S that of a ServerHello.
-abbrev pub GCS : Side → Bool
-GCS side = true
+-- Which sides read a kind: the general one reads any message, the client's a ClientHello, the server's a ServerHello.
+abbrev pub all_sides : Side → Bool
+all_sides side = true
 
-abbrev pub GC : Side → Bool
-GC General = true
-GC Client = true
-GC Server = false
+abbrev pub not_server : Side → Bool
+not_server General = true
+not_server Client = true
+not_server Server = false
 
-abbrev pub G : Side → Bool
-G General = true
-G Client = false
-G Server = false
+abbrev pub general_only : Side → Bool
+general_only General = true
+general_only Client = false
+general_only Server = false
 
--- The content for each number at a side, and other numbers behind it.
+-- The content for each number at a side.
 abbrev pub Contents : Type 1
 Contents = Side → ℕ → Layout Extension
 
+-- One number and its content, at these sides; then the others.
 abbrev pub row : ℕ → Layout Extension → (Side → Bool) → Contents → Contents
 row kind content sides others side n = choose (n == kind && sides side) content (others side n)
 
@@ -34,36 +37,36 @@ unknown_content side n = opaque_content (ext.unknown n)
 
 unfoldable pub registered : Contents
 registered =
-    row 0 server_names GCS (
-    row 1 max_fragment_length GCS (
-    row 5 status_request GCS (
-    row 10 supported_groups GC (
-    row 11 ec_point_formats GCS (
-    row 13 signature_algorithms GCS (
-    row 15 heartbeat GCS (
-    row 16 application_layer_protocol_negotiation GCS (
-    row 18 signed_certificate_timestamp GCS (
-    row 21 padding GC (
-    row 22 encrypt_then_mac GCS (
-    row 23 extended_master_secret GCS (
-    row 28 record_size_limit GCS (
-    row 35 session_ticket GCS (
-    row 40 key_share_old G (
-    row 41 pre_shared_key GCS (
-    row 42 early_data GCS (
-    row 43 supported_versions GCS (
-    row 44 cookie GCS (
-    row 45 psk_key_exchange_modes GC (
-    row 48 oid_filters GC (
-    row 49 post_handshake_auth GC (
-    row 51 key_share GCS (
-    row 13172 next_protocol_negotiation GCS (
-    row 0xff01 renegotiation_info GCS (
-    row 0xffce encrypted_server_name GC (
+    row extension_number.server_name server_names all_sides (
+    row extension_number.max_fragment_length max_fragment_length all_sides (
+    row extension_number.status_request status_request all_sides (
+    row extension_number.supported_groups supported_groups not_server (
+    row extension_number.ec_point_formats ec_point_formats all_sides (
+    row extension_number.signature_algorithms signature_algorithms all_sides (
+    row extension_number.heartbeat heartbeat all_sides (
+    row extension_number.application_layer_protocol_negotiation application_layer_protocol_negotiation all_sides (
+    row extension_number.signed_certificate_timestamp signed_certificate_timestamp all_sides (
+    row extension_number.padding padding not_server (
+    row extension_number.encrypt_then_mac encrypt_then_mac all_sides (
+    row extension_number.extended_master_secret extended_master_secret all_sides (
+    row extension_number.record_size_limit record_size_limit all_sides (
+    row extension_number.session_ticket session_ticket all_sides (
+    row extension_number.key_share_old key_share_old general_only (
+    row extension_number.pre_shared_key pre_shared_key all_sides (
+    row extension_number.early_data early_data all_sides (
+    row extension_number.supported_versions supported_versions all_sides (
+    row extension_number.cookie cookie all_sides (
+    row extension_number.psk_key_exchange_modes psk_key_exchange_modes not_server (
+    row extension_number.oid_filters oid_filters not_server (
+    row extension_number.post_handshake_auth post_handshake_auth not_server (
+    row extension_number.key_share key_share all_sides (
+    row extension_number.next_protocol_negotiation next_protocol_negotiation all_sides (
+    row extension_number.renegotiation_info renegotiation_info all_sides (
+    row extension_number.encrypted_server_name encrypted_server_name not_server (
     unknown_content))))))))))))))))))))))))))
 
--- A number that is kept free so that peers ignore what they don't know: each of its bytes ends in the digit a
--- (RFC 8701, section 2, has those with two equal bytes).
+-- A number that is kept free so that peers ignore what they don't know: each of its bytes ends in the hexadecimal digit
+-- a. These are 256 numbers: RFC 8701, section 2, has the sixteen of them whose two bytes are equal.
 abbrev pub is_grease : ℕ → Bool
 is_grease n = bit_and n 0x0f0f == 0x0a0a
 
@@ -81,3 +84,13 @@ extension side = do
 -- Extensions, one after the other, up to the first that isn't read.
 abbrev pub extensions : Side → Layout (List Extension)
 extensions side = list (extension side)
+
+-- Those of any message, of a ClientHello and of a ServerHello: outside this crate the sides have no names.
+abbrev pub general_extensions : Layout (List Extension)
+general_extensions = extensions General
+
+abbrev pub client_extensions : Layout (List Extension)
+client_extensions = extensions Client
+
+abbrev pub server_extensions : Layout (List Extension)
+server_extensions = extensions Server

@@ -3,6 +3,7 @@ use Rattle.std.specs.Prelude.{ℕ, List, map, Option}
 use Rattle.std.specs.Option.{option_map}
 use Rattle.std.specs.Borrow.{Bor}
 use Rattle.tls_fields.specs.Bytes.{Bytes}
+use Rattle.tls_base.specs.ExtensionNumbers as extension_number
 use Rattle.tls_base.specs.declared.sni_type.SNIType.{SNIType}
 use Rattle.tls_base.specs.declared.status_type.CertificateStatusType.{CertificateStatusType}
 use Rattle.tls_ext.specs.declared.extension.OidFilter.{OidFilter as RustOidFilter}
@@ -17,7 +18,7 @@ pub record ServerName : Type 0 where
 abbrev pub view_server_name : SNIType × Bor (List ℕ) → ServerName
 view_server_name n = record { name_type = n.0.0; name = n.1.now }
 
--- A request for a certificate's status: its CertificateStatusType and what stands behind it (RFC 6066, section 8).
+-- A CertificateStatusRequest: its CertificateStatusType and the request, undivided (RFC 6066, section 8).
 pub record StatusRequest : Type 0 where
   pub status_type : ℕ
   pub request : Bytes
@@ -33,7 +34,7 @@ pub record OidFilter : Type 0 where
 abbrev pub view_oid_filter : RustOidFilter → OidFilter
 view_oid_filter f = record { certificate_extension_oid = f.cert_ext_oid.now; certificate_extension_values = f.cert_ext_val.now }
 
--- EncryptedSNI (the draft before encrypted hellos, draft-ietf-tls-esni-02, section 5).
+-- EncryptedSNI, a draft that came before encrypted hellos (draft-ietf-tls-esni-02, section 5).
 pub record EncryptedServerName : Type 0 where
   pub suite : ℕ
   pub key_share_group : ℕ
@@ -69,7 +70,7 @@ pub data Extension : Type 0 where
   next_protocol_negotiation : Extension
   renegotiation_info : Bytes → Extension
   encrypted_server_name : EncryptedServerName → Extension
-  -- a number that is kept free, and the content (RFC 8701, section 2)
+  -- a number that is kept free, and the content
   grease : ℕ → Bytes → Extension
   -- any other number, and the content
   unknown : ℕ → Bytes → Extension
@@ -112,31 +113,31 @@ view (rust.Unknown kind content) = unknown kind.0 content.now
 
 -- The ExtensionType of each kind (RFC 8446, section 4.2); a number that is kept free stands for all of them as 0xfafa.
 abbrev pub extension_type : Extension → ℕ
-extension_type (server_name names) = 0
-extension_type (max_fragment_length code) = 1
-extension_type (status_request request) = 5
-extension_type (supported_groups groups) = 10
-extension_type (ec_point_formats formats) = 11
-extension_type (signature_algorithms algorithms) = 13
-extension_type (heartbeat mode) = 15
-extension_type (application_layer_protocol_negotiation names) = 16
-extension_type (signed_certificate_timestamp timestamps) = 18
-extension_type (padding bytes) = 21
-extension_type encrypt_then_mac = 22
-extension_type extended_master_secret = 23
-extension_type (record_size_limit limit) = 28
-extension_type (session_ticket ticket) = 35
-extension_type (key_share_old shares) = 40
-extension_type (pre_shared_key keys) = 41
-extension_type (early_data size) = 42
-extension_type (supported_versions versions) = 43
-extension_type (cookie bytes) = 44
-extension_type (psk_key_exchange_modes modes) = 45
-extension_type (oid_filters filters) = 48
-extension_type post_handshake_auth = 49
-extension_type (key_share shares) = 51
-extension_type next_protocol_negotiation = 13172
-extension_type (renegotiation_info bytes) = 0xff01
-extension_type (encrypted_server_name name) = 0xffce
+extension_type (server_name names) = extension_number.server_name
+extension_type (max_fragment_length code) = extension_number.max_fragment_length
+extension_type (status_request request) = extension_number.status_request
+extension_type (supported_groups groups) = extension_number.supported_groups
+extension_type (ec_point_formats formats) = extension_number.ec_point_formats
+extension_type (signature_algorithms algorithms) = extension_number.signature_algorithms
+extension_type (heartbeat mode) = extension_number.heartbeat
+extension_type (application_layer_protocol_negotiation names) = extension_number.application_layer_protocol_negotiation
+extension_type (signed_certificate_timestamp timestamps) = extension_number.signed_certificate_timestamp
+extension_type (padding bytes) = extension_number.padding
+extension_type encrypt_then_mac = extension_number.encrypt_then_mac
+extension_type extended_master_secret = extension_number.extended_master_secret
+extension_type (record_size_limit limit) = extension_number.record_size_limit
+extension_type (session_ticket ticket) = extension_number.session_ticket
+extension_type (key_share_old shares) = extension_number.key_share_old
+extension_type (pre_shared_key keys) = extension_number.pre_shared_key
+extension_type (early_data size) = extension_number.early_data
+extension_type (supported_versions versions) = extension_number.supported_versions
+extension_type (cookie bytes) = extension_number.cookie
+extension_type (psk_key_exchange_modes modes) = extension_number.psk_key_exchange_modes
+extension_type (oid_filters filters) = extension_number.oid_filters
+extension_type post_handshake_auth = extension_number.post_handshake_auth
+extension_type (key_share shares) = extension_number.key_share
+extension_type next_protocol_negotiation = extension_number.next_protocol_negotiation
+extension_type (renegotiation_info bytes) = extension_number.renegotiation_info
+extension_type (encrypted_server_name name) = extension_number.encrypted_server_name
 extension_type (grease number content) = 0xfafa
 extension_type (unknown number content) = number

@@ -1,5 +1,5 @@
 -- The kinds that the table of numbers names, and what each reads.
-use Rattle.std.specs.Prelude.{◌≡◌, ℕ, Bool, true, Option, Some, None}
+use Rattle.std.specs.Prelude.{◌≡◌, ℕ, Bool, Option, Some, None}
 use Rattle.tls_fields.specs.Bytes.{Bytes}
 use Rattle.tls_fields.specs.Layout.{Layout}
 use Rattle.tls_fields.specs.Reading.{reading}
@@ -22,7 +22,7 @@ use Rattle.tls_ext.specs.declared.kind.Kind.TheVariants as kinds
 
 -- Which sides these are.
 abbrev pub sides_of : Sides → Side → Bool
-sides_of sides General = true
+sides_of sides General = sides.general
 sides_of sides Client = sides.client
 sides_of sides Server = sides.server
 

@@ -3,7 +3,10 @@ pub mod Content
 pub mod Tagged
 pub mod Dispatch
 pub mod Kinds
+pub mod ExtensionText
 pub use Rattle.tls_fields.specs.Bytes
 pub use Rattle.tls_fields.specs.Layout
 pub use Rattle.tls_fields.specs.Meaning
 pub use Rattle.tls_fields.specs.Answers
+pub use Rattle.tls_fields.specs.Text
+pub use Rattle.tls_fields.specs.Write

@@ -3,6 +3,7 @@ use Rattle.std.specs.Prelude.{ℕ, ◌==◌}
 use Rattle.tls_fields.specs.Bytes.{Bytes, bytes_of}
 use Rattle.tls_fields.specs.Layout.{Layout, done, number, tag, window, ◌>>=◌, ◌>>◌, test, counted, counted_window}
 use Rattle.tls_fields.specs.declared.result.ErrorKind.TheVariants.{Verify}
+use Rattle.tls_base.specs.ExtensionNumbers as extension_number
 use Rattle.tls_ext.specs.Extension as ext
 use Rattle.tls_ext.specs.Extension.{Extension}
 use Rattle.tls_ext.specs.Content as content
@@ -22,7 +23,7 @@ tagged_bytes kind = do
 -- A Heartbeat extension (RFC 6520, section 2), whose content has 1 byte.
 unfoldable pub tagged_heartbeat : Layout Extension
 tagged_heartbeat = do
-  tag (bytes_of 2 15)
+  tag (bytes_of 2 extension_number.heartbeat)
   n ← number 2
   test (n == 1) Verify
   window 1 content.heartbeat

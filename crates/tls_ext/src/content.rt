@@ -1,7 +1,10 @@
-//! The contents of extensions: what stands behind an extension's type and its length.
+//! The contents of extensions: what stands after an extension's type and its length (RFC 8446, section 4.2).
 //!
-//! Each call reads the front of its input and leaves the rest. All numbers are big-endian.
-ghost use Rattle.tls_fields.specs.Layout.{rest};
+//! Each call reads the front of its input and leaves the rest. All numbers are big-endian. A list or a block may be empty,
+//! also where the RFC has a lower bound on its length.
+#![tactic(auto, using(tls_fields::proofs::OneAnswerLemmas::read_allowed), unfolding(crate::specs::Content::padding, crate::specs::Content::session_ticket, crate::specs::Content::key_share_old, crate::specs::Content::pre_shared_key, crate::specs::Content::cookie, crate::specs::Content::key_share, crate::specs::Content::encrypt_then_mac, crate::specs::Content::extended_master_secret, crate::specs::Content::post_handshake_auth, crate::specs::Content::next_protocol_negotiation, crate::specs::Content::server_name, crate::specs::Content::server_names, crate::specs::Content::max_fragment_length, crate::specs::Content::status_request, crate::specs::Content::supported_groups, crate::specs::Content::ec_point_formats, crate::specs::Content::signature_algorithms, crate::specs::Content::heartbeat, crate::specs::Content::application_layer_protocol_negotiation, crate::specs::Content::signed_certificate_timestamp, crate::specs::Content::record_size_limit, crate::specs::Content::early_data, crate::specs::Content::supported_versions, crate::specs::Content::psk_key_exchange_modes, crate::specs::Content::oid_filter, crate::specs::Content::oid_filters, crate::specs::Content::renegotiation_info, crate::specs::Content::encrypted_server_name, tls_fields::specs::Reading::ignored_at,))]
+
+ghost use Rattle.std.specs.Prelude.{◌≤◌, length};
 ghost use Rattle.tls_fields.specs.Answers.{Gives, GivesOrMemory};
 ghost use Rattle.tls_ext.specs.Extension.{OidFilter as OIDFilter, ServerName as ServerNameEntry, view_oid_filter, view_server_name, view};
 ghost use Rattle.tls_ext.specs.Content as content;
@@ -13,23 +16,15 @@ use crate::kind::{EmptyKind, OpaqueKind};
 use std::alloc::Global;
 use tls_base::{CertificateStatusType, NamedGroup, SNIType, TlsCipherSuiteID, TlsVersion};
 use tls_fields::{
-    Counted1, Err, Error, ErrorKind, IResult, Item, Number2, block, counted1, counted2, items,
-    maybe2, number1, number2, number4, pairs,
+    Counted1, ErrorKind, IResult, Item, Number2, Room, block, counted1, counted2, hops2, items,
+    maybe2, number1, number2, number4, pairs, refused, rest,
 };
 
-/// All bytes of `i`. It never refuses.
-pub(crate) fn all_bytes(i: &[u8]) -> IResult<&[u8], &[u8]>
-    ensures { Gives (λ v. v.now) rest i.now result }
-{
-    block(i, i.len())
-}
-
-/// All bytes of `i`. It never refuses.
-#[tactic(auto, using(tls_fields::proofs::OneAnswer::read_allowed), unfolding(crate::specs::Content::padding, crate::specs::Content::session_ticket, crate::specs::Content::key_share_old, crate::specs::Content::pre_shared_key, crate::specs::Content::cookie, crate::specs::Content::key_share))]
+/// All bytes of `i`, as the value of that kind. It never refuses.
 pub(crate) fn opaque_content(i: &[u8], kind: OpaqueKind) -> IResult<&[u8], TlsExtension>
     ensures { Gives view (opaque_layout kind) i.now result }
 {
-    let (i, bytes) = all_bytes(i)?;
+    let (i, bytes) = rest(i)?;
     match kind {
         OpaqueKind::Padding => Ok((i, TlsExtension::Padding(bytes))),
         OpaqueKind::SessionTicket => Ok((i, TlsExtension::SessionTicket(bytes))),
@@ -40,16 +35,14 @@ pub(crate) fn opaque_content(i: &[u8], kind: OpaqueKind) -> IResult<&[u8], TlsEx
     }
 }
 
-/// No bytes: `Error` of kind `Verify` where `i` has some.
-#[tactic(auto, using(tls_fields::proofs::OneAnswer::read_allowed), unfolding(crate::specs::Content::encrypt_then_mac, crate::specs::Content::extended_master_secret, crate::specs::Content::post_handshake_auth, crate::specs::Content::next_protocol_negotiation))]
+/// The value of that kind, which says all by being there.
+///
+/// `Error` of kind `Verify` where `i` isn't empty.
 pub(crate) fn empty_content(i: &[u8], kind: EmptyKind) -> IResult<&[u8], TlsExtension>
     ensures { Gives view (empty_layout kind) i.now result }
 {
     if !i.is_empty() {
-        return Err(Err::Error(Error {
-            input: i,
-            code: ErrorKind::Verify,
-        }));
+        return refused(i, ErrorKind::Verify);
     }
     match kind {
         EmptyKind::EncryptThenMac => Ok((i, TlsExtension::EncryptThenMac)),
@@ -59,10 +52,10 @@ pub(crate) fn empty_content(i: &[u8], kind: EmptyKind) -> IResult<&[u8], TlsExte
     }
 }
 
-/// Reads the name of a server (RFC 6066, section 3): 1 byte of type, 2 bytes of length, and so many bytes.
+/// Reads the name of a server (RFC 6066, section 3): 1 byte of type, 2 bytes of length, and that many
+/// bytes.
 ///
-/// `Incomplete` of the count of missing bytes.
-#[tactic(auto, using(tls_fields::proofs::OneAnswer::read_allowed), unfolding(crate::specs::Content::server_name))]
+/// `Incomplete` of the missing bytes.
 pub fn parse_tls_extension_sni_hostname(i: &[u8]) -> IResult<&[u8], (SNIType, &[u8])>
     ensures { Gives view_server_name server_name i.now result }
 {
@@ -71,7 +64,7 @@ pub fn parse_tls_extension_sni_hostname(i: &[u8]) -> IResult<&[u8], (SNIType, &[
     Ok((i, (name_type, name)))
 }
 
-/// The names of a server.
+/// One name of a list of names.
 struct ServerName;
 
 impl<'a> Item<'a> for ServerName {
@@ -88,13 +81,20 @@ impl<'a> Item<'a> for ServerName {
     }
 }
 
-/// Reads the names of a server (RFC 6066, section 3): none where `i` is empty; else 2 bytes of length, and in so many
-/// bytes the names, each as [`parse_tls_extension_sni_hostname`] reads it. They end before the first that isn't read,
-/// and what is left of these bytes is dropped.
+impl Room for ServerName {
+    fn room(i: &[u8]) -> usize
+        ensures { result ≤ length i.now }
+    {
+        hops2(i, 1)
+    }
+}
+
+/// Reads the names of a server (RFC 6066, section 3): none where `i` is empty; else 2 bytes of length, and within that
+/// many bytes the names, each as [`parse_tls_extension_sni_hostname`] reads it. They end before the first that isn't
+/// read, and what is left of these bytes is dropped.
 ///
-/// - `Incomplete` of the count of missing bytes of the length, or else of the list.
-/// - `OutOfMemory` where the list could not be held.
-#[tactic(auto, using(tls_fields::proofs::OneAnswer::read_allowed), unfolding(crate::specs::Content::server_names))]
+/// - `Incomplete` of the missing bytes of the length, or else of the list.
+/// - `OutOfMemory` where memory for the list runs out.
 pub fn parse_tls_extension_sni_content(alloc: Global, i: &[u8]) -> IResult<&[u8], TlsExtension>
     ensures { GivesOrMemory view content.server_names i.now result }
 {
@@ -106,10 +106,9 @@ pub fn parse_tls_extension_sni_content(alloc: Global, i: &[u8]) -> IResult<&[u8]
     Ok((i, TlsExtension::SNI(names)))
 }
 
-/// Reads the code of a greatest fragment length (RFC 6066, section 4), 1 byte.
+/// Reads a maximum fragment length (RFC 6066, section 4), 1 byte of code.
 ///
-/// `Incomplete(1)` where there is none.
-#[tactic(auto, using(tls_fields::proofs::OneAnswer::read_allowed), unfolding(crate::specs::Content::max_fragment_length))]
+/// `Incomplete(1)` where `i` is empty.
 pub fn parse_tls_extension_max_fragment_length_content(i: &[u8]) -> IResult<&[u8], TlsExtension>
     ensures { Gives view content.max_fragment_length i.now result }
 {
@@ -117,10 +116,10 @@ pub fn parse_tls_extension_max_fragment_length_content(i: &[u8]) -> IResult<&[u8
     Ok((i, TlsExtension::MaxFragmentLength(code)))
 }
 
-/// A status request (RFC 6066, section 8): `None` where `i` is empty; else 1 byte of type, and all bytes behind it.
+/// A status request (RFC 6066, section 8): `None` where `i` is empty; else 1 byte of status type, and all bytes
+/// after it.
 ///
 /// It never refuses.
-#[tactic(auto, using(tls_fields::proofs::OneAnswer::read_allowed), unfolding(crate::specs::Content::status_request))]
 pub(crate) fn status_request_content(i: &[u8]) -> IResult<&[u8], TlsExtension>
     ensures { Gives view content.status_request i.now result }
 {
@@ -128,17 +127,16 @@ pub(crate) fn status_request_content(i: &[u8]) -> IResult<&[u8], TlsExtension>
         return Ok((i, TlsExtension::StatusRequest(None)));
     }
     let (i, status_type) = CertificateStatusType::parse(i)?;
-    let (i, request) = all_bytes(i)?;
+    let (i, request) = rest(i)?;
     Ok((i, TlsExtension::StatusRequest(Some((status_type, request)))))
 }
 
-/// Reads the supported groups (RFC 8422, section 5.1.1; RFC 8446, section 4.2.7): 2 bytes of length, and in so many
+/// Reads the supported groups (RFC 8422, section 5.1.1; RFC 8446, section 4.2.7): 2 bytes of length, and within that many
 /// bytes the groups, 2 bytes each.
 ///
-/// - `Incomplete` of the count of missing bytes of the length, or else of the groups.
+/// - `Incomplete` of the missing bytes of the length, or else of the groups.
 /// - `Error` of kind `LengthValue` where the length is odd.
-/// - `OutOfMemory` where the list could not be held.
-#[tactic(auto, using(tls_fields::proofs::OneAnswer::read_allowed), unfolding(crate::specs::Content::supported_groups))]
+/// - `OutOfMemory` where memory for the list runs out.
 pub fn parse_tls_extension_elliptic_curves_content(
     alloc: Global,
     i: &[u8],
@@ -150,10 +148,9 @@ pub fn parse_tls_extension_elliptic_curves_content(
     Ok((i, TlsExtension::EllipticCurves(groups)))
 }
 
-/// Reads the supported point formats (RFC 8422, section 5.1.2): 1 byte of length, and so many bytes, one each.
+/// Reads the supported point formats (RFC 8422, section 5.1.2): 1 byte of length, and that many bytes, one each.
 ///
-/// `Incomplete` of the count of missing bytes of the length, or else of the formats.
-#[tactic(auto, using(tls_fields::proofs::OneAnswer::read_allowed), unfolding(crate::specs::Content::ec_point_formats))]
+/// `Incomplete` of the missing bytes of the length, or else of the formats.
 pub fn parse_tls_extension_ec_point_formats_content(i: &[u8]) -> IResult<&[u8], TlsExtension>
     ensures { Gives view content.ec_point_formats i.now result }
 {
@@ -161,12 +158,12 @@ pub fn parse_tls_extension_ec_point_formats_content(i: &[u8]) -> IResult<&[u8], 
     Ok((i, TlsExtension::EcPointFormats(formats)))
 }
 
-/// Reads the supported signature algorithms (RFC 8446, section 4.2.3): 2 bytes of length, and in so many bytes the
+/// Reads the supported signature algorithms (RFC 8446, section 4.2.3): 2 bytes of length, and within that many bytes the
 /// numbers, 2 bytes each. An odd byte at their end is dropped.
 ///
-/// - `Incomplete` of the count of missing bytes of the length, or else of the list.
-/// - `OutOfMemory` where the list could not be held.
-#[tactic(auto, using(tls_fields::proofs::ListItems::map_same, tls_fields::proofs::OneAnswer::read_allowed), unfolding(crate::specs::Content::signature_algorithms))]
+/// - `Incomplete` of the missing bytes of the length, or else of the list.
+/// - `OutOfMemory` where memory for the list runs out.
+#[tactic(auto, using(tls_fields::proofs::ListLemmas::map_same, tls_fields::proofs::OneAnswerLemmas::read_allowed), unfolding(crate::specs::Content::signature_algorithms))]
 pub fn parse_tls_extension_signature_algorithms_content(
     alloc: Global,
     i: &[u8],
@@ -180,8 +177,7 @@ pub fn parse_tls_extension_signature_algorithms_content(
 
 /// Reads who may send heartbeats (RFC 6520, section 2), 1 byte.
 ///
-/// `Incomplete(1)` where there is none.
-#[tactic(auto, using(tls_fields::proofs::OneAnswer::read_allowed), unfolding(crate::specs::Content::heartbeat))]
+/// `Incomplete(1)` where `i` is empty.
 pub fn parse_tls_extension_heartbeat_content(i: &[u8]) -> IResult<&[u8], TlsExtension>
     ensures { Gives view content.heartbeat i.now result }
 {
@@ -189,12 +185,12 @@ pub fn parse_tls_extension_heartbeat_content(i: &[u8]) -> IResult<&[u8], TlsExte
     Ok((i, TlsExtension::Heartbeat(mode)))
 }
 
-/// Reads the names of application protocols (RFC 7301, section 3.1): 2 bytes of length, and in so many bytes the names,
-/// each behind 1 byte of length. They end before the first that isn't whole, and what is left of these bytes is dropped.
+/// Reads the names of application protocols (RFC 7301, section 3.1): 2 bytes of length, and within that many bytes the
+/// names, each after 1 byte of length. They end before the first that isn't whole, and what is left of these bytes is
+/// dropped.
 ///
-/// - `Incomplete` of the count of missing bytes of the length, or else of the list.
-/// - `OutOfMemory` where the list could not be held.
-#[tactic(auto, using(tls_fields::proofs::OneAnswer::read_allowed), unfolding(crate::specs::Content::application_layer_protocol_negotiation))]
+/// - `Incomplete` of the missing bytes of the length, or else of the list.
+/// - `OutOfMemory` where memory for the list runs out.
 pub fn parse_tls_extension_alpn_content(alloc: Global, i: &[u8]) -> IResult<&[u8], TlsExtension>
     ensures { GivesOrMemory view content.application_layer_protocol_negotiation i.now result }
 {
@@ -203,11 +199,10 @@ pub fn parse_tls_extension_alpn_content(alloc: Global, i: &[u8]) -> IResult<&[u8
     Ok((i, TlsExtension::ALPN(names)))
 }
 
-/// Reads the list of certificate timestamps (RFC 6962, section 3.3.1), undivided: 2 bytes of length and so many bytes,
-/// or `None` where they don't stand whole.
+/// Reads the list of certificate timestamps (RFC 6962, section 3.3.1), undivided: 2 bytes of length and that many bytes,
+/// or `None`, with nothing read, where they aren't all there.
 ///
 /// It never refuses.
-#[tactic(auto, using(tls_fields::proofs::OneAnswer::read_allowed), unfolding(crate::specs::Content::signed_certificate_timestamp))]
 pub fn parse_tls_extension_signed_certificate_timestamp_content(
     i: &[u8],
 ) -> IResult<&[u8], TlsExtension>
@@ -217,10 +212,9 @@ pub fn parse_tls_extension_signed_certificate_timestamp_content(
     Ok((i, TlsExtension::SignedCertificateTimestamp(timestamps)))
 }
 
-/// The greatest length of a record's content (RFC 8449, section 4), 2 bytes.
+/// The maximum length of a record's content (RFC 8449, section 4), 2 bytes.
 ///
-/// `Incomplete` of the count of missing bytes.
-#[tactic(auto, using(tls_fields::proofs::OneAnswer::read_allowed), unfolding(crate::specs::Content::record_size_limit))]
+/// `Incomplete` of the missing bytes.
 pub(crate) fn record_size_limit_content(i: &[u8]) -> IResult<&[u8], TlsExtension>
     ensures { Gives view content.record_size_limit i.now result }
 {
@@ -230,8 +224,7 @@ pub(crate) fn record_size_limit_content(i: &[u8]) -> IResult<&[u8], TlsExtension
 
 /// The most bytes of early data (RFC 8446, section 4.2.10): `None` where `i` is empty; else 4 bytes.
 ///
-/// `Incomplete` of the count of missing bytes.
-#[tactic(auto, using(tls_fields::proofs::OneAnswer::read_allowed), unfolding(crate::specs::Content::early_data))]
+/// `Incomplete` of the missing bytes.
 pub(crate) fn early_data_content(i: &[u8]) -> IResult<&[u8], TlsExtension>
     ensures { Gives view content.early_data i.now result }
 {
@@ -243,12 +236,11 @@ pub(crate) fn early_data_content(i: &[u8]) -> IResult<&[u8], TlsExtension>
 }
 
 /// The supported versions (RFC 8446, section 4.2.1): one of 2 bytes where `i` has just these; else 1 byte of length,
-/// which isn't tested, and all bytes behind it as versions of 2 bytes each.
+/// which isn't tested, and all bytes after it as versions of 2 bytes each.
 ///
 /// - `Incomplete(1)` where `i` is empty.
-/// - `Error` of kind `LengthValue` where an odd number of bytes stands behind the length.
-/// - `OutOfMemory` where the list could not be held.
-#[tactic(auto, using(tls_fields::proofs::OneAnswer::read_allowed), unfolding(crate::specs::Content::supported_versions, tls_fields::specs::Reading::ignored_at))]
+/// - `Error` of kind `LengthValue` where an odd number of bytes follows the length.
+/// - `OutOfMemory` where memory for the list runs out.
 pub(crate) fn supported_versions_content(alloc: Global, i: &[u8]) -> IResult<&[u8], TlsExtension>
     ensures { GivesOrMemory view content.supported_versions i.now result }
 {
@@ -263,11 +255,10 @@ pub(crate) fn supported_versions_content(alloc: Global, i: &[u8]) -> IResult<&[u
     Ok((i, TlsExtension::SupportedVersions(versions)))
 }
 
-/// Reads how pre-shared keys may be used (RFC 8446, section 4.2.9): 1 byte of length, and so many bytes, one each.
+/// Reads how pre-shared keys may be used (RFC 8446, section 4.2.9): 1 byte of length, and that many bytes, one each.
 ///
-/// - `Incomplete` of the count of missing bytes of the length, or else of the modes.
-/// - `OutOfMemory` where the list could not be held.
-#[tactic(auto, using(tls_fields::proofs::OneAnswer::read_allowed), unfolding(crate::specs::Content::psk_key_exchange_modes))]
+/// - `Incomplete` of the missing bytes of the length, or else of the modes.
+/// - `OutOfMemory` where memory for the list runs out.
 pub fn parse_tls_extension_psk_key_exchange_modes_content(
     alloc: Global,
     i: &[u8],
@@ -288,7 +279,6 @@ impl<'a> Item<'a> for OidFilter<'a> {
 
     ghost layout = { oid_filter };
 
-    #[tactic(auto, using(tls_fields::proofs::OneAnswer::read_allowed), unfolding(crate::specs::Content::oid_filter))]
     fn read(_alloc: Global, i: &'a [u8]) -> IResult<&'a [u8], Self> {
         let (i, cert_ext_oid) = counted1(i)?;
         let (i, cert_ext_val) = counted2(i)?;
@@ -300,12 +290,20 @@ impl<'a> Item<'a> for OidFilter<'a> {
     }
 }
 
-/// The filters on certificates (RFC 8446, section 4.2.5): 2 bytes of length, and in so many bytes the filters. They end
-/// before the first that isn't whole, and what is left of these bytes is dropped.
+impl Room for OidFilter<'_> {
+    fn room(i: &[u8]) -> usize
+        ensures { result ≤ length i.now }
+    {
+        i.len() / 8
+    }
+}
+
+/// The filters on certificates (RFC 8446, section 4.2.5): 2 bytes of length, and within that many bytes the filters, each
+/// an identifier after 1 byte of length and values after 2. They end before the first that isn't whole, and what is left
+/// of these bytes is dropped.
 ///
-/// - `Incomplete` of the count of missing bytes of the length, or else of the list.
-/// - `OutOfMemory` where the list could not be held.
-#[tactic(auto, using(tls_fields::proofs::OneAnswer::read_allowed), unfolding(crate::specs::Content::oid_filters))]
+/// - `Incomplete` of the missing bytes of the length, or else of the list.
+/// - `OutOfMemory` where memory for the list runs out.
 pub(crate) fn oid_filters_content(alloc: Global, i: &[u8]) -> IResult<&[u8], TlsExtension>
     ensures { GivesOrMemory view content.oid_filters i.now result }
 {
@@ -314,10 +312,9 @@ pub(crate) fn oid_filters_content(alloc: Global, i: &[u8]) -> IResult<&[u8], Tls
     Ok((i, TlsExtension::OidFilters(filters)))
 }
 
-/// Reads what a renegotiation is bound to (RFC 5746, section 3.2): 1 byte of length, and so many bytes.
+/// Reads what a renegotiation is bound to (RFC 5746, section 3.2): 1 byte of length, and that many bytes.
 ///
-/// `Incomplete` of the count of missing bytes of the length, or else of these.
-#[tactic(auto, using(tls_fields::proofs::OneAnswer::read_allowed), unfolding(crate::specs::Content::renegotiation_info))]
+/// `Incomplete` of the missing bytes of the length, or else of these.
 pub fn parse_tls_extension_renegotiation_info_content(i: &[u8]) -> IResult<&[u8], TlsExtension>
     ensures { Gives view content.renegotiation_info i.now result }
 {
@@ -326,10 +323,9 @@ pub fn parse_tls_extension_renegotiation_info_content(i: &[u8]) -> IResult<&[u8]
 }
 
 /// Reads an encrypted server name (draft-ietf-tls-esni-02, section 5): 2 bytes of a cipher suite, 2 bytes of a group,
-/// and a key share, a digest and the encrypted name, each behind 2 bytes of length.
+/// and a key share, a digest and the encrypted name, each after 2 bytes of length.
 ///
-/// `Incomplete` of the count of missing bytes of the first part that isn't whole.
-#[tactic(auto, using(tls_fields::proofs::OneAnswer::read_allowed), unfolding(crate::specs::Content::encrypted_server_name))]
+/// `Incomplete` of the missing bytes of the first part that isn't whole.
 pub fn parse_tls_extension_encrypted_server_name(i: &[u8]) -> IResult<&[u8], TlsExtension>
     ensures { Gives view content.encrypted_server_name i.now result }
 {

@@ -1,5 +1,5 @@
-//! Extensions of any kind, each read by the content that its type names.
-ghost use Rattle.std.specs.Prelude.{map};
+//! Extensions of any kind (RFC 8446, section 4.2), each read as the content that its type has.
+ghost use Rattle.std.specs.Prelude.{◌≤◌, length, map};
 ghost use Rattle.tls_fields.specs.Answers.{Gives, GivesOrMemory};
 ghost use Rattle.tls_ext.specs.Extension.{Extension, view};
 ghost use Rattle.tls_ext.specs.Dispatch.{extension as extension_layout, extension_content as extension_content_layout, extensions};
@@ -7,7 +7,7 @@ ghost use Rattle.tls_ext.specs.Kinds.{field_content as field_layout, kind_conten
 ghost use Rattle.tls_ext.specs.declared.kind.Side.TheVariants.{General as general, Client as client, Server as server};
 
 use crate::content::{
-    all_bytes, early_data_content, empty_content, oid_filters_content, opaque_content,
+    early_data_content, empty_content, oid_filters_content, opaque_content,
     parse_tls_extension_alpn_content, parse_tls_extension_ec_point_formats_content,
     parse_tls_extension_elliptic_curves_content, parse_tls_extension_encrypted_server_name,
     parse_tls_extension_heartbeat_content, parse_tls_extension_max_fragment_length_content,
@@ -21,9 +21,10 @@ use crate::extension::TlsExtension;
 use crate::kind::{FieldKind, Kind, ListKind, Side, kind_of};
 use std::alloc::Global;
 use tls_base::TlsExtensionType;
-use tls_fields::{IResult, Item, counted2, items};
+use tls_fields::{IResult, Item, Room, counted2, hops2, items, rest};
 
-/// A list.
+/// The content of a kind that is a list.
+#[inline(always)]
 fn list_content(alloc: Global, i: &[u8], kind: ListKind) -> IResult<&[u8], TlsExtension>
     ensures { GivesOrMemory view (list_layout kind) i.now result }
 {
@@ -40,7 +41,8 @@ fn list_content(alloc: Global, i: &[u8], kind: ListKind) -> IResult<&[u8], TlsEx
     }
 }
 
-/// One or a few fields.
+/// The content of a kind of one or a few fields.
+#[inline(always)]
 fn field_content(i: &[u8], kind: FieldKind) -> IResult<&[u8], TlsExtension>
     ensures { Gives view (field_layout kind) i.now result }
 {
@@ -59,7 +61,8 @@ fn field_content(i: &[u8], kind: FieldKind) -> IResult<&[u8], TlsExtension>
     }
 }
 
-/// What an extension of that kind holds.
+/// The content of an extension of that kind.
+#[inline(always)]
 fn kind_content(alloc: Global, i: &[u8], kind: Kind) -> IResult<&[u8], TlsExtension>
     ensures { GivesOrMemory view (kind_layout kind) i.now result }
 {
@@ -73,8 +76,9 @@ fn kind_content(alloc: Global, i: &[u8], kind: Kind) -> IResult<&[u8], TlsExtens
 
 /// The content of an extension of the type `kind`, as `side` reads it.
 ///
-/// It refuses as the content of that kind does. A type that is kept free, or that `side` doesn't read, has any bytes.
-#[tactic(auto, using(tls_fields::proofs::OneAnswer::read_allowed), unfolding(crate::specs::Dispatch::extension_content))]
+/// It refuses as the content of that kind does. A type that is kept free, or that `side` doesn't read, has any content.
+#[tactic(auto, using(tls_fields::proofs::OneAnswerLemmas::read_allowed), unfolding(crate::specs::Dispatch::extension_content))]
+#[inline(always)]
 fn extension_content(
     alloc: Global,
     i: &[u8],
@@ -84,20 +88,21 @@ fn extension_content(
     ensures { GivesOrMemory view (extension_content_layout side kind.0) i.now result }
 {
     if kind.0 & 0x0f0f == 0x0a0a {
-        let (i, content) = all_bytes(i)?;
+        let (i, content) = rest(i)?;
         return Ok((i, TlsExtension::Grease(kind.0, content)));
     }
     match kind_of(kind.0, side) {
         Some(kind) => kind_content(alloc, i, kind),
         None => {
-            let (i, content) = all_bytes(i)?;
+            let (i, content) = rest(i)?;
             Ok((i, TlsExtension::Unknown(kind, content)))
         }
     }
 }
 
 /// A whole extension, as `side` reads it.
-#[tactic(auto, using(tls_fields::proofs::OneAnswer::read_allowed), unfolding(crate::specs::Dispatch::extension))]
+#[tactic(auto, using(tls_fields::proofs::OneAnswerLemmas::read_allowed), unfolding(crate::specs::Dispatch::extension))]
+#[inline(always)]
 fn extension(alloc: Global, i: &[u8], side: Side) -> IResult<&[u8], TlsExtension>
     ensures { GivesOrMemory view (extension_layout side) i.now result }
 {
@@ -107,39 +112,48 @@ fn extension(alloc: Global, i: &[u8], side: Side) -> IResult<&[u8], TlsExtension
     Ok((i, extension))
 }
 
-/// Reads an extension of any message (RFC 8446, section 4.2): 2 bytes of type, 2 bytes of length, and a content of so
+/// Reads an extension of any message (RFC 8446, section 4.2): 2 bytes of type, 2 bytes of length, and a content of that
 /// many bytes, which is read within them alone; what is left of them is dropped. All numbers are big-endian.
 ///
-/// A type whose bytes both end in the hexadecimal digit a is kept free (RFC 8701): it is `Grease`, with its content. A
-/// type whose content no call reads is `Unknown`, with its content.
+/// A type whose bytes both end in the hexadecimal digit a is kept free: it is `Grease`, with its content. RFC 8701,
+/// section 2, keeps sixteen such numbers, those with two equal bytes; here all 256 are. A type whose content isn't read
+/// is `Unknown`, with its content.
 ///
-/// - `Incomplete` of the count of missing bytes, where the extension isn't whole.
-/// - What the content refuses, `Incomplete` too; each kind's own call tells it.
-/// - `OutOfMemory` where a list could not be held.
+/// - `Incomplete` of the missing bytes where the extension isn't whole.
+/// - What the content refuses, its `Incomplete` too. The call of that kind tells it, but for Heartbeat: of its content 1
+///   byte is read here and the others are dropped, `Incomplete(1)` where it is empty, while
+///   [`crate::parse_tls_extension_heartbeat`] takes no length but 1.
+/// - What the contents of kinds with no call of their own refuse: `Incomplete` of the missing bytes of a record size limit
+///   of 2 bytes, and of the length or the list of filters on certificates; `Error` of kind `Verify` where authentication
+///   after the handshake or next protocol negotiation isn't empty.
+/// - `OutOfMemory` where memory for a list runs out.
+#[inline(always)]
 pub fn parse_tls_extension(alloc: Global, i: &[u8]) -> IResult<&[u8], TlsExtension>
     ensures { GivesOrMemory view (extension_layout general) i.now result }
 {
     extension(alloc, i, Side::General)
 }
 
-/// Reads an extension of a ClientHello: as [`parse_tls_extension`], but a type that a client doesn't send, the older
-/// number of key shares, is `Unknown`.
+/// Reads an extension of a ClientHello: as [`parse_tls_extension`], but the one type that this call doesn't read, the
+/// older number of key shares, is `Unknown`.
+#[inline(always)]
 pub fn parse_tls_client_hello_extension(alloc: Global, i: &[u8]) -> IResult<&[u8], TlsExtension>
     ensures { GivesOrMemory view (extension_layout client) i.now result }
 {
     extension(alloc, i, Side::Client)
 }
 
-/// Reads an extension of a ServerHello: as [`parse_tls_extension`], but a type that a server doesn't send there is
+/// Reads an extension of a ServerHello: as [`parse_tls_extension`], but the types that this call doesn't read are
 /// `Unknown`: supported groups, padding, the older number of key shares, modes of pre-shared keys, filters on
 /// certificates, authentication after the handshake, and an encrypted server name.
+#[inline(always)]
 pub fn parse_tls_server_hello_extension(alloc: Global, i: &[u8]) -> IResult<&[u8], TlsExtension>
     ensures { GivesOrMemory view (extension_layout server) i.now result }
 {
     extension(alloc, i, Side::Server)
 }
 
-/// Extensions of any message.
+/// An extension of a list in any message.
 struct AnyExtension;
 
 impl<'a> Item<'a> for AnyExtension {
@@ -156,7 +170,15 @@ impl<'a> Item<'a> for AnyExtension {
     }
 }
 
-/// Extensions of a ClientHello.
+impl Room for AnyExtension {
+    fn room(i: &[u8]) -> usize
+        ensures { result ≤ length i.now }
+    {
+        hops2(i, 2)
+    }
+}
+
+/// An extension of a ClientHello's list.
 struct ClientExtension;
 
 impl<'a> Item<'a> for ClientExtension {
@@ -173,7 +195,15 @@ impl<'a> Item<'a> for ClientExtension {
     }
 }
 
-/// Extensions of a ServerHello.
+impl Room for ClientExtension {
+    fn room(i: &[u8]) -> usize
+        ensures { result ≤ length i.now }
+    {
+        hops2(i, 2)
+    }
+}
+
+/// An extension of a ServerHello's list.
 struct ServerExtension;
 
 impl<'a> Item<'a> for ServerExtension {
@@ -190,10 +220,18 @@ impl<'a> Item<'a> for ServerExtension {
     }
 }
 
+impl Room for ServerExtension {
+    fn room(i: &[u8]) -> usize
+        ensures { result ≤ length i.now }
+    {
+        hops2(i, 2)
+    }
+}
+
 /// Reads zero or more extensions, each as [`parse_tls_extension`] reads it, up to the first that isn't read, by `Error`
 /// or `Incomplete`; what is left begins there.
 ///
-/// It refuses for memory alone: `OutOfMemory` where a list could not be held.
+/// It refuses for memory alone: `OutOfMemory` where memory for a list runs out.
 pub fn parse_tls_extensions(alloc: Global, i: &[u8]) -> IResult<&[u8], Vec<TlsExtension>>
     ensures { GivesOrMemory (λ v. map view v.items) (extensions general) i.now result }
 {

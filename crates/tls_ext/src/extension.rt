@@ -29,9 +29,9 @@ pub struct OidFilter<'a> {
 /// An extension of a hello message or a certificate request (RFC 8446, section 4.2).
 #[derive(Debug, PartialEq, Drop)]
 pub enum TlsExtension<'a> {
-    /// The names of the server that is asked for: each its type and its bytes (RFC 6066, section 3).
+    /// The names of the server that is asked for, each its type and its bytes (server_name; RFC 6066, section 3).
     SNI(Vec<(SNIType, &'a [u8])>),
-    /// The code of a greatest fragment length (RFC 6066, section 4).
+    /// The code of a maximum fragment length (RFC 6066, section 4).
     MaxFragmentLength(u8),
     /// The type of a status request and the request; `None` where a server answers (RFC 6066, section 8).
     StatusRequest(Option<(CertificateStatusType, &'a [u8])>),
@@ -45,15 +45,15 @@ pub enum TlsExtension<'a> {
     Heartbeat(u8),
     /// The names of the application protocols (RFC 7301, section 3.1).
     ALPN(Vec<&'a [u8]>),
-    /// The list of certificate timestamps, as it stands behind its length (RFC 6962, section 3.3.1).
+    /// The list of certificate timestamps, without its length (RFC 6962, section 3.3.1).
     SignedCertificateTimestamp(Option<&'a [u8]>),
     /// The padding (RFC 7685, section 3).
     Padding(&'a [u8]),
-    /// RFC 7366, section 2.
+    /// The wish to encrypt before the MAC (RFC 7366, section 2).
     EncryptThenMac,
-    /// RFC 7627, section 5.1.
+    /// The wish for an extended master secret (RFC 7627, section 5.1).
     ExtendedMasterSecret,
-    /// The greatest length of a record's content (RFC 8449, section 4).
+    /// The maximum length of a record's content (RFC 8449, section 4).
     RecordSizeLimit(u16),
     /// A session ticket (RFC 5077, section 3.2).
     SessionTicket(&'a [u8]),
@@ -63,7 +63,8 @@ pub enum TlsExtension<'a> {
     PreSharedKey(&'a [u8]),
     /// The most bytes of early data; `None` outside a new session ticket (RFC 8446, section 4.2.10).
     EarlyData(Option<u32>),
-    /// The supported versions, or the one that a server selected (RFC 8446, section 4.2.1).
+    /// The supported versions, or the one that a server selected (RFC 8446, section 4.2.1). In TLS 1.3 this is the version
+    /// that is spoken, and not that of the hello.
     SupportedVersions(Vec<TlsVersion>),
     /// A cookie (RFC 8446, section 4.2.2).
     Cookie(&'a [u8]),
@@ -71,15 +72,15 @@ pub enum TlsExtension<'a> {
     PskExchangeModes(Vec<u8>),
     /// The filters on certificates (RFC 8446, section 4.2.5).
     OidFilters(Vec<OidFilter<'a>>),
-    /// RFC 8446, section 4.2.6.
+    /// The leave to ask for authentication after the handshake (RFC 8446, section 4.2.6).
     PostHandshakeAuth,
     /// The key shares (RFC 8446, section 4.2.8).
     KeyShare(&'a [u8]),
-    /// The extension of the draft for next protocol negotiation.
+    /// Next protocol negotiation, as a client asks for it (draft-agl-tls-nextprotoneg-04, section 3).
     NextProtocolNegotiation,
     /// What a renegotiation is bound to (RFC 5746, section 3.2).
     RenegotiationInfo(&'a [u8]),
-    /// An encrypted server name, of the draft before encrypted hellos.
+    /// An encrypted server name (draft-ietf-tls-esni-02, section 5).
     EncryptedServerName {
         /// The suite that encrypts the name.
         ciphersuite: TlsCipherSuiteID,
@@ -92,7 +93,8 @@ pub enum TlsExtension<'a> {
         /// The encrypted name.
         encrypted_sni: &'a [u8],
     },
-    /// A number that is kept free so that peers ignore what they don't know, and its content (RFC 8701, section 2).
+    /// A number that is kept free so that peers ignore what they don't know, and its content. Any number whose bytes both
+    /// end in the hexadecimal digit a is read so; RFC 8701, section 2, has sixteen of these.
     Grease(u16, &'a [u8]),
     /// An extension whose content isn't read: its type and its content.
     Unknown(TlsExtensionType, &'a [u8]),
@@ -158,7 +160,7 @@ fn cloned_filters<'a>(
 impl<'a> TlsExtension<'a> {
     /// The same variant with the same fields; slices are shared, lists are copied.
     ///
-    /// `OutOfMemory` where a list could not be held.
+    /// `OutOfMemory` where memory for a list runs out.
     pub fn try_clone(&self, alloc: Global) -> Result<TlsExtension<'a>, OutOfMemory>
         ensures { IfOk result (λ e. view e ≡ view self.now) }
     {

@@ -3,6 +3,7 @@ ghost use Rattle.std.specs.Prelude.{◌≡◌};
 ghost use Rattle.std.specs.List.Sorted.{IsStrictlyIncreasing};
 ghost use Rattle.tls_ext.specs.Kinds.{IsFound, sides_of};
 
+use tls_base::TlsExtensionType;
 use tls_fields::place;
 
 /// Who sent the extensions that are read, as far as the caller says.
@@ -16,9 +17,10 @@ pub(crate) enum Side {
     Server,
 }
 
-/// Which sides read a kind. The general one reads each.
+/// Which sides read a kind.
 #[derive(Clone, Copy)]
 pub(crate) struct Sides {
+    general: bool,
     client: bool,
     server: bool,
 }
@@ -79,20 +81,20 @@ pub(crate) enum Kind {
 }
 
 impl Sides {
-    /// All sides.
-    const GCS: Sides = Sides {
+    const ALL: Sides = Sides {
+        general: true,
         client: true,
         server: true,
     };
 
-    /// All but a server's.
-    const GC: Sides = Sides {
+    const NOT_SERVER: Sides = Sides {
+        general: true,
         client: true,
         server: false,
     };
 
-    /// The general one alone.
-    const G: Sides = Sides {
+    const GENERAL_ONLY: Sides = Sides {
+        general: true,
         client: false,
         server: false,
     };
@@ -101,55 +103,69 @@ impl Sides {
         ensures { result ≡ sides_of self side }
     {
         match side {
-            Side::General => true,
+            Side::General => self.general,
             Side::Client => self.client,
             Side::Server => self.server,
         }
     }
 }
 
-/// The numbers of the kinds, rising.
-const NUMBERS: [u16; 26] = [
-    0, 1, 5, 10, 11, 13, 15, 16, 18, 21, 22, 23, 28, 35, 40, 41, 42, 43, 44, 45, 48, 49, 51, 13172,
-    0xff01, 0xffce,
-];
+/// The rows of the table: an extension type, which kind it is, and which sides read it. They stand in the order of the
+/// types' numbers.
+macro_rules! rows {
+    ($column:ident) => {
+        $column!(
+            ServerName: List(ListKind::ServerName), ALL;
+            MaxFragmentLength: Field(FieldKind::MaxFragmentLength), ALL;
+            StatusRequest: Field(FieldKind::StatusRequest), ALL;
+            SupportedGroups: List(ListKind::SupportedGroups), NOT_SERVER;
+            EcPointFormats: Field(FieldKind::EcPointFormats), ALL;
+            SignatureAlgorithms: List(ListKind::SignatureAlgorithms), ALL;
+            Heartbeat: Field(FieldKind::Heartbeat), ALL;
+            ApplicationLayerProtocolNegotiation:
+                List(ListKind::ApplicationLayerProtocolNegotiation), ALL;
+            SignedCertificateTimestamp: Field(FieldKind::SignedCertificateTimestamp), ALL;
+            Padding: Opaque(OpaqueKind::Padding), NOT_SERVER;
+            EncryptThenMac: Empty(EmptyKind::EncryptThenMac), ALL;
+            ExtendedMasterSecret: Empty(EmptyKind::ExtendedMasterSecret), ALL;
+            RecordSizeLimit: Field(FieldKind::RecordSizeLimit), ALL;
+            SessionTicketTLS: Opaque(OpaqueKind::SessionTicket), ALL;
+            KeyShareOld: Opaque(OpaqueKind::KeyShareOld), GENERAL_ONLY;
+            PreSharedKey: Opaque(OpaqueKind::PreSharedKey), ALL;
+            EarlyData: Field(FieldKind::EarlyData), ALL;
+            SupportedVersions: List(ListKind::SupportedVersions), ALL;
+            Cookie: Opaque(OpaqueKind::Cookie), ALL;
+            PskExchangeModes: List(ListKind::PskKeyExchangeModes), NOT_SERVER;
+            OidFilters: List(ListKind::OidFilters), NOT_SERVER;
+            PostHandshakeAuth: Empty(EmptyKind::PostHandshakeAuth), NOT_SERVER;
+            KeyShare: Opaque(OpaqueKind::KeyShare), ALL;
+            NextProtocolNegotiation: Empty(EmptyKind::NextProtocolNegotiation), ALL;
+            RenegotiationInfo: Field(FieldKind::RenegotiationInfo), ALL;
+            EncryptedServerName: Field(FieldKind::EncryptedServerName), NOT_SERVER;
+        )
+    };
+}
 
-/// Which kind each of [`NUMBERS`] is, in the same order, and which sides read it. It is no `const`, which each look-up
-/// would build again.
-static KINDS: [(Kind, Sides); 26] = [
-    (Kind::List(ListKind::ServerName), Sides::GCS),
-    (Kind::Field(FieldKind::MaxFragmentLength), Sides::GCS),
-    (Kind::Field(FieldKind::StatusRequest), Sides::GCS),
-    (Kind::List(ListKind::SupportedGroups), Sides::GC),
-    (Kind::Field(FieldKind::EcPointFormats), Sides::GCS),
-    (Kind::List(ListKind::SignatureAlgorithms), Sides::GCS),
-    (Kind::Field(FieldKind::Heartbeat), Sides::GCS),
-    (
-        Kind::List(ListKind::ApplicationLayerProtocolNegotiation),
-        Sides::GCS,
-    ),
-    (
-        Kind::Field(FieldKind::SignedCertificateTimestamp),
-        Sides::GCS,
-    ),
-    (Kind::Opaque(OpaqueKind::Padding), Sides::GC),
-    (Kind::Empty(EmptyKind::EncryptThenMac), Sides::GCS),
-    (Kind::Empty(EmptyKind::ExtendedMasterSecret), Sides::GCS),
-    (Kind::Field(FieldKind::RecordSizeLimit), Sides::GCS),
-    (Kind::Opaque(OpaqueKind::SessionTicket), Sides::GCS),
-    (Kind::Opaque(OpaqueKind::KeyShareOld), Sides::G),
-    (Kind::Opaque(OpaqueKind::PreSharedKey), Sides::GCS),
-    (Kind::Field(FieldKind::EarlyData), Sides::GCS),
-    (Kind::List(ListKind::SupportedVersions), Sides::GCS),
-    (Kind::Opaque(OpaqueKind::Cookie), Sides::GCS),
-    (Kind::List(ListKind::PskKeyExchangeModes), Sides::GC),
-    (Kind::List(ListKind::OidFilters), Sides::GC),
-    (Kind::Empty(EmptyKind::PostHandshakeAuth), Sides::GC),
-    (Kind::Opaque(OpaqueKind::KeyShare), Sides::GCS),
-    (Kind::Empty(EmptyKind::NextProtocolNegotiation), Sides::GCS),
-    (Kind::Field(FieldKind::RenegotiationInfo), Sides::GCS),
-    (Kind::Field(FieldKind::EncryptedServerName), Sides::GC),
-];
+/// The numbers of the rows.
+macro_rules! numbers {
+    ($($number:ident: $kind:ident($content:path), $sides:ident;)*) => {
+        [$(TlsExtensionType::$number.0),*]
+    };
+}
+
+/// The kinds of the rows, and the sides.
+macro_rules! kinds {
+    ($($number:ident: $kind:ident($content:path), $sides:ident;)*) => {
+        [$((Kind::$kind($content), Sides::$sides)),*]
+    };
+}
+
+/// The numbers of the table, rising, so that one is found by halving.
+const NUMBERS: [u16; 26] = rows!(numbers);
+
+/// The kinds of the table and who reads them, in the order of [`NUMBERS`]. It is no `const`, which each look-up would
+/// build again.
+static KINDS: [(Kind, Sides); 26] = rows!(kinds);
 
 /// The numbers of the table rise strictly, so that a search by halving finds each.
 fn numbers_rise()

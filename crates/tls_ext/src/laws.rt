@@ -1,17 +1,20 @@
-//! What stands of the layouts alone: on any bytes, each allows exactly one answer.
+//! Facts of the layouts alone: on any bytes, each allows exactly one answer; and what is written is read back.
 //!
-//! Each function's contract is that law for one layout; its body is empty.
-#![tactic(auto, using(tls_fields::proofs::OneAnswer::one_answer))]
+//! Each function's contract is one such law; its body is empty.
+#![tactic(auto, using(tls_fields::proofs::OneAnswerLemmas::one_answer))]
 
-ghost use Rattle.std.specs.Prelude.{ℕ};
+ghost use Rattle.std.specs.Prelude.{ℕ, List, [], ◌++◌, drop, Ok};
+ghost use Rattle.std.specs.List.{All};
 ghost use Rattle.tls_fields.specs.Bytes.{Bytes, AreBytes};
 ghost use Rattle.tls_fields.specs.Layout.{Layout};
-ghost use Rattle.tls_fields.specs.Meaning.{AllowsOne};
+ghost use Rattle.tls_fields.specs.Meaning.{Allows, AllowsOne, Spells};
 ghost use Rattle.tls_ext.specs.Extension.{Extension};
 ghost use Rattle.tls_ext.specs.Content as content;
 ghost use Rattle.tls_ext.specs.Tagged.{tagged, tagged_heartbeat, unknown};
 ghost use Rattle.tls_ext.specs.Dispatch.{extension, extension_content, extensions};
+ghost use Rattle.tls_ext.specs.ExtensionText.{extension_text, extensions_text, FitsExtension, FitsExtensions, InRangeExtension};
 ghost use Rattle.tls_ext.specs.declared.kind.Side.{Side};
+ghost use Rattle.tls_ext.specs.declared.kind.Side.TheVariants.{General};
 
 /// The content of a tagged extension.
 pub trait Content {
@@ -28,7 +31,7 @@ pub fn server_names_has_one_answer()
     ensures { (b : Bytes) → AreBytes b → AllowsOne content.server_names b }
 {}
 
-/// A greatest fragment length.
+/// A maximum fragment length.
 pub fn max_fragment_length_has_one_answer()
     ensures { (b : Bytes) → AreBytes b → AllowsOne content.max_fragment_length b }
 {}
@@ -73,17 +76,17 @@ pub fn padding_has_one_answer()
     ensures { (b : Bytes) → AreBytes b → AllowsOne content.padding b }
 {}
 
-/// No bytes: encryption before the code.
+/// Encryption before the MAC: empty.
 pub fn encrypt_then_mac_has_one_answer()
     ensures { (b : Bytes) → AreBytes b → AllowsOne content.encrypt_then_mac b }
 {}
 
-/// No bytes: an extended master secret.
+/// An extended master secret: empty.
 pub fn extended_master_secret_has_one_answer()
     ensures { (b : Bytes) → AreBytes b → AllowsOne content.extended_master_secret b }
 {}
 
-/// The greatest length of a record.
+/// The maximum length of a record's content.
 pub fn record_size_limit_has_one_answer()
     ensures { (b : Bytes) → AreBytes b → AllowsOne content.record_size_limit b }
 {}
@@ -133,7 +136,7 @@ pub fn oid_filters_has_one_answer()
     ensures { (b : Bytes) → AreBytes b → AllowsOne content.oid_filters b }
 {}
 
-/// No bytes: authentication after the handshake.
+/// Authentication after the handshake: empty.
 pub fn post_handshake_auth_has_one_answer()
     ensures { (b : Bytes) → AreBytes b → AllowsOne content.post_handshake_auth b }
 {}
@@ -143,7 +146,7 @@ pub fn key_share_has_one_answer()
     ensures { (b : Bytes) → AreBytes b → AllowsOne content.key_share b }
 {}
 
-/// No bytes: next protocol negotiation.
+/// Next protocol negotiation: empty.
 pub fn next_protocol_negotiation_has_one_answer()
     ensures { (b : Bytes) → AreBytes b → AllowsOne content.next_protocol_negotiation b }
 {}
@@ -186,4 +189,17 @@ pub fn extension_has_one_answer()
 /// Extensions, one after the other, for each side.
 pub fn extensions_has_one_answer()
     ensures { (side : Side) (b : Bytes) → AreBytes b → AllowsOne (extensions side) b }
+{}
+
+/// An extension that can be written is read back from its text, as an extension of any message, whatever follows it, and
+/// nothing is dropped. Its numbers are of their fields' sizes, as those of every value in memory are.
+#[tactic(auto, using(crate::proofs::ExtensionTextLemmas::extension_spelled))]
+pub fn extension_is_read_back()
+    ensures { (e : Extension) (r : Bytes) → FitsExtension e → InRangeExtension e → Spells (extension General) (extension_text e ++ r) e r [] }
+{}
+
+/// Extensions that can be written are read back from their text less the 2 bytes of its length, and nothing is left.
+#[tactic(auto, using(crate::proofs::ExtensionTextLemmas::extensions_read))]
+pub fn extensions_are_read_back()
+    ensures { (es : List Extension) → FitsExtensions es → All InRangeExtension es → Allows (extensions General) (drop 2 (extensions_text es)) (Ok (es, [])) }
 {}

@@ -2,7 +2,7 @@
 //!
 //! Each call answers what a layout of `specs/` allows on the bytes: the value and the exact rest, or the refusal of the
 //! leftmost part that can't be read. Slices in a value are parts of the input.
-#![tactic(auto, using(tls_fields::proofs::OneAnswer::read_allowed))]
+#![tactic(auto, using(tls_fields::proofs::OneAnswerLemmas::read_allowed))]
 
 mod content;
 mod dispatch;
@@ -10,6 +10,7 @@ mod extension;
 mod kind;
 pub mod laws;
 mod tagged;
+mod writer;
 
 pub use content::{
     parse_tls_extension_alpn_content, parse_tls_extension_ec_point_formats_content,
@@ -37,3 +38,4 @@ pub use tagged::{
     parse_tls_extension_status_request, parse_tls_extension_supported_versions,
     parse_tls_extension_unknown,
 };
+pub use writer::{gen_tls_extension, gen_tls_extensions};

@@ -24,9 +24,9 @@ IsRefusal (failed.Failure e) = ⊥
 IsRefusal failed.OutOfMemory = ⊥
 
 -- It does not say that memory ran out.
-abbrev pub HadMemory : Failed (Error (Bor (List ℕ))) → Type 0
-HadMemory failed.OutOfMemory = ⊥
-HadMemory e = ⊤
+abbrev pub IsNotOutOfMemory : Failed (Error (Bor (List ℕ))) → Type 0
+IsNotOutOfMemory failed.OutOfMemory = ⊥
+IsNotOutOfMemory e = ⊤
 
 -- Which refusal it is, where it stands for one.
 abbrev pub refusal_of : Failed (Error (Bor (List ℕ))) → Refusal
@@ -40,9 +40,9 @@ IsAnswer (Ok x) = ⊤
 IsAnswer (Err e) = IsRefusal e
 
 -- Memory did not run out.
-abbrev pub HasMemory : {X : Type 0} → Returned X → Type 0
-HasMemory (Ok x) = ⊤
-HasMemory (Err e) = HadMemory e
+abbrev pub MemorySufficed : {X : Type 0} → Returned X → Type 0
+MemorySufficed (Ok x) = ⊤
+MemorySufficed (Err e) = IsNotOutOfMemory e
 
 -- Which answer it is; `view` forgets where the value lies in memory.
 abbrev pub answer_of : {X Y : Type 0} → (X → Y) → Returned X → Answer Y
@@ -57,6 +57,6 @@ pub record Gives {X Y : Type 0} (view : X → Y) (l : Layout Y) (b : Bytes) (res
 
 -- The same, unless memory ran out.
 pub record GivesOrMemory {X Y : Type 0} (view : X → Y) (l : Layout Y) (b : Bytes) (result : Returned X) : Type 0 where
-  pub answers : HasMemory result → IsAnswer result
-  pub read : HasMemory result → reading l b ≡ answer_of view result
-  pub allowed : HasMemory result → Allows l b (answer_of view result)
+  pub answers : MemorySufficed result → IsAnswer result
+  pub read : MemorySufficed result → reading l b ≡ answer_of view result
+  pub allowed : MemorySufficed result → Allows l b (answer_of view result)

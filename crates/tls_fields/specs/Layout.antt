@@ -6,6 +6,7 @@
 --     opaque x[n]                                    block n
 --     opaque x<0..2^8-1>, x<0..2^16-1>               counted 1, counted 2
 --     T x<0..2^16-1>, a count and then many T        counted_window 2 (list T)
+--     struct { T x; } S                              mapped S T
 --     select (x) { case 1: S; case 2: T }            choose (x == 1) S (choose (x == 2) T (refuse Switch))
 use Rattle.std.specs.Prelude.{ℕ, zero, suc, ◌/◌, ◌%◌, ◌==◌, List, [], ◌∷◌, ◌++◌, Option, Bool, true, false}
 use Rattle.tls_fields.specs.Bytes.{Bytes}
@@ -51,6 +52,10 @@ l >>= f = chain l f
 infixl 10 ◌>>◌
 abbrev pub ◌>>◌ : {A B : Type 0} → Layout A → Layout B → Layout B
 l >> m = chain l (λ _. m)
+
+-- What is made of a value: the same bytes, and f of what they spell.
+abbrev pub mapped : {A B : Type 0} → (A → B) → Layout A → Layout B
+mapped f l = l >>= λ x. done (f x)
 
 -- A rule takes no bytes, and where it is broken the answer is its kind.
 abbrev pub test : Bool → ErrorKind → Layout Unit

@@ -4,3 +4,5 @@ pub mod Meaning
 pub mod Reading
 pub mod Stable
 pub mod Answers
+pub mod Text
+pub mod Write

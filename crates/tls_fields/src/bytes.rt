@@ -1,16 +1,16 @@
 //! Stretches of bytes: blocks, counted blocks and tags.
 ghost use Rattle.std.specs.Option.{option_map};
 ghost use Rattle.tls_fields.specs.Bytes.{bytes_of};
-ghost use Rattle.tls_fields.specs.Layout.{block as block_of, counted, maybe, tag as tag_of};
+ghost use Rattle.tls_fields.specs.Layout.{block as block_of, counted, maybe, rest as rest_of, tag as tag_of};
 ghost use Rattle.tls_fields.specs.Answers.{Gives};
 
 use crate::number::{number1, number2, number3};
-use crate::result::{Err, Error, ErrorKind, IResult, Needed};
+use crate::result::{Err, ErrorKind, IResult, Needed, refused};
 
 /// The first `n` bytes (`opaque[n]`; RFC 8446, section 3.4).
 ///
 /// `Incomplete` of the missing bytes where there are fewer.
-#[tactic(auto, using(crate::proofs::Gives::reads), unfolding(crate::specs::Reading::split_at))]
+#[tactic(auto, using(crate::proofs::GivesLemmas::reads), unfolding(crate::specs::Reading::split_at))]
 pub fn block(i: &[u8], n: usize) -> IResult<&[u8], &[u8]>
     ensures { Gives (λ v. v.now) (block_of n) i.now result }
 {
@@ -19,6 +19,16 @@ pub fn block(i: &[u8], n: usize) -> IResult<&[u8], &[u8]>
     }
     let (front, rest) = i.split_at(n);
     Ok((rest, front))
+}
+
+/// All bytes that are left, with none behind them (`opaque` up to the end of what it stands in).
+///
+/// It never refuses.
+#[inline(always)]
+pub fn rest(i: &[u8]) -> IResult<&[u8], &[u8]>
+    ensures { Gives (λ v. v.now) rest_of i.now result }
+{
+    block(i, i.len())
 }
 
 /// A count of 1 byte, and then that many bytes (`opaque<0..2^8-1>`; RFC 8446, section 3.4).
@@ -66,7 +76,7 @@ pub fn maybe2(i: &[u8]) -> IResult<&[u8], Option<&[u8]>>
 /// The 2 bytes of the number `t`, big-endian.
 ///
 /// `Error` of kind `Tag` where a byte that is present differs; else `Incomplete` of the missing bytes.
-#[tactic(auto, using(crate::proofs::Gives::reads), unfolding(crate::specs::Reading::tag_at))]
+#[tactic(auto, using(crate::proofs::GivesLemmas::reads), unfolding(crate::specs::Reading::tag_at))]
 pub fn tag(i: &[u8], t: u16) -> IResult<&[u8], ()>
     ensures { Gives (λ v. v) (tag_of (bytes_of 2 t)) i.now result }
 {
@@ -75,9 +85,6 @@ pub fn tag(i: &[u8], t: u16) -> IResult<&[u8], ()>
         [] => Err(Err::Incomplete(Needed::Size(2))),
         [x] if *x == first => Err(Err::Incomplete(Needed::Size(1))),
         [x, y, rest @ ..] if *x == first && *y == second => Ok((rest, ())),
-        _ => Err(Err::Error(Error {
-            input: i,
-            code: ErrorKind::Tag,
-        })),
+        _ => refused(i, ErrorKind::Tag),
     }
 }

@@ -1,5 +1,5 @@
 //! What lists hold.
-ghost use Rattle.std.specs.Prelude.{ℕ};
+ghost use Rattle.std.specs.Prelude.{◌≤◌, ℕ, length};
 ghost use Rattle.tls_fields.specs.Bytes.{Bytes};
 ghost use Rattle.tls_fields.specs.Layout.{Layout, counted, number};
 ghost use Rattle.tls_fields.specs.Answers.{GivesOrMemory};
@@ -7,10 +7,11 @@ ghost use Rattle.tls_fields.specs.Answers.{GivesOrMemory};
 use crate::bytes::{counted1, counted2};
 use crate::number::number2;
 use crate::result::IResult;
+use crate::room::{Room, hops1, hops2};
 use std::alloc::Global;
 
 /// How the items of a list are read: their layout, and its reader. Most types that are read are items of themselves.
-pub trait Item<'a> {
+pub trait Item<'a>: Room {
     /// What is read.
     type Read: Drop;
 
@@ -43,6 +44,14 @@ impl<'a> Item<'a> for Number2 {
     }
 }
 
+impl Room for Number2 {
+    fn room(i: &[u8]) -> usize
+        ensures { result ≤ length i.now }
+    {
+        i.len() / 2
+    }
+}
+
 /// Bytes behind 1 byte of their count.
 pub struct Counted1;
 
@@ -60,6 +69,14 @@ impl<'a> Item<'a> for Counted1 {
     }
 }
 
+impl Room for Counted1 {
+    fn room(i: &[u8]) -> usize
+        ensures { result ≤ length i.now }
+    {
+        hops1(i)
+    }
+}
+
 /// Bytes behind 2 bytes of their count.
 pub struct Counted2;
 
@@ -74,5 +91,13 @@ impl<'a> Item<'a> for Counted2 {
 
     fn read(_alloc: Global, i: &'a [u8]) -> IResult<&'a [u8], &'a [u8]> {
         counted2(i)
+    }
+}
+
+impl Room for Counted2 {
+    fn room(i: &[u8]) -> usize
+        ensures { result ≤ length i.now }
+    {
+        hops2(i, 0)
     }
 }

@@ -2,7 +2,7 @@
 //!
 //! First, for each kind of part: on any bytes, a layout of that kind allows exactly one answer. Then what stands of
 //! every layout: the answer is what reading gives, and its rest is an end of the bytes; and what further bytes change.
-#![tactic(auto, using(crate::proofs::OneAnswer::one_answer))]
+#![tactic(auto, using(crate::proofs::OneAnswerLemmas::one_answer))]
 
 ghost use Rattle.std.specs.Prelude.{◌≡◌, ◌<◌, ◌↔◌, ℕ, List, Bool};
 ghost use Rattle.tls_fields.specs.Bytes.{Bytes, AreBytes};
@@ -136,37 +136,37 @@ pub fn sequence_has_one_answer<P: Parts>()
 {}
 
 /// What reading gives is the one answer that is allowed.
-#[tactic(auto, using(crate::proofs::OneAnswer::allowed_is_reading))]
+#[tactic(auto, using(crate::proofs::OneAnswerLemmas::allowed_is_reading))]
 pub fn reading_is_the_answer<P: Parts>()
     ensures { (b : Bytes) → AreBytes b → (x : Answer P.Value) → Allows P.part b x ↔ (x ≡ reading P.part b) }
 {}
 
 /// The rest of an answer is an end of the bytes.
-#[tactic(auto, using(crate::proofs::Ends::ends))]
+#[tactic(auto, using(crate::proofs::EndLemmas::ends))]
 pub fn rest_is_an_end<P: Parts>()
     ensures { (b : Bytes) (v : P.Value) (r d : Bytes) → Spells P.part b v r d → EndsWith b r }
 {}
 
 /// What lacks bytes lacks at least one.
-#[tactic(auto, using(crate::proofs::Lacking::lacks_some))]
+#[tactic(auto, using(crate::proofs::LackingLemmas::lacks_some))]
 pub fn missing_bytes_are_some<P: Parts>()
     ensures { (b : Bytes) (n : ℕ) → Refuses P.part b (Lacks n) → 0 < n }
 {}
 
 /// Further bytes leave the value or the broken rule of a stable layout as it was, and stand behind the rest.
-#[tactic(auto, using(crate::proofs::Stable::decides))]
+#[tactic(auto, using(crate::proofs::StableLemmas::decides))]
 pub fn more_bytes_change_no_decision<P: Parts>()
     ensures { IsStable P.part → (b s : Bytes) → AreBytes b → AreBytes s → Decides P.part b s }
 {}
 
 /// Where bytes are missing, fewer further bytes leave the others missing.
-#[tactic(auto, using(crate::proofs::Stable::counts_down))]
+#[tactic(auto, using(crate::proofs::StableLemmas::counts_down))]
 pub fn more_bytes_are_counted<P: Parts>()
     ensures { CountsMissing P.part → (b s : Bytes) → AreBytes b → AreBytes s → CountsDown P.part b s }
 {}
 
 /// A layout that counts what is missing is stable.
-#[tactic(auto, using(crate::proofs::Stable::counting_is_stable))]
+#[tactic(auto, using(crate::proofs::StableLemmas::counting_is_stable))]
 pub fn counting_is_stable<P: Parts>()
     ensures { CountsMissing P.part → IsStable P.part }
 {}

@@ -2,8 +2,9 @@
 //!
 //! Each reader's contract names a layout (`specs/Layout.antt`), and says that the call answers what that layout allows
 //! on the bytes: the value and the exact rest, the kind of the broken rule, or the exact count of missing bytes. Numbers
-//! are big-endian (RFC 8446, section 3.3).
-#![tactic(auto, using(crate::proofs::OneAnswer::read_allowed))]
+//! are big-endian (RFC 8446, section 3.3). Here stands also what every writer shares: the pieces of a text (`text`), the
+//! refusals, and the loop over a writer.
+#![tactic(auto, using(crate::proofs::OneAnswerLemmas::read_allowed))]
 
 mod bytes;
 mod item;
@@ -11,11 +12,16 @@ pub mod laws;
 mod list;
 mod number;
 mod result;
+mod room;
 mod table;
+pub mod text;
+mod write;
 
-pub use bytes::{block, counted1, counted2, counted3, maybe2, tag};
+pub use bytes::{block, counted1, counted2, counted3, maybe2, rest, tag};
 pub use item::{Counted1, Counted2, Item, Number2};
 pub use list::{items, items_times, items1, pairs};
 pub use number::{number1, number2, number3, number4, number8};
-pub use result::{Err, Error, ErrorKind, IResult, Needed, OutOfMemory};
+pub use result::{Err, Error, ErrorKind, IResult, Needed, OutOfMemory, refused};
+pub use room::{Room, at_most, hops1, hops2};
 pub use table::place;
+pub use write::{GenError, write_whole};

@@ -1,4 +1,6 @@
 //! Numbers of one to eight bytes, big-endian.
+#![tactic(auto, using(crate::proofs::GivesLemmas::reads), unfolding(crate::specs::Reading::split_at, crate::specs::Reading::number_at))]
+
 ghost use Rattle.tls_fields.specs.Layout.{number};
 ghost use Rattle.tls_fields.specs.Answers.{Gives};
 
@@ -7,7 +9,6 @@ use crate::result::{Err, IResult, Needed};
 /// A number of 1 byte (`uint8`; RFC 8446, section 3.3).
 ///
 /// `Incomplete` of 1 where there is no byte.
-#[tactic(auto, using(crate::proofs::Gives::reads), unfolding(crate::specs::Reading::split_at, crate::specs::Reading::number_at))]
 pub fn number1(i: &[u8]) -> IResult<&[u8], u8>
     ensures { Gives (λ v. v) (number 1) i.now result }
 {
@@ -20,7 +21,6 @@ pub fn number1(i: &[u8]) -> IResult<&[u8], u8>
 /// A number of 2 bytes, big-endian (`uint16`; RFC 8446, section 3.3).
 ///
 /// `Incomplete` of the missing bytes where there are fewer than 2.
-#[tactic(auto, using(crate::proofs::Gives::reads), unfolding(crate::specs::Reading::split_at, crate::specs::Reading::number_at))]
 pub fn number2(i: &[u8]) -> IResult<&[u8], u16>
     ensures { Gives (λ v. v) (number 2) i.now result }
 {
@@ -33,7 +33,6 @@ pub fn number2(i: &[u8]) -> IResult<&[u8], u16>
 /// A number of 3 bytes, big-endian (`uint24`; RFC 8446, section 3.3).
 ///
 /// `Incomplete` of the missing bytes where there are fewer than 3.
-#[tactic(auto, using(crate::proofs::Gives::reads), unfolding(crate::specs::Reading::split_at, crate::specs::Reading::number_at))]
 pub fn number3(i: &[u8]) -> IResult<&[u8], u32>
     ensures { Gives (λ v. v) (number 3) i.now result }
 {
@@ -46,7 +45,6 @@ pub fn number3(i: &[u8]) -> IResult<&[u8], u32>
 /// A number of 4 bytes, big-endian (`uint32`; RFC 8446, section 3.3).
 ///
 /// `Incomplete` of the missing bytes where there are fewer than 4.
-#[tactic(auto, using(crate::proofs::Gives::reads), unfolding(crate::specs::Reading::split_at, crate::specs::Reading::number_at))]
 pub fn number4(i: &[u8]) -> IResult<&[u8], u32>
     ensures { Gives (λ v. v) (number 4) i.now result }
 {
@@ -59,7 +57,6 @@ pub fn number4(i: &[u8]) -> IResult<&[u8], u32>
 /// A number of 8 bytes, big-endian (`uint64`; RFC 8446, section 3.3).
 ///
 /// `Incomplete` of the missing bytes where there are fewer than 8.
-#[tactic(auto, using(crate::proofs::Gives::reads), unfolding(crate::specs::Reading::split_at, crate::specs::Reading::number_at))]
 pub fn number8(i: &[u8]) -> IResult<&[u8], u64>
     ensures { Gives (λ v. v) (number 8) i.now result }
 {

@@ -1,6 +1,9 @@
 //! What a parse call answers.
 
+ghost use Rattle.std.specs.Prelude.{◌≡◌, MatchResult};
+
 use std::alloc::{AllocError, AllocFailed};
+use std::fmt;
 
 /// Why bytes are refused.
 #[derive(Clone, Copy, Debug, PartialEq, Eq)]
@@ -56,6 +59,14 @@ pub type IResult<I, O> = Result<(I, O), Err<Error<I>>>;
 #[derive(Debug, PartialEq, Drop)]
 pub struct OutOfMemory;
 
+/// A refusal of that kind, with the input that is refused.
+#[inline(always)]
+pub fn refused<I, O>(input: I, code: ErrorKind) -> IResult<I, O>
+    ensures { MatchResult result (λ _. ⊥) (λ e. e ≡ Err.Error (record { input = input; code = code })) }
+{
+    Err(Err::Error(Error { input, code }))
+}
+
 impl<E> From<AllocError> for Err<E> {
     ghost use Rattle.std.specs.Prelude.{◌≡◌};
     ghost use Rattle.tls_fields.specs.declared.result.Err.TheVariants.{OutOfMemory};
@@ -89,3 +100,65 @@ impl<T: Drop> From<AllocFailed<T>> for OutOfMemory {
         OutOfMemory
     }
 }
+
+impl From<OutOfMemory> for AllocError {
+    fn from(_e: OutOfMemory) -> AllocError {
+        AllocError
+    }
+}
+
+impl fmt::Display for ErrorKind {
+    fn fmt<W: fmt::Write>(&self, f: &mut fmt::Formatter<W>) -> fmt::Result {
+        f.write_str(match self {
+            ErrorKind::TooLarge => "a length is too large",
+            ErrorKind::LengthValue => "a length doesn't fit what it counts",
+            ErrorKind::Verify => "a value breaks its rule",
+            ErrorKind::Switch => "a type that isn't read",
+            ErrorKind::Tag => "a fixed tag differs",
+            ErrorKind::Complete => "bytes are missing where no further bytes could help",
+        })
+    }
+}
+
+impl fmt::Display for Needed {
+    fn fmt<W: fmt::Write>(&self, f: &mut fmt::Formatter<W>) -> fmt::Result {
+        match self {
+            Needed::Unknown => f.write_str("more bytes are needed"),
+            Needed::Size(1) => f.write_str("1 more byte is needed"),
+            Needed::Size(n) => write!(f, "{n} more bytes are needed"),
+        }
+    }
+}
+
+impl<I> fmt::Display for Error<I> {
+    fn fmt<W: fmt::Write>(&self, f: &mut fmt::Formatter<W>) -> fmt::Result {
+        write!(f, "{}", self.code)
+    }
+}
+
+impl<E: fmt::Display> fmt::Display for Err<E> {
+    fn fmt<W: fmt::Write>(&self, f: &mut fmt::Formatter<W>) -> fmt::Result {
+        match self {
+            Err::Incomplete(needed) => write!(f, "{needed}"),
+            Err::Error(e) => write!(f, "{e}"),
+            Err::Failure(e) => write!(f, "{e}"),
+            Err::OutOfMemory => f.write_str("out of memory"),
+        }
+    }
+}
+
+impl fmt::Display for OutOfMemory {
+    fn fmt<W: fmt::Write>(&self, f: &mut fmt::Formatter<W>) -> fmt::Result {
+        f.write_str("out of memory")
+    }
+}
+
+impl std::error::Error for ErrorKind {}
+
+impl std::error::Error for Needed {}
+
+impl<I: fmt::Debug + Drop> std::error::Error for Error<I> {}
+
+impl<E: fmt::Debug + fmt::Display + Drop> std::error::Error for Err<E> {}
+
+impl std::error::Error for OutOfMemory {}

@@ -1,4 +1,6 @@
--- Certificates, and requests for them.
+-- Certificates, requests for them, and their status.
+--
+-- Lower bounds of the RFCs, as in opaque x<1..2^8-1>, aren't asked for: each list and each block may be empty.
 use Rattle.std.specs.Prelude.{ℕ, List, map, Option, Some, None}
 use Rattle.std.specs.Option.{option_map}
 use Rattle.tls_fields.specs.Bytes.{Bytes}
@@ -11,7 +13,7 @@ use Rattle.tls_hs.specs.declared.certificate_request.TlsCertificateRequestConten
 abbrev pub view_certificate : TlsCertificateContents → List Bytes
 view_certificate c = map (λ x. x.bytes.now) c.cert_chain.items
 
--- ASN.1Cert certificate_list<0..2^24-1>, each of them opaque ASN.1Cert<1..2^24-1>.
+-- ASN.1Cert certificate_list<0..2^24-1>, of opaque ASN.1Cert<1..2^24-1>; here one of no bytes is a certificate too.
 unfoldable pub certificate : Layout (List Bytes)
 certificate = counted_window 3 (list (counted 3))
 
@@ -29,19 +31,20 @@ view_certificate_request r = record {
   certificate_authorities = map (λ x. x.now) r.unparsed_ca.items;
 }
 
--- ClientCertificateType certificate_types<1..2^8-1>, perhaps none; each is one byte.
+-- ClientCertificateType certificate_types<1..2^8-1>, one byte each; here none may stand too.
 unfoldable pub certificate_types : Layout (List ℕ)
 certificate_types = counted 1
 
--- SignatureAndHashAlgorithm supported_signature_algorithms<2..2^16-2>, each as one number, perhaps none.
+-- SignatureAndHashAlgorithm supported_signature_algorithms<2..2^16-2>, each as one number; here none may stand too.
 unfoldable pub signature_algorithms : Layout (List ℕ)
 signature_algorithms = counted_window 2 (list (number 2))
 
--- DistinguishedName certificate_authorities<0..2^16-1>, each of them opaque DistinguishedName<1..2^16-1>.
+-- DistinguishedName certificate_authorities<0..2^16-1>, of opaque DistinguishedName<1..2^16-1>; here one of no bytes is
+-- a name too.
 unfoldable pub certificate_authorities : Layout (List Bytes)
 certificate_authorities = counted_window 2 (list (counted 2))
 
--- Its body in TLS 1.2.
+-- The body of a CertificateRequest in TLS 1.2.
 unfoldable pub certificate_request_with_algorithms : Layout CertificateRequest
 certificate_request_with_algorithms = do
   types ← certificate_types
@@ -53,7 +56,7 @@ certificate_request_with_algorithms = do
     certificate_authorities = authorities;
   })
 
--- Its body up to TLS 1.1.
+-- The body of a CertificateRequest up to TLS 1.1.
 unfoldable pub certificate_request_without_algorithms : Layout CertificateRequest
 certificate_request_without_algorithms = do
   types ← certificate_types
@@ -64,7 +67,7 @@ certificate_request_without_algorithms = do
     certificate_authorities = authorities;
   })
 
--- Its body, of which nothing says which form it has: the first that is spelled.
+-- The body of a CertificateRequest, of which nothing says which form it has: the first that is spelled.
 unfoldable pub certificate_request : Layout CertificateRequest
 certificate_request = either certificate_request_with_algorithms certificate_request_without_algorithms
 
@@ -76,9 +79,9 @@ pub record CertificateStatus : Type 0 where
 abbrev pub view_certificate_status : TlsCertificateStatusContents → CertificateStatus
 view_certificate_status s = record { status_type = s.status_type; response = s.blob.now }
 
--- Its body.
+-- The body of a CertificateStatus. Its response is opaque OCSPResponse<1..2^24-1>; here one of no bytes is read too.
 unfoldable pub certificate_status : Layout CertificateStatus
 certificate_status = do
-  kind ← number 1
+  status_type ← number 1
   response ← counted 3
-  done (record { status_type = kind; response = response })
+  done (record { status_type = status_type; response = response })

@@ -1,7 +1,9 @@
--- Handshake messages (RFC 5246, section 7.4).
+-- Handshake messages (RFC 5246, section 7.4), and of TLS 1.3 and its drafts those whose numbers are free there: types 5
+-- and 24 (RFC 8446, section 4), 6 (draft-ietf-tls-tls13-19, section 4.1.4) and 67 (draft-agl-tls-nextprotoneg-04,
+-- section 3). Types 4, 11 and 13 have a form of their own in TLS 1.3, which isn't read: they are read in that of TLS 1.2.
 use Rattle.std.specs.Prelude.{ℕ, List, ◌==◌}
 use Rattle.tls_fields.specs.Bytes.{Bytes}
-use Rattle.tls_fields.specs.Layout.{Layout, done, refuse, number, block, look, ◌>>=◌, choose}
+use Rattle.tls_fields.specs.Layout.{Layout, done, refuse, number, block, look, ◌>>=◌, mapped, choose}
 use Rattle.tls_fields.specs.declared.result.ErrorKind.TheVariants.{Switch}
 use Rattle.tls_hs.specs.Hello as hello
 use Rattle.tls_hs.specs.ServerHello as server
@@ -54,78 +56,78 @@ unfoldable pub hello_request_body : Layout Handshake
 hello_request_body = done HelloRequest
 
 unfoldable pub client_hello_body : Layout Handshake
-client_hello_body = hello.client_hello >>= λ h. done (ClientHello h)
+client_hello_body = mapped ClientHello hello.client_hello
 
 -- Its version, which is looked at and not taken, tells draft 18 of TLS 1.3 from the others.
 unfoldable pub server_hello_body : Layout Handshake
 server_hello_body = do
   version ← look (number 2)
-  choose (version == 0x7f12) (server.server_hello_draft18 >>= λ h. done (ServerHelloV13Draft18 h)) (
-      server.server_hello >>= λ h. done (ServerHello h))
+  choose (version == 0x7f12) (mapped ServerHelloV13Draft18 server.server_hello_draft18) (
+      mapped ServerHello server.server_hello)
 
 unfoldable pub new_session_ticket_body : ℕ → Layout Handshake
-new_session_ticket_body length = session.new_session_ticket length >>= λ t. done (NewSessionTicket t)
+new_session_ticket_body length = mapped NewSessionTicket (session.new_session_ticket length)
 
 unfoldable pub hello_retry_request_body : Layout Handshake
-hello_retry_request_body = server.hello_retry_request >>= λ r. done (HelloRetryRequest r)
+hello_retry_request_body = mapped HelloRetryRequest server.hello_retry_request
 
 unfoldable pub certificate_body : Layout Handshake
-certificate_body = certificates.certificate >>= λ c. done (Certificate c)
+certificate_body = mapped Certificate certificates.certificate
 
 unfoldable pub server_key_exchange_body : ℕ → Layout Handshake
-server_key_exchange_body length = block length >>= λ b. done (ServerKeyExchange b)
+server_key_exchange_body length = mapped ServerKeyExchange (block length)
 
 unfoldable pub certificate_request_body : Layout Handshake
-certificate_request_body = certificates.certificate_request >>= λ r. done (CertificateRequest r)
+certificate_request_body = mapped CertificateRequest certificates.certificate_request
 
 unfoldable pub server_done_body : ℕ → Layout Handshake
-server_done_body length = block length >>= λ b. done (ServerDone b)
+server_done_body length = mapped ServerDone (block length)
 
 unfoldable pub certificate_verify_body : ℕ → Layout Handshake
-certificate_verify_body length = block length >>= λ b. done (CertificateVerify b)
+certificate_verify_body length = mapped CertificateVerify (block length)
 
 unfoldable pub client_key_exchange_body : ℕ → Layout Handshake
-client_key_exchange_body length = block length >>= λ b. done (ClientKeyExchange (session.Unknown b))
+client_key_exchange_body length = mapped (λ b. ClientKeyExchange (session.Unknown b)) (block length)
 
 unfoldable pub finished_body : ℕ → Layout Handshake
-finished_body length = block length >>= λ b. done (Finished b)
+finished_body length = mapped Finished (block length)
 
 unfoldable pub certificate_status_body : Layout Handshake
-certificate_status_body = certificates.certificate_status >>= λ s. done (CertificateStatus s)
+certificate_status_body = mapped CertificateStatus certificates.certificate_status
 
 unfoldable pub next_protocol_body : Layout Handshake
-next_protocol_body = session.next_protocol >>= λ p. done (NextProtocol p)
+next_protocol_body = mapped NextProtocol session.next_protocol
 
 unfoldable pub key_update_body : Layout Handshake
-key_update_body = number 1 >>= λ n. done (KeyUpdate n)
+key_update_body = mapped KeyUpdate (number 1)
 
--- select (HandshakeType) of a body of that length, in bytes: the types from 20 on.
-unfoldable pub closing_body : ℕ → ℕ → Layout Handshake
-closing_body kind length =
-    choose (kind == 20) (finished_body length) (
-    choose (kind == 22) certificate_status_body (
-    choose (kind == 24) key_update_body (
-    choose (kind == 67) next_protocol_body (
+-- select (HandshakeType) of a body of that length, in bytes: the types from finished(20) on.
+unfoldable pub body_from_finished : ℕ → ℕ → Layout Handshake
+body_from_finished msg_type length =
+    choose (msg_type == 20) (finished_body length) (
+    choose (msg_type == 22) certificate_status_body (
+    choose (msg_type == 24) key_update_body (
+    choose (msg_type == 67) next_protocol_body (
     refuse Switch))))
 
--- The types from 11 on.
-unfoldable pub exchange_body : ℕ → ℕ → Layout Handshake
-exchange_body kind length =
-    choose (kind == 11) certificate_body (
-    choose (kind == 12) (server_key_exchange_body length) (
-    choose (kind == 13) certificate_request_body (
-    choose (kind == 14) (server_done_body length) (
-    choose (kind == 15) (certificate_verify_body length) (
-    choose (kind == 16) (client_key_exchange_body length) (
-    closing_body kind length))))))
+-- The types from certificate(11) on.
+unfoldable pub body_from_certificate : ℕ → ℕ → Layout Handshake
+body_from_certificate msg_type length =
+    choose (msg_type == 11) certificate_body (
+    choose (msg_type == 12) (server_key_exchange_body length) (
+    choose (msg_type == 13) certificate_request_body (
+    choose (msg_type == 14) (server_done_body length) (
+    choose (msg_type == 15) (certificate_verify_body length) (
+    choose (msg_type == 16) (client_key_exchange_body length) (
+    body_from_finished msg_type length))))))
 
 -- All types. Of an EndOfEarlyData (RFC 8446, section 4.5) nothing is read.
 unfoldable pub handshake_body : ℕ → ℕ → Layout Handshake
-handshake_body kind length =
-    choose (kind == 0) hello_request_body (
-    choose (kind == 1) client_hello_body (
-    choose (kind == 2) server_hello_body (
-    choose (kind == 4) (new_session_ticket_body length) (
-    choose (kind == 5) (done EndOfEarlyData) (
-    choose (kind == 6) hello_retry_request_body (
-    exchange_body kind length))))))
+handshake_body msg_type length =
+    choose (msg_type == 0) hello_request_body (
+    choose (msg_type == 1) client_hello_body (
+    choose (msg_type == 2) server_hello_body (
+    choose (msg_type == 4) (new_session_ticket_body length) (
+    choose (msg_type == 5) (done EndOfEarlyData) (
+    choose (msg_type == 6) hello_retry_request_body (
+    body_from_certificate msg_type length))))))

@@ -4,9 +4,10 @@ use Rattle.std.specs.Option.{option_map}
 use Rattle.tls_fields.specs.Bytes.{Bytes, number_of}
 use Rattle.tls_fields.specs.Layout.{Layout, done, number, block, left, maybe, ◌>>=◌, ◌>>◌, test, counted, times}
 use Rattle.tls_fields.specs.declared.result.ErrorKind.TheVariants.{LengthValue, Verify}
-use Rattle.tls_hs.specs.declared.hello.TlsClientHelloContents.{TlsClientHelloContents}
+use Rattle.tls_hs.specs.declared.client_hello.TlsClientHelloContents.{TlsClientHelloContents}
 
--- A ClientHello, apart from where it lies in memory; the extensions are one undivided block.
+-- A ClientHello, apart from where it lies in memory; the extensions are one undivided block. In TLS 1.3 its version is
+-- 0x0303, and those that the client offers stand in its extension supported_versions (RFC 8446, section 4.2.1).
 pub record ClientHello : Type 0 where
   pub client_version : ℕ
   pub random : Bytes
@@ -33,7 +34,8 @@ session_id = do
   id ← block n
   done (if n == 0 then None else Some id)
 
--- CipherSuite cipher_suites<0..2^16-2>, counted in bytes; the count is tested before the suites are read.
+-- CipherSuite cipher_suites<2..2^16-2>, counted in bytes; here none may stand too. The count is tested before the suites
+-- are read.
 unfoldable pub cipher_suites : Layout (List ℕ)
 cipher_suites = do
   k ← number 2
@@ -41,7 +43,8 @@ cipher_suites = do
   test (k % 2 == 0 && nat_le k n) LengthValue
   times (k / 2) (number 2)
 
--- CompressionMethod compression_methods<0..2^8-1>; the count is tested before the methods are read.
+-- CompressionMethod compression_methods<1..2^8-1>, one byte each; here none may stand too. The count is tested before the
+-- methods are read.
 unfoldable pub compression_methods : Layout (List ℕ)
 compression_methods = do
   k ← number 1
@@ -49,7 +52,7 @@ compression_methods = do
   test (nat_le k n) LengthValue
   times k (number 1)
 
--- The body of a ClientHello; its extensions may be absent.
+-- The body of a ClientHello; its extensions may be missing.
 unfoldable pub client_hello : Layout ClientHello
 client_hello = do
   version ← number 2

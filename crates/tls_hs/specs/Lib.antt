@@ -4,7 +4,11 @@ pub mod Certificate
 pub mod Session
 pub mod Handshake
 pub mod Message
+pub mod HandshakeText
+pub mod Writable
 pub use Rattle.tls_fields.specs.Bytes
 pub use Rattle.tls_fields.specs.Layout
 pub use Rattle.tls_fields.specs.Meaning
 pub use Rattle.tls_fields.specs.Answers
+pub use Rattle.tls_fields.specs.Text
+pub use Rattle.tls_fields.specs.Write

@@ -1,7 +1,7 @@
 -- The messages of records.
 use Rattle.std.specs.Prelude.{ℕ, List, [], ◌∷◌, nat_le, ◌==◌}
 use Rattle.tls_fields.specs.Bytes.{Bytes}
-use Rattle.tls_fields.specs.Layout.{Layout, done, number, block, window, ◌>>=◌, ◌>>◌, test, rest}
+use Rattle.tls_fields.specs.Layout.{Layout, done, number, block, window, ◌>>=◌, ◌>>◌, mapped, test, rest}
 use Rattle.tls_fields.specs.declared.result.ErrorKind.TheVariants.{Verify}
 use Rattle.tls_base.specs.Alert as alerts
 use Rattle.tls_hs.specs.Handshake as handshakes
@@ -11,12 +11,12 @@ use Rattle.tls_hs.specs.declared.message.TlsMessageHeartbeat.{TlsMessageHeartbea
 
 -- A HeartbeatMessage (RFC 6520, section 4), apart from where it lies in memory; its padding isn't kept.
 pub record HeartbeatMessage : Type 0 where
-  pub kind : ℕ
+  pub heartbeat_type : ℕ
   pub payload_length : ℕ
   pub payload : Bytes
 
 abbrev pub view_heartbeat : TlsMessageHeartbeat → HeartbeatMessage
-view_heartbeat h = record { kind = h.heartbeat_type.0; payload_length = h.payload_len; payload = h.payload.now }
+view_heartbeat h = record { heartbeat_type = h.heartbeat_type.0; payload_length = h.payload_len; payload = h.payload.now }
 
 -- A message, apart from where it lies in memory.
 pub data Message : Type 0 where
@@ -37,9 +37,9 @@ view_message (tls_message.Heartbeat h) = Heartbeat (view_heartbeat h)
 -- length alone.
 unfoldable pub handshake : Layout Message
 handshake = do
-  kind ← number 1
+  msg_type ← number 1
   n ← number 3
-  body ← window n (handshakes.handshake_body kind n)
+  body ← window n (handshakes.handshake_body msg_type n)
   done (Handshake body)
 
 -- ChangeCipherSpec (RFC 5246, section 7.1): one byte, which is 1.
@@ -51,18 +51,18 @@ change_cipher_spec = do
 
 -- An alert (RFC 5246, section 7.2).
 unfoldable pub alert : Layout Message
-alert = alerts.alert >>= λ a. done (Alert a)
+alert = mapped Alert alerts.alert
 
 -- Application data (RFC 5246, section 10): all bytes.
 unfoldable pub application_data : Layout Message
-application_data = rest >>= λ b. done (ApplicationData b)
+application_data = mapped ApplicationData rest
 
 -- HeartbeatMessage (RFC 6520, section 4), in a record of that length, which is at least that of the message's two
 -- numbers. A record has one.
 unfoldable pub heartbeat : ℕ → Layout (List Message)
 heartbeat length = do
-  kind ← number 1
+  heartbeat_type ← number 1
   n ← number 2
   test (nat_le 3 length) Verify
   payload ← block n
-  done (Heartbeat (record { kind = kind; payload_length = n; payload = payload }) ∷ [])
+  done (Heartbeat (record { heartbeat_type = heartbeat_type; payload_length = n; payload = payload }) ∷ [])

@@ -9,7 +9,8 @@ use Rattle.tls_hs.specs.declared.server_hello.TlsServerHelloContents.{TlsServerH
 use Rattle.tls_hs.specs.declared.server_hello.TlsServerHelloV13Draft18Contents.{TlsServerHelloV13Draft18Contents}
 use Rattle.tls_hs.specs.declared.server_hello.TlsHelloRetryRequestContents.{TlsHelloRetryRequestContents}
 
--- A ServerHello (RFC 5246, section 7.4.1.3), apart from where it lies in memory.
+-- A ServerHello (RFC 5246, section 7.4.1.3), apart from where it lies in memory. In TLS 1.3 its version is 0x0303, and
+-- the version that is spoken stands in its extension supported_versions (RFC 8446, section 4.2.1).
 pub record ServerHello : Type 0 where
   pub server_version : ℕ
   pub random : Bytes
@@ -28,15 +29,15 @@ view_server_hello h = record {
   extensions = option_map (λ x. x.now) h.ext;
 }
 
--- The body of a ServerHello of any version; its extensions may be absent.
-unfoldable pub server_hello_any : Layout ServerHello
-server_hello_any = do
+-- The body of a ServerHello whose extensions have that layout.
+abbrev pub server_hello_with : Layout (Option Bytes) → Layout ServerHello
+server_hello_with extensions_layout = do
   version ← number 2
   random ← block 32
   id ← session_id
   suite ← number 2
   method ← number 1
-  extensions ← maybe (counted 2)
+  extensions ← extensions_layout
   done (record {
     server_version = version;
     random = random;
@@ -46,22 +47,13 @@ server_hello_any = do
     extensions = extensions;
   })
 
+-- The body of a ServerHello of any version; its extensions may be missing.
+unfoldable pub server_hello_any : Layout ServerHello
+server_hello_any = server_hello_with (maybe (counted 2))
+
 -- The body of a ServerHello of SSL 3.0 (RFC 6101, section 5.6.1.3): there are no extensions.
 unfoldable pub server_hello_ssl30 : Layout ServerHello
-server_hello_ssl30 = do
-  version ← number 2
-  random ← block 32
-  id ← session_id
-  suite ← number 2
-  method ← number 1
-  done (record {
-    server_version = version;
-    random = random;
-    session_id = id;
-    cipher_suite = suite;
-    compression_method = method;
-    extensions = None;
-  })
+server_hello_ssl30 = server_hello_with (done None)
 
 -- The body of a ServerHello up to TLS 1.2. Its version, which is looked at and not taken, says which form it has.
 unfoldable pub server_hello : Layout ServerHello
@@ -86,7 +78,7 @@ view_server_hello_draft18 h = record {
   extensions = option_map (λ x. x.now) h.ext;
 }
 
--- Its body.
+-- The body of a ServerHello of draft 18.
 unfoldable pub server_hello_draft18 : Layout ServerHelloDraft18
 server_hello_draft18 = do
   version ← number 2
@@ -95,7 +87,8 @@ server_hello_draft18 = do
   extensions ← maybe (counted 2)
   done (record { version = version; random = random; cipher_suite = suite; extensions = extensions })
 
--- A HelloRetryRequest of draft 19 of TLS 1.3 (draft-ietf-tls-tls13-19, section 4.1.4), apart from where it lies in memory.
+-- A HelloRetryRequest of drafts of TLS 1.3 (draft-ietf-tls-tls13-19, section 4.1.4), apart from where it lies in memory;
+-- in RFC 8446 it is a ServerHello.
 pub record HelloRetryRequest : Type 0 where
   pub server_version : ℕ
   pub cipher_suite : ℕ
@@ -108,7 +101,7 @@ view_hello_retry_request h = record {
   extensions = option_map (λ x. x.now) h.ext;
 }
 
--- Its body.
+-- The body of a HelloRetryRequest.
 unfoldable pub hello_retry_request : Layout HelloRetryRequest
 hello_retry_request = do
   version ← number 2

@@ -1,4 +1,4 @@
--- What is neither a hello nor about certificates: key exchanges, tickets, protocols.
+-- Tickets, key exchanges and the choice of a protocol.
 use Rattle.std.specs.Prelude.{ℕ, ◌-◌, nat_le}
 use Rattle.tls_fields.specs.Bytes.{Bytes}
 use Rattle.tls_fields.specs.Layout.{Layout, done, number, block, ◌>>=◌, ◌>>◌, test, counted}
@@ -8,8 +8,8 @@ use Rattle.tls_hs.specs.declared.session.TlsClientKeyExchangeContents.{TlsClient
 use Rattle.tls_hs.specs.declared.session.TlsClientKeyExchangeContents.TheVariants as client_key_exchange_contents
 use Rattle.tls_hs.specs.declared.session.TlsNextProtocolContent.{TlsNextProtocolContent}
 
--- A NewSessionTicket (RFC 5077, section 3.3), apart from where it lies in memory; its ticket is all that follows the
--- hint, the length of the ticket too.
+-- A NewSessionTicket (RFC 5077, section 3.3), apart from where it lies in memory. Its ticket is all that follows the hint,
+-- the 2 bytes of the ticket's own length first.
 pub record NewSessionTicket : Type 0 where
   pub ticket_lifetime_hint : ℕ
   pub ticket : Bytes
@@ -17,7 +17,7 @@ pub record NewSessionTicket : Type 0 where
 abbrev pub view_new_session_ticket : TlsNewSessionTicketContent → NewSessionTicket
 view_new_session_ticket t = record { ticket_lifetime_hint = t.ticket_lifetime_hint; ticket = t.ticket.now }
 
--- Its body of that length, in bytes.
+-- The body of a NewSessionTicket of that length, in bytes.
 unfoldable pub new_session_ticket : ℕ → Layout NewSessionTicket
 new_session_ticket length = do
   test (nat_le 4 length) Verify
@@ -45,9 +45,9 @@ pub record NextProtocol : Type 0 where
 abbrev pub view_next_protocol : TlsNextProtocolContent → NextProtocol
 view_next_protocol p = record { selected_protocol = p.selected_protocol.now; padding = p.padding.now }
 
--- Its body.
+-- The body of a NextProtocol.
 unfoldable pub next_protocol : Layout NextProtocol
 next_protocol = do
-  selected ← counted 1
+  selected_protocol ← counted 1
   padding ← counted 1
-  done (record { selected_protocol = selected; padding = padding })
+  done (record { selected_protocol = selected_protocol; padding = padding })

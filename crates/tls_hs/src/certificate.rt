@@ -1,4 +1,4 @@
-//! Certificates and their state.
+//! Certificates and their status.
 ghost use Rattle.std.specs.Prelude.{◌≡◌, IfOk};
 ghost use Rattle.tls_fields.specs.Bytes.{Bytes};
 ghost use Rattle.tls_fields.specs.Layout.{counted};
@@ -6,9 +6,9 @@ ghost use Rattle.tls_fields.specs.Answers.{Gives, GivesOrMemory};
 ghost use Rattle.tls_hs.specs.Certificate.{view_certificate, certificate as certificate_layout, view_certificate_status, certificate_status};
 
 use std::alloc::Global;
-use tls_fields::{IResult, Item, OutOfMemory, counted3, items, number1};
+use tls_fields::{IResult, Item, OutOfMemory, Room, counted3, items, number1};
 
-/// A certificate, as it stands behind its length.
+/// A certificate, as it stands after its length (RFC 5246, section 7.4.2).
 #[derive(Clone, Debug, PartialEq, Drop)]
 pub struct RawCertificate<'a> {
     /// The certificate, in DER.
@@ -30,7 +30,9 @@ impl<'a> Item<'a> for RawCertificate<'a> {
     }
 }
 
-/// The body of a Certificate (RFC 5246, section 7.4.2).
+impl<'a> Room for RawCertificate<'a> {}
+
+/// The body of a Certificate up to TLS 1.2 (RFC 5246, section 7.4.2).
 #[derive(Debug, PartialEq, Drop)]
 pub struct TlsCertificateContents<'a> {
     /// The sender's own certificate first.
@@ -40,7 +42,7 @@ pub struct TlsCertificateContents<'a> {
 impl<'a> TlsCertificateContents<'a> {
     /// The same certificates again, in a list of their own.
     ///
-    /// `OutOfMemory` where the list could not be held.
+    /// `OutOfMemory` where memory for the list runs out.
     pub fn try_clone(&self, alloc: Global) -> Result<Self, OutOfMemory>
         ensures { IfOk result (λ c. view_certificate c ≡ view_certificate self.now) }
     {
@@ -50,12 +52,13 @@ impl<'a> TlsCertificateContents<'a> {
     }
 }
 
-/// Reads the body of a Certificate (RFC 5246, section 7.4.2): 3 bytes of length, big-endian, and within so many bytes
-/// certificates, each behind 3 bytes of length, up to the first that isn't whole. What is left within is dropped.
+/// Reads the body of a Certificate up to TLS 1.2 (RFC 5246, section 7.4.2): 3 bytes of length, big-endian, and within so
+/// many bytes certificates, each after 3 bytes of length, up to the first that isn't whole. What is left within is dropped.
 ///
 /// - `Incomplete` of the count of missing bytes, where the list isn't whole.
-/// - `OutOfMemory` where the list could not be held.
-#[tactic(auto, using(tls_fields::proofs::OneAnswer::read_allowed), unfolding(crate::specs::Certificate::certificate))]
+/// - `OutOfMemory` where memory for the list runs out.
+#[tactic(auto, using(tls_fields::proofs::OneAnswerLemmas::read_allowed), unfolding(crate::specs::Certificate::certificate))]
+#[inline(always)]
 pub fn certificate(alloc: Global, i: &[u8]) -> IResult<&[u8], TlsCertificateContents>
     ensures { GivesOrMemory view_certificate certificate_layout i.now result }
 {
@@ -77,7 +80,7 @@ pub struct TlsCertificateStatusContents<'a> {
 /// bytes.
 ///
 /// `Incomplete` of the count of missing bytes.
-#[tactic(auto, using(tls_fields::proofs::OneAnswer::read_allowed), unfolding(crate::specs::Certificate::certificate_status))]
+#[tactic(auto, using(tls_fields::proofs::OneAnswerLemmas::read_allowed), unfolding(crate::specs::Certificate::certificate_status))]
 pub fn parse_tls_handshake_certificatestatus(
     i: &[u8],
 ) -> IResult<&[u8], TlsCertificateStatusContents>

@@ -1,14 +1,14 @@
-//! The CertificateRequest, in its two forms.
+//! The CertificateRequest, in its two forms up to TLS 1.2 (RFC 5246, section 7.4.4).
 ghost use Rattle.std.specs.Prelude.{◌≡◌, map, IfOk};
 ghost use Rattle.tls_fields.specs.Answers.{GivesOrMemory};
 ghost use Rattle.tls_hs.specs.Certificate.{view_certificate_request, certificate_types as certificate_types_layout, signature_algorithms as signature_algorithms_layout, certificate_authorities as certificate_authorities_layout, certificate_request_with_algorithms, certificate_request_without_algorithms, certificate_request};
 
 use std::alloc::Global;
 use tls_fields::{
-    Counted2, Err, Error, ErrorKind, IResult, Number2, OutOfMemory, counted1, counted2, items,
+    Counted2, Err, ErrorKind, IResult, Number2, OutOfMemory, counted1, counted2, items, refused,
 };
 
-/// The body of a CertificateRequest (RFC 5246, section 7.4.4).
+/// The body of a CertificateRequest up to TLS 1.2 (RFC 5246, section 7.4.4).
 #[derive(Debug, PartialEq, Drop)]
 pub struct TlsCertificateRequestContents<'a> {
     /// The types of certificates that the server takes.
@@ -22,7 +22,7 @@ pub struct TlsCertificateRequestContents<'a> {
 impl<'a> TlsCertificateRequestContents<'a> {
     /// The same request again, with lists of its own.
     ///
-    /// `OutOfMemory` where a list could not be held.
+    /// `OutOfMemory` where memory for a list runs out.
     pub fn try_clone(&self, alloc: Global) -> Result<Self, OutOfMemory>
         ensures { IfOk result (λ r. view_certificate_request r ≡ view_certificate_request self.now) }
     {
@@ -38,8 +38,8 @@ impl<'a> TlsCertificateRequestContents<'a> {
     }
 }
 
-/// Certificate types: 1 byte of count, and so many bytes.
-#[tactic(auto, using(tls_fields::proofs::OneAnswer::read_allowed), unfolding(crate::specs::Certificate::certificate_types))]
+/// Reads certificate types: 1 byte of count, and so many bytes.
+#[tactic(auto, using(tls_fields::proofs::OneAnswerLemmas::read_allowed), unfolding(crate::specs::Certificate::certificate_types))]
 fn certificate_types(alloc: Global, i: &[u8]) -> IResult<&[u8], Vec<u8>>
     ensures { GivesOrMemory (λ v. v.items) certificate_types_layout i.now result }
 {
@@ -47,8 +47,8 @@ fn certificate_types(alloc: Global, i: &[u8]) -> IResult<&[u8], Vec<u8>>
     Ok((i, Vec::from_slice(alloc, types)?))
 }
 
-/// Signature algorithms: 2 bytes of length, and within so many bytes numbers of 2 bytes.
-#[tactic(auto, using(tls_fields::proofs::OneAnswer::read_allowed, tls_fields::proofs::ListItems::map_same), unfolding(crate::specs::Certificate::signature_algorithms))]
+/// Reads signature algorithms: 2 bytes of length, and within so many bytes numbers of 2 bytes.
+#[tactic(auto, using(tls_fields::proofs::OneAnswerLemmas::read_allowed, tls_fields::proofs::ListLemmas::map_same), unfolding(crate::specs::Certificate::signature_algorithms))]
 fn signature_algorithms(alloc: Global, i: &[u8]) -> IResult<&[u8], Vec<u16>>
     ensures { GivesOrMemory (λ v. v.items) signature_algorithms_layout i.now result }
 {
@@ -57,8 +57,8 @@ fn signature_algorithms(alloc: Global, i: &[u8]) -> IResult<&[u8], Vec<u16>>
     Ok((i, algorithms))
 }
 
-/// Names of authorities: 2 bytes of length, and within so many bytes names, each behind 2 bytes of length.
-#[tactic(auto, using(tls_fields::proofs::OneAnswer::read_allowed), unfolding(crate::specs::Certificate::certificate_authorities))]
+/// Reads names of authorities: 2 bytes of length, and within so many bytes names, each after 2 bytes of length.
+#[tactic(auto, using(tls_fields::proofs::OneAnswerLemmas::read_allowed), unfolding(crate::specs::Certificate::certificate_authorities))]
 fn certificate_authorities(alloc: Global, i: &[u8]) -> IResult<&[u8], Vec<&[u8]>>
     ensures { GivesOrMemory (λ v. map (λ x. x.now) v.items) certificate_authorities_layout i.now result }
 {
@@ -67,8 +67,8 @@ fn certificate_authorities(alloc: Global, i: &[u8]) -> IResult<&[u8], Vec<&[u8]>
     Ok((i, authorities))
 }
 
-/// A request as in TLS 1.2.
-#[tactic(auto, using(tls_fields::proofs::OneAnswer::read_allowed), unfolding(crate::specs::Certificate::certificate_request_with_algorithms))]
+/// Reads a request as in TLS 1.2.
+#[tactic(auto, using(tls_fields::proofs::OneAnswerLemmas::read_allowed), unfolding(crate::specs::Certificate::certificate_request_with_algorithms))]
 fn with_algorithms(alloc: Global, i: &[u8]) -> IResult<&[u8], TlsCertificateRequestContents>
     ensures { GivesOrMemory view_certificate_request certificate_request_with_algorithms i.now result }
 {
@@ -83,8 +83,8 @@ fn with_algorithms(alloc: Global, i: &[u8]) -> IResult<&[u8], TlsCertificateRequ
     Ok((i, request))
 }
 
-/// A request as up to TLS 1.1.
-#[tactic(auto, using(tls_fields::proofs::OneAnswer::read_allowed), unfolding(crate::specs::Certificate::certificate_request_without_algorithms))]
+/// Reads a request as up to TLS 1.1.
+#[tactic(auto, using(tls_fields::proofs::OneAnswerLemmas::read_allowed), unfolding(crate::specs::Certificate::certificate_request_without_algorithms))]
 fn without_algorithms(alloc: Global, i: &[u8]) -> IResult<&[u8], TlsCertificateRequestContents>
     ensures { GivesOrMemory view_certificate_request certificate_request_without_algorithms i.now result }
 {
@@ -98,15 +98,15 @@ fn without_algorithms(alloc: Global, i: &[u8]) -> IResult<&[u8], TlsCertificateR
     Ok((i, request))
 }
 
-/// Reads the body of a CertificateRequest (RFC 5246, section 7.4.4): 1 byte of count and so many certificate types of 1
-/// byte, signature algorithms of 2 bytes each behind 2 bytes of length, and names of authorities, each behind 2 bytes of
-/// length, behind 2 bytes of length. All numbers are big-endian.
+/// Reads the body of a CertificateRequest up to TLS 1.2 (RFC 5246, section 7.4.4): 1 byte of count and so many certificate
+/// types of 1 byte, signature algorithms of 2 bytes each after 2 bytes of length, and names of authorities, each after
+/// 2 bytes of length, after 2 bytes of length. All numbers are big-endian.
 ///
 /// Where that isn't read, the form up to TLS 1.1 is (RFC 4346, section 7.4.4), without the algorithms.
 ///
 /// - `Error` of kind `Complete` where neither form is read, even where only bytes are missing.
-/// - `OutOfMemory` where a list of the form that is tried could not be held; the other form is not tried then.
-#[tactic(auto, using(tls_fields::proofs::OneAnswer::read_allowed), unfolding(crate::specs::Certificate::certificate_request))]
+/// - `OutOfMemory` where memory for a list of the form that is tried runs out; the other form is not tried then.
+#[tactic(auto, using(tls_fields::proofs::OneAnswerLemmas::read_allowed), unfolding(crate::specs::Certificate::certificate_request))]
 pub fn parse_tls_handshake_certificaterequest(
     alloc: Global,
     i: &[u8],
@@ -114,17 +114,14 @@ pub fn parse_tls_handshake_certificaterequest(
     ensures { GivesOrMemory view_certificate_request certificate_request i.now result }
 {
     match with_algorithms(alloc, i) {
-        Ok(read) => Ok(read),
+        Ok(request) => Ok(request),
         Err(e) => match e {
             Err::OutOfMemory => Err(Err::OutOfMemory),
             _ => match without_algorithms(alloc, i) {
-                Ok(read) => Ok(read),
+                Ok(request) => Ok(request),
                 Err(e) => match e {
                     Err::OutOfMemory => Err(Err::OutOfMemory),
-                    _ => Err(Err::Error(Error {
-                        input: i,
-                        code: ErrorKind::Complete,
-                    })),
+                    _ => refused(i, ErrorKind::Complete),
                 },
             },
         },

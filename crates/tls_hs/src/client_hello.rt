@@ -1,62 +1,98 @@
-//! What the ClientHellos of TLS and of DTLS have in common.
+//! The ClientHello of TLS (RFC 5246, section 7.4.1.2): its body, and its reader.
 ghost use Rattle.std.specs.Prelude.{◌≡◌, map, IfOk};
-ghost use Rattle.std.specs.Option.{option_map};
+ghost use Rattle.tls_fields.specs.Answers.{GivesOrMemory};
 ghost use Rattle.tls_base.specs.CipherTable.{suite_of_id};
-ghost use Rattle.tls_hs.specs.Hello.{ClientHello as Hello, view_client_hello, random_time as time_of, random_bytes as bytes_of};
+ghost use Rattle.std.specs.Option.{option_map};
+ghost use Rattle.tls_hs.specs.Hello.{view_client_hello, client_hello};
 
-use crate::hello::TlsClientHelloContents;
-use crate::parts::{random_bytes, random_time};
+use crate::client_hello_trait::ClientHello;
+use crate::hello_fields::{
+    cipher_suites, compressions, random_bytes, random_time, session_id, suites,
+};
 use std::alloc::Global;
 use tls_base::{CipherTable, TlsCipherSuite, TlsCipherSuiteID, TlsCompressionID, TlsVersion};
-use tls_fields::OutOfMemory;
+use tls_fields::{IResult, OutOfMemory, block, maybe2};
 
-/// What the ClientHellos of TLS and of DTLS have in common (RFC 5246, section 7.4.1.2).
-pub trait ClientHello<'a> {
-    /// What it says, apart from where it lies in memory.
-    ghost hello: { Self → Hello };
-
-    /// The version that the client offers.
-    fn version(&self) -> TlsVersion
-        ensures { result.0 ≡ (hello self.now).client_version };
-
-    /// The client's random, time included.
-    fn random(&self) -> &'a [u8]
-        ensures { result.now ≡ (hello self.now).random };
-
-    /// The first 4 bytes of the random as a number, big-endian, which some clients set to the time in seconds; 0 where
-    /// there are fewer.
-    fn rand_time(&self) -> u32
-        ensures { result ≡ time_of (hello self.now).random };
-
-    /// What follows the first 4 bytes of the random; no bytes where there are fewer.
-    fn rand_bytes(&self) -> &'a [u8]
-        ensures { result.now ≡ bytes_of (hello self.now).random };
-
-    /// The id of the session that the client would resume.
-    fn session_id(&self) -> Option<&'a [u8]>
-        ensures { option_map (λ x. x.now) result ≡ (hello self.now).session_id };
-
+/// The body of a ClientHello (RFC 5246, section 7.4.1.2).
+#[derive(Debug, PartialEq, Drop)]
+pub struct TlsClientHelloContents<'a> {
+    /// The version that the client offers up to TLS 1.2. In TLS 1.3 it is 0x0303, and what the client offers stands in
+    /// the extension supported_versions (RFC 8446, section 4.2.1).
+    pub version: TlsVersion,
+    /// 32 bytes.
+    pub random: &'a [u8],
+    /// 1 to 32 bytes; `None` where there are none.
+    pub session_id: Option<&'a [u8]>,
     /// The cipher suites that the client offers, in its order.
-    fn ciphers(&self) -> &Vec<TlsCipherSuiteID>
-        ensures { map (λ x. x.0) result.now.items ≡ (hello self.now).cipher_suites };
+    pub ciphers: Vec<TlsCipherSuiteID>,
+    /// The compression methods that the client offers, in its order.
+    pub comp: Vec<TlsCompressionID>,
+    /// The extensions, as they stand after their length; `None` where no whole block follows.
+    pub ext: Option<&'a [u8]>,
+}
 
-    /// The suite that `table` has for each of them; `None` where it has none.
+impl<'a> TlsClientHelloContents<'a> {
+    /// A ClientHello of these fields, in the order of the type.
+    pub fn new(
+        v: u16,
+        random: &'a [u8],
+        sid: Option<&'a [u8]>,
+        c: Vec<TlsCipherSuiteID>,
+        co: Vec<TlsCompressionID>,
+        e: Option<&'a [u8]>,
+    ) -> Self
+        ensures version { result.version.0 ≡ v }
+        ensures random { result.random ≡ random.entry }
+        ensures session_id { result.session_id ≡ sid.entry }
+        ensures ciphers { result.ciphers ≡ c }
+        ensures comp { result.comp ≡ co }
+        ensures ext { result.ext ≡ e.entry }
+    {
+        TlsClientHelloContents {
+            version: TlsVersion(v),
+            random,
+            session_id: sid,
+            ciphers: c,
+            comp: co,
+            ext: e,
+        }
+    }
+
+    /// The field `version`.
+    pub fn get_version(&self) -> TlsVersion
+        ensures { result ≡ self.now.version }
+    {
+        self.version
+    }
+
+    /// The suite that `table` has for each cipher suite that the client offers, in its order; `None` where it has none.
     ///
-    /// `OutOfMemory` where the list could not be held.
-    fn cipher_suites<'t>(
+    /// `OutOfMemory` where memory for the list runs out.
+    pub fn get_ciphers<'t>(
         &self,
         alloc: Global,
         table: &'t CipherTable,
     ) -> Result<Vec<Option<&'t TlsCipherSuite>>, OutOfMemory>
-        ensures { IfOk result (λ v. map (option_map (λ s. s.now)) v.items ≡ map (suite_of_id table.now) (hello self.now).cipher_suites) };
+        ensures { IfOk result (λ v. map (option_map (λ s. s.now)) v.items ≡ map (suite_of_id table.now) (view_client_hello self.now).cipher_suites) }
+    {
+        suites(alloc, table, &self.ciphers)
+    }
 
-    /// The compression methods that the client offers, in its order.
-    fn comp(&self) -> &Vec<TlsCompressionID>
-        ensures { map (λ x. x.0) result.now.items ≡ (hello self.now).compression_methods };
-
-    /// The extensions, as they stand behind their length.
-    fn ext(&self) -> Option<&'a [u8]>
-        ensures { option_map (λ x. x.now) result ≡ (hello self.now).extensions };
+    /// The same ClientHello again, with lists of its own.
+    ///
+    /// `OutOfMemory` where memory for a list runs out.
+    pub fn try_clone(&self, alloc: Global) -> Result<Self, OutOfMemory>
+        ensures { IfOk result (λ h. view_client_hello h ≡ view_client_hello self.now) }
+    {
+        Ok(TlsClientHelloContents {
+            version: self.version,
+            random: self.random,
+            session_id: self.session_id,
+            ciphers: Vec::from_slice(alloc, &self.ciphers)?,
+            comp: Vec::from_slice(alloc, &self.comp)?,
+            ext: self.ext,
+        })
+    }
 }
 
 impl<'a> ClientHello<'a> for TlsClientHelloContents<'a> {
@@ -101,4 +137,41 @@ impl<'a> ClientHello<'a> for TlsClientHelloContents<'a> {
     fn ext(&self) -> Option<&'a [u8]> {
         self.ext
     }
+}
+
+/// Reads the body of a ClientHello (RFC 5246, section 7.4.1.2): 2 bytes of version, 32 of random, a session id after
+/// 1 byte of length, cipher suites of 2 bytes each after 2 bytes of length, compression methods of 1 byte each after
+/// 1 byte of length, and perhaps extensions after 2 bytes of length. All numbers are big-endian.
+///
+/// - `Incomplete` of the count of missing bytes, where the version, the random, the session id or one of these lengths
+///   isn't whole.
+/// - `Error` of kind `Verify` where the session id is longer than 32 bytes.
+/// - `Error` of kind `LengthValue` where the length of the suites is odd, or where that of the suites or of the methods
+///   is above the bytes that are left.
+/// - `OutOfMemory` where memory for a list runs out.
+///
+/// Extensions that aren't whole are no refusal: `ext` is `None`, and they are the rest. No list has a least length here.
+#[tactic(auto, using(tls_fields::proofs::OneAnswerLemmas::read_allowed), unfolding(crate::specs::Hello::client_hello))]
+#[inline(always)]
+pub fn parse_tls_handshake_client_hello(
+    alloc: Global,
+    i: &[u8],
+) -> IResult<&[u8], TlsClientHelloContents>
+    ensures { GivesOrMemory view_client_hello client_hello i.now result }
+{
+    let (i, version) = TlsVersion::parse(i)?;
+    let (i, random) = block(i, 32)?;
+    let (i, session_id) = session_id(i)?;
+    let (i, ciphers) = cipher_suites(alloc, i)?;
+    let (i, comp) = compressions(alloc, i)?;
+    let (i, ext) = maybe2(i)?;
+    let hello = TlsClientHelloContents {
+        version,
+        random,
+        session_id,
+        ciphers,
+        comp,
+        ext,
+    };
+    Ok((i, hello))
 }

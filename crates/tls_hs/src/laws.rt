@@ -1,16 +1,18 @@
 //! What stands of the layouts alone. Each function's contract is one law; its body is empty: on any bytes, and for any
-//! type and length that a caller names, the layout allows exactly one answer.
-#![tactic(auto, using(tls_fields::proofs::OneAnswer::one_answer))]
+//! type and length that a caller names, the layout allows exactly one answer; and a text is read back and written back.
+#![tactic(auto, using(tls_fields::proofs::OneAnswerLemmas::one_answer))]
 
-ghost use Rattle.std.specs.Prelude.{ℕ};
+ghost use Rattle.std.specs.Prelude.{◌≡◌, ◌++◌, ℕ, [], Ok};
 ghost use Rattle.tls_fields.specs.Bytes.{Bytes, AreBytes};
-ghost use Rattle.tls_fields.specs.Meaning.{AllowsOne};
+ghost use Rattle.tls_fields.specs.Meaning.{Allows, AllowsOne, Spells};
 ghost use Rattle.tls_hs.specs.Hello.{session_id, cipher_suites, compression_methods, client_hello};
 ghost use Rattle.tls_hs.specs.ServerHello.{server_hello_any, server_hello, server_hello_draft18, hello_retry_request};
 ghost use Rattle.tls_hs.specs.Certificate.{certificate, certificate_request, certificate_status};
 ghost use Rattle.tls_hs.specs.Session.{new_session_ticket, next_protocol};
 ghost use Rattle.tls_hs.specs.Handshake.{hello_request_body, client_hello_body, server_hello_body, new_session_ticket_body, hello_retry_request_body, certificate_body, server_key_exchange_body, certificate_request_body, server_done_body, certificate_verify_body, client_key_exchange_body, finished_body, certificate_status_body, next_protocol_body, key_update_body, handshake_body};
-ghost use Rattle.tls_hs.specs.Message.{handshake, change_cipher_spec, alert, application_data, heartbeat};
+ghost use Rattle.tls_hs.specs.Handshake.{Handshake};
+ghost use Rattle.tls_hs.specs.HandshakeText.{handshake_text, FitsHandshake, InRangeHandshake, IsReadableHandshake, normal_handshake, IsWrittenBack};
+ghost use Rattle.tls_hs.specs.Message.{Handshake as handshake_message, handshake, change_cipher_spec, alert, application_data, heartbeat};
 
 /// A session id.
 pub fn session_id_has_one_answer()
@@ -154,7 +156,7 @@ pub fn key_update_body_has_one_answer()
 
 /// The body of a handshake message, for each type and length.
 pub fn handshake_body_has_one_answer()
-    ensures { (kind length : ℕ) (b : Bytes) → AreBytes b → AllowsOne (handshake_body kind length) b }
+    ensures { (msg_type length : ℕ) (b : Bytes) → AreBytes b → AllowsOne (handshake_body msg_type length) b }
 {}
 
 /// A handshake message.
@@ -180,4 +182,18 @@ pub fn application_data_has_one_answer()
 /// A Heartbeat message, in a record of each length.
 pub fn heartbeat_has_one_answer()
     ensures { (length : ℕ) (b : Bytes) → AreBytes b → AllowsOne (heartbeat length) b }
+{}
+
+/// A handshake message that fits is read back from its text as its normal form, whatever follows; a ServerHello where its
+/// version is 0x0300 to 0x0303, one of draft 18 where it is 0x7f12.
+#[tactic(auto, using(crate::proofs::HandshakeTextLemmas::handshake_allowed))]
+pub fn handshake_is_read_back()
+    ensures { (m : Handshake) (r : Bytes) → FitsHandshake m → InRangeHandshake m → IsReadableHandshake m → Allows handshake (handshake_text m ++ r) (Ok (handshake_message (normal_handshake m), r)) }
+{}
+
+/// Bytes that are read as a handshake message with nothing dropped are its text, where the writer knows its kind and a hello
+/// has extensions.
+#[tactic(auto, using(crate::proofs::HandshakeTextLemmas::handshake_whole))]
+pub fn handshake_is_written_back()
+    ensures { (b r : Bytes) (m : Handshake) → IsWrittenBack m → Spells handshake b (handshake_message m) r [] → FitsHandshake m × InRangeHandshake m × (b ≡ handshake_text m ++ r) }
 {}

@@ -2,19 +2,25 @@
 //!
 //! Each call answers what a layout of `specs/` allows on the bytes: the value and the exact rest, or the refusal of the
 //! leftmost part that can't be read. Slices in a value are parts of the input.
-#![tactic(auto, using(tls_fields::proofs::OneAnswer::read_allowed))]
+#![tactic(auto, using(tls_fields::proofs::OneAnswerLemmas::read_allowed))]
 
 mod bodies;
+mod body_by_type;
 mod certificate;
 mod certificate_request;
 mod client_hello;
+mod client_hello_trait;
 mod handshake;
-mod hello;
+mod hello_fields;
+mod hello_text;
 pub mod laws;
 mod message;
 pub mod parts;
 mod server_hello;
 mod session;
+pub mod text;
+mod writable;
+mod write;
 
 pub use bodies::{
     parse_tls_handshake_msg_certificate, parse_tls_handshake_msg_certificaterequest,
@@ -33,9 +39,9 @@ pub use certificate::{
 pub use certificate_request::{
     TlsCertificateRequestContents, parse_tls_handshake_certificaterequest,
 };
-pub use client_hello::ClientHello;
+pub use client_hello::{TlsClientHelloContents, parse_tls_handshake_client_hello};
+pub use client_hello_trait::ClientHello;
 pub use handshake::TlsMessageHandshake;
-pub use hello::{TlsClientHelloContents, parse_tls_handshake_client_hello};
 pub use message::{
     TlsMessage, TlsMessageApplicationData, TlsMessageHeartbeat, parse_tls_message_alert,
     parse_tls_message_applicationdata, parse_tls_message_changecipherspec,
@@ -48,4 +54,8 @@ pub use server_hello::{
 pub use session::{
     KeyUpdateRequest, TlsClientKeyExchangeContents, TlsNewSessionTicketContent,
     TlsNextProtocolContent, TlsServerKeyExchangeContents, parse_tls_handshake_next_protocol,
+};
+pub use write::{
+    gen_tls_clienthello, gen_tls_clientkeyexchange, gen_tls_finished, gen_tls_hellorequest,
+    gen_tls_serverhello, gen_tls_serverhellodraft18,
 };

@@ -3,10 +3,13 @@ ghost use Rattle.std.specs.Prelude.{◌≡◌, map, IfOk};
 ghost use Rattle.tls_fields.specs.Answers.{Gives, GivesOrMemory};
 ghost use Rattle.tls_hs.specs.Message.{view_message, handshake, change_cipher_spec, alert as alert_layout, application_data, heartbeat};
 
-use crate::handshake::{TlsMessageHandshake, handshake_body};
+use crate::body_by_type::handshake_body;
+use crate::handshake::TlsMessageHandshake;
 use std::alloc::Global;
 use tls_base::{TlsHandshakeType, TlsHeartbeatMessageType, TlsMessageAlert};
-use tls_fields::{Err, Error, ErrorKind, IResult, OutOfMemory, block, number1, number2, number3};
+use tls_fields::{
+    ErrorKind, IResult, OutOfMemory, block, number1, number2, number3, refused, rest,
+};
 
 /// Application data (RFC 5246, section 10).
 #[derive(Clone, Debug, PartialEq, Drop)]
@@ -29,22 +32,22 @@ pub struct TlsMessageHeartbeat<'a> {
 /// A message of a record.
 #[derive(Debug, PartialEq, Drop)]
 pub enum TlsMessage<'a> {
-    /// RFC 5246, section 7.4.
+    /// A handshake message (RFC 5246, section 7.4).
     Handshake(TlsMessageHandshake<'a>),
-    /// RFC 5246, section 7.1.
+    /// The keys change from here on (RFC 5246, section 7.1).
     ChangeCipherSpec,
-    /// RFC 5246, section 7.2.
+    /// An alert (RFC 5246, section 7.2).
     Alert(TlsMessageAlert),
-    /// RFC 5246, section 10.
+    /// Application data (RFC 5246, section 10).
     ApplicationData(TlsMessageApplicationData<'a>),
-    /// RFC 6520, section 4.
+    /// A Heartbeat message (RFC 6520, section 4).
     Heartbeat(TlsMessageHeartbeat<'a>),
 }
 
 impl<'a> TlsMessage<'a> {
     /// The same message again, with lists of its own.
     ///
-    /// `OutOfMemory` where a list could not be held.
+    /// `OutOfMemory` where memory for a list runs out.
     pub fn try_clone(&self, alloc: Global) -> Result<Self, OutOfMemory>
         ensures { IfOk result (λ m. view_message m ≡ view_message self.now) }
     {
@@ -65,39 +68,36 @@ impl<'a> TlsMessage<'a> {
 /// - `Incomplete` of the count of missing bytes, where the message isn't whole.
 /// - `Error` of kind `Switch` where the message is whole and no body has its type.
 /// - What the body's own call refuses, `Incomplete` too.
-/// - `OutOfMemory` where a list could not be held.
-#[tactic(auto, using(tls_fields::proofs::OneAnswer::read_allowed), unfolding(crate::specs::Message::handshake))]
+/// - `OutOfMemory` where memory for a list runs out.
+#[tactic(auto, using(tls_fields::proofs::OneAnswerLemmas::read_allowed), unfolding(crate::specs::Message::handshake))]
 pub fn parse_tls_message_handshake(alloc: Global, i: &[u8]) -> IResult<&[u8], TlsMessage>
     ensures { GivesOrMemory view_message handshake i.now result }
 {
-    let (i, kind) = TlsHandshakeType::parse(i)?;
+    let (i, msg_type) = TlsHandshakeType::parse(i)?;
     let (i, n) = number3(i)?;
     let (i, window) = block(i, n as usize)?;
-    let (_, message) = handshake_body(alloc, window, kind, n as usize)?;
+    let (_, message) = handshake_body(alloc, window, msg_type, n as usize)?;
     Ok((i, TlsMessage::Handshake(message)))
 }
 
 /// Reads a ChangeCipherSpec (RFC 5246, section 7.1): 1 byte, which is 1.
 ///
 /// `Incomplete` of 1 where there is no byte; `Error` of kind `Verify` where it isn't 1.
-#[tactic(auto, using(tls_fields::proofs::OneAnswer::read_allowed), unfolding(crate::specs::Message::change_cipher_spec))]
+#[tactic(auto, using(tls_fields::proofs::OneAnswerLemmas::read_allowed), unfolding(crate::specs::Message::change_cipher_spec))]
 pub fn parse_tls_message_changecipherspec(i: &[u8]) -> IResult<&[u8], TlsMessage>
     ensures { Gives view_message change_cipher_spec i.now result }
 {
-    let (rest, n) = number1(i)?;
+    let (after, n) = number1(i)?;
     if n != 1 {
-        return Err(Err::Error(Error {
-            input: i,
-            code: ErrorKind::Verify,
-        }));
+        return refused(i, ErrorKind::Verify);
     }
-    Ok((rest, TlsMessage::ChangeCipherSpec))
+    Ok((after, TlsMessage::ChangeCipherSpec))
 }
 
 /// Reads an alert (RFC 5246, section 7.2): 1 byte of severity and 1 of description.
 ///
 /// `Incomplete` of 1 where either is missing.
-#[tactic(auto, using(tls_fields::proofs::OneAnswer::read_allowed), unfolding(crate::specs::Message::alert))]
+#[tactic(auto, using(tls_fields::proofs::OneAnswerLemmas::read_allowed), unfolding(crate::specs::Message::alert))]
 pub fn parse_tls_message_alert(i: &[u8]) -> IResult<&[u8], TlsMessage>
     ensures { Gives view_message alert_layout i.now result }
 {
@@ -106,11 +106,11 @@ pub fn parse_tls_message_alert(i: &[u8]) -> IResult<&[u8], TlsMessage>
 }
 
 /// Reads application data (RFC 5246, section 10): all bytes, perhaps none. It never refuses.
-#[tactic(auto, using(tls_fields::proofs::OneAnswer::read_allowed), unfolding(crate::specs::Message::application_data))]
+#[tactic(auto, using(tls_fields::proofs::OneAnswerLemmas::read_allowed), unfolding(crate::specs::Message::application_data))]
 pub fn parse_tls_message_applicationdata(i: &[u8]) -> IResult<&[u8], TlsMessage>
     ensures { Gives view_message application_data i.now result }
 {
-    let (i, blob) = block(i, i.len())?;
+    let (i, blob) = rest(i)?;
     Ok((
         i,
         TlsMessage::ApplicationData(TlsMessageApplicationData { blob }),
@@ -122,8 +122,8 @@ pub fn parse_tls_message_applicationdata(i: &[u8]) -> IResult<&[u8], TlsMessage>
 ///
 /// - `Incomplete` of the count of missing bytes.
 /// - `Error` of kind `Verify` where `tls_plaintext_len` is below 3, once the type and the length are there.
-/// - `OutOfMemory` where the list could not be held.
-#[tactic(auto, using(tls_fields::proofs::OneAnswer::read_allowed), unfolding(crate::specs::Message::heartbeat))]
+/// - `OutOfMemory` where memory for the list runs out.
+#[tactic(auto, using(tls_fields::proofs::OneAnswerLemmas::read_allowed), unfolding(crate::specs::Message::heartbeat))]
 pub fn parse_tls_message_heartbeat(
     alloc: Global,
     i: &[u8],
@@ -134,10 +134,7 @@ pub fn parse_tls_message_heartbeat(
     let (i, heartbeat_type) = TlsHeartbeatMessageType::parse(i)?;
     let (i, payload_len) = number2(i)?;
     if tls_plaintext_len < 3 {
-        return Err(Err::Error(Error {
-            input: i,
-            code: ErrorKind::Verify,
-        }));
+        return refused(i, ErrorKind::Verify);
     }
     let (i, payload) = block(i, payload_len as usize)?;
     let message = TlsMessageHeartbeat {

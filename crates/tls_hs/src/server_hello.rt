@@ -1,28 +1,30 @@
-//! The ServerHello, and what drafts of TLS 1.3 made of it.
-ghost use Rattle.std.specs.Prelude.{◌≡◌};
+//! The ServerHello (RFC 5246, section 7.4.1.3), and what drafts of TLS 1.3 made of it.
 ghost use Rattle.std.specs.Option.{option_map};
+ghost use Rattle.std.specs.Prelude.{◌≡◌, None};
 ghost use Rattle.tls_fields.specs.Answers.{Gives};
+ghost use Rattle.tls_fields.specs.Layout.{choose, counted, done, maybe};
 ghost use Rattle.tls_base.specs.CipherTable.{suite_of_id};
-ghost use Rattle.tls_hs.specs.ServerHello.{view_server_hello, server_hello as server_hello_layout, server_hello_any as server_hello_any_layout, server_hello_ssl30 as server_hello_ssl30_layout, view_server_hello_draft18, server_hello_draft18 as server_hello_draft18_layout, view_hello_retry_request, hello_retry_request as hello_retry_request_layout};
+ghost use Rattle.tls_hs.specs.ServerHello.{view_server_hello, server_hello as server_hello_layout, server_hello_any as server_hello_any_layout, server_hello_ssl30 as server_hello_ssl30_layout, server_hello_with, view_server_hello_draft18, server_hello_draft18 as server_hello_draft18_layout, view_hello_retry_request, hello_retry_request as hello_retry_request_layout};
 
-use crate::parts::session_id;
+use crate::hello_fields::session_id;
 use tls_base::{CipherTable, TlsCipherSuite, TlsCipherSuiteID, TlsCompressionID, TlsVersion};
-use tls_fields::{Err, Error, ErrorKind, IResult, block, maybe2};
+use tls_fields::{ErrorKind, IResult, block, maybe2, refused};
 
 /// The body of a ServerHello (RFC 5246, section 7.4.1.3).
 #[derive(Clone, Debug, PartialEq, Drop)]
 pub struct TlsServerHelloContents<'a> {
-    /// The version that the server picks.
+    /// The version that the server picks up to TLS 1.2. In TLS 1.3 it is 0x0303, and what the server picks stands in the
+    /// extension supported_versions (RFC 8446, section 4.2.1).
     pub version: TlsVersion,
     /// 32 bytes.
     pub random: &'a [u8],
-    /// At most 32 bytes, and at least one: none stand for `None`.
+    /// 1 to 32 bytes; `None` where there are none.
     pub session_id: Option<&'a [u8]>,
     /// The cipher suite that the server picks.
     pub cipher: TlsCipherSuiteID,
     /// The compression method that the server picks.
     pub compression: TlsCompressionID,
-    /// The extensions, as they stand behind their length; `None` where no whole block follows, and in SSL 3.0.
+    /// The extensions, as they stand after their length; `None` where no whole block follows, and in SSL 3.0.
     pub ext: Option<&'a [u8]>,
 }
 
@@ -53,7 +55,7 @@ impl<'a> TlsServerHelloContents<'a> {
         }
     }
 
-    /// The version that the server picks.
+    /// The field `version`.
     pub fn get_version(&self) -> TlsVersion
         ensures { result ≡ self.now.version }
     {
@@ -77,39 +79,32 @@ pub struct TlsServerHelloV13Draft18Contents<'a> {
     pub random: &'a [u8],
     /// The cipher suite that the server picks.
     pub cipher: TlsCipherSuiteID,
-    /// The extensions, as they stand behind their length; `None` where no whole block follows.
+    /// The extensions, as they stand after their length; `None` where no whole block follows.
     pub ext: Option<&'a [u8]>,
 }
 
-/// The body of a HelloRetryRequest of the drafts of TLS 1.3 (draft-ietf-tls-tls13-19, section 4.1.4).
+/// The body of a HelloRetryRequest of drafts of TLS 1.3 (draft-ietf-tls-tls13-19, section 4.1.4).
 #[derive(Clone, Debug, PartialEq, Drop)]
 pub struct TlsHelloRetryRequestContents<'a> {
     /// The version that the server picks.
     pub version: TlsVersion,
     /// The cipher suite that the server picks.
     pub cipher: TlsCipherSuiteID,
-    /// The extensions, as they stand behind their length; `None` where no whole block follows.
+    /// The extensions, as they stand after their length; `None` where no whole block follows.
     pub ext: Option<&'a [u8]>,
 }
 
-/// Reads the body of a ServerHello whatever its version (RFC 5246, section 7.4.1.3): 2 bytes of version, 32 of random, a
-/// session id behind 1 byte of length, 2 bytes of cipher suite, 1 of compression method, and perhaps extensions behind 2
-/// bytes of length. All numbers are big-endian.
-///
-/// - `Incomplete` of the count of missing bytes, where they lack in front of the extensions.
-/// - `Error` of kind `Verify` where the session id is longer than 32 bytes.
-///
-/// Extensions that aren't there whole are no refusal: `ext` is `None`, and they are the rest.
-#[tactic(auto, using(tls_fields::proofs::OneAnswer::read_allowed), unfolding(crate::specs::ServerHello::server_hello_any))]
-pub fn server_hello_any(i: &[u8]) -> IResult<&[u8], TlsServerHelloContents>
-    ensures { Gives view_server_hello server_hello_any_layout i.now result }
+/// Reads the fields of a ServerHello, with extensions where they may follow: where `extensible`.
+#[inline(always)]
+fn server_hello_fields(i: &[u8], extensible: bool) -> IResult<&[u8], TlsServerHelloContents>
+    ensures { Gives view_server_hello (server_hello_with (choose extensible (maybe (counted 2)) (done None))) i.now result }
 {
     let (i, version) = TlsVersion::parse(i)?;
     let (i, random) = block(i, 32)?;
     let (i, session_id) = session_id(i)?;
     let (i, cipher) = TlsCipherSuiteID::parse(i)?;
     let (i, compression) = TlsCompressionID::parse(i)?;
-    let (i, ext) = maybe2(i)?;
+    let (i, ext) = if extensible { maybe2(i)? } else { (i, None) };
     let hello = TlsServerHelloContents {
         version,
         random,
@@ -121,34 +116,36 @@ pub fn server_hello_any(i: &[u8]) -> IResult<&[u8], TlsServerHelloContents>
     Ok((i, hello))
 }
 
+/// Reads the body of a ServerHello whatever its version (RFC 5246, section 7.4.1.3): 2 bytes of version, 32 of random, a
+/// session id after 1 byte of length, 2 bytes of cipher suite, 1 of compression method, and perhaps extensions after 2
+/// bytes of length. All numbers are big-endian.
+///
+/// - `Incomplete` of the count of missing bytes, where they are missing in front of the extensions.
+/// - `Error` of kind `Verify` where the session id is longer than 32 bytes.
+///
+/// Extensions that aren't whole are no refusal: `ext` is `None`, and they are the rest.
+#[tactic(auto, using(tls_fields::proofs::OneAnswerLemmas::read_allowed), unfolding(crate::specs::ServerHello::server_hello_any))]
+pub fn server_hello_any(i: &[u8]) -> IResult<&[u8], TlsServerHelloContents>
+    ensures { Gives view_server_hello server_hello_any_layout i.now result }
+{
+    server_hello_fields(i, true)
+}
+
 /// Reads the same without extensions, as in SSL 3.0 (RFC 6101, section 5.6.1.3): `ext` is `None`.
-#[tactic(auto, using(tls_fields::proofs::OneAnswer::read_allowed), unfolding(crate::specs::ServerHello::server_hello_ssl30))]
+#[tactic(auto, using(tls_fields::proofs::OneAnswerLemmas::read_allowed), unfolding(crate::specs::ServerHello::server_hello_ssl30))]
 fn server_hello_ssl30(i: &[u8]) -> IResult<&[u8], TlsServerHelloContents>
     ensures { Gives view_server_hello server_hello_ssl30_layout i.now result }
 {
-    let (i, version) = TlsVersion::parse(i)?;
-    let (i, random) = block(i, 32)?;
-    let (i, session_id) = session_id(i)?;
-    let (i, cipher) = TlsCipherSuiteID::parse(i)?;
-    let (i, compression) = TlsCompressionID::parse(i)?;
-    let hello = TlsServerHelloContents {
-        version,
-        random,
-        session_id,
-        cipher,
-        compression,
-        ext: None,
-    };
-    Ok((i, hello))
+    server_hello_fields(i, false)
 }
 
 /// Reads the body of a ServerHello up to TLS 1.2 (RFC 5246, section 7.4.1.3): as [`crate::parts::server_hello_any`] where
 /// its version, the first 2 bytes, is 0x0301 to 0x0303, and without the extensions where it is 0x0300.
 ///
-/// - `Incomplete` of the count of missing bytes, where they lack in front of the extensions.
+/// - `Incomplete` of the count of missing bytes, where they are missing in front of the extensions.
 /// - `Error` of kind `Tag` for any other version, whatever follows it.
 /// - `Error` of kind `Verify` where the session id is longer than 32 bytes.
-#[tactic(auto, using(tls_fields::proofs::OneAnswer::read_allowed), unfolding(crate::specs::ServerHello::server_hello))]
+#[tactic(auto, using(tls_fields::proofs::OneAnswerLemmas::read_allowed), unfolding(crate::specs::ServerHello::server_hello))]
 pub fn parse_tls_handshake_server_hello(i: &[u8]) -> IResult<&[u8], TlsServerHelloContents>
     ensures { Gives view_server_hello server_hello_layout i.now result }
 {
@@ -156,18 +153,15 @@ pub fn parse_tls_handshake_server_hello(i: &[u8]) -> IResult<&[u8], TlsServerHel
     match version.0 {
         0x0300 => server_hello_ssl30(i),
         0x0301..=0x0303 => server_hello_any(i),
-        _ => Err(Err::Error(Error {
-            input: i,
-            code: ErrorKind::Tag,
-        })),
+        _ => refused(i, ErrorKind::Tag),
     }
 }
 
 /// Reads the body of a ServerHello of draft 18 of TLS 1.3 (draft-ietf-tls-tls13-18, section 4.1.3): 2 bytes of version,
-/// 32 of random, 2 of cipher suite, and perhaps extensions behind 2 bytes of length.
+/// 32 of random, 2 of cipher suite, and perhaps extensions after 2 bytes of length.
 ///
-/// `Incomplete` of the count of missing bytes, where they lack in front of the extensions.
-#[tactic(auto, using(tls_fields::proofs::OneAnswer::read_allowed), unfolding(crate::specs::ServerHello::server_hello_draft18))]
+/// `Incomplete` of the count of missing bytes, where they are missing in front of the extensions.
+#[tactic(auto, using(tls_fields::proofs::OneAnswerLemmas::read_allowed), unfolding(crate::specs::ServerHello::server_hello_draft18))]
 pub(crate) fn server_hello_draft18(i: &[u8]) -> IResult<&[u8], TlsServerHelloV13Draft18Contents>
     ensures { Gives view_server_hello_draft18 server_hello_draft18_layout i.now result }
 {
@@ -184,11 +178,11 @@ pub(crate) fn server_hello_draft18(i: &[u8]) -> IResult<&[u8], TlsServerHelloV13
     Ok((i, hello))
 }
 
-/// Reads the body of a HelloRetryRequest: 2 bytes of version, 2 of cipher suite, and perhaps extensions behind 2 bytes of
-/// length.
+/// Reads the body of a HelloRetryRequest (draft-ietf-tls-tls13-19, section 4.1.4): 2 bytes of version, 2 of cipher suite,
+/// and perhaps extensions after 2 bytes of length.
 ///
-/// `Incomplete` of the count of missing bytes, where they lack in front of the extensions.
-#[tactic(auto, using(tls_fields::proofs::OneAnswer::read_allowed), unfolding(crate::specs::ServerHello::hello_retry_request))]
+/// `Incomplete` of the count of missing bytes, where they are missing in front of the extensions.
+#[tactic(auto, using(tls_fields::proofs::OneAnswerLemmas::read_allowed), unfolding(crate::specs::ServerHello::hello_retry_request))]
 pub(crate) fn hello_retry_request(i: &[u8]) -> IResult<&[u8], TlsHelloRetryRequestContents>
     ensures { Gives view_hello_retry_request hello_retry_request_layout i.now result }
 {

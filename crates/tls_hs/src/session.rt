@@ -1,16 +1,18 @@
-//! Tickets, key exchange, and the smaller bodies.
+//! Tickets, key exchanges and the choice of a protocol.
+#![tactic(auto, using(tls_fields::proofs::OneAnswerLemmas::read_allowed), unfolding(crate::specs::Session::new_session_ticket, crate::specs::Session::next_protocol))]
+
 ghost use Rattle.tls_fields.specs.Answers.{Gives};
 ghost use Rattle.tls_hs.specs.Session.{view_new_session_ticket, new_session_ticket as new_session_ticket_layout, view_next_protocol, next_protocol};
 
 use tls_base::ECPoint;
-use tls_fields::{Err, Error, ErrorKind, IResult, block, counted1, number4};
+use tls_fields::{ErrorKind, IResult, block, counted1, number4, refused};
 
-/// The body of a NewSessionTicket (RFC 5077, section 3.3).
+/// The body of a NewSessionTicket up to TLS 1.2 (RFC 5077, section 3.3).
 #[derive(Clone, Debug, PartialEq, Drop)]
 pub struct TlsNewSessionTicketContent<'a> {
-    /// In seconds; 0 says nothing.
+    /// In seconds; 0 leaves it open.
     pub ticket_lifetime_hint: u32,
-    /// All that follows the hint.
+    /// All that follows the hint: 2 bytes of the ticket's own length, and the ticket.
     pub ticket: &'a [u8],
 }
 
@@ -54,18 +56,15 @@ impl KeyUpdateRequest {
     pub const Requested: KeyUpdateRequest = KeyUpdateRequest(1);
 }
 
-/// Reads the body of a NewSessionTicket of `len` bytes: 4 bytes of hint, big-endian, and the `len - 4` that follow.
+/// Reads the body of a NewSessionTicket of `len` bytes (RFC 5077, section 3.3): 4 bytes of hint, big-endian, and the
+/// `len - 4` that follow.
 ///
 /// `Error` of kind `Verify` where `len` is below 4; else `Incomplete` of the count of missing bytes.
-#[tactic(auto, using(tls_fields::proofs::OneAnswer::read_allowed), unfolding(crate::specs::Session::new_session_ticket))]
 pub(crate) fn new_session_ticket(i: &[u8], len: usize) -> IResult<&[u8], TlsNewSessionTicketContent>
     ensures { Gives view_new_session_ticket (new_session_ticket_layout len) i.now result }
 {
     if len < 4 {
-        return Err(Err::Error(Error {
-            input: i,
-            code: ErrorKind::Verify,
-        }));
+        return refused(i, ErrorKind::Verify);
     }
     let (i, ticket_lifetime_hint) = number4(i)?;
     let (i, ticket) = block(i, len - 4)?;
@@ -76,11 +75,10 @@ pub(crate) fn new_session_ticket(i: &[u8], len: usize) -> IResult<&[u8], TlsNewS
     Ok((i, content))
 }
 
-/// Reads the body of a NextProtocol (draft-agl-tls-nextprotoneg-04, section 3): the protocol and the padding, each behind
+/// Reads the body of a NextProtocol (draft-agl-tls-nextprotoneg-04, section 3): the protocol and the padding, each after
 /// 1 byte of length.
 ///
 /// `Incomplete` of the count of missing bytes.
-#[tactic(auto, using(tls_fields::proofs::OneAnswer::read_allowed), unfolding(crate::specs::Session::next_protocol))]
 pub fn parse_tls_handshake_next_protocol(i: &[u8]) -> IResult<&[u8], TlsNextProtocolContent>
     ensures { Gives view_next_protocol next_protocol i.now result }
 {

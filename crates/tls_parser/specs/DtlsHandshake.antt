@@ -1,12 +1,12 @@
 -- Handshake messages of DTLS (RFC 6347, section 4.2).
 use Rattle.std.specs.Prelude.{ℕ, Bool, List, nat_lt, ◌==◌, ◌||◌, ⊤}
 use Rattle.tls_fields.specs.Bytes.{Bytes}
-use Rattle.tls_fields.specs.Layout.{Layout, done, refuse, number, block, window, ◌>>=◌, choose, rest}
+use Rattle.tls_fields.specs.Layout.{Layout, done, refuse, number, block, window, rest, mapped, ◌>>=◌, choose}
 use Rattle.tls_fields.specs.declared.result.ErrorKind.TheVariants.{Switch}
-use Rattle.tls_hs.specs.ServerHello as server
-use Rattle.tls_hs.specs.Certificate as certificates
+use Rattle.tls_hs.specs.ServerHello as server_hello
+use Rattle.tls_hs.specs.Certificate as certificate
 use Rattle.tls_hs.specs.Session as session
-use Rattle.tls_parser.specs.DtlsHello as hellos
+use Rattle.tls_parser.specs.DtlsHello as dtls_hello
 use Rattle.tls_parser.specs.declared.dtls.handshake.DTLSMessageHandshake.{DTLSMessageHandshake}
 use Rattle.tls_parser.specs.declared.dtls.handshake.DTLSMessageHandshakeBody.{DTLSMessageHandshakeBody}
 use Rattle.tls_parser.specs.declared.dtls.handshake.DTLSMessageHandshakeBody.TheVariants as dtls_body
@@ -14,37 +14,37 @@ use Rattle.tls_parser.specs.declared.dtls.handshake.DTLSMessageHandshakeBody.The
 -- The body of a handshake message, apart from where it lies in memory, or a fragment of one.
 pub data Body : Type 0 where
   HelloRequest : Body
-  ClientHello : hellos.ClientHello → Body
-  HelloVerifyRequest : hellos.HelloVerifyRequest → Body
-  ServerHello : server.ServerHello → Body
+  ClientHello : dtls_hello.ClientHello → Body
+  HelloVerifyRequest : dtls_hello.HelloVerifyRequest → Body
+  ServerHello : server_hello.ServerHello → Body
   NewSessionTicket : session.NewSessionTicket → Body
-  HelloRetryRequest : server.HelloRetryRequest → Body
+  HelloRetryRequest : server_hello.HelloRetryRequest → Body
   Certificate : List Bytes → Body
   ServerKeyExchange : Bytes → Body
-  CertificateRequest : certificates.CertificateRequest → Body
+  CertificateRequest : certificate.CertificateRequest → Body
   ServerDone : Bytes → Body
   CertificateVerify : Bytes → Body
   ClientKeyExchange : session.ClientKeyExchange → Body
   Finished : Bytes → Body
-  CertificateStatus : certificates.CertificateStatus → Body
+  CertificateStatus : certificate.CertificateStatus → Body
   NextProtocol : session.NextProtocol → Body
   Fragment : Bytes → Body
 
 abbrev pub view_body : DTLSMessageHandshakeBody → Body
 view_body dtls_body.HelloRequest = HelloRequest
-view_body (dtls_body.ClientHello h) = ClientHello (hellos.view_client_hello h)
-view_body (dtls_body.HelloVerifyRequest r) = HelloVerifyRequest (hellos.view_hello_verify_request r)
-view_body (dtls_body.ServerHello h) = ServerHello (server.view_server_hello h)
+view_body (dtls_body.ClientHello h) = ClientHello (dtls_hello.view_client_hello h)
+view_body (dtls_body.HelloVerifyRequest r) = HelloVerifyRequest (dtls_hello.view_hello_verify_request r)
+view_body (dtls_body.ServerHello h) = ServerHello (server_hello.view_server_hello h)
 view_body (dtls_body.NewSessionTicket t) = NewSessionTicket (session.view_new_session_ticket t)
-view_body (dtls_body.HelloRetryRequest r) = HelloRetryRequest (server.view_hello_retry_request r)
-view_body (dtls_body.Certificate c) = Certificate (certificates.view_certificate c)
+view_body (dtls_body.HelloRetryRequest r) = HelloRetryRequest (server_hello.view_hello_retry_request r)
+view_body (dtls_body.Certificate c) = Certificate (certificate.view_certificate c)
 view_body (dtls_body.ServerKeyExchange k) = ServerKeyExchange k.parameters.now
-view_body (dtls_body.CertificateRequest r) = CertificateRequest (certificates.view_certificate_request r)
+view_body (dtls_body.CertificateRequest r) = CertificateRequest (certificate.view_certificate_request r)
 view_body (dtls_body.ServerDone b) = ServerDone b.now
 view_body (dtls_body.CertificateVerify b) = CertificateVerify b.now
 view_body (dtls_body.ClientKeyExchange k) = ClientKeyExchange (session.view_client_key_exchange k)
 view_body (dtls_body.Finished b) = Finished b.now
-view_body (dtls_body.CertificateStatus s) = CertificateStatus (certificates.view_certificate_status s)
+view_body (dtls_body.CertificateStatus s) = CertificateStatus (certificate.view_certificate_status s)
 view_body (dtls_body.NextProtocol p) = NextProtocol (session.view_next_protocol p)
 view_body (dtls_body.Fragment b) = Fragment b.now
 
@@ -55,22 +55,22 @@ IsFragment b = ⊥
 
 -- The bodies that are read, of which some are as long as the message says.
 unfoldable pub client_hello_body : Layout Body
-client_hello_body = hellos.client_hello >>= λ h. done (ClientHello h)
+client_hello_body = mapped ClientHello dtls_hello.client_hello
 
 unfoldable pub server_hello_body : Layout Body
-server_hello_body = server.server_hello_any >>= λ h. done (ServerHello h)
+server_hello_body = mapped ServerHello server_hello.server_hello_any
 
 unfoldable pub hello_verify_request_body : Layout Body
-hello_verify_request_body = hellos.hello_verify_request >>= λ r. done (HelloVerifyRequest r)
+hello_verify_request_body = mapped HelloVerifyRequest dtls_hello.hello_verify_request
 
 unfoldable pub certificate_body : Layout Body
-certificate_body = certificates.certificate >>= λ c. done (Certificate c)
+certificate_body = mapped Certificate certificate.certificate
 
 unfoldable pub server_done_body : ℕ → Layout Body
-server_done_body length = block length >>= λ b. done (ServerDone b)
+server_done_body length = mapped ServerDone (block length)
 
 unfoldable pub client_key_exchange_body : ℕ → Layout Body
-client_key_exchange_body length = block length >>= λ b. done (ClientKeyExchange (session.Unknown b))
+client_key_exchange_body length = mapped (λ b. ClientKeyExchange (session.Unknown b)) (block length)
 
 -- select (HandshakeType) of a whole body of that length, in bytes.
 unfoldable pub whole_body : ℕ → ℕ → Layout Body
@@ -85,7 +85,7 @@ whole_body kind length =
 
 -- The same, or part of such a body, which is a fragment of whatever type.
 unfoldable pub body : ℕ → ℕ → Bool → Layout Body
-body kind length is_fragment = choose is_fragment (rest >>= λ b. done (Fragment b)) (whole_body kind length)
+body kind length is_fragment = choose is_fragment (mapped Fragment rest) (whole_body kind length)
 
 -- A handshake message, apart from where it lies in memory.
 pub record Handshake : Type 0 where
@@ -107,8 +107,8 @@ view_handshake h = record {
 }
 
 -- HandshakeType msg_type; uint24 length; uint16 message_seq; uint24 fragment_offset; uint24 fragment_length; and the
--- body, which is read within the fragment's length alone. It is part of a body where it begins behind the body's first
--- byte, or is shorter than the body (RFC 6347, section 4.2.3).
+-- body, which is read within the fragment's length alone. It is part of a body where it begins after the body's first
+-- byte, or is shorter than the body (RFC 6347, section 4.2.3). That it ends within the body is not asked.
 unfoldable pub handshake : Layout Handshake
 handshake = do
   kind ← number 1

@@ -25,7 +25,7 @@ view_client_hello h = record {
   cookie = h.cookie.now;
 }
 
--- Its body; the cookie stands behind the session id, and extensions may be absent.
+-- Its body; the cookie follows the session id, and extensions may be absent.
 unfoldable pub client_hello : Layout ClientHello
 client_hello = do
   version ← number 2

@@ -1,13 +1,14 @@
 -- Records of DTLS (RFC 6347, section 4.1) and the messages in them.
-use Rattle.std.specs.Prelude.{ℕ, ◌/◌, ◌%◌, ◌^◌, List, map, Ok, nat_le, ◌==◌}
+use Rattle.std.specs.Prelude.{ℕ, ◌/◌, ◌%◌, ◌^◌, List, map, Ok, ◌==◌}
 use Rattle.tls_fields.specs.Bytes.{Bytes}
-use Rattle.tls_fields.specs.Layout.{Layout, done, refuse, number, block, window, list1, ◌>>=◌, ◌>>◌, test, choose}
+use Rattle.tls_fields.specs.Layout.{Layout, done, refuse, number, list1, mapped, ◌>>=◌, choose}
 use Rattle.tls_fields.specs.Meaning.{Answer}
 use Rattle.tls_fields.specs.Reading.{reading, ◌and_then◌}
-use Rattle.tls_fields.specs.declared.result.ErrorKind.TheVariants.{TooLarge, Switch}
-use Rattle.tls_base.specs.Alert as alerts
-use Rattle.tls_hs.specs.Message as tls
-use Rattle.tls_parser.specs.DtlsHandshake as handshakes
+use Rattle.tls_fields.specs.declared.result.ErrorKind.TheVariants.{Switch}
+use Rattle.tls_base.specs.Alert as base_alert
+use Rattle.tls_hs.specs.Message as tls_message
+use Rattle.tls_parser.specs.DtlsHandshake as dtls_handshake
+use Rattle.tls_parser.specs.Framing.{framed_raw_record, framed_record}
 use Rattle.tls_parser.specs.declared.dtls.message.DTLSMessage.{DTLSMessage}
 use Rattle.tls_parser.specs.declared.dtls.message.DTLSMessage.TheVariants as dtls_message
 use Rattle.tls_parser.specs.declared.dtls.record.DTLSRecordHeader.{DTLSRecordHeader}
@@ -16,33 +17,33 @@ use Rattle.tls_parser.specs.declared.dtls.record.DTLSPlaintext.{DTLSPlaintext}
 
 -- A message, apart from where it lies in memory.
 pub data Message : Type 0 where
-  Handshake : handshakes.Handshake → Message
+  Handshake : dtls_handshake.Handshake → Message
   ChangeCipherSpec : Message
-  Alert : alerts.Alert → Message
+  Alert : base_alert.Alert → Message
   ApplicationData : Bytes → Message
-  Heartbeat : tls.HeartbeatMessage → Message
+  Heartbeat : tls_message.HeartbeatMessage → Message
 
 abbrev pub view_message : DTLSMessage → Message
-view_message (dtls_message.Handshake h) = Handshake (handshakes.view_handshake h)
+view_message (dtls_message.Handshake h) = Handshake (dtls_handshake.view_handshake h)
 view_message dtls_message.ChangeCipherSpec = ChangeCipherSpec
-view_message (dtls_message.Alert a) = Alert (alerts.view_alert a)
+view_message (dtls_message.Alert a) = Alert (base_alert.view_alert a)
 view_message (dtls_message.ApplicationData d) = ApplicationData d.blob.now
-view_message (dtls_message.Heartbeat h) = Heartbeat (tls.view_heartbeat h)
+view_message (dtls_message.Heartbeat h) = Heartbeat (tls_message.view_heartbeat h)
 
 -- It is part of a handshake message (RFC 6347, section 4.2.3).
 abbrev pub IsFragment : Message → Type 0
-IsFragment (Handshake h) = handshakes.IsFragment h.body
+IsFragment (Handshake h) = dtls_handshake.IsFragment h.body
 IsFragment m = ⊥
 
 -- The messages that are read: those of TLS (RFC 5246, sections 7.1 and 7.2), and handshake messages.
 unfoldable pub change_cipher_spec : Layout Message
-change_cipher_spec = tls.change_cipher_spec >>= λ _. done ChangeCipherSpec
+change_cipher_spec = mapped (λ _. ChangeCipherSpec) tls_message.change_cipher_spec
 
 unfoldable pub alert : Layout Message
-alert = alerts.alert >>= λ a. done (Alert a)
+alert = mapped Alert base_alert.alert
 
 unfoldable pub handshake : Layout Message
-handshake = handshakes.handshake >>= λ h. done (Handshake h)
+handshake = mapped Handshake dtls_handshake.handshake
 
 -- What stands in front of a fragment; the length is that of the fragment, in bytes.
 pub record RecordHeader : Type 0 where
@@ -85,13 +86,8 @@ pub record RawRecord : Type 0 where
 abbrev pub view_raw_record : DTLSRawRecord → RawRecord
 view_raw_record r = record { header = view_header r.header; fragment = r.fragment.now }
 
--- A fragment has at most as many bytes as in TLS, which is tested before any of them is asked for.
 unfoldable pub raw_record : Layout RawRecord
-raw_record = do
-  header ← record_header
-  test (nat_le header.length 16640) TooLarge
-  fragment ← block header.length
-  done (record { header = header; fragment = fragment })
+raw_record = framed_raw_record record_header (λ h. h.length) (λ h fragment. record { header = h; fragment = fragment })
 
 -- The messages that stand in the fragment of a record with that header.
 unfoldable pub record_content : RecordHeader → Layout (List Message)
@@ -109,14 +105,10 @@ pub record Plaintext : Type 0 where
 abbrev pub view_plaintext : DTLSPlaintext → Plaintext
 view_plaintext p = record { header = view_header p.header; messages = map view_message p.messages.items }
 
--- The messages are read within the fragment alone, and what they leave of it is dropped.
 unfoldable pub plaintext : Layout Plaintext
-plaintext = do
-  header ← record_header
-  test (nat_le header.length 16640) TooLarge
-  messages ← window header.length (record_content header)
-  done (record { header = header; messages = messages })
+plaintext = framed_record record_header (λ h. h.length) record_content (λ h messages. record { header = h; messages = messages })
 
--- The record of a raw one: the messages that its fragment holds, and the rest behind the fragment.
-abbrev pub opened : RawRecord × Bytes → Answer Plaintext
-opened x = reading (record_content x.0.header) x.0.fragment and_then λ m. Ok (record { header = x.0.header; messages = m.0 }, x.1)
+-- A raw record with its content read: the record with the messages that its fragment holds, and the rest after the
+-- fragment.
+abbrev pub read_content : RawRecord × Bytes → Answer Plaintext
+read_content x = reading (record_content x.0.header) x.0.fragment and_then λ m. Ok (record { header = x.0.header; messages = m.0 }, x.1)

@@ -1,8 +1,9 @@
 //! What the fragments of records hold: messages of the record's type.
+ghost use Rattle.std.specs.Prelude.{◌≤◌, length};
 ghost use Rattle.tls_hs.specs.Message.{Message, view_message, alert, change_cipher_spec, handshake};
 
 use std::alloc::Global;
-use tls_fields::{IResult, Item};
+use tls_fields::{IResult, Item, Room};
 use tls_hs::{
     TlsMessage, parse_tls_message_alert, parse_tls_message_changecipherspec,
     parse_tls_message_handshake,
@@ -10,6 +11,8 @@ use tls_hs::{
 
 /// Messages of records of type 20.
 pub(crate) struct ChangeCipherSpec;
+
+impl Room for ChangeCipherSpec {}
 
 impl<'a> Item<'a> for ChangeCipherSpec {
     type Read = TlsMessage<'a>;
@@ -28,6 +31,14 @@ impl<'a> Item<'a> for ChangeCipherSpec {
 /// Messages of records of type 21.
 pub(crate) struct Alert;
 
+impl Room for Alert {
+    fn room(i: &[u8]) -> usize
+        ensures { result ≤ length i.now }
+    {
+        i.len() / 2
+    }
+}
+
 impl<'a> Item<'a> for Alert {
     type Read = TlsMessage<'a>;
 
@@ -44,6 +55,8 @@ impl<'a> Item<'a> for Alert {
 
 /// Messages of records of type 22.
 pub(crate) struct Handshake;
+
+impl Room for Handshake {}
 
 impl<'a> Item<'a> for Handshake {
     type Read = TlsMessage<'a>;

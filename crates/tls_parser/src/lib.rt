@@ -1,14 +1,18 @@
-//! A reader of TLS and DTLS records and of the messages in them (RFC 5246, RFC 6347 and RFC 8446).
+//! A reader of TLS and DTLS records and of the messages in them (RFC 5246, RFC 6347 and RFC 8446), and a writer of TLS
+//! records.
 //!
-//! Each call answers what a layout of `specs/` allows on the bytes: the value and the exact rest, or the refusal of the
-//! leftmost part that can't be read. Slices in a value are parts of the input.
-#![tactic(auto, using(tls_fields::proofs::OneAnswer::read_allowed))]
+//! Each call that reads answers what a layout of `specs/` allows on the bytes: the value and the exact rest, or the refusal
+//! of the leftmost part that can't be read. Slices in a value are parts of the input. Each call that writes appends the text
+//! of the value, which `specs/` says too, or refuses the value and writes nothing.
+#![tactic(auto, using(tls_fields::proofs::OneAnswerLemmas::read_allowed))]
 
 mod content;
 mod dtls;
 pub mod laws;
 mod plaintext;
 mod record;
+mod record_writer;
+mod serialize;
 
 pub use dtls::{
     DTLSClientHello, DTLSHelloVerifyRequest, DTLSMessage, DTLSMessageHandshake,
@@ -24,6 +28,11 @@ pub use record::{
     MAX_RECORD_LEN, TlsEncrypted, TlsEncryptedContent, TlsRawRecord, TlsRecordHeader,
     parse_tls_encrypted, parse_tls_raw_record, parse_tls_record_header,
 };
+pub use record_writer::{gen_tls_changecipherspec, gen_tls_message, gen_tls_plaintext};
+pub use serialize::Serialize;
+
+// Why a value isn't written.
+pub use tls_fields::GenError;
 
 // Numbers with a name, key exchange, signatures, timestamps, ciphers.
 pub use tls_base::{
@@ -43,9 +52,9 @@ pub use tls_base::{
 
 // Extensions.
 pub use tls_ext::{
-    KeyShareEntry, OidFilter, TlsExtension, parse_tls_client_hello_extension,
-    parse_tls_client_hello_extensions, parse_tls_extension, parse_tls_extension_alpn_content,
-    parse_tls_extension_cookie, parse_tls_extension_early_data,
+    KeyShareEntry, OidFilter, TlsExtension, gen_tls_extension, gen_tls_extensions,
+    parse_tls_client_hello_extension, parse_tls_client_hello_extensions, parse_tls_extension,
+    parse_tls_extension_alpn_content, parse_tls_extension_cookie, parse_tls_extension_early_data,
     parse_tls_extension_ec_point_formats, parse_tls_extension_ec_point_formats_content,
     parse_tls_extension_elliptic_curves, parse_tls_extension_elliptic_curves_content,
     parse_tls_extension_encrypt_then_mac, parse_tls_extension_encrypted_server_name,
@@ -70,17 +79,21 @@ pub use tls_hs::{
     TlsClientKeyExchangeContents, TlsHelloRetryRequestContents, TlsMessage,
     TlsMessageApplicationData, TlsMessageHandshake, TlsMessageHeartbeat,
     TlsNewSessionTicketContent, TlsNextProtocolContent, TlsServerHelloContents,
-    TlsServerHelloV13Draft18Contents, TlsServerKeyExchangeContents,
-    parse_tls_handshake_certificaterequest, parse_tls_handshake_certificatestatus,
-    parse_tls_handshake_client_hello, parse_tls_handshake_msg_certificate,
-    parse_tls_handshake_msg_certificaterequest, parse_tls_handshake_msg_certificatestatus,
-    parse_tls_handshake_msg_certificateverify, parse_tls_handshake_msg_client_hello,
-    parse_tls_handshake_msg_clientkeyexchange, parse_tls_handshake_msg_finished,
-    parse_tls_handshake_msg_hello_request, parse_tls_handshake_msg_hello_retry_request,
-    parse_tls_handshake_msg_key_update, parse_tls_handshake_msg_newsessionticket,
-    parse_tls_handshake_msg_next_protocol, parse_tls_handshake_msg_server_hello,
-    parse_tls_handshake_msg_serverdone, parse_tls_handshake_msg_serverkeyexchange,
-    parse_tls_handshake_next_protocol, parse_tls_handshake_server_hello, parse_tls_message_alert,
-    parse_tls_message_applicationdata, parse_tls_message_changecipherspec,
-    parse_tls_message_handshake, parse_tls_message_heartbeat,
+    TlsServerHelloV13Draft18Contents, TlsServerKeyExchangeContents, gen_tls_clienthello,
+    gen_tls_clientkeyexchange, gen_tls_finished, gen_tls_hellorequest, gen_tls_serverhello,
+    gen_tls_serverhellodraft18, parse_tls_handshake_certificaterequest,
+    parse_tls_handshake_certificatestatus, parse_tls_handshake_client_hello,
+    parse_tls_handshake_msg_certificate, parse_tls_handshake_msg_certificaterequest,
+    parse_tls_handshake_msg_certificatestatus, parse_tls_handshake_msg_certificateverify,
+    parse_tls_handshake_msg_client_hello, parse_tls_handshake_msg_clientkeyexchange,
+    parse_tls_handshake_msg_finished, parse_tls_handshake_msg_hello_request,
+    parse_tls_handshake_msg_hello_retry_request, parse_tls_handshake_msg_key_update,
+    parse_tls_handshake_msg_newsessionticket, parse_tls_handshake_msg_next_protocol,
+    parse_tls_handshake_msg_server_hello, parse_tls_handshake_msg_serverdone,
+    parse_tls_handshake_msg_serverkeyexchange, parse_tls_handshake_next_protocol,
+    parse_tls_handshake_server_hello, parse_tls_message_alert, parse_tls_message_applicationdata,
+    parse_tls_message_changecipherspec, parse_tls_message_handshake, parse_tls_message_heartbeat,
 };
+
+// Following a handshake.
+pub use tls_states::{ParseContext, StateChangeError, TlsState, tls_state_transition};

@@ -1,17 +1,20 @@
-ghost use Rattle.std.specs.Prelude.{◌≡◌, ◌↔◌, map, [], ◌∷◌, IfOk};
+//! Records of TLS with their messages.
+ghost use Rattle.std.specs.Prelude.{◌≡◌, ◌↔◌, ◌≤◌, length, map, [], ◌∷◌, IfOk};
 ghost use Rattle.std.specs.Result.{IsErr};
-ghost use Rattle.tls_fields.specs.Layout.{chain, complete, done, list1};
+ghost use Rattle.tls_fields.specs.Layout.{complete, list1, mapped};
 ghost use Rattle.tls_fields.specs.Meaning.{AllowsOne};
 ghost use Rattle.tls_fields.specs.Reading.{reading};
-ghost use Rattle.tls_fields.specs.Answers.{GivesOrMemory, HasMemory};
+ghost use Rattle.tls_fields.specs.Answers.{GivesOrMemory, MemorySufficed};
 ghost use Rattle.tls_hs.specs.Message.{view_message, application_data, heartbeat};
-ghost use Rattle.tls_parser.specs.Record.{Plaintext, view_header, raw_record, record_content, view_plaintext, plaintext, AsksNoMore, IsUnopened, NeedsMore, IsIncomplete};
+ghost use Rattle.tls_parser.specs.Framing.{AsksNoMore, HasNoRecord, NeedsMore, IsIncomplete};
+ghost use Rattle.tls_parser.specs.RecordText.{WritesBack};
+ghost use Rattle.tls_parser.specs.Record.{Plaintext, view_header, raw_record, record_content, view_plaintext, plaintext};
 
 use crate::content::{Alert, ChangeCipherSpec, Handshake};
 use crate::record::{TlsRawRecord, TlsRecordHeader, parse_tls_raw_record};
 use std::alloc::Global;
 use tls_base::TlsRecordType;
-use tls_fields::{Err, Error, ErrorKind, IResult, Item, OutOfMemory, items1};
+use tls_fields::{Err, ErrorKind, IResult, Item, OutOfMemory, Room, hops2, items1, refused};
 use tls_hs::{TlsMessage, parse_tls_message_applicationdata, parse_tls_message_heartbeat};
 
 /// A record that isn't encrypted (RFC 5246, section 6.2.1), with its messages, of which there is at least one.
@@ -40,7 +43,7 @@ impl<'a> TlsPlaintext<'a> {
 
 /// Application data as a list of one message.
 fn application_data_alone(alloc: Global, i: &[u8]) -> IResult<&[u8], Vec<TlsMessage>>
-    ensures { GivesOrMemory (λ v. map view_message v.items) (chain application_data (λ m. done (m ∷ []))) i.now result }
+    ensures { GivesOrMemory (λ v. map view_message v.items) (mapped (λ m. m ∷ []) application_data) i.now result }
 {
     let (i, data) = parse_tls_message_applicationdata(i)?;
     let mut messages = Vec::new(alloc);
@@ -53,10 +56,7 @@ fn heartbeat_alone(alloc: Global, i: &[u8], len: u16) -> IResult<&[u8], Vec<TlsM
     ensures { GivesOrMemory (λ v. map view_message v.items) (complete (heartbeat len)) i.now result }
 {
     match parse_tls_message_heartbeat(alloc, i, len) {
-        Err(Err::Incomplete(_)) => Err(Err::Error(Error {
-            input: i,
-            code: ErrorKind::Complete,
-        })),
+        Err(Err::Incomplete(_)) => refused(i, ErrorKind::Complete),
         result => result,
     }
 }
@@ -72,7 +72,7 @@ fn heartbeat_alone(alloc: Global, i: &[u8], len: u16) -> IResult<&[u8], Vec<TlsM
 /// - `Error` of kind `Switch` where the type is another.
 /// - What the first message refuses, but `Error` of kind `Complete` in place of `Incomplete`: the fragment is whole.
 /// - `OutOfMemory` where a list could not be held.
-#[tactic(auto, using(tls_fields::proofs::OneAnswer::read_allowed, crate::proofs::NoMore::never_asked), unfolding(crate::specs::Record::record_content))]
+#[tactic(auto, using(tls_fields::proofs::OneAnswerLemmas::read_allowed, crate::proofs::NoMoreLemmas::never_asked), unfolding(crate::specs::Record::record_content))]
 pub fn parse_tls_record_with_header<'a>(
     alloc: Global,
     i: &'a [u8],
@@ -87,19 +87,16 @@ pub fn parse_tls_record_with_header<'a>(
         TlsRecordType::Handshake => items1::<Handshake>(alloc, i),
         TlsRecordType::ApplicationData => application_data_alone(alloc, i),
         TlsRecordType::Heartbeat => heartbeat_alone(alloc, i, hdr.len),
-        _ => Err(Err::Error(Error {
-            input: i,
-            code: ErrorKind::Switch,
-        })),
+        _ => refused(i, ErrorKind::Switch),
     }
 }
 
-/// A raw record, and its fragment by its header.
-#[tactic(auto, using(tls_fields::proofs::OneAnswer::read_allowed, crate::proofs::Opened::plaintext_opened))]
+/// A raw record, and then its fragment by its header.
+#[tactic(auto, using(tls_fields::proofs::OneAnswerLemmas::read_allowed, crate::proofs::ContentLemmas::plaintext_is_raw_then_content))]
 #[inline(always)]
-fn opened_record(alloc: Global, i: &[u8]) -> IResult<&[u8], TlsPlaintext>
+fn record_with_messages(alloc: Global, i: &[u8]) -> IResult<&[u8], TlsPlaintext>
     ensures gives { GivesOrMemory view_plaintext plaintext i.now result }
-    ensures memory_if_raw { IsErr (reading raw_record i.now) → HasMemory result }
+    ensures never_out_of_memory_without_raw_record { IsErr (reading raw_record i.now) → MemorySufficed result }
 {
     let (i, TlsRawRecord { hdr, bytes }) = parse_tls_raw_record(i)?;
     let (_, msg) = parse_tls_record_with_header(alloc, bytes, &hdr)?;
@@ -112,17 +109,22 @@ fn opened_record(alloc: Global, i: &[u8]) -> IResult<&[u8], TlsPlaintext>
 ///
 /// - `Incomplete` of the count of missing bytes of the header's first field that isn't whole, or else of the fragment;
 ///   nowhere else.
-/// - `Error` of kind `TooLarge` where the length is above [`crate::MAX_RECORD_LEN`], even if the fragment isn't there yet.
+/// - `Error` of kind `TooLarge` where the length is above [`crate::MAX_RECORD_LEN`], in a record of any version, even if the
+///   fragment isn't there yet.
 /// - What the fragment refuses.
 /// - `OutOfMemory` only where the record is whole and not too large.
-#[tactic(auto, using(tls_fields::proofs::OneAnswer::one_answer, crate::proofs::Incomplete::plaintext_memory, crate::proofs::Incomplete::plaintext_incomplete))]
+///
+/// [`crate::gen_tls_plaintext`] writes what was read as the same bytes, where nothing of them was dropped, and the messages
+/// are of kinds that it knows, of which each hello has `ext`.
+#[tactic(auto, using(tls_fields::proofs::OneAnswerLemmas::one_answer, crate::proofs::IncompleteLemmas::plaintext_memory, crate::proofs::IncompleteLemmas::plaintext_incomplete))]
 pub fn parse_tls_plaintext(alloc: Global, i: &[u8]) -> IResult<&[u8], TlsPlaintext>
     ensures gives { GivesOrMemory view_plaintext plaintext i.now result }
     ensures only_one { AllowsOne plaintext i.now }
-    ensures memory_if_whole { IsUnopened 5 i.now → HasMemory result }
-    ensures incomplete_while_not_whole { IsIncomplete result ↔ NeedsMore 5 i.now }
+    ensures never_out_of_memory_without_record { HasNoRecord 5 i.now → MemorySufficed result }
+    ensures incomplete_while_more_is_needed { IsIncomplete result ↔ NeedsMore 5 i.now }
+    ensures written_back { IfOk result (λ x. WritesBack (view_plaintext x.1) i.now x.0.now) }
 {
-    opened_record(alloc, i)
+    record_with_messages(alloc, i)
 }
 
 /// The same as [`parse_tls_plaintext`].
@@ -130,10 +132,18 @@ pub fn parse_tls_plaintext(alloc: Global, i: &[u8]) -> IResult<&[u8], TlsPlainte
 /// Deprecated: use [`parse_tls_plaintext`].
 pub fn tls_parser(alloc: Global, i: &[u8]) -> IResult<&[u8], TlsPlaintext>
     ensures gives { GivesOrMemory view_plaintext plaintext i.now result }
-    ensures memory_if_whole { IsUnopened 5 i.now → HasMemory result }
-    ensures incomplete_while_not_whole { IsIncomplete result ↔ NeedsMore 5 i.now }
+    ensures never_out_of_memory_without_record { HasNoRecord 5 i.now → MemorySufficed result }
+    ensures incomplete_while_more_is_needed { IsIncomplete result ↔ NeedsMore 5 i.now }
 {
     parse_tls_plaintext(alloc, i)
+}
+
+impl<'a> Room for TlsPlaintext<'a> {
+    fn room(i: &[u8]) -> usize
+        ensures { result ≤ length i.now }
+    {
+        hops2(i, 3)
+    }
 }
 
 impl<'a> Item<'a> for TlsPlaintext<'a> {

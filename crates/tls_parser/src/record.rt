@@ -1,11 +1,18 @@
+//! Records of TLS whose fragments are not read: their header, and the bytes that follow it.
+ghost use Rattle.std.specs.Prelude.{IfOk};
 ghost use Rattle.tls_fields.specs.Meaning.{AllowsOne};
 ghost use Rattle.tls_fields.specs.Answers.{Gives};
-ghost use Rattle.tls_parser.specs.Record.{view_header, record_header, view_raw_record, view_encrypted, raw_record};
+ghost use Rattle.tls_parser.specs.Record.{view_header, record_header, view_raw_record, view_encrypted, raw_record, IsInFront};
 
 use tls_base::{TlsRecordType, TlsVersion};
-use tls_fields::{Err, Error, ErrorKind, IResult, block, number2};
+use tls_fields::{ErrorKind, IResult, block, number2, refused};
 
-/// The most bytes that a record's fragment may have: 2^14 + 256 (RFC 8446, section 5.2).
+/// The most bytes that a record's fragment may have here, of TLS and of DTLS, encrypted or not: 2^14 + 256 (RFC 8446,
+/// section 5.2, for encrypted records).
+///
+/// Other limits are stated in RFC 5246, section 6.2, and RFC 6347, section 4.1: 2^14 for a record that isn't encrypted,
+/// and 2^14 + 2048 for one that is. So a record of TLS 1.2 of 16641 to 18432 bytes, which encryption may make, is refused
+/// here, and one of 16385 to 16640 that isn't encrypted is read.
 pub const MAX_RECORD_LEN: u16 = 16640;
 
 /// The header of a record (RFC 5246, section 6.2.1), 5 bytes.
@@ -19,7 +26,7 @@ pub struct TlsRecordHeader {
     pub len: u16,
 }
 
-/// A record whose fragment isn't read.
+/// A record whose fragment isn't read, encrypted or not.
 #[derive(Clone, Debug, PartialEq, Drop)]
 pub struct TlsRawRecord<'a> {
     /// What stands in front of the fragment.
@@ -48,7 +55,7 @@ impl TlsRecordHeader {
     /// Reads 1 byte of type, 2 of version and 2 of length, all big-endian.
     ///
     /// `Incomplete` of the count that is missing of the first number that isn't whole.
-    #[tactic(auto, using(tls_fields::proofs::OneAnswer::read_allowed), unfolding(crate::specs::Record::record_header))]
+    #[tactic(auto, using(tls_fields::proofs::OneAnswerLemmas::read_allowed), unfolding(crate::specs::Record::record_header))]
     pub fn parse(i: &[u8]) -> IResult<&[u8], Self>
         ensures { Gives view_header record_header i.now result }
     {
@@ -65,7 +72,7 @@ impl TlsRecordHeader {
 }
 
 /// Reads the header of a record: the same as [`TlsRecordHeader::parse`].
-#[tactic(auto, using(tls_fields::proofs::OneAnswer::read_allowed, tls_fields::proofs::OneAnswer::one_answer))]
+#[tactic(auto, using(tls_fields::proofs::OneAnswerLemmas::read_allowed, tls_fields::proofs::OneAnswerLemmas::one_answer))]
 pub fn parse_tls_record_header(i: &[u8]) -> IResult<&[u8], TlsRecordHeader>
     ensures gives { Gives view_header record_header i.now result }
     ensures only_one { AllowsOne record_header i.now }
@@ -76,20 +83,19 @@ pub fn parse_tls_record_header(i: &[u8]) -> IResult<&[u8], TlsRecordHeader>
 /// Reads a record (RFC 5246, section 6.2.1) and leaves its fragment as it stands.
 ///
 /// - What [`parse_tls_record_header`] refuses.
-/// - `Error` of kind `TooLarge` where the length in the header is above [`MAX_RECORD_LEN`], even if the fragment isn't
-///   there yet.
+/// - `Error` of kind `TooLarge` where the length in the header is above [`MAX_RECORD_LEN`], in a record of any version, even
+///   if the fragment isn't there yet.
 /// - `Incomplete` of the count of bytes that are missing of the fragment.
-#[tactic(auto, using(tls_fields::proofs::OneAnswer::read_allowed, tls_fields::proofs::OneAnswer::one_answer), unfolding(crate::specs::Record::raw_record))]
+#[tactic(auto, using(tls_fields::proofs::OneAnswerLemmas::read_allowed, tls_fields::proofs::OneAnswerLemmas::one_answer), unfolding(crate::specs::Record::raw_record))]
 pub fn parse_tls_raw_record(i: &[u8]) -> IResult<&[u8], TlsRawRecord>
     ensures gives { Gives view_raw_record raw_record i.now result }
     ensures only_one { AllowsOne raw_record i.now }
+    // The record's bytes stand in front, and the rest is what follows them.
+    ensures in_front { IfOk result (λ x. IsInFront (view_raw_record x.1) i.now x.0.now) }
 {
     let (i, hdr) = parse_tls_record_header(i)?;
     if hdr.len > MAX_RECORD_LEN {
-        return Err(Err::Error(Error {
-            input: i,
-            code: ErrorKind::TooLarge,
-        }));
+        return refused(i, ErrorKind::TooLarge);
     }
     let (i, bytes) = block(i, hdr.len as usize)?;
     Ok((i, TlsRawRecord { hdr, bytes }))
@@ -97,7 +103,7 @@ pub fn parse_tls_raw_record(i: &[u8]) -> IResult<&[u8], TlsRawRecord>
 
 /// Reads an encrypted record (RFC 5246, section 6.2.3), of whatever type: as [`parse_tls_raw_record`], and it refuses
 /// what that refuses. Nothing is decrypted.
-#[tactic(auto, using(tls_fields::proofs::OneAnswer::read_allowed, tls_fields::proofs::OneAnswer::one_answer))]
+#[tactic(auto, using(tls_fields::proofs::OneAnswerLemmas::read_allowed, tls_fields::proofs::OneAnswerLemmas::one_answer))]
 pub fn parse_tls_encrypted(i: &[u8]) -> IResult<&[u8], TlsEncrypted>
     ensures gives { Gives view_encrypted raw_record i.now result }
     ensures only_one { AllowsOne raw_record i.now }

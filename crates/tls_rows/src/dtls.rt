@@ -5,9 +5,11 @@ use std::alloc::Global;
 use std::process::Abort;
 use std::test::Fail;
 use tls_parser::{
-    CipherTable, ClientHello, DTLSClientHello, DTLSMessage, DTLSMessageHandshake,
-    DTLSMessageHandshakeBody, DTLSPlaintext, DTLSRecordHeader, ErrorKind, TlsCipherSuiteID,
-    TlsCompressionID, TlsHandshakeType, TlsRecordType, TlsVersion, parse_dtls_message_alert,
+    CipherTable, ClientHello, DTLSClientHello, DTLSHelloVerifyRequest, DTLSMessage,
+    DTLSMessageHandshake, DTLSMessageHandshakeBody, DTLSPlaintext, DTLSRecordHeader, ErrorKind,
+    RawCertificate, TlsAlertDescription, TlsAlertSeverity, TlsCertificateContents,
+    TlsCipherSuiteID, TlsClientKeyExchangeContents, TlsCompressionID, TlsHandshakeType,
+    TlsMessageAlert, TlsRecordType, TlsServerHelloContents, TlsVersion, parse_dtls_message_alert,
     parse_dtls_message_changecipherspec, parse_dtls_message_handshake, parse_dtls_plaintext_record,
     parse_dtls_plaintext_records, parse_dtls_record_header, parse_dtls_record_with_header,
 };
@@ -140,6 +142,94 @@ fn handshake_messages(rt: HostRuntime) {
     );
 }
 
+/// A message of one ServerHello: a header of 12 bytes, and a body of 38.
+static SERVER_HELLO: [u8; 50] = [
+    2, 0, 0, 38, 0, 0, 0, 0, 0, 0, 0, 38, 0xfe, 0xfd, 0, 0, 0, 0, 0, 0, 0, 0, 0, 0, 0, 0, 0, 0, 0,
+    0, 0, 0, 0, 0, 0, 0, 0, 0, 0, 0, 0, 0, 0, 0, 0, 0, 0, 0xc0, 0x30, 0,
+];
+
+#[test]
+fn whole_bodies(rt: HostRuntime) -> Result<(), Fail> {
+    let alloc = rt.alloc();
+    let hello = TlsServerHelloContents::new(0xfefd, &[0; 32], None, 0xc030, 0, None);
+    let request = DTLSHelloVerifyRequest {
+        server_version: TlsVersion::DTls10,
+        cookie: &[0xaa, 0xbb],
+    };
+    let certificates = TlsCertificateContents {
+        cert_chain: vec![in alloc; RawCertificate { bytes: &[0xaa] }]?,
+    };
+    let keys = TlsClientKeyExchangeContents::Unknown(&[0xaa]);
+    let rows: [(&[u8], u8, u32, DTLSMessageHandshakeBody<'static>); 4] = [
+        (
+            &SERVER_HELLO,
+            2,
+            38,
+            DTLSMessageHandshakeBody::ServerHello(hello),
+        ),
+        (
+            &[
+                3, 0, 0, 5, 0, 0, 0, 0, 0, 0, 0, 5, 0xfe, 0xff, 2, 0xaa, 0xbb,
+            ],
+            3,
+            5,
+            DTLSMessageHandshakeBody::HelloVerifyRequest(request),
+        ),
+        (
+            &[
+                11, 0, 0, 9, 0, 0, 0, 0, 0, 0, 0, 9, 0, 0, 6, 0, 0, 1, 0xaa, 0, 0,
+            ],
+            11,
+            9,
+            DTLSMessageHandshakeBody::Certificate(certificates),
+        ),
+        (
+            &[16, 0, 0, 1, 0, 0, 0, 0, 0, 0, 0, 1, 0xaa],
+            16,
+            1,
+            DTLSMessageHandshakeBody::ClientKeyExchange(keys),
+        ),
+    ];
+    for (bytes, msg_type, length, body) in rows {
+        let message = DTLSMessageHandshake {
+            length,
+            ..handshake(msg_type, 0, 0, length, body)
+        };
+        reads_message(&rt, alloc, bytes, message, false);
+    }
+    Ok(())
+}
+
+#[test]
+fn whole_bodies_refused(rt: HostRuntime) {
+    let alloc = rt.alloc();
+    let rows: [(&[u8], Refused); 5] = [
+        (
+            &[2, 0, 0, 1, 0, 0, 0, 0, 0, 0, 0, 1, 0xfe],
+            Refused::Incomplete(1),
+        ),
+        (
+            &[3, 0, 0, 3, 0, 0, 0, 0, 0, 0, 0, 3, 0xfe, 0xff, 2],
+            Refused::Incomplete(2),
+        ),
+        (
+            &[11, 0, 0, 3, 0, 0, 0, 0, 0, 0, 0, 3, 0, 0, 6],
+            Refused::Incomplete(6),
+        ),
+        (
+            &[16, 0, 0, 1, 0, 0, 0, 0, 0, 0, 0, 1],
+            Refused::Incomplete(1),
+        ),
+        (
+            &[12, 0, 0, 0, 0, 0, 0, 0, 0, 0, 0, 0],
+            Refused::Error(ErrorKind::Switch),
+        ),
+    ];
+    for (bytes, refused) in rows {
+        refuses(&rt, parse_dtls_message_handshake(alloc, bytes), refused);
+    }
+}
+
 #[test]
 fn fragments_of_any_type(rt: HostRuntime) {
     let alloc = rt.alloc();
@@ -207,6 +297,72 @@ fn records(rt: HostRuntime) -> Result<(), Fail> {
         messages,
         &[],
     );
+    Ok(())
+}
+
+fn alert(severity: u8, code: u8) -> DTLSMessage<'static> {
+    DTLSMessage::Alert(TlsMessageAlert {
+        severity: TlsAlertSeverity(severity),
+        code: TlsAlertDescription(code),
+    })
+}
+
+#[test]
+fn alerts_and_changes(rt: HostRuntime) -> Result<(), Fail> {
+    let alloc = rt.alloc();
+    reads(
+        &rt,
+        parse_dtls_message_alert(&[2, 40, 9]),
+        alert(2, 40),
+        &[9],
+    );
+    let alerts = vec![in alloc; alert(1, 0), alert(2, 40)]?;
+    reads(
+        &rt,
+        parse_dtls_record_with_header(alloc, &[1, 0, 2, 40, 3], &header(21, 0, 0, 5)),
+        alerts,
+        &[3],
+    );
+    let changes = vec![in alloc;
+        DTLSMessage::ChangeCipherSpec,
+        DTLSMessage::ChangeCipherSpec,
+    ]?;
+    reads(
+        &rt,
+        parse_dtls_record_with_header(alloc, &[1, 1, 2], &header(20, 0, 0, 3)),
+        changes,
+        &[2],
+    );
+    refuses(
+        &rt,
+        parse_dtls_record_with_header(alloc, &[1], &header(21, 0, 0, 1)),
+        Refused::Error(ErrorKind::Complete),
+    );
+    Ok(())
+}
+
+/// A record of the most bytes that one may have, 16640, is read; before they are there, they are asked for.
+#[test]
+fn longest_record(rt: HostRuntime) -> Result<(), Fail> {
+    let alloc = rt.alloc();
+    let front = [0x14, 0xfe, 0xfd, 0, 0, 0, 0, 0, 0, 0, 0, 0x41, 0];
+    refuses(
+        &rt,
+        parse_dtls_plaintext_record(alloc, &front),
+        Refused::Incomplete(16640),
+    );
+    let mut bytes = Vec::new(alloc);
+    bytes.extend_from_slice(&front)?;
+    for _ in 0..16640 {
+        bytes.push(1)?;
+    }
+    match answer(parse_dtls_plaintext_record(alloc, &bytes)) {
+        Ok((record, rest)) => {
+            assert_eq!(rt; record.messages.len(), 16640);
+            assert!(rt; rest.is_empty());
+        }
+        Err(refused) => panic!(rt; "refused: {refused:?}"),
+    }
     Ok(())
 }
 

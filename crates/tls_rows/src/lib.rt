@@ -1,23 +1,22 @@
-//! Tests of the libraries: worked inputs, each with the answer that its layout gives.
+//! Tests of records, of what is written, and of callers: worked inputs, each with the answer that its layout gives.
 //!
-//! It holds no code of its own. A file tests one library, or a part of one, through its public calls alone.
+//! It has no code of its own. A file tests a part of a library through its public calls alone. What records are made of is
+//! tested in `field_rows`.
 #![tactic(auto)]
 
 #[cfg(test)]
-mod base;
-#[cfg(test)]
 mod dtls;
 #[cfg(test)]
-mod ext;
+mod extension_writer;
 #[cfg(test)]
-mod fields;
-#[cfg(test)]
-mod hs;
+mod handshake_writer;
 #[cfg(test)]
 mod parser;
 #[cfg(test)]
 mod records;
 #[cfg(test)]
 mod support;
+#[cfg(test)]
+mod uses;
 #[cfg(test)]
 mod values;

@@ -196,6 +196,12 @@ fn records_one_after_the_other(rt: HostRuntime) -> Result<(), Fail> {
     let alloc = rt.alloc();
     let records = vec![in alloc; record(alloc, 21, 2, alert(1, 0))?]?;
     reads(&rt, tls_parser_many(alloc, &RECORDS), records, &[0x16, 3]);
+    let records = vec![in alloc;
+        record(alloc, 21, 2, alert(1, 0))?,
+        record(alloc, 20, 1, TlsMessage::ChangeCipherSpec)?,
+    ]?;
+    let bytes = [0x15, 3, 3, 0, 2, 1, 0, 0x14, 3, 3, 0, 1, 1, 0x16];
+    reads(&rt, tls_parser_many(alloc, &bytes), records, &[0x16]);
     let rows: [(&[u8], Refused); 3] = [
         (&[], Refused::Error(ErrorKind::Complete)),
         (&[0x16, 3], Refused::Error(ErrorKind::Complete)),

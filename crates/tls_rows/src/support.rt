@@ -1,4 +1,5 @@
-//! What a call answered, compared with what its layout gives.
+//! What a call answered, compared with what its layout gives. (The tests of `field_rows` have the same helpers: tests can
+//! lend none to another crate.)
 
 use std::fmt::Debug;
 use std::process::Abort;

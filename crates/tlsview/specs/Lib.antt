@@ -3,4 +3,7 @@ pub mod Direction
 pub mod Exit
 pub mod Statement
 pub mod Fault
+pub mod Names
+pub mod Transition
 pub mod Out
+pub mod Shown

@@ -1,85 +1,156 @@
 -- What is printed for an input, and the status.
-use Rattle.std.specs.Prelude.{ℕ, zero, suc, ◌+◌, List, [], ◌∷◌, ◌++◌, length, flat_map, codes, Option, Some, None, Ok, Err}
+use Rattle.std.specs.Prelude.{ℕ, zero, suc, ◌+◌, ◌||◌, Bool, true, false, List, [], ◌∷◌, ◌++◌, length, flat_map, codes, Option, Some, None, Result, Ok, Err}
 use Rattle.std.specs.Io.BufRead.{strip_last}
+use Rattle.std.specs.List.{list_any}
 use Rattle.tls_fields.specs.Bytes.{Bytes}
-use Rattle.tls_fields.specs.Meaning.{Answer}
+use Rattle.tls_fields.specs.Meaning.{Answer, Refusal, Broken, Lacks}
 use Rattle.tls_fields.specs.Reading.{reading}
-use Rattle.tls_hs.specs.Handshake as handshakes
-use Rattle.tls_hs.specs.Message as messages
-use Rattle.tls_parser.specs.Record.{Plaintext, plaintext}
+use Rattle.tls_hs.specs.Message.{Message}
+use Rattle.tls_parser.specs.Record.{RawRecord, raw_record, record_content}
+use Rattle.tls_states.specs.declared.state.TlsState.{TlsState}
+use Rattle.tls_states.specs.declared.state.TlsState.TheVariants as states
 use Rattle.tlsview.specs.Lines.{lines_of}
 use Rattle.tlsview.specs.Direction.{sign_of}
 use Rattle.tlsview.specs.Statement.{Said, said_by}
-use Rattle.tlsview.specs.Fault.{Fault, Refused, BadLine, fault_line, fault_status}
+use Rattle.tlsview.specs.Fault.{Fault, Refused, BadLine, fault_line, fault_text, fault_status}
+use Rattle.tlsview.specs.Names.{message_name, state_name}
+use Rattle.tlsview.specs.Transition.{state_after, changes_cipher}
+use Rattle.tlsview.specs.declared.conversation.Side.{Side}
+use Rattle.tlsview.specs.declared.conversation.Conversation.{Conversation}
 use Rattle.tlsview.specs.declared.direction.Direction.{Direction}
+use Rattle.tlsview.specs.declared.direction.Direction.TheVariants.{ToServer, FromServer}
 
--- what a part of the input prints, and the fault that ends it
-abbrev pub Part : Type 0
-Part = List ℕ × Option Fault
+-- what a record holds: an encrypted one isn't read
+pub data Content : Type 0 where
+  Encrypted : Content
+  Messages : List Message → Content
 
--- the name of a handshake message is that of its HandshakeType, or of the draft whose ServerHello it is
-abbrev pub handshake_name : handshakes.Handshake → List ℕ
-handshake_name handshakes.HelloRequest = codes "HelloRequest"
-handshake_name (handshakes.ClientHello body) = codes "ClientHello"
-handshake_name (handshakes.ServerHello body) = codes "ServerHello"
-handshake_name (handshakes.ServerHelloV13Draft18 body) = codes "ServerHelloV13Draft18"
-handshake_name (handshakes.NewSessionTicket body) = codes "NewSessionTicket"
-handshake_name handshakes.EndOfEarlyData = codes "EndOfEarlyData"
-handshake_name (handshakes.HelloRetryRequest body) = codes "HelloRetryRequest"
-handshake_name (handshakes.Certificate body) = codes "Certificate"
-handshake_name (handshakes.ServerKeyExchange body) = codes "ServerKeyExchange"
-handshake_name (handshakes.CertificateRequest body) = codes "CertificateRequest"
-handshake_name (handshakes.ServerDone body) = codes "ServerDone"
-handshake_name (handshakes.CertificateVerify body) = codes "CertificateVerify"
-handshake_name (handshakes.ClientKeyExchange body) = codes "ClientKeyExchange"
-handshake_name (handshakes.Finished body) = codes "Finished"
-handshake_name (handshakes.CertificateStatus body) = codes "CertificateStatus"
-handshake_name (handshakes.NextProtocol body) = codes "NextProtocol"
-handshake_name (handshakes.KeyUpdate body) = codes "KeyUpdate"
+-- the messages of a record that isn't encrypted are those of its fragment, by its header
+abbrev pub messages_of : Answer (List Message) → Result Content Refusal
+messages_of (Ok x) = Ok (Messages x.0)
+messages_of (Err e) = Err e
 
-abbrev pub message_name : messages.Message → List ℕ
-message_name (messages.Handshake h) = handshake_name h
-message_name messages.ChangeCipherSpec = codes "ChangeCipherSpec"
-message_name (messages.Alert body) = codes "Alert"
-message_name (messages.ApplicationData body) = codes "ApplicationData"
-message_name (messages.Heartbeat body) = codes "Heartbeat"
+abbrev pub content_of : Bool → RawRecord → Result Content Refusal
+content_of true v = Ok Encrypted
+content_of false v = messages_of (reading (record_content v.header) v.fragment)
 
-abbrev pub message_line : Direction → messages.Message → List ℕ
-message_line direction message = sign_of direction ∷ 32 ∷ (message_name message ++ codes "\n")
+abbrev pub message_line : Direction → Message → List ℕ
+message_line d message = sign_of d ∷ 32 ∷ (message_name message ++ codes "\n")
 
--- a record's messages, and then the bytes behind it
-abbrev pub record_part : Direction → Answer Plaintext → (Bytes → Part) → Part
-record_part direction (Err e) behind = ([], Some (Refused e))
-record_part direction (Ok x) behind = (flat_map (message_line direction) x.0.messages ++ (behind x.1).0, (behind x.1).1)
+abbrev pub content_text : Direction → Content → List ℕ
+content_text d Encrypted = sign_of d ∷ 32 ∷ (codes "Encrypted" ++ codes "\n")
+content_text d (Messages ms) = flat_map (message_line d) ms
 
--- the records one after the other, at most n of them
-abbrev pub records_part : ℕ → Direction → Bytes → Part
-records_part n direction [] = ([], None)
-records_part zero direction (b ∷ bs) = ([], None)
-records_part (suc n) direction (b ∷ bs) = record_part direction (reading plaintext (b ∷ bs)) (records_part n direction)
+-- one direction of a conversation: what it has left to read, whether it has changed its cipher; and the conversation's state
+pub record Half : Type 0 where
+  pub left : Bytes
+  pub is_encrypted : Bool
+  pub state : TlsState
 
--- records until nothing is left: there are no more of them than bytes
-abbrev pub bytes_part : Direction → Bytes → Part
-bytes_part direction b = records_part (length b) direction b
+-- an encrypted record changes nothing
+abbrev pub state_behind : Direction → TlsState → Content → TlsState
+state_behind d state Encrypted = state
+state_behind d state (Messages ms) = state_after d state ms
 
-abbrev pub said_part : Option Said → Part
-said_part None = ([], Some BadLine)
-said_part (Some said) = bytes_part said.0 said.1
+abbrev pub cipher_behind : Content → Bool
+cipher_behind Encrypted = false
+cipher_behind (Messages ms) = list_any changes_cipher ms
+
+abbrev pub half_behind : Direction → Half → Content → Bytes → Half
+half_behind d h c rest = record { left = rest; is_encrypted = h.is_encrypted || cipher_behind c; state = state_behind d h.state c }
+
+-- what a part of the input prints, and what is known behind it or the fault that ends it
+abbrev pub Part : Type 0 → Type 0
+Part A = List ℕ × Result A Fault
+
+abbrev pub content_part : Direction → Half → Bytes → Result Content Refusal → (Half → Part Half) → Part Half
+content_part d h rest (Err e) behind = ([], Err (Refused e))
+content_part d h rest (Ok c) behind = (content_text d c ++ (behind (half_behind d h c rest)).0, (behind (half_behind d h c rest)).1)
+
+-- the record that stands next, and those behind it; where bytes of it are missing, they are left to read
+abbrev pub record_part : Direction → Half → Answer RawRecord → (Half → Part Half) → Part Half
+record_part d h (Ok x) behind = content_part d h x.1 (content_of h.is_encrypted x.0) behind
+record_part d h (Err (Lacks n)) behind = ([], Ok h)
+record_part d h (Err (Broken kind)) behind = ([], Err (Refused (Broken kind)))
+
+-- the records one after the other, fewer than n of them
+abbrev pub records_part : ℕ → Direction → Half → Part Half
+records_part zero d h = ([], Ok h)
+records_part (suc n) d h = record_part d h (reading raw_record h.left) (records_part n d)
+
+-- records as long as one is whole: there are no more of them than bytes
+abbrev pub half_part : Direction → Half → Part Half
+half_part d h = records_part (suc (length h.left)) d h
+
+-- one direction of a conversation, and the conversation once that is read
+abbrev pub half : Side → TlsState → Half
+half side state = record { left = side.stream; is_encrypted = side.is_encrypted; state = state }
+
+abbrev pub side_of : Direction → Conversation → Side
+side_of ToServer c = c.to_server
+side_of FromServer c = c.from_server
+
+abbrev pub side_behind : Half → Side
+side_behind h = record { stream = h.left; is_encrypted = h.is_encrypted }
+
+abbrev pub conversation_behind : Direction → Conversation → Half → Conversation
+conversation_behind ToServer c h = record { to_server = side_behind h; from_server = c.from_server; context = h.state }
+conversation_behind FromServer c h = record { to_server = c.to_server; from_server = side_behind h; context = h.state }
+
+abbrev pub result_behind : Direction → Conversation → Result Half Fault → Result Conversation Fault
+result_behind d c (Ok h) = Ok (conversation_behind d c h)
+result_behind d c (Err fault) = Err fault
+
+abbrev pub with_half : Direction → Conversation → Part Half → Part Conversation
+with_half d c p = (p.0, result_behind d c p.1)
+
+-- further bytes of a direction, behind those that it has left
+abbrev pub fed : Side → Bytes → Side
+fed side bytes = record { stream = side.stream ++ bytes; is_encrypted = side.is_encrypted }
+
+abbrev pub said_part : Conversation → Option Said → Part Conversation
+said_part c None = ([], Err BadLine)
+said_part c (Some said) = with_half said.0 c (half_part said.0 (half (fed (side_of said.0 c) said.1) c.context))
 
 -- an empty line is skipped
-abbrev pub line_part : List ℕ → Part
-line_part [] = ([], None)
-line_part (c ∷ cs) = said_part (said_by (c ∷ cs))
+abbrev pub line_part : Conversation → List ℕ → Part Conversation
+line_part c [] = ([], Ok c)
+line_part c (b ∷ bs) = said_part c (said_by (b ∷ bs))
 
 -- a line's part, and then the other lines unless it ends the run
-abbrev pub followed_by : ℕ → Part → List ℕ × ℕ → List ℕ × ℕ
-followed_by k (text, None) others = (text ++ others.0, others.1)
-followed_by k (text, Some fault) others = (text ++ fault_line k fault, fault_status fault)
+abbrev pub followed_by : ℕ → Part Conversation → (Conversation → List ℕ × ℕ) → List ℕ × ℕ
+followed_by k (text, Ok c) others = (text ++ (others c).0, (others c).1)
+followed_by k (text, Err fault) others = (text ++ fault_line k fault, fault_status fault)
+
+-- how many bytes are missing of the record of which these are left
+abbrev pub missing_in : Answer RawRecord → Option ℕ
+missing_in (Err (Lacks n)) = Some n
+missing_in _ = None
+
+abbrev pub missing : Bytes → Option ℕ
+missing [] = None
+missing (b ∷ bs) = missing_in (reading raw_record (b ∷ bs))
+
+abbrev pub either_missing : Option ℕ → Option ℕ → Option ℕ
+either_missing (Some n) second = Some n
+either_missing None second = second
+
+-- the end of the input: a direction with bytes of a record left, that to the server first, or the state
+abbrev pub end_part : Option ℕ → TlsState → List ℕ × ℕ
+end_part (Some n) state = (codes "end: " ++ fault_text (Refused (Lacks n)) ++ codes "\n", 1)
+end_part None state = (codes "state " ++ state_name state ++ codes "\n", 0)
+
+abbrev pub end_of : Conversation → List ℕ × ℕ
+end_of c = end_part (either_missing (missing c.to_server.stream) (missing c.from_server.stream)) c.context
 
 -- the lines from line k on, each without one return at its end
-abbrev pub out_from : ℕ → List (List ℕ) → List ℕ × ℕ
-out_from k [] = ([], 0)
-out_from k (line ∷ lines) = followed_by k (line_part (strip_last 13 line)) (out_from (k + 1) lines)
+abbrev pub out_from : ℕ → Conversation → List (List ℕ) → List ℕ × ℕ
+out_from k c [] = end_of c
+out_from k c (line ∷ lines) = followed_by k (line_part c (strip_last 13 line)) (λ c. out_from (k + 1) c lines)
+
+-- nothing was read
+abbrev pub silence : Conversation
+silence = record { to_server = record { stream = []; is_encrypted = false }; from_server = record { stream = []; is_encrypted = false }; context = states.None }
 
 abbrev pub out : List ℕ → List ℕ × ℕ
-out x = out_from 1 (lines_of x)
+out x = out_from 1 silence (lines_of x)

@@ -1,6 +1,7 @@
 //! Who sent the bytes of a line.
 ghost use Rattle.std.specs.Prelude.{◌≡◌, ◌∷◌, [], Some};
 ghost use Rattle.tlsview.specs.Direction.{direction_of, sign_of};
+ghost use Rattle.tlsview.specs.Transition.{goes_to_server as is_to_server};
 
 use std::fmt;
 
@@ -20,6 +21,16 @@ impl Direction {
             b'>' => Some(Direction::ToServer),
             b'<' => Some(Direction::FromServer),
             _ => None,
+        }
+    }
+
+    /// Whether the bytes went to the server.
+    pub fn goes_to_server(self) -> bool
+        ensures { result ≡ is_to_server self }
+    {
+        match self {
+            Direction::ToServer => true,
+            Direction::FromServer => false,
         }
     }
 }

@@ -1,6 +1,6 @@
 //! What ends a run before its last line.
 ghost use Rattle.std.specs.Prelude.{◌≡◌, IfOk, OnErr, Some};
-ghost use Rattle.tls_fields.specs.Answers.{HadMemory, IsRefusal, refusal_of};
+ghost use Rattle.tls_fields.specs.Answers.{IsNotOutOfMemory, IsRefusal, refusal_of};
 ghost use Rattle.tlsview.specs.Fault.{kind_name as name_of_kind, Refused, fault_status, fault_text, view_fault};
 ghost use Rattle.tlsview.specs.Exit.{status_of};
 
@@ -36,8 +36,8 @@ fn kind_name(kind: ErrorKind) -> &'static str
 impl Fault {
     /// The fault that a refusal is, unless memory ran out.
     pub fn of_refusal(refusal: Err<Error<&[u8]>>) -> Result<Self, AllocError>
-        requires { HadMemory refusal → IsRefusal refusal }
-        ensures ok { IfOk result (λ fault. HadMemory refusal.entry × (view_fault fault ≡ Refused (refusal_of refusal.entry))) }
+        requires { IsNotOutOfMemory refusal → IsRefusal refusal }
+        ensures ok { IfOk result (λ fault. IsNotOutOfMemory refusal.entry × (view_fault fault ≡ Refused (refusal_of refusal.entry))) }
         ensures err { OnErr result (refusal.entry ≡ Err.OutOfMemory) }
     {
         match refusal {

@@ -1,5 +1,5 @@
 //! The whole run, over any reader and writer.
-ghost use Rattle.std.specs.Prelude.{◌≡◌, ◌≢◌, ◌≤◌, ◌⊎◌, ℕ, [], false, true, take, Some, IfSome, IfErr, IfOk};
+ghost use Rattle.std.specs.Prelude.{◌≡◌, ◌≢◌, ◌<◌, ◌≤◌, ◌⊎◌, ℕ, [], false, true, take, length, Some, IfSome, IfErr, IfOk};
 ghost use Rattle.std.specs.Io.KnownBytes.{Appends};
 ghost use Rattle.tlsview.specs.Out.{out};
 ghost use Rattle.tlsview.specs.Exit.{status_of};
@@ -12,7 +12,10 @@ use crate::transfer::{Failure, read_whole, write_whole};
 use std::alloc::Global;
 use std::io::{Read, Write};
 
-fn run<R: Read, W: Write>(
+/// The run of [`view`], by a reader and a writer that tell their faults, or why it failed: memory ran out and nothing was
+/// written; a read failed, or all of the calls didn't come to the reader's end, and nothing was written; or all was read
+/// and a write failed or took nothing.
+pub fn run<R: Read, W: Write>(
     alloc: Global,
     r: &mut Tally<'_, R>,
     w: &mut Sink<'_, W>,
@@ -34,7 +37,8 @@ fn run<R: Read, W: Write>(
     ensures unwritten { IfErr result (λ e. e ≢ Failure.Writing → w.new.writer.now ≡ w.old.writer.now) }
     ensures partly_written { IfErr result (λ e. e ≡ Failure.Writing → IfSome (R.remaining r.old.reader.now) (λ x.
         (R.remaining r.new.reader.now ≡ Some [])
-        × (n : ℕ) × Appends (W.contents w.old.writer.now) (W.contents w.new.writer.now) (take n (out x).0))) }
+        × (n : ℕ) × (n < length (out x).0)
+        × Appends (W.contents w.old.writer.now) (W.contents w.new.writer.now) (take n (out x).0))) }
 {
     let input = read_whole(alloc, r)?;
     let report = report_of(alloc, input.as_slice())?;
@@ -47,14 +51,18 @@ fn run<R: Read, W: Write>(
 ///
 /// Reading fails at the first fault of a read, and where [`MAX_READS`] calls don't come to the reader's end. Writing
 /// fails at the first fault of a write, and where a write takes nothing. There is no call of either after its fault.
+///
+/// Of any reader and writer, whose calls alone tell whether they failed, a contract can say what was read and written.
+/// Which fault a failed run had is in the contract of [`run`].
 pub fn view<R: Read, W: Write>(alloc: Global, r: &mut R, w: &mut W) -> u8
     // A run that doesn't fail has read all, and has written and answered what `out` says.
     ensures told { result ≢ status_of Exit.Failed → IfSome (R.remaining r.old) (λ x. (R.remaining r.new ≡ Some [])
         × Appends (W.contents w.old) (W.contents w.new) (out x).0 × (result ≡ (out x).1)) }
     ensures status { result ≤ status_of Exit.Failed }
-    // A run that fails hasn't written, or has read all and written a front of what `out` says.
+    // A run that fails hasn't written, or has read all and written a front of what `out` says that isn't all of it.
     ensures failed { result ≡ status_of Exit.Failed → (w.new ≡ w.old) ⊎ IfSome (R.remaining r.old) (λ x.
-        (R.remaining r.new ≡ Some []) × (n : ℕ) × Appends (W.contents w.old) (W.contents w.new) (take n (out x).0)) }
+        (R.remaining r.new ≡ Some []) × (n : ℕ) × (n < length (out x).0)
+        × Appends (W.contents w.old) (W.contents w.new) (take n (out x).0)) }
 {
     let mut reader = Tally::new(r);
     let mut writer = Sink::new(w);

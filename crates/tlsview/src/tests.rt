@@ -4,6 +4,7 @@ ghost use Rattle.std.specs.Prelude.{◌≡◌, Some};
 use crate::program::view;
 use std::io;
 use std::io::{ErrorKind, Read, Write};
+use std::process::Abort;
 use std::test::Fail;
 
 /// Gives one byte a call, and fails once, by a signal, where `fault` bytes are left.
@@ -142,31 +143,86 @@ const ONE_OF_EACH: &[u8] =
     b"< 16030300a100000000020000260300000000000000000000000000000000000000000000000000000000000000000000000000020000247f1200000000000000000000000000000000000000000000000000000000000000001301040000040000000005000000060000047f1213010b0000030000000c0000000d00000500000000000e0000000f00000010000000140000001600000401000000180000010043000002000017030300001803030003010000";
 
 const ONE_OF_EACH_TEXT: &[u8] =
-    b"< HelloRequest\n< ServerHello\n< ServerHelloV13Draft18\n< NewSessionTicket\n< EndOfEarlyData\n< HelloRetryRequest\n< Certificate\n< ServerKeyExchange\n< CertificateRequest\n< ServerDone\n< CertificateVerify\n< ClientKeyExchange\n< Finished\n< CertificateStatus\n< KeyUpdate\n< NextProtocol\n< ApplicationData\n< Heartbeat\n";
+    b"< HelloRequest\n< ServerHello\n< ServerHelloV13Draft18\n< NewSessionTicket\n< EndOfEarlyData\n< HelloRetryRequest\n< Certificate\n< ServerKeyExchange\n< CertificateRequest\n< ServerDone\n< CertificateVerify\n< ClientKeyExchange\n< Finished\n< CertificateStatus\n< KeyUpdate\n< NextProtocol\n< ApplicationData\n< Heartbeat\nstate Invalid\n";
 
-const TWO_LINES_TEXT: &[u8] = b"> ClientHello\n< ClientHello\n< ClientHello\n";
+const TWO_LINES_TEXT: &[u8] = b"> ClientHello\n< ClientHello\n< ClientHello\nstate Invalid\n";
+
+/// A whole handshake with a certificate, the records of the server in one line and in the middle of one cut.
+const HANDSHAKE: &[u8] =
+    b"> 16030100310100002d0303b29dd787ff21eb04c8a538399acfb7a3821f826c49bc8bb8a9030a2dce380bf4000004c030c02c01000000\n< 16030300390200002603030000000000000000000000000000000000000000000000000000000000000000000000000b000003\n< 0000000c0000000e000000\n> 160303000410000000140303000101\n< 140303000101\n< 1603030001ff\n";
+
+const HANDSHAKE_TEXT: &[u8] =
+    b"> ClientHello\n< ServerHello\n< Certificate\n< ServerKeyExchange\n< ServerDone\n> ClientKeyExchange\n> ChangeCipherSpec\n< ChangeCipherSpec\n< Encrypted\nstate SessionEncrypted\n";
+
+/// The program prints this for the input, ends so, and reads all of it.
+fn prints(rt: &(impl Abort + AllocGlobal), input: &[u8], text: &[u8], status: u8) {
+    let mut reader = input;
+    let mut writer = Vec::new(rt.alloc());
+    assert_eq!(rt;
+        view(rt.alloc(), &mut reader, &mut writer),
+        status,
+        "at {input:?}"
+    );
+    assert_eq!(rt; writer.as_slice(), text, "at {input:?}");
+    assert_eq!(rt; reader.len(), 0);
+}
 
 #[test]
-fn answers(rt: HostRuntime) -> Result<(), Fail> {
-    let table: [(&[u8], &[u8], u8); 28] = [
-        (b"", b"", 0),
-        (b"\n\r\n\n", b"", 0),
-        (b"> \n< ", b"", 0),
-        (TO_SERVER, b"> ClientHello\n", 0),
-        (FROM_SERVER, b"< ClientHello\n", 0),
+fn answers(rt: HostRuntime) {
+    let table: [(&[u8], &[u8], u8); 38] = [
+        (b"", b"state None\n", 0),
+        (b"\n\r\n\n", b"state None\n", 0),
+        (b"> \n< ", b"state None\n", 0),
+        (TO_SERVER, b"> ClientHello\nstate ClientHello\n", 0),
+        (FROM_SERVER, b"< ClientHello\nstate Invalid\n", 0),
         (TWO_LINES, TWO_LINES_TEXT, 0),
         (ONE_OF_EACH, ONE_OF_EACH_TEXT, 0),
-        (b"< 160303000400000000", b"< HelloRequest\n", 0),
-        (b"> 140303000101", b"> ChangeCipherSpec\n", 0),
-        (b"< 15030300020100", b"< Alert\n", 0),
+        (HANDSHAKE, HANDSHAKE_TEXT, 0),
+        (
+            b"< 160303000400000000",
+            b"< HelloRequest\nstate Invalid\n",
+            0,
+        ),
+        (b"> 140303000101", b"> ChangeCipherSpec\nstate Invalid\n", 0),
+        (b"< 15030300020100", b"< Alert\nstate None\n", 0),
+        (b"> 15030300020228", b"> Alert\nstate Finished\n", 0),
+        (
+            b"> 14030300020101",
+            b"> ChangeCipherSpec\n> ChangeCipherSpec\nstate Invalid\n",
+            0,
+        ),
+        (
+            b"> 140303000101\n> 1603030004aabbccdd",
+            b"> ChangeCipherSpec\n> Encrypted\nstate Invalid\n",
+            0,
+        ),
+        (
+            b"> 140303000101\n< 160303000400000000\n> 9903030000",
+            b"> ChangeCipherSpec\n< HelloRequest\n> Encrypted\nstate Invalid\n",
+            0,
+        ),
+        (
+            b"> 1603030004\n< 160303000400000000\n> 00000000",
+            b"< HelloRequest\n> HelloRequest\nstate Invalid\n",
+            0,
+        ),
+        (b"> 1603\n> 014101", b"line 2: error TooLarge\n", 1),
+        (b"> 16\n< 1603", b"end: incomplete 2\n", 1),
+        (b"< 1603", b"end: incomplete 1\n", 1),
+        (b"> 1503030002010016", b"> Alert\nend: incomplete 2\n", 1),
         (
             b"> 15030300020228\n> 1603014101",
             b"> Alert\nline 2: error TooLarge\n",
             1,
         ),
+        (
+            b"> 140303000101\n> 1603014101",
+            b"> ChangeCipherSpec\nline 2: error TooLarge\n",
+            1,
+        ),
         (b"> 1803030003010005", b"line 1: error Complete\n", 1),
-        (b"> 16", b"line 1: incomplete 2\n", 1),
-        (b"> 1603014100\n", b"line 1: incomplete 16640\n", 1),
+        (b"> 16", b"end: incomplete 2\n", 1),
+        (b"> 1603014100\n", b"end: incomplete 16640\n", 1),
         (b"> 1603014101", b"line 1: error TooLarge\n", 1),
         (b"> 1603010000", b"line 1: error Complete\n", 1),
         (b"> 990303000100", b"line 1: error Switch\n", 1),
@@ -176,12 +232,11 @@ fn answers(rt: HostRuntime) -> Result<(), Fail> {
             1,
         ),
         (b"> 160", b"line 1: bad line\n", 2),
-        (b"> 1g", b"line 1: bad line\n", 2),
+        (b"> 16\n> 1g", b"line 2: bad line\n", 2),
         (b"= 16", b"line 1: bad line\n", 2),
         (b">1603", b"line 1: bad line\n", 2),
         (b">", b"line 1: bad line\n", 2),
         (b"> \r\r\n", b"line 1: bad line\n", 2),
-        (b"> 16 \n", b"line 1: bad line\n", 2),
         (
             FAULT_IN_LINE_2,
             b"> ClientHello\n< ClientHello\nline 2: error TooLarge\n",
@@ -191,17 +246,8 @@ fn answers(rt: HostRuntime) -> Result<(), Fail> {
         (VERIFY_IN_LINE_1, b"line 1: error Verify\n", 1),
     ];
     for (input, text, status) in table {
-        let mut reader = input;
-        let mut writer = Vec::new(rt.alloc());
-        assert_eq!(rt;
-            view(rt.alloc(), &mut reader, &mut writer),
-            status,
-            "at {input:?}"
-        );
-        assert_eq!(rt; writer.as_slice(), text, "at {input:?}");
-        assert_eq!(rt; reader.len(), 0);
+        prints(&rt, input, text, status);
     }
-    Ok(())
 }
 
 #[test]

@@ -1,3 +1,4 @@
+//! Handshake messages of DTLS, and fragments of them.
 ghost use Rattle.tls_fields.specs.Answers.{GivesOrMemory};
 ghost use Rattle.tls_parser.specs.DtlsHandshake.{view_body, whole_body as whole_body_layout, body as body_layout, view_handshake, handshake as handshake_layout};
 
@@ -6,7 +7,7 @@ use crate::dtls::hello::{
 };
 use std::alloc::Global;
 use tls_base::TlsHandshakeType;
-use tls_fields::{Err, Error, ErrorKind, IResult, block, number2, number3};
+use tls_fields::{ErrorKind, IResult, block, number2, number3, refused, rest};
 use tls_hs::parts::{certificate, server_hello_any};
 use tls_hs::{
     TlsCertificateContents, TlsCertificateRequestContents, TlsCertificateStatusContents,
@@ -25,7 +26,8 @@ pub struct DTLSMessageHandshake<'a> {
     pub message_seq: u16,
     /// Where the fragment begins in the whole body, in bytes.
     pub fragment_offset: u32,
-    /// The length of the fragment, in bytes.
+    /// The length of the fragment, in bytes. It is not compared with `length`: where it is above, and the offset is 0, the
+    /// body is read as a whole one, within the fragment's bytes.
     pub fragment_length: u32,
     /// The body, or a fragment of it.
     pub body: DTLSMessageHandshakeBody<'a>,
@@ -37,7 +39,7 @@ pub struct DTLSMessageHandshake<'a> {
 /// `ServerDone`, `ClientKeyExchange` and `Fragment`.
 #[derive(Debug, PartialEq, Drop)]
 pub enum DTLSMessageHandshakeBody<'a> {
-    /// No call reads it.
+    /// A server asks for a ClientHello (RFC 5246, section 7.4.1.1); no call reads it.
     HelloRequest,
     /// What a client offers (RFC 6347, section 4.2.1).
     ClientHello(DTLSClientHello<'a>),
@@ -45,27 +47,27 @@ pub enum DTLSMessageHandshakeBody<'a> {
     HelloVerifyRequest(DTLSHelloVerifyRequest<'a>),
     /// What a server chose (RFC 5246, section 7.4.1.3).
     ServerHello(TlsServerHelloContents<'a>),
-    /// No call reads it.
+    /// A ticket to resume by (RFC 5077, section 3.3); no call reads it.
     NewSessionTicket(TlsNewSessionTicketContent<'a>),
-    /// No call reads it.
+    /// A server asks for another ClientHello (drafts of TLS 1.3); no call reads it.
     HelloRetryRequest(TlsHelloRetryRequestContents<'a>),
     /// The sender's certificates (RFC 5246, section 7.4.2).
     Certificate(TlsCertificateContents<'a>),
-    /// No call reads it.
+    /// The server's part of the key exchange (RFC 5246, section 7.4.3); no call reads it.
     ServerKeyExchange(TlsServerKeyExchangeContents<'a>),
-    /// No call reads it.
+    /// A server asks for the client's certificate (RFC 5246, section 7.4.4); no call reads it.
     CertificateRequest(TlsCertificateRequestContents<'a>),
     /// The end of the server's hello, with its body, which should have no bytes (RFC 5246, section 7.4.5).
     ServerDone(&'a [u8]),
-    /// No call reads it.
+    /// A signature over the handshake (RFC 5246, section 7.4.8); no call reads it.
     CertificateVerify(&'a [u8]),
     /// The client's part of the key exchange (RFC 5246, section 7.4.7).
     ClientKeyExchange(TlsClientKeyExchangeContents<'a>),
-    /// No call reads it.
+    /// The end of a handshake, with its hash (RFC 5246, section 7.4.9); no call reads it.
     Finished(&'a [u8]),
-    /// No call reads it.
+    /// The state of the server's certificate (RFC 6066, section 8); no call reads it.
     CertificateStatus(TlsCertificateStatusContents<'a>),
-    /// No call reads it.
+    /// The protocol that the client chose (a draft, Next Protocol Negotiation); no call reads it.
     NextProtocol(TlsNextProtocolContent<'a>),
     /// Part of a body, of whatever type.
     Fragment(&'a [u8]),
@@ -74,7 +76,8 @@ pub enum DTLSMessageHandshakeBody<'a> {
 /// A whole body of the type `msg_type`, of `length` bytes, from the front of `i`.
 ///
 /// `Error` of kind `Switch` where no body has this type; else what the body refuses.
-#[tactic(auto, using(tls_fields::proofs::OneAnswer::read_allowed), unfolding(crate::specs::DtlsHandshake::whole_body, crate::specs::DtlsHandshake::client_hello_body, crate::specs::DtlsHandshake::server_hello_body, crate::specs::DtlsHandshake::hello_verify_request_body, crate::specs::DtlsHandshake::certificate_body, crate::specs::DtlsHandshake::server_done_body, crate::specs::DtlsHandshake::client_key_exchange_body))]
+#[tactic(auto, using(tls_fields::proofs::OneAnswerLemmas::read_allowed), unfolding(crate::specs::DtlsHandshake::whole_body, crate::specs::DtlsHandshake::client_hello_body, crate::specs::DtlsHandshake::server_hello_body, crate::specs::DtlsHandshake::hello_verify_request_body, crate::specs::DtlsHandshake::certificate_body, crate::specs::DtlsHandshake::server_done_body, crate::specs::DtlsHandshake::client_key_exchange_body))]
+#[inline(always)]
 fn whole_body(
     alloc: Global,
     i: &[u8],
@@ -109,15 +112,13 @@ fn whole_body(
             let content = TlsClientKeyExchangeContents::Unknown(bytes);
             Ok((i, DTLSMessageHandshakeBody::ClientKeyExchange(content)))
         }
-        _ => Err(Err::Error(Error {
-            input: i,
-            code: ErrorKind::Switch,
-        })),
+        _ => refused(i, ErrorKind::Switch),
     }
 }
 
 /// The same, or all of `i` where it is a fragment.
-#[tactic(auto, using(tls_fields::proofs::OneAnswer::read_allowed), unfolding(crate::specs::DtlsHandshake::body))]
+#[tactic(auto, using(tls_fields::proofs::OneAnswerLemmas::read_allowed), unfolding(crate::specs::DtlsHandshake::body))]
+#[inline(always)]
 fn body(
     alloc: Global,
     i: &[u8],
@@ -128,14 +129,14 @@ fn body(
     ensures { GivesOrMemory view_body (body_layout msg_type.0 length is_fragment) i.now result }
 {
     if is_fragment {
-        let (i, bytes) = block(i, i.len())?;
+        let (i, bytes) = rest(i)?;
         return Ok((i, DTLSMessageHandshakeBody::Fragment(bytes)));
     }
     whole_body(alloc, i, msg_type, length)
 }
 
 /// Reads a handshake message, as [`crate::parse_dtls_message_handshake`] does.
-#[tactic(auto, using(tls_fields::proofs::OneAnswer::read_allowed), unfolding(crate::specs::DtlsHandshake::handshake))]
+#[tactic(auto, using(tls_fields::proofs::OneAnswerLemmas::read_allowed), unfolding(crate::specs::DtlsHandshake::handshake))]
 pub(crate) fn handshake(alloc: Global, i: &[u8]) -> IResult<&[u8], DTLSMessageHandshake>
     ensures { GivesOrMemory view_handshake handshake_layout i.now result }
 {

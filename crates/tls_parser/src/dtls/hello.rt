@@ -1,3 +1,6 @@
+//! Hellos of DTLS.
+#![tactic(auto, using(tls_fields::proofs::OneAnswerLemmas::read_allowed), unfolding(crate::specs::DtlsHello::client_hello, crate::specs::DtlsHello::hello_verify_request))]
+
 ghost use Rattle.tls_fields.specs.Answers.{Gives, GivesOrMemory};
 ghost use Rattle.tls_parser.specs.DtlsHello.{view_client_hello, client_hello as client_hello_layout, view_hello_verify_request, hello_verify_request as hello_verify_request_layout};
 
@@ -14,7 +17,7 @@ pub struct DTLSClientHello<'a> {
     pub version: TlsVersion,
     /// 32 bytes.
     pub random: &'a [u8],
-    /// At most 32 bytes, and at least one: none stand for `None`.
+    /// At most 32 bytes, and at least one; `None` where its length is 0.
     pub session_id: Option<&'a [u8]>,
     /// What the server sent in its HelloVerifyRequest; none in a first ClientHello.
     pub cookie: &'a [u8],
@@ -22,7 +25,7 @@ pub struct DTLSClientHello<'a> {
     pub ciphers: Vec<TlsCipherSuiteID>,
     /// The compression methods that the client offers, in its order.
     pub comp: Vec<TlsCompressionID>,
-    /// The extensions, as they stand behind their length; `None` where no whole block follows.
+    /// The extensions, as they stand after their length; `None` where no whole block follows.
     pub ext: Option<&'a [u8]>,
 }
 
@@ -79,15 +82,14 @@ pub struct DTLSHelloVerifyRequest<'a> {
     pub cookie: &'a [u8],
 }
 
-/// Reads the body of a ClientHello of DTLS (RFC 6347, section 4.2.1): as that of TLS, with a cookie behind 1 byte of
-/// length in front of the cipher suites.
+/// Reads the body of a ClientHello of DTLS (RFC 6347, section 4.2.1): as that of TLS, with a cookie after 1 byte of length
+/// in front of the cipher suites.
 ///
-/// - `Incomplete` of the count of missing bytes, where they lack in front of the extensions, but not in a list.
+/// - `Incomplete` of the count of missing bytes, where they are missing in front of the extensions, but not in a list.
 /// - `Error` of kind `Verify` where the session id is longer than 32 bytes.
 /// - `Error` of kind `LengthValue` where the length of the suites is odd, or where that of the suites or of the methods
 ///   is above the bytes that are left.
 /// - `OutOfMemory` where a list could not be held.
-#[tactic(auto, using(tls_fields::proofs::OneAnswer::read_allowed), unfolding(crate::specs::DtlsHello::client_hello))]
 pub(crate) fn client_hello(alloc: Global, i: &[u8]) -> IResult<&[u8], DTLSClientHello>
     ensures { GivesOrMemory view_client_hello client_hello_layout i.now result }
 {
@@ -110,11 +112,10 @@ pub(crate) fn client_hello(alloc: Global, i: &[u8]) -> IResult<&[u8], DTLSClient
     Ok((i, hello))
 }
 
-/// Reads the body of a HelloVerifyRequest (RFC 6347, section 4.2.1): 2 bytes of version, and a cookie behind 1 byte of
+/// Reads the body of a HelloVerifyRequest (RFC 6347, section 4.2.1): 2 bytes of version, and a cookie after 1 byte of
 /// length.
 ///
 /// `Incomplete` of the count of missing bytes.
-#[tactic(auto, using(tls_fields::proofs::OneAnswer::read_allowed), unfolding(crate::specs::DtlsHello::hello_verify_request))]
 pub(crate) fn hello_verify_request(i: &[u8]) -> IResult<&[u8], DTLSHelloVerifyRequest>
     ensures { Gives view_hello_verify_request hello_verify_request_layout i.now result }
 {

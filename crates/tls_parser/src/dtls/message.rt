@@ -1,3 +1,6 @@
+//! Messages of DTLS records.
+#![tactic(auto, using(tls_fields::proofs::OneAnswerLemmas::read_allowed), unfolding(crate::specs::DtlsRecord::handshake, crate::specs::DtlsRecord::change_cipher_spec, crate::specs::DtlsRecord::alert))]
+
 ghost use Rattle.std.specs.Prelude.{◌↔◌, IsTrue};
 ghost use Rattle.tls_fields.specs.Answers.{Gives, GivesOrMemory};
 ghost use Rattle.tls_parser.specs.DtlsRecord.{Message, view_message, change_cipher_spec, alert as alert_layout, handshake as handshake_layout, IsFragment};
@@ -15,13 +18,13 @@ use tls_hs::{TlsMessageApplicationData, TlsMessageHeartbeat, parse_tls_message_c
 pub enum DTLSMessage<'a> {
     /// A handshake message, or a fragment of one (RFC 6347, section 4.2.2).
     Handshake(DTLSMessageHandshake<'a>),
-    /// RFC 5246, section 7.1.
+    /// The sender changes its cipher (RFC 5246, section 7.1).
     ChangeCipherSpec,
-    /// RFC 5246, section 7.2.
+    /// An alert (RFC 5246, section 7.2).
     Alert(TlsMessageAlert),
-    /// RFC 5246, section 10; no call reads it.
+    /// Bytes of the application (RFC 5246, section 10); no call reads it.
     ApplicationData(TlsMessageApplicationData<'a>),
-    /// RFC 6520, section 4; no call reads it.
+    /// A HeartbeatMessage (RFC 6520, section 4); no call reads it.
     Heartbeat(TlsMessageHeartbeat<'a>),
 }
 
@@ -41,13 +44,13 @@ impl<'a> DTLSMessage<'a> {
 /// fragment offset and 3 of fragment length, all big-endian, and a body of as many bytes as the fragment length says. The
 /// body is read within these bytes alone, and what it leaves of them is dropped.
 ///
-/// Where the offset is above 0, or the fragment length below the length, the body is a `Fragment`, of whatever type.
+/// Where the offset is above 0, or the fragment length below the length, the body is a `Fragment`, of whatever type. A
+/// fragment length above the length is no refusal: the body is read as a whole one, within the fragment's bytes.
 ///
 /// - `Incomplete` of the count of missing bytes, where the message isn't whole.
 /// - `Error` of kind `Switch` where the body is whole, and its type is not 1, 2, 3, 11, 14 or 16.
 /// - What the body refuses, `Incomplete` too.
 /// - `OutOfMemory` where a list could not be held.
-#[tactic(auto, using(tls_fields::proofs::OneAnswer::read_allowed), unfolding(crate::specs::DtlsRecord::handshake))]
 pub fn parse_dtls_message_handshake(alloc: Global, i: &[u8]) -> IResult<&[u8], DTLSMessage>
     ensures { GivesOrMemory view_message handshake_layout i.now result }
 {
@@ -58,7 +61,6 @@ pub fn parse_dtls_message_handshake(alloc: Global, i: &[u8]) -> IResult<&[u8], D
 /// Reads a ChangeCipherSpec (RFC 5246, section 7.1): 1 byte, which is 1.
 ///
 /// `Incomplete` of 1 where there is no byte; `Error` of kind `Verify` where it isn't 1.
-#[tactic(auto, using(tls_fields::proofs::OneAnswer::read_allowed), unfolding(crate::specs::DtlsRecord::change_cipher_spec))]
 pub fn parse_dtls_message_changecipherspec(i: &[u8]) -> IResult<&[u8], DTLSMessage>
     ensures { Gives view_message change_cipher_spec i.now result }
 {
@@ -69,7 +71,6 @@ pub fn parse_dtls_message_changecipherspec(i: &[u8]) -> IResult<&[u8], DTLSMessa
 /// Reads an alert (RFC 5246, section 7.2): 1 byte of severity and 1 of description.
 ///
 /// `Incomplete` of 1 where either is missing.
-#[tactic(auto, using(tls_fields::proofs::OneAnswer::read_allowed), unfolding(crate::specs::DtlsRecord::alert))]
 pub fn parse_dtls_message_alert(i: &[u8]) -> IResult<&[u8], DTLSMessage>
     ensures { Gives view_message alert_layout i.now result }
 {

@@ -1,18 +1,19 @@
-ghost use Rattle.std.specs.Prelude.{◌↔◌, map};
+//! Records of DTLS.
+ghost use Rattle.std.specs.Prelude.{◌↔◌, ◌≤◌, length, map};
 ghost use Rattle.std.specs.Result.{IsErr};
 ghost use Rattle.tls_fields.specs.Layout.{list1};
 ghost use Rattle.tls_fields.specs.Meaning.{AllowsOne};
 ghost use Rattle.tls_fields.specs.Reading.{reading};
-ghost use Rattle.tls_fields.specs.Answers.{Gives, GivesOrMemory, HasMemory};
+ghost use Rattle.tls_fields.specs.Answers.{Gives, GivesOrMemory, MemorySufficed};
 ghost use Rattle.tls_parser.specs.DtlsRecord.{Plaintext, view_message, view_header, record_header, view_raw_record, raw_record as raw_record_layout, record_content, view_plaintext, plaintext};
-ghost use Rattle.tls_parser.specs.Record.{AsksNoMore, IsUnopened, NeedsMore, IsIncomplete};
+ghost use Rattle.tls_parser.specs.Framing.{AsksNoMore, HasNoRecord, NeedsMore, IsIncomplete};
 
 use crate::dtls::content::{Alert, ChangeCipherSpec, Handshake};
 use crate::dtls::message::DTLSMessage;
 use crate::record::MAX_RECORD_LEN;
 use std::alloc::Global;
 use tls_base::{TlsRecordType, TlsVersion};
-use tls_fields::{Err, Error, ErrorKind, IResult, Item, block, items1, number2, number8};
+use tls_fields::{ErrorKind, IResult, Item, Room, block, hops2, items1, number2, number8, refused};
 
 /// The header of a DTLS record (RFC 6347, section 4.1), 13 bytes.
 #[derive(Debug, PartialEq, Drop)]
@@ -51,7 +52,7 @@ pub struct DTLSPlaintext<'a> {
 /// the epoch and the others the sequence number, and 2 of length, all big-endian.
 ///
 /// `Incomplete` of the count that is missing of the first of these four that isn't whole.
-#[tactic(auto, using(tls_fields::proofs::OneAnswer::read_allowed, tls_fields::proofs::OneAnswer::one_answer, crate::proofs::Counter::low_bits), unfolding(crate::specs::DtlsRecord::record_header))]
+#[tactic(auto, using(tls_fields::proofs::OneAnswerLemmas::read_allowed, tls_fields::proofs::OneAnswerLemmas::one_answer, crate::proofs::CounterLemmas::low_bits), unfolding(crate::specs::DtlsRecord::record_header))]
 pub fn parse_dtls_record_header(i: &[u8]) -> IResult<&[u8], DTLSRecordHeader>
     ensures gives { Gives view_header record_header i.now result }
     ensures only_one { AllowsOne record_header i.now }
@@ -71,16 +72,13 @@ pub fn parse_dtls_record_header(i: &[u8]) -> IResult<&[u8], DTLSRecordHeader>
 }
 
 /// Reads a DTLS record and leaves its fragment as it stands.
-#[tactic(auto, using(tls_fields::proofs::OneAnswer::read_allowed), unfolding(crate::specs::DtlsRecord::raw_record))]
+#[tactic(auto, using(tls_fields::proofs::OneAnswerLemmas::read_allowed), unfolding(crate::specs::DtlsRecord::raw_record))]
 fn raw_record(i: &[u8]) -> IResult<&[u8], DTLSRawRecord>
     ensures { Gives view_raw_record raw_record_layout i.now result }
 {
     let (i, header) = parse_dtls_record_header(i)?;
     if header.length > MAX_RECORD_LEN {
-        return Err(Err::Error(Error {
-            input: i,
-            code: ErrorKind::TooLarge,
-        }));
+        return refused(i, ErrorKind::TooLarge);
     }
     let (i, fragment) = block(i, header.length as usize)?;
     Ok((i, DTLSRawRecord { header, fragment }))
@@ -94,7 +92,7 @@ fn raw_record(i: &[u8]) -> IResult<&[u8], DTLSRawRecord>
 /// - `Error` of kind `Switch` where the type is another.
 /// - What the first message refuses, but `Error` of kind `Complete` in place of `Incomplete`: the fragment is whole.
 /// - `OutOfMemory` where a list could not be held.
-#[tactic(auto, using(tls_fields::proofs::OneAnswer::read_allowed, crate::proofs::NoMore::list_asks), unfolding(crate::specs::DtlsRecord::record_content))]
+#[tactic(auto, using(tls_fields::proofs::OneAnswerLemmas::read_allowed, crate::proofs::NoMoreLemmas::list_asks), unfolding(crate::specs::DtlsRecord::record_content))]
 pub fn parse_dtls_record_with_header<'a>(
     alloc: Global,
     i: &'a [u8],
@@ -107,19 +105,16 @@ pub fn parse_dtls_record_with_header<'a>(
         TlsRecordType::ChangeCipherSpec => items1::<ChangeCipherSpec>(alloc, i),
         TlsRecordType::Alert => items1::<Alert>(alloc, i),
         TlsRecordType::Handshake => items1::<Handshake>(alloc, i),
-        _ => Err(Err::Error(Error {
-            input: i,
-            code: ErrorKind::Switch,
-        })),
+        _ => refused(i, ErrorKind::Switch),
     }
 }
 
-/// A raw record, and its fragment by its header.
-#[tactic(auto, using(tls_fields::proofs::OneAnswer::read_allowed, crate::proofs::Opened::dtls_plaintext_opened))]
+/// A raw record, and then its fragment by its header.
+#[tactic(auto, using(tls_fields::proofs::OneAnswerLemmas::read_allowed, crate::proofs::ContentLemmas::dtls_plaintext_is_raw_then_content))]
 #[inline(always)]
-fn opened_record(alloc: Global, i: &[u8]) -> IResult<&[u8], DTLSPlaintext>
+fn record_with_messages(alloc: Global, i: &[u8]) -> IResult<&[u8], DTLSPlaintext>
     ensures gives { GivesOrMemory view_plaintext plaintext i.now result }
-    ensures memory_if_raw { IsErr (reading raw_record_layout i.now) → HasMemory result }
+    ensures never_out_of_memory_without_raw_record { IsErr (reading raw_record_layout i.now) → MemorySufficed result }
 {
     let (i, DTLSRawRecord { header, fragment }) = raw_record(i)?;
     let (_, messages) = parse_dtls_record_with_header(alloc, fragment, &header)?;
@@ -131,17 +126,26 @@ fn opened_record(alloc: Global, i: &[u8]) -> IResult<&[u8], DTLSPlaintext>
 /// is dropped.
 ///
 /// - What [`parse_dtls_record_header`] refuses.
-/// - `Error` of kind `TooLarge` where the length is above [`MAX_RECORD_LEN`], even if the fragment isn't there yet.
+/// - `Error` of kind `TooLarge` where the length is above [`MAX_RECORD_LEN`], in a record of any version, even if the fragment
+///   isn't there yet.
 /// - `Incomplete` of the count of bytes that are missing of the fragment.
 /// - `OutOfMemory` only where the record is whole and not too large.
-#[tactic(auto, using(tls_fields::proofs::OneAnswer::one_answer, crate::proofs::Incomplete::dtls_plaintext_memory, crate::proofs::Incomplete::dtls_plaintext_incomplete))]
+#[tactic(auto, using(tls_fields::proofs::OneAnswerLemmas::one_answer, crate::proofs::IncompleteLemmas::dtls_plaintext_memory, crate::proofs::IncompleteLemmas::dtls_plaintext_incomplete))]
 pub fn parse_dtls_plaintext_record(alloc: Global, i: &[u8]) -> IResult<&[u8], DTLSPlaintext>
     ensures gives { GivesOrMemory view_plaintext plaintext i.now result }
     ensures only_one { AllowsOne plaintext i.now }
-    ensures memory_if_whole { IsUnopened 13 i.now → HasMemory result }
-    ensures incomplete_while_not_whole { IsIncomplete result ↔ NeedsMore 13 i.now }
+    ensures never_out_of_memory_without_record { HasNoRecord 13 i.now → MemorySufficed result }
+    ensures incomplete_while_more_is_needed { IsIncomplete result ↔ NeedsMore 13 i.now }
 {
-    opened_record(alloc, i)
+    record_with_messages(alloc, i)
+}
+
+impl<'a> Room for DTLSPlaintext<'a> {
+    fn room(i: &[u8]) -> usize
+        ensures { result ≤ length i.now }
+    {
+        hops2(i, 11)
+    }
 }
 
 impl<'a> Item<'a> for DTLSPlaintext<'a> {

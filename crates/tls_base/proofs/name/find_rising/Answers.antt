@@ -1,5 +1,5 @@
 use Rattle.std.proofs.Common.{◌∙◌, sym}
-use Rattle.tls_base.proofs.Rising.{found_beside, found_nowhere, got}
+use Rattle.tls_base.proofs.RisingLemmas.{found_beside, found_nowhere, got}
 use Rattle.tls_base.proofs.name.find_rising.Goals as goal
 
 pub returns-in-Some : goal.returns-in-Some

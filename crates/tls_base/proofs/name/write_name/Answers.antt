@@ -1,4 +1,4 @@
-use Rattle.tls_base.proofs.Names.{name_shown}
+use Rattle.tls_base.proofs.NameLemmas.{name_shown}
 use Rattle.tls_base.proofs.name.write_name.Goals as goal
 
 pub returns : goal.returns

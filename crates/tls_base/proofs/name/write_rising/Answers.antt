@@ -1,5 +1,5 @@
 use Rattle.std.specs.List.{zip}
-use Rattle.tls_base.proofs.Names.{name_shown}
+use Rattle.tls_base.proofs.NameLemmas.{name_shown}
 use Rattle.tls_base.proofs.name.write_rising.Goals as goal
 
 pub returns : goal.returns

@@ -1,5 +1,5 @@
 use Rattle.tls_base.specs.Timestamp.{view_log_id}
-use Rattle.tls_base.proofs.Fronts.{front_read}
+use Rattle.tls_base.proofs.FrontLemmas.{front_read}
 use Rattle.tls_base.proofs.timestamp.log_id.Goals as goal
 
 pub returns-in-Some : goal.returns-in-Some

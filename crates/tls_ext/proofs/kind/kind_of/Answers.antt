@@ -1,5 +1,6 @@
-use Rattle.std.proofs.Common.{◌<◌, Some, None, refl, sym, ◌∙◌, arith}
-use Rattle.tls_ext.proofs.Table.{kind_lacks, place_within, kind_read, kind_unread}
+use Rattle.std.proofs.Common.{◌<◌, length, Some, None, refl, sym, ◌∙◌, arith}
+use Rattle.tls_ext.proofs.TableLemmas.{kind_lacks, place_within, kind_read, kind_unread}
+use Rattle.tls_ext.specs.declared.kind.TheConstants.{NUMBERS}
 use Rattle.tls_ext.proofs.kind.kind_of.Goals as goal
 
 pub returns-in_err-at : goal.returns-in_err-at
@@ -7,7 +8,7 @@ returns-in_err-at c = rw c.from_residual.ensures (kind_lacks c.args.side c.args.
 
 pub offset_bounds-at : goal.offset_bounds-at
 offset_bounds-at c =
-    let within : c.in_ok-at.at < 26 = place_within c.args.side c.args.n (Some c.in_ok-at.at) c.in_ok-at.ensures c.in_ok-at.at refl in
+    let within : c.in_ok-at.at < length NUMBERS = place_within c.args.side c.args.n (Some c.in_ok-at.at) c.in_ok-at.ensures c.in_ok-at.at refl in
     omega arith
 
 pub bounds-kind-at : goal.bounds-kind-at

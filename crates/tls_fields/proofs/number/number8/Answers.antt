@@ -2,8 +2,8 @@ use Rattle.std.proofs.Common.{◌≡◌, Ok, sym, ◌∙◌, rules, arith}
 use Rattle.tls_fields.specs.Bytes.{number_of}
 use Rattle.tls_fields.specs.Layout.{number}
 use Rattle.tls_fields.specs.Reading.{reading}
-use Rattle.tls_fields.proofs.Numbers.{number_of_8}
-use Rattle.tls_fields.proofs.OneAnswer.{number_read, read_allowed}
+use Rattle.tls_fields.proofs.NumberLemmas.{number_of_8}
+use Rattle.tls_fields.proofs.OneAnswerLemmas.{number_read, read_allowed}
 use Rattle.tls_fields.proofs.number.number8.Goals as goal
 
 pub returns : goal.returns

@@ -1,4 +1,4 @@
-use Rattle.tls_fields.proofs.Tables.{place_found}
+use Rattle.tls_fields.proofs.TableLemmas.{place_found}
 use Rattle.tls_fields.proofs.table.place.Goals as goal
 
 pub returns : goal.returns

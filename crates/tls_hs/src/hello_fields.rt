@@ -1,0 +1,102 @@
+//! Fields of hellos (RFC 5246, section 7.4.1), each read alone, and what is told of them.
+ghost use Rattle.std.specs.Prelude.{◌≡◌, map, IfOk};
+ghost use Rattle.std.specs.Option.{option_map};
+ghost use Rattle.tls_fields.specs.Answers.{Gives, GivesOrMemory};
+ghost use Rattle.tls_base.specs.CipherTable.{suite_of_id};
+ghost use Rattle.tls_hs.specs.Hello.{session_id as session_id_layout, cipher_suites as cipher_suites_layout, compression_methods, random_time as time_of, random_bytes as bytes_of};
+
+use std::alloc::Global;
+use tls_base::{CipherTable, TlsCipherSuite, TlsCipherSuiteID, TlsCompressionID};
+use tls_fields::{ErrorKind, IResult, OutOfMemory, block, items_times, number1, number2, refused};
+
+/// Reads a session id (RFC 5246, section 7.4.1.2): 1 byte of length, at most 32, and so many bytes; one of no bytes is `None`.
+///
+/// `Error` of kind `Verify` where the length is above 32; else `Incomplete` of the count of missing bytes.
+#[tactic(auto, using(tls_fields::proofs::OneAnswerLemmas::read_allowed), unfolding(crate::specs::Hello::session_id))]
+pub fn session_id(i: &[u8]) -> IResult<&[u8], Option<&[u8]>>
+    ensures { Gives (λ v. option_map (λ x. x.now) v) session_id_layout i.now result }
+{
+    let (rest, n) = number1(i)?;
+    if n > 32 {
+        return refused(i, ErrorKind::Verify);
+    }
+    let (rest, id) = block(rest, n as usize)?;
+    if n == 0 {
+        Ok((rest, None))
+    } else {
+        Ok((rest, Some(id)))
+    }
+}
+
+/// Reads cipher suites (RFC 5246, section 7.4.1.2): 2 bytes of length, and so many bytes, 2 for each suite, big-endian.
+///
+/// - `Incomplete` of the count of missing bytes, where the length isn't whole.
+/// - `Error` of kind `LengthValue` where the length is odd, or above the bytes that are left.
+/// - `OutOfMemory` where memory for the list runs out.
+#[tactic(auto, using(tls_fields::proofs::OneAnswerLemmas::read_allowed), unfolding(crate::specs::Hello::cipher_suites))]
+#[inline(always)]
+pub fn cipher_suites(alloc: Global, i: &[u8]) -> IResult<&[u8], Vec<TlsCipherSuiteID>>
+    ensures { GivesOrMemory (λ v. map (λ x. x.0) v.items) cipher_suites_layout i.now result }
+{
+    let (rest, k) = number2(i)?;
+    let k = k as usize;
+    if k % 2 != 0 || k > rest.len() {
+        return refused(i, ErrorKind::LengthValue);
+    }
+    items_times::<TlsCipherSuiteID>(alloc, rest, k / 2)
+}
+
+/// Reads compression methods (RFC 5246, section 7.4.1.2): 1 byte of length, and so many bytes, 1 for each method.
+///
+/// - `Incomplete` of 1 where there is no length.
+/// - `Error` of kind `LengthValue` where the length is above the bytes that are left.
+/// - `OutOfMemory` where memory for the list runs out.
+#[tactic(auto, using(tls_fields::proofs::OneAnswerLemmas::read_allowed), unfolding(crate::specs::Hello::compression_methods))]
+#[inline(always)]
+pub fn compressions(alloc: Global, i: &[u8]) -> IResult<&[u8], Vec<TlsCompressionID>>
+    ensures { GivesOrMemory (λ v. map (λ x. x.0) v.items) compression_methods i.now result }
+{
+    let (rest, k) = number1(i)?;
+    let k = k as usize;
+    if k > rest.len() {
+        return refused(i, ErrorKind::LengthValue);
+    }
+    items_times::<TlsCompressionID>(alloc, rest, k)
+}
+
+/// The suite that `table` has for each of `ciphers`, in their order; `None` where it has none.
+///
+/// `OutOfMemory` where memory for the list runs out.
+pub fn suites<'t>(
+    alloc: Global,
+    table: &'t CipherTable,
+    ciphers: &[TlsCipherSuiteID],
+) -> Result<Vec<Option<&'t TlsCipherSuite>>, OutOfMemory>
+    ensures { IfOk result (λ v. map (option_map (λ s. s.now)) v.items ≡ map (suite_of_id table.now) (map (λ c. c.0) ciphers.now)) }
+{
+    let mut suites = Vec::with_capacity(alloc, ciphers.len())?;
+    for cipher in ciphers {
+        suites.push_reserved(table.by_id(cipher.0));
+    }
+    Ok(suites)
+}
+
+/// The first 4 bytes of a ClientHello's random as a number, big-endian; 0 where there are fewer.
+pub fn random_time(random: &[u8]) -> u32
+    ensures { result ≡ time_of random.now }
+{
+    match random {
+        [a, b, c, d, ..] => u32::from_be_bytes([*a, *b, *c, *d]),
+        _ => 0,
+    }
+}
+
+/// What follows the first 4 bytes of a ClientHello's random; empty where there are fewer.
+pub fn random_bytes(random: &[u8]) -> &[u8]
+    ensures { result.now ≡ bytes_of random.now }
+{
+    match random {
+        [_, _, _, _, bytes @ ..] => bytes,
+        _ => &[],
+    }
+}

@@ -1,0 +1,5 @@
+pub mod LetterLemmas
+pub mod PatternLemmas
+pub mod FollowLemmas
+pub mod ConversationLemmas
+pub mod RowLemmas

@@ -1,0 +1,80 @@
+-- The grammar of handshakes, by the message flows of RFC 5246, section 7.3. A conversation is followed up to the
+-- server's ChangeCipherSpec, behind which all is encrypted.
+use Rattle.std.specs.Prelude.{[], ◌∷◌, Bool, true, false, not, if◌then◌else◌, filter}
+use Rattle.tls_states.specs.Letters.{Letter, letter, Word}
+use Rattle.tls_states.specs.Words.{Words, client, server, ◌then◌, ◌or◌, any, maybe, many}
+use Rattle.tls_states.specs.declared.letter.Kind.TheVariants.{HelloRequest, ClientHello, ClientHelloWithId, ServerHello, ServerHelloV13Draft18, NewSessionTicket, Certificate, ServerKeyExchange, CertificateRequest, ServerDone, CertificateVerify, ClientKeyExchange, CertificateStatus, ChangeCipherSpec, Warning}
+
+-- The end of the server's hello, and the client's answer without a certificate.
+abbrev pub without_client_certificate : Words
+without_client_certificate = server ServerDone then client ClientKeyExchange then any ChangeCipherSpec
+
+-- The same where the server asks for a certificate: the client sends one, and may prove that it owns it.
+abbrev pub with_client_certificate : Words
+with_client_certificate =
+    server CertificateRequest then server ServerDone
+    then client Certificate then client ClientKeyExchange then maybe (any CertificateVerify) then any ChangeCipherSpec
+
+-- The server's key exchange, before it perhaps the state of its certificate (RFC 6066, section 8).
+abbrev pub key_exchange : Words
+key_exchange = maybe (server CertificateStatus) then server ServerKeyExchange
+
+-- What follows the server's certificate.
+abbrev pub after_certificate : Words
+after_certificate =
+    maybe key_exchange then with_client_certificate
+    or key_exchange then without_client_certificate
+    or without_client_certificate
+
+-- What follows the ServerHello of a new session: a certificate, or keys alone.
+abbrev pub new_session : Words
+new_session = server Certificate then after_certificate or server ServerKeyExchange then without_client_certificate
+
+-- The first figure of section 7.3, where the client names no session.
+abbrev pub full_handshake : Words
+full_handshake = client ClientHello then server ServerHello then new_session
+
+-- The second figure, where the client names a session: it may change its cipher at once, and the session is resumed, or
+-- the server goes on with its certificate as for a new one.
+abbrev pub resumed : Words
+resumed = any ChangeCipherSpec
+
+abbrev pub not_resumed : Words
+not_resumed = server Certificate then after_certificate
+
+abbrev pub resumption : Words
+resumption =
+    client ClientHelloWithId then many (client ChangeCipherSpec) then server ServerHello then (resumed or not_resumed)
+
+-- Draft 18 of TLS 1.3, section 2, up to the first encrypted message.
+abbrev pub draft_18 : Words
+draft_18 = client ClientHello then server ServerHelloV13Draft18
+
+-- The tickets that the server hands out (RFC 5077, section 3.1), and its ChangeCipherSpec.
+abbrev pub servers_change : Words
+servers_change = many (server NewSessionTicket) then server ChangeCipherSpec
+
+abbrev pub handshake : Words
+handshake = (full_handshake or resumption or draft_18) then servers_change
+
+-- Noise: alerts of severity 1, and HelloRequests behind the first ClientHello (section 7.4.1.1).
+abbrev pub is_warning : Letter → Bool
+is_warning (letter Warning d) = true
+is_warning _ = false
+
+abbrev pub is_hello_request : Letter → Bool
+is_hello_request (letter HelloRequest d) = true
+is_hello_request _ = false
+
+abbrev pub is_client_hello : Letter → Bool
+is_client_hello (letter ClientHello d) = true
+is_client_hello (letter ClientHelloWithId d) = true
+is_client_hello _ = false
+
+abbrev pub without_later_requests : Word → Word
+without_later_requests [] = []
+without_later_requests (l ∷ w) = l ∷ (if is_client_hello l then filter (λ x. not (is_hello_request x)) w else without_later_requests w)
+
+-- A conversation without its noise.
+abbrev pub clean : Word → Word
+clean w = without_later_requests (filter (λ x. not (is_warning x)) w)

@@ -1,0 +1,3 @@
+pub mod FrontLemmas
+pub mod RecordLemmas
+pub mod PieceLemmas

@@ -1,0 +1,3 @@
+pub mod MissingLemmas
+pub mod AlertLemmas
+pub mod MappedLemmas

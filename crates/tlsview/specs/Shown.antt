@@ -1,0 +1,33 @@
+-- What was printed and followed by a step of the run.
+use Rattle.std.specs.Prelude.{◌≡◌, ◌++◌, ◌||◌, ℕ, Bool, List, Option, Some, None, Result, Ok, Err}
+use Rattle.tls_fields.specs.Meaning.{Answer, Refusal, Broken, Lacks}
+use Rattle.tls_parser.specs.Record.{RawRecord}
+use Rattle.tls_states.specs.declared.state.TlsState.{TlsState}
+use Rattle.tlsview.specs.Fault.{Fault, Refused, view_fault}
+use Rattle.tlsview.specs.Out.{Content, Half, content_of, content_text, state_behind, cipher_behind}
+use Rattle.tlsview.specs.declared.conversation.Conversation.{Conversation}
+use Rattle.tlsview.specs.declared.direction.Direction.{Direction}
+use Rattle.tlsview.specs.declared.records.Next as rust
+use Rattle.tlsview.specs.declared.records.Next.TheVariants as next
+
+-- what is known behind a part, unless a fault ended it
+abbrev pub or_fault : Option Fault → Half → Result Half Fault
+or_fault None h = Ok h
+or_fault (Some fault) h = Err fault
+
+abbrev pub or_end : Option Fault → Conversation → Result Conversation Fault
+or_end None c = Ok c
+or_end (Some fault) c = Err fault
+
+-- a record's content was printed and followed, and it is known whether the next one is encrypted; or its refusal is the fault
+abbrev pub IsShown : Direction → List ℕ → TlsState → List ℕ → TlsState → Bool → Result Content Refusal → rust.Next → Type 0
+IsShown d text state text' state' enc (Ok c) (next.Record enc') = (text' ≡ text ++ content_text d c) × (state' ≡ state_behind d state c) × (enc' ≡ (enc || cipher_behind c))
+IsShown d text state text' state' enc (Err e) (next.Fault fault) = (text' ≡ text) × (state' ≡ state) × (view_fault fault ≡ Refused e)
+IsShown d text state text' state' enc c n = ⊥
+
+-- so was the record that stands next; where bytes of it are missing nothing was done
+abbrev pub IsNext : Direction → List ℕ → TlsState → List ℕ → TlsState → Bool → Answer RawRecord → rust.Next → Type 0
+IsNext d text state text' state' enc (Ok x) n = IsShown d text state text' state' enc (content_of enc x.0) n
+IsNext d text state text' state' enc (Err (Lacks missing)) next.Nothing = (text' ≡ text) × (state' ≡ state)
+IsNext d text state text' state' enc (Err (Broken kind)) (next.Fault fault) = (text' ≡ text) × (state' ≡ state) × (view_fault fault ≡ Refused (Broken kind))
+IsNext d text state text' state' enc a n = ⊥

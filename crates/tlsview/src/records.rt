@@ -1,0 +1,166 @@
+//! The records of one direction, as text.
+ghost use Rattle.std.specs.Prelude.{◌≡◌, ◌++◌, Ok, flat_map, map, option_map, IfOk, OnOk};
+ghost use Rattle.std.specs.List.{list_any};
+ghost use Rattle.std.specs.String.{string_bytes};
+ghost use Rattle.tls_fields.specs.Reading.{reading};
+ghost use Rattle.tls_hs.specs.Message.{view_message};
+ghost use Rattle.tls_parser.specs.Record.{view_raw_record, raw_record};
+ghost use Rattle.tls_states.specs.Letters as letters;
+ghost use Rattle.tls_states.specs.Steps.{run};
+ghost use Rattle.tlsview.specs.Fault.{view_fault};
+ghost use Rattle.tlsview.specs.Shown.{IsShown, IsNext, or_fault};
+ghost use Rattle.tlsview.specs.Out.{content_of, message_line, fed, half, half_part};
+ghost use Rattle.tlsview.specs.Transition.{changes_cipher};
+
+use crate::conversation::Side;
+use crate::direction::Direction;
+use crate::fault::Fault;
+use crate::names::message_name;
+use std::alloc::{AllocError, Global};
+use tls_parser::{Err, ErrorKind, TlsMessage, TlsRawRecord, parse_tls_record_with_header};
+use tls_states::ParseContext;
+use tls_stream::FeedError;
+
+/// What stands next of one direction.
+pub enum Next {
+    /// A record, which is printed, and whether the direction's next records are encrypted.
+    Record(bool),
+    /// No whole record yet.
+    Nothing,
+    /// A fault, which ends the run.
+    Fault(Fault),
+}
+
+/// Prints a line for each message.
+fn show_messages(
+    text: &mut String,
+    direction: Direction,
+    messages: &[TlsMessage],
+) -> Result<(), AllocError>
+    ensures { OnOk result (string_bytes text.new
+        ≡ string_bytes text.old ++ flat_map (message_line direction) (map view_message messages.now)) }
+{
+    for message in messages {
+        let name = message_name(message);
+        writeln!(text, "{direction} {name}")?;
+    }
+    Ok(())
+}
+
+/// Follows each message in turn.
+fn follow_messages(context: &mut ParseContext, to_server: bool, messages: &[TlsMessage])
+    ensures { context.new ≡ run context.old (map (λ m. letters.letter_of m to_server) messages.now) }
+{
+    for i in 0..messages.len() {
+        let _ = context.update(&messages[i], to_server);
+    }
+}
+
+/// Whether a message is one behind which the records are encrypted.
+fn is_change_cipher_spec(message: &TlsMessage) -> bool
+    ensures { result ≡ changes_cipher (view_message message.now) }
+{
+    match message {
+        TlsMessage::ChangeCipherSpec => true,
+        _ => false,
+    }
+}
+
+/// Whether one of the messages is such.
+fn change_cipher(messages: &[TlsMessage]) -> bool
+    ensures { result ≡ list_any (λ m. changes_cipher (view_message m)) messages.now }
+{
+    messages
+        .iter()
+        .any(|message| is_change_cipher_spec(message))
+}
+
+/// Prints a record: its messages, which are followed, or that it is encrypted.
+fn show_record(
+    alloc: Global,
+    text: &mut String,
+    direction: Direction,
+    is_encrypted: bool,
+    context: &mut ParseContext,
+    raw: &TlsRawRecord,
+) -> Result<Next, AllocError>
+    ensures { IfOk result (IsShown direction (string_bytes text.old) context.old (string_bytes text.new) context.new
+        is_encrypted (content_of is_encrypted (view_raw_record raw.now))) }
+{
+    if is_encrypted {
+        writeln!(text, "{direction} Encrypted")?;
+        return Ok(Next::Record(true));
+    }
+    match parse_tls_record_with_header(alloc, raw.bytes, &raw.hdr) {
+        Ok((_, messages)) => {
+            show_messages(text, direction, messages.as_slice())?;
+            follow_messages(context, direction.goes_to_server(), messages.as_slice());
+            let is_encrypted = change_cipher(messages.as_slice());
+            Ok(Next::Record(is_encrypted))
+        }
+        Err(refusal) => Ok(Next::Fault(Fault::of_refusal(refusal)?)),
+    }
+}
+
+/// Prints the record that stands next, where one is whole.
+fn show_next(
+    alloc: Global,
+    text: &mut String,
+    direction: Direction,
+    side: &Side,
+    context: &mut ParseContext,
+) -> Result<Next, AllocError>
+    ensures { IfOk result (IsNext direction (string_bytes text.old) context.old (string_bytes text.new) context.new
+        side.now.is_encrypted (reading raw_record side.now.stream)) }
+{
+    match side.stream.front() {
+        Ok((_, raw)) => show_record(alloc, text, direction, side.is_encrypted, context, &raw),
+        Err(Err::Incomplete(_)) => Ok(Next::Nothing),
+        Err(Err::Error(error)) => Ok(Next::Fault(Fault::Error(error.code))),
+        Err(Err::Failure(_) | Err::OutOfMemory) => unreachable!(),
+    }
+}
+
+/// Prints each record as long as one is whole, and answers the fault that ends them.
+fn show_records(
+    alloc: Global,
+    text: &mut String,
+    direction: Direction,
+    side: &mut Side,
+    context: &mut ParseContext,
+) -> Result<Option<Fault>, AllocError>
+    ensures { IfOk result (λ fault. (string_bytes text.new ≡ string_bytes text.old ++ (half_part direction (half side.old context.old)).0)
+        × ((half_part direction (half side.old context.old)).1 ≡ or_fault (option_map view_fault fault) (half side.new context.new))) }
+{
+    'records: loop {
+        let next = show_next(alloc, text, direction, side, context)?;
+        match next {
+            Next::Record(is_encrypted) => {
+                side.is_encrypted = is_encrypted;
+                side.stream.take_front();
+            }
+            Next::Nothing => return Ok(None),
+            Next::Fault(fault) => return Ok(Some(fault)),
+        }
+    }
+}
+
+/// Prints the records that stand in what the direction has left and then these bytes, and answers the fault that ends them.
+pub fn show_bytes(
+    alloc: Global,
+    text: &mut String,
+    direction: Direction,
+    side: &mut Side,
+    context: &mut ParseContext,
+    bytes: &[u8],
+) -> Result<Option<Fault>, AllocError>
+    ensures { IfOk result (λ fault.
+        (string_bytes text.new ≡ string_bytes text.old ++ (half_part direction (half (fed side.old bytes.now) context.old)).0)
+        × ((half_part direction (half (fed side.old bytes.now) context.old)).1 ≡ or_fault (option_map view_fault fault) (half side.new context.new))) }
+{
+    match side.stream.feed(bytes) {
+        Ok(()) => show_records(alloc, text, direction, side, context),
+        Err(FeedError::TooLarge) => Ok(Some(Fault::Error(ErrorKind::TooLarge))),
+        Err(FeedError::OutOfMemory) => Err(AllocError),
+    }
+}
