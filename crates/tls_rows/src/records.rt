@@ -19,6 +19,9 @@ static ALERTS: [u8; 9] = [0x15, 3, 3, 0, 4, 1, 0, 2, 0x28];
 /// A record of one alert, and then the beginning of another.
 static RECORDS: [u8; 9] = [0x15, 3, 3, 0, 2, 1, 0, 0x16, 3];
 
+/// A record of one alert, one of a ChangeCipherSpec, and then the beginning of another.
+static TWO_KINDS: [u8; 14] = [0x15, 3, 3, 0, 2, 1, 0, 0x14, 3, 3, 0, 1, 1, 0x16];
+
 /// The header of a record of version 0x0303.
 fn header(record_type: u8, len: u16) -> TlsRecordHeader {
     TlsRecordHeader {
@@ -200,8 +203,7 @@ fn records_one_after_the_other(rt: HostRuntime) -> Result<(), Fail> {
         record(alloc, 21, 2, alert(1, 0))?,
         record(alloc, 20, 1, TlsMessage::ChangeCipherSpec)?,
     ]?;
-    let bytes = [0x15, 3, 3, 0, 2, 1, 0, 0x14, 3, 3, 0, 1, 1, 0x16];
-    reads(&rt, tls_parser_many(alloc, &bytes), records, &[0x16]);
+    reads(&rt, tls_parser_many(alloc, &TWO_KINDS), records, &[0x16]);
     let rows: [(&[u8], Refused); 3] = [
         (&[], Refused::Error(ErrorKind::Complete)),
         (&[0x16, 3], Refused::Error(ErrorKind::Complete)),
