@@ -1,10 +1,9 @@
 //! Writing extensions: their texts, the limits of their lengths, which refusal comes first, and writers that take little
 //! or fail.
-ghost use Rattle.std.specs.Prelude.{Some};
 
+use crate::narrow::{AtCall, Narrow};
 use crate::support::lists;
 use std::alloc::Global;
-use std::io::{self, ErrorKind, Write};
 use std::process::Abort;
 use std::test::Fail;
 use tls_base::{
@@ -14,56 +13,6 @@ use tls_ext::{
     TlsExtension, gen_tls_extension, gen_tls_extensions, parse_tls_extension, parse_tls_extensions,
 };
 use tls_fields::GenError;
-
-/// What a writer does at the call after its last good one.
-#[derive(Clone, Copy, PartialEq)]
-enum AtCall {
-    Fails,
-    TakesNothing,
-}
-
-/// Takes one byte a call, `left` times.
-#[derive(Drop)]
-struct Narrow {
-    held: Vec<u8>,
-    left: usize,
-    then: AtCall,
-    calls_after: u32,
-}
-
-impl Write for Narrow {
-    ghost contents = { λ narrow. Some narrow.held.items };
-
-    fn write(&mut self, buf: &[u8]) -> io::Result<usize> {
-        if self.left == 0 {
-            self.calls_after = self.calls_after.saturating_add(1);
-            return match self.then {
-                AtCall::Fails => Err(ErrorKind::Interrupted.into()),
-                AtCall::TakesNothing => Ok(0),
-            };
-        }
-        self.left -= 1;
-        let Some(first) = buf.first() else {
-            return Ok(0);
-        };
-        self.held.push(*first)?;
-        Ok(1)
-    }
-
-    fn flush(&mut self) -> io::Result<()> {
-        Ok(())
-    }
-}
-
-/// A writer of which no call is good.
-fn closed(alloc: Global, then: AtCall) -> Narrow {
-    Narrow {
-        held: Vec::new(alloc),
-        left: 0,
-        then,
-        calls_after: 0,
-    }
-}
 
 /// An extension of one name of a server.
 fn named(alloc: Global, name: &[u8]) -> Result<TlsExtension, Fail> {
@@ -111,7 +60,7 @@ fn writes_all<'a>(rt: &impl Abort, alloc: Global, extensions: &[TlsExtension<'a>
 
 /// The extension is refused so, and the writer isn't called.
 fn refuses(rt: &impl Abort, alloc: Global, extension: &TlsExtension, refused: GenError) {
-    let mut writer = closed(alloc, AtCall::Fails);
+    let mut writer = Narrow::new(alloc, 0, AtCall::Fails);
     let result = gen_tls_extension(alloc, extension, &mut writer);
     assert_eq!(rt; result, Err(refused));
     assert_eq!(rt; writer.calls_after, 0);
@@ -119,7 +68,7 @@ fn refuses(rt: &impl Abort, alloc: Global, extension: &TlsExtension, refused: Ge
 
 /// The same of a list.
 fn refuses_all(rt: &impl Abort, alloc: Global, extensions: &[TlsExtension], refused: GenError) {
-    let mut writer = closed(alloc, AtCall::Fails);
+    let mut writer = Narrow::new(alloc, 0, AtCall::Fails);
     let result = gen_tls_extensions(alloc, extensions, &mut writer);
     assert_eq!(rt; result, Err(refused));
     assert_eq!(rt; writer.calls_after, 0);
@@ -305,20 +254,18 @@ fn narrow_writers(rt: HostRuntime) -> Result<(), Fail> {
     let google = vec![in alloc; named(alloc, b"www.google.com")?]?;
     for then in [AtCall::Fails, AtCall::TakesNothing] {
         for good in 0..GOOGLE.len() {
-            let mut writer = closed(alloc, then);
-            writer.left = good;
+            let mut writer = Narrow::new(alloc, good, then);
             let result = gen_tls_extensions(alloc, &google, &mut writer);
             assert_eq!(&rt; result, Err(GenError::Io));
             assert_eq!(&rt; writer.calls_after, 1);
         }
-        let mut writer = closed(alloc, then);
-        writer.left = GOOGLE.len();
+        let mut writer = Narrow::new(alloc, GOOGLE.len(), then);
         let result = gen_tls_extensions(alloc, &google, &mut writer);
         assert_eq!(&rt; result, Ok(()));
         assert_eq!(&rt; writer.calls_after, 0);
         assert_eq!(&rt; writer.held.as_slice(), GOOGLE.as_slice());
     }
-    let mut writer = closed(alloc, AtCall::Fails);
+    let mut writer = Narrow::new(alloc, 0, AtCall::Fails);
     let result = gen_tls_extension(alloc, &TlsExtension::MaxFragmentLength(4), &mut writer);
     assert_eq!(&rt; result, Err(GenError::Io));
     writer.left = 5;

@@ -1,9 +1,7 @@
 //! The writer of handshake messages.
-ghost use Rattle.std.specs.Prelude.{Some};
 
+use crate::narrow::{AtCall, Narrow};
 use std::alloc::Global;
-use std::io;
-use std::io::{ErrorKind, Write};
 use std::process::Abort;
 use std::test::Fail;
 use tls_base::{ECPoint, TlsCipherSuiteID, TlsCompressionID, TlsVersion};
@@ -398,54 +396,13 @@ fn body_above_16777215(rt: HostRuntime) -> Result<(), Fail> {
     Ok(())
 }
 
-#[derive(Clone, Copy, PartialEq)]
-enum AtCall {
-    Fails,
-    TakesNothing,
-}
-
-/// Takes one byte a call, until a call that fails or takes nothing.
-#[derive(Drop)]
-struct Narrow {
-    held: Vec<u8>,
-    left: usize,
-    then: AtCall,
-}
-
-impl Write for Narrow {
-    ghost contents = { λ narrow. Some narrow.held.items };
-
-    fn write(&mut self, buf: &[u8]) -> io::Result<usize> {
-        if self.left == 0 {
-            return match self.then {
-                AtCall::Fails => Err(ErrorKind::Interrupted.into()),
-                AtCall::TakesNothing => Ok(0),
-            };
-        }
-        self.left -= 1;
-        let Some(first) = buf.first() else {
-            return Ok(0);
-        };
-        self.held.push(*first)?;
-        Ok(1)
-    }
-
-    fn flush(&mut self) -> io::Result<()> {
-        Err(ErrorKind::Other.into())
-    }
-}
-
 #[test]
 fn writers_that_stop(rt: HostRuntime) -> Result<(), Fail> {
     let alloc = rt.alloc();
     let bytes = TlsMessageHandshake::ClientHello(client_hello(alloc)?).serialize(alloc)?;
     for then in [AtCall::Fails, AtCall::TakesNothing] {
         for left in 0..50 {
-            let mut narrow = Narrow {
-                held: Vec::new(alloc),
-                left,
-                then,
-            };
+            let mut narrow = Narrow::new(alloc, left, then);
             let answered = gen_tls_clienthello(alloc, &client_hello(alloc)?, &mut narrow);
             let expected = if left < 49 { Err(GenError::Io) } else { Ok(()) };
             assert_eq!(rt; answered, expected);

@@ -11,7 +11,11 @@ mod extension_writer;
 #[cfg(test)]
 mod handshake_writer;
 #[cfg(test)]
+mod narrow;
+#[cfg(test)]
 mod parser;
+#[cfg(test)]
+mod record_writer;
 #[cfg(test)]
 mod records;
 #[cfg(test)]
