@@ -1,21 +1,21 @@
 -- What the proofs of callers need of the layouts, so that a caller stands on this crate alone.
-use Rattle.std.proofs.Common.{◌≡◌, ℕ, zero, suc, ◌+◌, ◌/◌, ◌%◌, ◌<◌, ◌≤◌, List, [], ◌∷◌, ◌++◌, length, Option, Some, None, Ok, nat_le, ◌==◌, ◌&&◌, if◌then◌else◌, refl, sym, ◌∙◌, ap, subst, arith}
+use Rattle.std.proofs.Common.{◌≡◌, ℕ, zero, suc, ◌+◌, ◌/◌, ◌≤◌, List, [], ◌∷◌, ◌++◌, length, Option, Some, None, Ok, nat_le, ◌==◌, if◌then◌else◌, refl, sym, ◌∙◌, ap, subst, arith}
 use Rattle.std.proofs.lemmas.List.{length-append}
 use Rattle.std.proofs.lemmas.List.Elements.{All-nil, All-cons}
 use Rattle.std.proofs.lemmas.Bool.{leb-true}
 use Rattle.std.specs.List.{All}
 use Rattle.tls_fields.specs.Bytes.{Bytes, AreBytes, bytes_of}
-use Rattle.tls_fields.specs.Layout.{Layout, number, test, times}
+use Rattle.tls_fields.specs.Layout.{Layout, number, times}
 use Rattle.tls_fields.specs.Meaning.{Answer, Allows, Spells}
 use Rattle.tls_fields.specs.Reading.{reading}
 use Rattle.tls_fields.specs.Text.{counted_text, numbers_text, held}
-use Rattle.tls_fields.specs.declared.result.ErrorKind.TheVariants.{LengthValue, Verify}
+use Rattle.tls_fields.specs.declared.result.ErrorKind.TheVariants.{Verify}
 use Rattle.tls_fields.proofs.NumberLemmas as numbers
 use Rattle.tls_fields.proofs.OneAnswerLemmas as answers
 use Rattle.tls_fields.proofs.TextLemmas.{test_whole}
 use Rattle.tls_hs.specs.Hello.{ClientHello, session_id, cipher_suites, compression_methods, client_hello}
 use Rattle.tls_hs.specs.Handshake as handshakes
-use Rattle.tls_hs.specs.HandshakeText.{client_hello_text, FitsClientHello, normal_id, msg_type_of, body_text, handshake_text}
+use Rattle.tls_hs.specs.HandshakeText.{client_hello_text, normal_id, handshake_text}
 use Rattle.tls_hs.specs.Message.{Message, Handshake, handshake}
 use Rattle.tls_hs.proofs.MsgTypeLemmas.{body_makes}
 use Rattle.tls_parser.specs.Framing.{max_fragment_length}

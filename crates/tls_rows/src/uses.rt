@@ -173,11 +173,14 @@ static HELLO_AND_MORE: [u8; 54] = [
 /// The record that is passed on has these bytes, and this stands behind it.
 fn changes(rt: &impl Abort, answered: IResult<&[u8], Passed>, bytes: &[u8], rest: &[u8]) {
     match answer(answered) {
-        Ok((Passed::Changed(written), left)) => {
-            assert_eq!(rt; written.as_slice(), bytes);
+        Ok((passed, left)) => {
             assert_eq!(rt; left, rest);
+            match passed {
+                Passed::Changed(written) => assert_eq!(rt; written.as_slice(), bytes),
+                _ => assert!(rt; false),
+            }
         }
-        _ => assert!(rt; false),
+        Err(_) => assert!(rt; false),
     }
 }
 
