@@ -1,10 +1,12 @@
-//! Callers of the library: the next record, the missing bytes, the host name, the alerts.
+//! Callers of the library: the next record, the missing bytes, the host name, the alerts, other extensions.
 
-use crate::support::{Refused, lists, reads, refuses};
+use crate::support::{Refused, answer, lists, reads, refuses};
 use std::alloc::Global;
 use std::process::Abort;
-use tls_parser::{ErrorKind, TlsAlertDescription, TlsAlertSeverity, TlsMessageAlert};
-use tls_uses::{Next, missing_bytes, next_record, parse_alerts, parse_host_name};
+use tls_parser::{ErrorKind, IResult, TlsAlertDescription, TlsAlertSeverity, TlsMessageAlert};
+use tls_uses::{
+    Next, Passed, missing_bytes, next_record, parse_alerts, parse_host_name, replace_extensions,
+};
 
 /// A record of one ClientHello, whose only extension is a server_name with the host name `a.b`.
 static HELLO: [u8; 64] = [
@@ -142,4 +144,112 @@ fn alerts(rt: HostRuntime) {
     lists(&rt, parse_alerts(alloc, &HELLO), &[], &[]);
     let complete = Refused::Error(ErrorKind::Complete);
     refuses(&rt, parse_alerts(alloc, &[]), complete);
+}
+
+/// The record of [`HELLO`] with extended_master_secret as its only extension.
+static OTHER_EXTENSIONS: [u8; 56] = [
+    0x16, 3, 1, 0, 0x33, 1, 0, 0, 0x2f, 3, 3, 0, 0, 0, 0, 0, 0, 0, 0, 0, 0, 0, 0, 0, 0, 0, 0, 0, 0,
+    0, 0, 0, 0, 0, 0, 0, 0, 0, 0, 0, 0, 0, 0, 0, 0, 2, 0x13, 1, 1, 0, 0, 4, 0, 0x17, 0, 0,
+];
+
+/// A record of one ClientHello, which has a session id of 1 byte, and no extensions.
+static WITHOUT_EXTENSIONS: [u8; 51] = [
+    0x16, 3, 0, 0, 0x2e, 1, 0, 0, 0x2a, 3, 0, 0, 0, 0, 0, 0, 0, 0, 0, 0, 0, 0, 0, 0, 0, 0, 0, 0, 0,
+    0, 0, 0, 0, 0, 0, 0, 0, 0, 0, 0, 0, 0, 0, 1, 0xaa, 0, 2, 0, 5, 1, 0,
+];
+
+/// The same with extended_master_secret.
+static WITH_EXTENSIONS: [u8; 57] = [
+    0x16, 3, 0, 0, 0x34, 1, 0, 0, 0x30, 3, 0, 0, 0, 0, 0, 0, 0, 0, 0, 0, 0, 0, 0, 0, 0, 0, 0, 0, 0,
+    0, 0, 0, 0, 0, 0, 0, 0, 0, 0, 0, 0, 0, 0, 1, 0xaa, 0, 2, 0, 5, 1, 0, 0, 4, 0, 0x17, 0, 0,
+];
+
+/// The record of [`WITHOUT_EXTENSIONS`], whose fragment has 3 bytes of another message after the ClientHello.
+static HELLO_AND_MORE: [u8; 54] = [
+    0x16, 3, 0, 0, 0x31, 1, 0, 0, 0x2a, 3, 0, 0, 0, 0, 0, 0, 0, 0, 0, 0, 0, 0, 0, 0, 0, 0, 0, 0, 0,
+    0, 0, 0, 0, 0, 0, 0, 0, 0, 0, 0, 0, 0, 0, 1, 0xaa, 0, 2, 0, 5, 1, 0, 1, 0, 0,
+];
+
+/// The record that is passed on has these bytes, and this stands behind it.
+fn changes(rt: &impl Abort, answered: IResult<&[u8], Passed>, bytes: &[u8], rest: &[u8]) {
+    match answer(answered) {
+        Ok((passed, left)) => {
+            assert_eq!(rt; left, rest);
+            match passed {
+                Passed::Changed(written) => assert_eq!(rt; written.as_slice(), bytes),
+                _ => assert!(rt; false),
+            }
+        }
+        Err(_) => assert!(rt; false),
+    }
+}
+
+#[test]
+fn extensions_replaced(rt: HostRuntime) {
+    let alloc = rt.alloc();
+    let ext: &[u8] = &[0, 0x17, 0, 0];
+    changes(
+        &rt,
+        replace_extensions(alloc, &HELLO, ext),
+        &OTHER_EXTENSIONS,
+        &[],
+    );
+    changes(
+        &rt,
+        replace_extensions(alloc, &WITHOUT_EXTENSIONS, ext),
+        &WITH_EXTENSIONS,
+        &[],
+    );
+    let same: &[u8] = &HELLO[52..];
+    changes(&rt, replace_extensions(alloc, &HELLO, same), &HELLO, &[]);
+}
+
+#[test]
+fn records_as_they_came(rt: HostRuntime) {
+    let alloc = rt.alloc();
+    let rows: [(&[u8], &[u8]); 4] = [
+        (&[0x14, 3, 3, 0, 1, 1, 9], &[9]),
+        (&[0x99, 3, 3, 0, 1, 0], &[]),
+        (&[0x16, 3, 3, 0, 4, 0, 0, 0, 0, 7], &[7]),
+        (&HELLO_AND_MORE, &[]),
+    ];
+    for (i, rest) in rows {
+        reads(
+            &rt,
+            replace_extensions(alloc, i, &[]),
+            Passed::AsItCame,
+            rest,
+        );
+    }
+    let complete = Refused::Error(ErrorKind::Complete);
+    refuses(
+        &rt,
+        replace_extensions(alloc, &HELLO[..63], &[]),
+        Refused::Incomplete(1),
+    );
+    refuses(
+        &rt,
+        replace_extensions(alloc, &[0x16, 3, 3, 0, 4, 1, 0, 0, 1], &[]),
+        complete,
+    );
+}
+
+/// With 47 bytes of other fields a ClientHello of 16,593 bytes of extensions just fits a record.
+#[test]
+fn extensions_too_long(rt: HostRuntime) {
+    let alloc = rt.alloc();
+    let zeros: [u8; 65536] = [0; 65536];
+    match answer(replace_extensions(alloc, &HELLO, &zeros[..16593])) {
+        Ok((Passed::Changed(written), _)) => assert_eq!(rt; written.len(), 16645),
+        _ => assert!(rt; false),
+    }
+    for n in [16594, 65535, 65536] {
+        let ext = zeros.get(..n).unwrap_or_default();
+        reads(
+            &rt,
+            replace_extensions(alloc, &HELLO, ext),
+            Passed::TooLong,
+            &[],
+        );
+    }
 }

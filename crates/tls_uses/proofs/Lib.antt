@@ -1,3 +1,4 @@
 pub mod MissingLemmas
 pub mod AlertLemmas
 pub mod MappedLemmas
+pub mod ProxyLemmas

@@ -1,3 +1,4 @@
 pub mod Next
 pub mod HostName
 pub mod Alerts
+pub mod Proxy
