@@ -1,0 +1,196 @@
+//! What is measured: for each case a call on our side and one on Rust's, made so many times on the same bytes.
+
+use crate::{inputs, ours, rust};
+use std::hint::black_box;
+
+/// Makes a call so many times; the number of its answers.
+type Calls = Box<dyn Fn(usize) -> u64>;
+
+pub struct Case {
+    pub group: &'static str,
+    pub name: String,
+    pub ours: Calls,
+    pub rust: Calls,
+}
+
+type Repeated = extern "C" fn(*const u8, usize, usize) -> u64;
+type Sided = extern "C" fn(*const u8, usize, *const u8, usize, usize) -> u64;
+
+fn repeated(call: Repeated, bytes: &'static [u8]) -> Calls {
+    Box::new(move |times| black_box(call)(bytes.as_ptr(), bytes.len(), times))
+}
+
+fn sided(call: Sided, bytes: &'static [u8], sides: &'static [u8]) -> Calls {
+    Box::new(move |times| {
+        black_box(call)(bytes.as_ptr(), bytes.len(), sides.as_ptr(), sides.len(), times)
+    })
+}
+
+fn leak(bytes: Vec<u8>) -> &'static [u8] {
+    Vec::leak(bytes)
+}
+
+/// The list of cases, as it grows.
+struct Cases(Vec<Case>);
+
+impl Cases {
+    fn add(&mut self, group: &'static str, name: impl Into<String>, ours: Calls, rust: Calls) {
+        self.0.push(Case { group, name: name.into(), ours, rust });
+    }
+
+    fn parse(&mut self, group: &'static str, what: &str, o: Repeated, r: Repeated, bytes: Vec<u8>) {
+        let name = format!("{what}, {} bytes", bytes.len());
+        let bytes = leak(bytes);
+        self.add(group, name, repeated(o, bytes), repeated(r, bytes));
+    }
+
+    fn plaintext(&mut self, what: &str, bytes: Vec<u8>) {
+        self.parse("record", what, ours::ours_plaintext, rust::rust_plaintext, bytes);
+    }
+
+    fn extensions(&mut self, what: &str, bytes: Vec<u8>) {
+        let sides: [(&str, Repeated, Repeated); 3] = [
+            ("any side", ours::ours_extensions, rust::rust_extensions),
+            ("client's", ours::ours_client_extensions, rust::rust_client_extensions),
+            ("server's", ours::ours_server_extensions, rust::rust_server_extensions),
+        ];
+        for (side, o, r) in sides {
+            self.parse("extensions", &format!("{what}, {side}"), o, r, bytes.clone());
+        }
+    }
+
+    fn writes(&mut self, what: &str, o: [Repeated; 2], r: [Repeated; 2], bytes: Vec<u8>) {
+        let bytes = leak(bytes);
+        for (call, (o, r)) in ["serialize", "gen"].iter().zip(o.into_iter().zip(r)) {
+            let name = format!("{what}, {} bytes, {call}", bytes.len());
+            self.add("writer", name, repeated(o, bytes), repeated(r, bytes));
+        }
+    }
+}
+
+fn records(all: &mut Cases) {
+    all.plaintext("ClientHello, least", inputs::hello_least());
+    all.plaintext("ClientHello of TLS 1.2", inputs::hello_tls12());
+    all.plaintext("ClientHello, padded", inputs::hello_517());
+    all.plaintext("ClientHello, post-quantum", inputs::hello_post_quantum());
+    all.plaintext("ClientHello, post-quantum, padded", inputs::hello_1800());
+    all.plaintext("ServerHello", inputs::server_hello_record());
+    all.plaintext("Certificate of one", inputs::certificate_record(&[1100]));
+    all.plaintext("Certificate of three", inputs::certificate_record(&[1100, 1300, 900]));
+    all.plaintext("CertificateRequest", inputs::certificate_request_record());
+    all.plaintext("a server's flight", inputs::flight());
+    all.plaintext("two alerts", inputs::record(21, &[1, 0, 2, 40]));
+    all.plaintext("one ChangeCipherSpec", inputs::record(20, &[1]));
+    all.plaintext("16,640 ChangeCipherSpecs", inputs::record(20, &[1; 16640]));
+    all.plaintext("4,160 HelloRequests", inputs::record(22, &[0; 16640]));
+    let mut cut = inputs::hello_517();
+    cut.pop();
+    all.plaintext("a cut record", cut);
+    all.plaintext("a bad type", inputs::record(99, &[1; 10]));
+    all.plaintext("a bad message", inputs::record(22, &inputs::handshake(99, &[1; 10])));
+}
+
+fn messages(all: &mut Cases) {
+    let message = |record: Vec<u8>| record[5..].to_vec();
+    let (o, r): (Repeated, Repeated) = (ours::ours_handshake, rust::rust_handshake);
+    all.parse("message", "ClientHello", o, r, message(inputs::hello_517()));
+    all.parse("message", "ServerHello", o, r, message(inputs::server_hello_record()));
+    all.parse("message", "Certificate of three", o, r, message(inputs::certificate_record(&[1100, 1300, 900])));
+    all.parse("message", "ServerHelloDone", o, r, inputs::handshake(14, &[]));
+    all.parse("several", "raw record", ours::ours_raw_record, rust::rust_raw_record, inputs::hello_517());
+    all.parse("several", "ten records", ours::ours_many, rust::rust_many, inputs::ten_records());
+}
+
+fn extensions(all: &mut Cases) {
+    all.extensions("TLS 1.2", inputs::extensions_tls12());
+    all.extensions("TLS 1.3", inputs::extensions_tls13(&[(0x4a4a, 1), (29, 32)], 0));
+    all.extensions("a ServerHello's", inputs::extensions_server());
+    all.extensions("20 short ones", inputs::extensions_short());
+}
+
+fn dtls(all: &mut Cases) {
+    let (o, r): (Repeated, Repeated) = (ours::ours_dtls_record, rust::rust_dtls_record);
+    all.parse("DTLS", "ClientHello", o, r, inputs::dtls_hello());
+    all.parse("DTLS", "HelloVerifyRequest", o, r, inputs::dtls_verify());
+    all.parse("DTLS", "ServerHello", o, r, inputs::dtls_server_hello());
+    all.parse("DTLS", "a fragment", o, r, inputs::dtls_fragment());
+    all.parse("DTLS", "ChangeCipherSpec", o, r, inputs::dtls_change());
+    all.parse("DTLS", "an alert", o, r, inputs::dtls_alert());
+    all.parse("DTLS", "five records", ours::ours_dtls_records, rust::rust_dtls_records, inputs::dtls_records());
+    all.parse("DTLS", "a message", ours::ours_dtls_handshake, rust::rust_dtls_handshake, inputs::dtls_hello_message());
+}
+
+fn keys(all: &mut Cases) {
+    all.parse("keys", "finite field", ours::ours_dh, rust::rust_dh, inputs::dh());
+    all.parse("keys", "elliptic curve", ours::ours_ecdh, rust::rust_ecdh, inputs::ecdh());
+    all.parse("keys", "a signature", ours::ours_signed, rust::rust_signed, inputs::signed());
+    all.parse("keys", "three timestamps", ours::ours_timestamps, rust::rust_timestamps, inputs::timestamps());
+}
+
+fn writer(all: &mut Cases) {
+    let o = [ours::ours_serialize, ours::ours_gen];
+    let r: [Repeated; 2] = [rust::rust_serialize, rust::rust_gen];
+    all.writes("ClientHello, least", o, r, inputs::hello_least());
+    all.writes("ClientHello, padded", o, r, inputs::hello_517());
+    all.writes("ClientHello, post-quantum", o, r, inputs::hello_post_quantum());
+    all.writes("ServerHello", o, r, inputs::server_hello_record());
+    let bytes = leak(inputs::extensions_written());
+    let name = format!("extensions, {} bytes, gen", bytes.len() + 2);
+    let ours = repeated(ours::ours_gen_extensions, bytes);
+    all.add("writer", name, ours, repeated(rust::rust_gen_extensions, bytes));
+}
+
+fn states(all: &mut Cases) {
+    let calls: [(&str, Sided); 3] = [
+        ("tls_state_transition", ours::ours_transitions),
+        ("update", ours::ours_updates),
+        ("run", ours::ours_runs),
+    ];
+    for (what, with_certificate) in [("handshake", false), ("with a client's certificate", true)] {
+        let (bytes, sides) = inputs::conversation(with_certificate);
+        let (bytes, sides) = (leak(bytes), leak(sides));
+        for (call, o) in calls {
+            let name = format!("{what}, {} messages, {call}", sides.len());
+            all.add("states", name, sided(o, bytes, sides), sided(rust::rust_transitions, bytes, sides));
+        }
+    }
+}
+
+/// All cases that are called in batches.
+pub fn all() -> Vec<Case> {
+    let mut all = Cases(Vec::new());
+    records(&mut all);
+    messages(&mut all);
+    extensions(&mut all);
+    dtls(&mut all);
+    keys(&mut all);
+    writer(&mut all);
+    states(&mut all);
+    all.0
+}
+
+/// Of a stream: its records' payload and the size of its pieces; the number of the whole.
+pub struct Stream {
+    pub name: String,
+    pub bytes: Vec<u8>,
+    pub piece: usize,
+}
+
+/// Streams of so many bytes.
+pub fn streams(total: usize) -> Vec<Stream> {
+    let mut all = Vec::new();
+    for payload in [5, 500, 16000] {
+        let bytes = inputs::stream(total, payload);
+        for piece in [1460, bytes.len()] {
+            let cut = if piece == bytes.len() { "one piece".into() } else { format!("pieces of {piece}") };
+            let name = format!("payloads of {payload}, {cut}");
+            all.push(Stream { name, bytes: bytes.clone(), piece });
+        }
+    }
+    all
+}
+
+/// The records whose texts are compared.
+pub fn written() -> Vec<Vec<u8>> {
+    vec![inputs::hello_least(), inputs::hello_517(), inputs::hello_post_quantum(), inputs::server_hello_record()]
+}

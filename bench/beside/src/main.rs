@@ -1,0 +1,252 @@
+//! Measures this repository's calls beside those of the Rust crate tls-parser, in one process. `bench/run` builds and runs it.
+//!
+//! - `times`: for each case the two sides are called in turn, in batches of about 2 ms; the median of the ratios of
+//!   neighbouring batches, with their quartiles.
+//! - `counted`: requests for memory and the peak, in a build with the feature `count`.
+//! - `instructions`: each side a few times, with a mark between, to be run by callgrind.
+//! - `streams`: 64 MiB of records, cut and taken off the front.
+
+mod cases;
+mod inputs;
+#[cfg(feature = "count")]
+mod memory;
+mod number;
+mod ours;
+mod rust;
+
+use cases::{Case, Stream};
+use std::hint::black_box;
+
+/// A call on a stream, with the size of its pieces.
+type OfStream = extern "C" fn(*const u8, usize, usize) -> u64;
+
+/// Batches of a case on each side.
+const BATCHES: usize = 60;
+
+/// How often a whole stream is cut on each side.
+const STREAM_ROUNDS: usize = 15;
+
+/// The seconds that a batch is to take.
+const BATCH_SECONDS: f64 = 0.002;
+
+#[repr(C)]
+struct Timespec {
+    seconds: i64,
+    nanoseconds: i64,
+}
+
+unsafe extern "C" {
+    fn clock_gettime(clock: i32, time: *mut Timespec) -> i32;
+}
+
+/// The processor's time of this process so far, in seconds: what others do on the core isn't in it.
+fn processor_time() -> f64 {
+    const PROCESS: i32 = 2;
+    let mut time = Timespec { seconds: 0, nanoseconds: 0 };
+    let failed = unsafe { clock_gettime(PROCESS, &mut time) };
+    assert_eq!(failed, 0);
+    time.seconds as f64 + time.nanoseconds as f64 / 1e9
+}
+
+fn seconds(calls: &dyn Fn(usize) -> u64, times: usize) -> f64 {
+    let begin = processor_time();
+    black_box(calls(black_box(times)));
+    processor_time() - begin
+}
+
+/// The first quartile, the median and the third.
+fn quartiles(mut list: Vec<f64>) -> [f64; 3] {
+    list.sort_by(f64::total_cmp);
+    [1, 2, 3].map(|quarter| list[list.len() * quarter / 4])
+}
+
+/// How many calls a batch has.
+fn batch_size(case: &Case) -> usize {
+    let mut times = 1;
+    while seconds(&case.ours, times).max(seconds(&case.rust, times)) < BATCH_SECONDS && times < 1 << 24 {
+        times *= 2;
+    }
+    times
+}
+
+/// Whether a case is among the wanted ones, by a part of its group and name.
+fn is_wanted(wanted: &[String], group: &str, name: &str) -> bool {
+    let whole = format!("{group}: {name}");
+    wanted.is_empty() || wanted.iter().any(|part| whole.contains(part.as_str()))
+}
+
+/// Whether both sides answer the same.
+fn agrees(case: &Case) -> bool {
+    (case.ours)(3) == (case.rust)(3)
+}
+
+/// The wanted cases, without those of which the answers differ.
+fn measured(wanted: &[String]) -> Vec<Case> {
+    let mut list = cases::all();
+    list.retain(|case| is_wanted(wanted, case.group, &case.name) && agrees(case));
+    list
+}
+
+fn times(wanted: &[String]) {
+    println!("| group | case | ns, ours | ns, Rust | ratio | quartiles |\n|---|---|---|---|---|---|");
+    let mut logs = 0.0;
+    let mut count = 0;
+    for case in measured(wanted) {
+        let size = batch_size(&case);
+        let mut ratios = Vec::new();
+        let (mut all_ours, mut all_rust) = (Vec::new(), Vec::new());
+        for round in 0..BATCHES {
+            let (ours, rust) = if round % 2 == 0 {
+                let ours = seconds(&case.ours, size);
+                (ours, seconds(&case.rust, size))
+            } else {
+                let rust = seconds(&case.rust, size);
+                (seconds(&case.ours, size), rust)
+            };
+            ratios.push(ours / rust);
+            all_ours.push(ours);
+            all_rust.push(rust);
+        }
+        let [low, middle, high] = quartiles(ratios);
+        let [_, ours, _] = quartiles(all_ours).map(|s| s * 1e9 / size as f64);
+        let [_, rust, _] = quartiles(all_rust).map(|s| s * 1e9 / size as f64);
+        logs += middle.ln();
+        count += 1;
+        println!(
+            "| {} | {} | {ours:.1} | {rust:.1} | {middle:.2} | {low:.2} to {high:.2} |",
+            case.group, case.name
+        );
+    }
+    println!("\nGeometric mean of the ratios of these {count} cases: {:.3}", (logs / f64::from(count)).exp());
+}
+
+/// The answers of both sides: whether all are the same.
+fn is_same(wanted: &[String]) -> bool {
+    let mut is_same = true;
+    for case in cases::all() {
+        if is_wanted(wanted, case.group, &case.name) && !agrees(&case) {
+            println!("The answers differ: {}, {}", case.group, case.name);
+            is_same = false;
+        }
+    }
+    for record in cases::written() {
+        let mut out = vec![0; 1 << 17];
+        let len = ours::ours_text(record.as_ptr(), record.len(), out.as_mut_ptr(), out.len());
+        if rust::text_of(&record).as_deref() != Some(&out[..len]) || len == 0 {
+            println!("The texts differ: a record of {} bytes", record.len());
+            is_same = false;
+        }
+    }
+    for Stream { name, bytes, piece } in cases::streams(1 << 16) {
+        let calls: [OfStream; 3] = [ours::ours_stream, rust::rust_stream, rust::rust_stream_each];
+        let numbers = calls.map(|call| call(bytes.as_ptr(), bytes.len(), piece));
+        if numbers[0] != numbers[1] || numbers[0] != numbers[2] || numbers[0] == 0 {
+            println!("The records of a stream differ: {name}");
+            is_same = false;
+        }
+    }
+    is_same
+}
+
+/// Where callgrind writes what it has counted.
+#[unsafe(no_mangle)]
+#[inline(never)]
+pub extern "C" fn bench_mark() {
+    black_box(());
+}
+
+/// Each side of each case: once to warm up, once, and eleven times, with a mark after each.
+fn instructions(wanted: &[String]) {
+    for case in measured(wanted) {
+        println!("{}\t{}", case.group, case.name);
+        for side in [&case.ours, &case.rust] {
+            for times in [1, 1, 11] {
+                black_box(side(black_box(times)));
+                bench_mark();
+            }
+        }
+    }
+}
+
+/// The streams of so many MiB: bytes a second.
+fn streams(wanted: &[String], total: usize) {
+    println!("| stream | MB/s, ours | MB/s, Rust | ratio of times | quartiles | MB/s, Rust that drains each record |");
+    println!("|---|---|---|---|---|---|");
+    for Stream { name, bytes, piece } in cases::streams(total) {
+        if !is_wanted(wanted, "streams", &name) {
+            continue;
+        }
+        let timed = |call: OfStream| {
+            let begin = processor_time();
+            black_box(call(bytes.as_ptr(), bytes.len(), piece));
+            processor_time() - begin
+        };
+        let (mut ratios, mut all_ours, mut all_rust) = (Vec::new(), Vec::new(), Vec::new());
+        for round in 0..STREAM_ROUNDS {
+            let (ours, rust) = if round % 2 == 0 {
+                let ours = timed(ours::ours_stream);
+                (ours, timed(rust::rust_stream))
+            } else {
+                let rust = timed(rust::rust_stream);
+                (timed(ours::ours_stream), rust)
+            };
+            ratios.push(ours / rust);
+            all_ours.push(ours);
+            all_rust.push(rust);
+        }
+        let speed = |list: Vec<f64>| bytes.len() as f64 / quartiles(list)[1] / 1e6;
+        let (ours, rust) = (speed(all_ours), speed(all_rust));
+        let each = if piece == bytes.len() {
+            "not run: its time grows with the square".to_string()
+        } else {
+            format!("{:.0}", bytes.len() as f64 / timed(rust::rust_stream_each) / 1e6)
+        };
+        let [low, middle, high] = quartiles(ratios);
+        println!("| {name} | {ours:.0} | {rust:.0} | {middle:.2} | {low:.2} to {high:.2} | {each} |");
+    }
+}
+
+#[cfg(feature = "count")]
+fn counted(wanted: &[String], total: usize) {
+    let count = |calls: &dyn Fn(usize) -> u64, times: usize| {
+        memory::begin();
+        black_box(calls(black_box(times)));
+        memory::asked()
+    };
+    println!("| group | case | requests, ours | requests, Rust |\n|---|---|---|---|");
+    for case in measured(wanted) {
+        let [ours, rust] = [&case.ours, &case.rust]
+            .map(|side| count(side, 2).requests - count(side, 1).requests);
+        println!("| {} | {} | {ours} | {rust} |", case.group, case.name);
+    }
+    println!("\n| stream | peak KB, ours | peak KB, Rust | requests, ours | requests, Rust |\n|---|---|---|---|---|");
+    for Stream { name, bytes, piece } in cases::streams(total) {
+        let call = |call: OfStream| {
+            count(&|_| call(bytes.as_ptr(), bytes.len(), piece), 1)
+        };
+        let (ours, rust) = (call(ours::ours_stream), call(rust::rust_stream));
+        println!(
+            "| {name} | {} | {} | {} | {} |",
+            ours.peak / 1000, rust.peak / 1000, ours.requests, rust.requests
+        );
+    }
+}
+
+fn main() {
+    let mut words: Vec<String> = std::env::args().skip(1).collect();
+    let verb = if words.is_empty() { String::new() } else { words.remove(0) };
+    let total = 64 << 20;
+    match verb.as_str() {
+        "same" if is_same(&words) => println!("All answers are the same."),
+        "same" => std::process::exit(1),
+        "times" => times(&words),
+        "instructions" => instructions(&words),
+        "streams" => streams(&words, total),
+        #[cfg(feature = "count")]
+        "counted" => counted(&words, total),
+        _ => {
+            eprintln!("beside same|times|instructions|streams|counted [PART OF A NAME ..]");
+            std::process::exit(2);
+        }
+    }
+}
