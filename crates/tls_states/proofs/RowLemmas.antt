@@ -1,9 +1,9 @@
 -- The rows of the table.
-use Rattle.std.proofs.Common.{◌≡◌, ℕ, zero, suc, ◌+◌, List, [], ◌∷◌, Option, Some, None, Result, Ok, Bool, true, false, not, ◌&&◌, ◌||◌, slice_get, slice_range, slice_index_or, inl, inr, refl, sym, ◌∙◌, ap, subst}
+use Rattle.std.proofs.Common.{◌≡◌, ℕ, zero, suc, List, [], ◌∷◌, Option, Some, None, Result, Ok, Bool, true, false, not, ◌&&◌, ◌||◌, slice_get, inl, inr, refl, sym, ◌∙◌, ap, subst}
 use Rattle.tls_states.proofs.PatternLemmas.{and_both, both_and, or_either}
 use Rattle.tls_states.specs.Letters.{letter}
 use Rattle.tls_states.specs.Steps.{step, rule}
-use Rattle.tls_states.specs.Table.{next_in, next_after, IsOneRowEach}
+use Rattle.tls_states.specs.Table.{next_after, IsOneRowEach}
 use Rattle.tls_states.specs.declared.state.TlsState.{TlsState}
 use Rattle.tls_states.specs.declared.state.TlsState.TheVariants as state
 use Rattle.tls_states.specs.declared.state.StateChangeError.{StateChangeError}
@@ -12,11 +12,10 @@ use Rattle.tls_states.specs.declared.letter.Kind.TheVariants as kind
 use Rattle.tls_states.specs.declared.letter.Direction.{Direction}
 use Rattle.tls_states.specs.declared.letter.Direction.TheVariants.{ToServer, FromServer}
 use Rattle.tls_states.specs.declared.table.Row.{Row}
-use Rattle.tls_states.specs.declared.table.TheConstants.{ROWS, FIRST_ROWS}
+use Rattle.tls_states.specs.declared.table.TheConstants.{ROWS}
 use Rattle.tls_states.specs.contracts.state.TlsState.{the_type as states}
 use Rattle.tls_states.specs.contracts.letter.Kind.{the_type as kinds}
 use Rattle.tls_states.specs.contracts.letter.Direction.{the_type as directions}
-use denote.Enum.Declared.{tag_of}
 use denote.Enum.Bare.{sameb, true_same}
 
 -- No state, kind and direction stand in two rows: by a test of each row against those behind it.
@@ -58,13 +57,6 @@ one_row_each (x ∷ rows) t (suc i) (suc j) r s at_i at_j e f g = ap suc (one_ro
 
 pub rows_are_one_each : IsOneRowEach ROWS
 rows_are_one_each = one_row_each ROWS refl
-
--- The rows of a state are found between its first row and the next state's.
-group_answers : (q : TlsState) (k : Kind) (d : Direction) → next_in (slice_range ROWS (slice_index_or FIRST_ROWS (tag_of states q) 0) (slice_index_or FIRST_ROWS (tag_of states q + 1) 0)) k d ≡ next_after ROWS q k d
-group_answers = elim [ state.None ↦ λ k d. refl | _ ↦ λ k d. refl ]
-
-pub answered_by_group : (q : TlsState) (k : Kind) (d : Direction) (r : Option TlsState) → r ≡ next_in (slice_range ROWS (slice_index_or FIRST_ROWS (tag_of states q) 0) (slice_index_or FIRST_ROWS (tag_of states q + 1) 0)) k d → r ≡ next_after ROWS q k d
-answered_by_group q k d r e = e ∙ group_answers q k d
 
 -- A letter does what its row says, or else what a rule does.
 answered : Option TlsState → Result TlsState StateChangeError → Result TlsState StateChangeError

@@ -1,5 +1,5 @@
 //! What the rules of a conversation see of a message: its kind and its direction.
-ghost use Rattle.std.specs.Prelude.{◌≡◌};
+ghost use Rattle.std.specs.Prelude.{◌≡◌, Some, slice_get};
 ghost use Rattle.tls_states.specs.Letters.{kind_by_variant, kind_of_handshake, kind_of_message, direction};
 
 use tls_base::TlsAlertSeverity;
@@ -53,27 +53,60 @@ impl Direction {
     }
 }
 
+/// The kinds of handshake messages, each at the place of its variant. A look-up here is faster than a jump by the variant.
+static BY_VARIANT: [Kind; 17] = [
+    Kind::HelloRequest,
+    Kind::ClientHello,
+    Kind::ServerHello,
+    Kind::ServerHelloV13Draft18,
+    Kind::NewSessionTicket,
+    Kind::Other,
+    Kind::Other,
+    Kind::Certificate,
+    Kind::ServerKeyExchange,
+    Kind::CertificateRequest,
+    Kind::ServerDone,
+    Kind::CertificateVerify,
+    Kind::ClientKeyExchange,
+    Kind::Other,
+    Kind::CertificateStatus,
+    Kind::Other,
+    Kind::Other,
+];
+
+/// The place of a message's variant among the variants.
+#[inline]
+fn place_of_variant(message: &TlsMessageHandshake<'_>) -> usize
+    ensures { slice_get BY_VARIANT result ≡ Some (kind_by_variant message.now) }
+{
+    match message {
+        TlsMessageHandshake::HelloRequest => 0,
+        TlsMessageHandshake::ClientHello(_) => 1,
+        TlsMessageHandshake::ServerHello(_) => 2,
+        TlsMessageHandshake::ServerHelloV13Draft18(_) => 3,
+        TlsMessageHandshake::NewSessionTicket(_) => 4,
+        TlsMessageHandshake::EndOfEarlyData => 5,
+        TlsMessageHandshake::HelloRetryRequest(_) => 6,
+        TlsMessageHandshake::Certificate(_) => 7,
+        TlsMessageHandshake::ServerKeyExchange(_) => 8,
+        TlsMessageHandshake::CertificateRequest(_) => 9,
+        TlsMessageHandshake::ServerDone(_) => 10,
+        TlsMessageHandshake::CertificateVerify(_) => 11,
+        TlsMessageHandshake::ClientKeyExchange(_) => 12,
+        TlsMessageHandshake::Finished(_) => 13,
+        TlsMessageHandshake::CertificateStatus(_) => 14,
+        TlsMessageHandshake::NextProtocol(_) => 15,
+        TlsMessageHandshake::KeyUpdate(_) => 16,
+    }
+}
+
 impl Kind {
     /// The kind of a handshake message by its variant alone: that of a ClientHello without a session id for each.
     #[inline]
     fn by_variant(message: &TlsMessageHandshake<'_>) -> Kind
         ensures { result ≡ kind_by_variant message.now }
     {
-        match message {
-            TlsMessageHandshake::HelloRequest => Kind::HelloRequest,
-            TlsMessageHandshake::ClientHello(_) => Kind::ClientHello,
-            TlsMessageHandshake::ServerHello(_) => Kind::ServerHello,
-            TlsMessageHandshake::ServerHelloV13Draft18(_) => Kind::ServerHelloV13Draft18,
-            TlsMessageHandshake::NewSessionTicket(_) => Kind::NewSessionTicket,
-            TlsMessageHandshake::Certificate(_) => Kind::Certificate,
-            TlsMessageHandshake::ServerKeyExchange(_) => Kind::ServerKeyExchange,
-            TlsMessageHandshake::CertificateRequest(_) => Kind::CertificateRequest,
-            TlsMessageHandshake::ServerDone(_) => Kind::ServerDone,
-            TlsMessageHandshake::CertificateVerify(_) => Kind::CertificateVerify,
-            TlsMessageHandshake::ClientKeyExchange(_) => Kind::ClientKeyExchange,
-            TlsMessageHandshake::CertificateStatus(_) => Kind::CertificateStatus,
-            _ => Kind::Other,
-        }
+        BY_VARIANT[place_of_variant(message)]
     }
 
     /// The kind of a handshake message. The session id is looked at apart, so that the rest is a look-up of the variant.

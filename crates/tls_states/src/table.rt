@@ -70,12 +70,6 @@ static ROWS: [Row; 39] = rows! {
     PskCKE, ChangeCipherSpec FromServer => ClientChangeCipherSpec;
 };
 
-/// Where the rows of each state begin, by the state's number; the next number is where they end.
-static FIRST_ROWS: [u8; 26] = [
-    0, 2, 4, 6, 9, 11, 15, 16, 18, 19, 21, 23, 24, 25, 26, 30, 32, 33, 34, 36, 37, 39, 39, 39, 39,
-    39,
-];
-
 /// No state, kind and direction stand in two rows.
 fn rows_are_distinct()
     ensures { IsOneRowEach ROWS }
@@ -95,12 +89,36 @@ fn next_in(rows: &[Row], kind: Kind, direction: Direction) -> Option<TlsState>
 }
 
 /// Where the table's row of this state, kind and direction leads.
+///
+/// The rows of each state stand together, and each arm searches those of its state: the compiler makes comparisons with
+/// constants of them.
 #[inline]
 pub(crate) fn next_after(state: TlsState, kind: Kind, direction: Direction) -> Option<TlsState>
     ensures { result ≡ next_after_of ROWS state kind direction }
 {
-    let number = state as usize;
-    let first = FIRST_ROWS[number] as usize;
-    let end = FIRST_ROWS[number + 1] as usize;
-    next_in(&ROWS[first..end], kind, direction)
+    match state {
+        TlsState::None => next_in(&ROWS[0..2], kind, direction),
+        TlsState::ClientHello => next_in(&ROWS[2..4], kind, direction),
+        TlsState::AskResumeSession => next_in(&ROWS[4..6], kind, direction),
+        TlsState::ResumeSession => next_in(&ROWS[6..9], kind, direction),
+        TlsState::ServerHello => next_in(&ROWS[9..11], kind, direction),
+        TlsState::Certificate => next_in(&ROWS[11..15], kind, direction),
+        TlsState::CertificateSt => next_in(&ROWS[15..16], kind, direction),
+        TlsState::ServerKeyExchange => next_in(&ROWS[16..18], kind, direction),
+        TlsState::ServerHelloDone => next_in(&ROWS[18..19], kind, direction),
+        TlsState::ClientKeyExchange => next_in(&ROWS[19..21], kind, direction),
+        TlsState::ClientChangeCipherSpec => next_in(&ROWS[21..23], kind, direction),
+        TlsState::CRCertRequest => next_in(&ROWS[23..24], kind, direction),
+        TlsState::CRHelloDone => next_in(&ROWS[24..25], kind, direction),
+        TlsState::CRCert => next_in(&ROWS[25..26], kind, direction),
+        TlsState::CRClientKeyExchange => next_in(&ROWS[26..30], kind, direction),
+        TlsState::CRCertVerify => next_in(&ROWS[30..32], kind, direction),
+        TlsState::NoCertSKE => next_in(&ROWS[32..33], kind, direction),
+        TlsState::NoCertHelloDone => next_in(&ROWS[33..34], kind, direction),
+        TlsState::NoCertCKE => next_in(&ROWS[34..36], kind, direction),
+        TlsState::PskHelloDone => next_in(&ROWS[36..37], kind, direction),
+        TlsState::PskCKE => next_in(&ROWS[37..39], kind, direction),
+        TlsState::SessionEncrypted | TlsState::Alert | TlsState::Finished | TlsState::Invalid =>
+            None,
+    }
 }
