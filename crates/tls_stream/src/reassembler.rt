@@ -122,14 +122,11 @@ impl Reassembler {
         }
     }
 
-    /// Keeps the last `n` bytes.
+    /// Keeps the last `n` bytes. Those before them stay where they are until the next piece needs their place.
     fn keep_last(&mut self, n: usize)
         requires { n ≤ length self.old }
         ensures { self.new ≡ drop (length self.old - n) self.old }
     {
-        if n == 0 {
-            self.bytes.clear();
-        }
         self.start = self.bytes.len() - n;
     }
 
