@@ -105,11 +105,21 @@ pub fn text_of(bytes: &[u8]) -> Option<Vec<u8>> {
     record.serialize().ok()
 }
 
+/// It stands apart, since the other side's has more than one caller: a call for each message on both sides.
+#[inline(never)]
+fn transition(
+    state: TlsState,
+    message: &TlsMessage,
+    to_server: bool,
+) -> Result<TlsState, StateChangeError> {
+    tls_state_transition(state, message, to_server)
+}
+
 #[inline(never)]
 fn transitions(messages: &[(TlsMessage, bool)], round: u64) -> u64 {
     let mut state = TlsState::None;
     for (message, to_server) in messages {
-        match tls_state_transition(state, message, *to_server) {
+        match transition(state, message, *to_server) {
             Ok(next) => state = next,
             Err(_) => return 100,
         }
