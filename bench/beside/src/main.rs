@@ -5,8 +5,10 @@
 //! - `counted`: requests for memory and the peak, in a build with the feature `count`.
 //! - `instructions`: each side a few times, with a mark between, to be run by callgrind.
 //! - `streams`: 64 MiB of records, cut and taken off the front.
+//! - `growth`: our calls on inputs that are the worst for them, of doubling length: time, and in the other build memory.
 
 mod cases;
+mod growth;
 mod inputs;
 #[cfg(feature = "count")]
 mod memory;
@@ -232,6 +234,27 @@ fn counted(wanted: &[String], total: usize) {
     }
 }
 
+/// Nanoseconds a byte of input, the least of three runs.
+#[cfg(not(feature = "count"))]
+fn growth() {
+    println!("| call, and its input | bytes at most | ns a byte, a quarter | a half | all |\n|---|---|---|---|---|");
+    growth::table(&|call, len| {
+        let least = (0..3).map(|_| seconds(&|_| call(), 1)).fold(f64::INFINITY, f64::min);
+        format!("{:.1}", least * 1e9 / len as f64)
+    });
+}
+
+/// Bytes of memory a byte of input, at the peak.
+#[cfg(feature = "count")]
+fn growth() {
+    println!("| call, and its input | bytes at most | bytes a byte, a quarter | a half | all |\n|---|---|---|---|---|");
+    growth::table(&|call, len| {
+        memory::begin();
+        black_box(call());
+        format!("{:.1}", memory::asked().peak as f64 / len as f64)
+    });
+}
+
 fn main() {
     let mut words: Vec<String> = std::env::args().skip(1).collect();
     let verb = if words.is_empty() { String::new() } else { words.remove(0) };
@@ -242,10 +265,11 @@ fn main() {
         "times" => times(&words),
         "instructions" => instructions(&words),
         "streams" => streams(&words, total),
+        "growth" => growth(),
         #[cfg(feature = "count")]
         "counted" => counted(&words, total),
         _ => {
-            eprintln!("beside same|times|instructions|streams|counted [PART OF A NAME ..]");
+            eprintln!("beside same|times|instructions|streams|growth|counted [PART OF A NAME ..]");
             std::process::exit(2);
         }
     }
