@@ -3,21 +3,18 @@ ghost use Rattle.std.specs.Prelude.{◌≡◌, ◌<◌, ◌∷◌, [], length, O
 ghost use Rattle.std.specs.Io.BufRead.{strip_last};
 ghost use Rattle.tlsview.specs.Lines.{lines_of};
 
+use memchr::memchr;
+
 /// The first line without its line break, and the input after it.
 pub fn first_line(input: &[u8]) -> Option<(&[u8], &[u8])>
     ensures lines { MatchOption result (lines_of input.now ≡ [])
         (λ found. lines_of input.now ≡ found.0.now ∷ lines_of found.1.now) }
     ensures shorter { IfSome result (λ found. length found.1.now < length input.now) }
 {
-    for (i, b) in input.iter().enumerate() {
-        if *b == b'\n' {
-            return Some((&input[..i], &input[i + 1..]));
-        }
-    }
-    if input.is_empty() {
-        None
-    } else {
-        Some((input, &input[input.len()..]))
+    match memchr(b'\n', input) {
+        Some(end) => Some((&input[..end], &input[end + 1..])),
+        None if input.is_empty() => None,
+        None => Some((input, &input[input.len()..])),
     }
 }
 

@@ -1,6 +1,0 @@
--- no line break so far
-use Rattle.std.proofs.Common.{◌≡◌, ℕ, ◌<◌, get_or}
-use Rattle.tlsview.proofs.lines.first_line.Given as goal
-
-abbrev pub invariant-loop-i : goal.invariant-loop-i
-invariant-loop-i l = (k : ℕ) → k < l.i → get_or l.input k 0 ≡ 10 → ⊥
