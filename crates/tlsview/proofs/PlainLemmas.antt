@@ -1,5 +1,5 @@
 -- A record that isn't encrypted, as one with its messages.
-use Rattle.std.proofs.Common.{◌≡◌, Bool, true, false, List, [], Ok, Err, refl, sym, ◌∙◌, ap}
+use Rattle.std.proofs.Common.{◌≡◌, false, List, [], Ok, Err, refl, sym, ◌∙◌, ap}
 use Rattle.tls_fields.specs.Bytes.{Bytes}
 use Rattle.tls_fields.specs.Meaning.{Answer, Broken, Lacks}
 use Rattle.tls_fields.specs.Reading.{reading, ◌and_then◌}

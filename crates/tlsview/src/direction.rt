@@ -1,9 +1,7 @@
 //! Who sent the bytes of a line.
-ghost use Rattle.std.specs.Prelude.{◌≡◌, ◌∷◌, [], Some};
+ghost use Rattle.std.specs.Prelude.{◌≡◌, ◌∷◌, []};
 ghost use Rattle.tlsview.specs.Direction.{direction_of, sign_of};
 ghost use Rattle.tlsview.specs.Transition.{goes_to_server as is_to_server};
-
-use std::fmt;
 
 /// Which way bytes went.
 #[derive(Clone, Copy, Debug, PartialEq, Eq)]
@@ -24,6 +22,16 @@ impl Direction {
         }
     }
 
+    /// What a printed line of it begins with.
+    pub fn mark(self) -> &'static str
+        ensures { result.now ≡ sign_of self ∷ 32 ∷ [] }
+    {
+        match self {
+            Direction::ToServer => "> ",
+            Direction::FromServer => "< ",
+        }
+    }
+
     /// Whether the bytes went to the server.
     pub fn goes_to_server(self) -> bool
         ensures { result ≡ is_to_server self }
@@ -31,17 +39,6 @@ impl Direction {
         match self {
             Direction::ToServer => true,
             Direction::FromServer => false,
-        }
-    }
-}
-
-impl fmt::Display for Direction {
-    ghost output = { λ direction. Some (sign_of direction ∷ []) };
-
-    fn fmt<W: fmt::Write>(&self, f: &mut fmt::Formatter<W>) -> fmt::Result {
-        match self {
-            Direction::ToServer => write!(f, ">"),
-            Direction::FromServer => write!(f, "<"),
         }
     }
 }

@@ -1,5 +1,5 @@
 //! The records of one direction, as text.
-ghost use Rattle.std.specs.Prelude.{◌≡◌, ◌++◌, Ok, flat_map, map, option_map, IfOk, OnOk};
+ghost use Rattle.std.specs.Prelude.{◌≡◌, ◌∷◌, ◌++◌, Ok, codes, flat_map, map, option_map, IfOk, OnOk};
 ghost use Rattle.std.specs.List.{list_any};
 ghost use Rattle.std.specs.String.{string_bytes};
 ghost use Rattle.tls_fields.specs.Reading.{reading};
@@ -7,6 +7,7 @@ ghost use Rattle.tls_hs.specs.Message.{view_message};
 ghost use Rattle.tls_parser.specs.Record.{view_raw_record, raw_record};
 ghost use Rattle.tls_states.specs.Letters as letters;
 ghost use Rattle.tls_states.specs.Steps.{run};
+ghost use Rattle.tlsview.specs.Direction.{sign_of};
 ghost use Rattle.tlsview.specs.Fault.{view_fault};
 ghost use Rattle.tlsview.specs.Shown.{IsShown, IsNext, or_fault};
 ghost use Rattle.tlsview.specs.Out.{content_of, message_line, fed, half, half_part};
@@ -31,6 +32,16 @@ pub enum Next {
     Fault(Fault),
 }
 
+/// Prints a line of the direction.
+fn add_line(text: &mut String, direction: Direction, name: &str) -> Result<(), AllocError>
+    ensures { OnOk result (string_bytes text.new
+        ≡ string_bytes text.old ++ (sign_of direction ∷ 32 ∷ (name.now ++ codes "\n"))) }
+{
+    text.push_str(direction.mark())?;
+    text.push_str(name)?;
+    text.push('\n')
+}
+
 /// Prints a line for each message.
 fn show_messages(
     text: &mut String,
@@ -41,8 +52,7 @@ fn show_messages(
         ≡ string_bytes text.old ++ flat_map (message_line direction) (map view_message messages.now)) }
 {
     for message in messages {
-        let name = message_name(message);
-        writeln!(text, "{direction} {name}")?;
+        add_line(text, direction, message_name(message))?;
     }
     Ok(())
 }
@@ -88,7 +98,7 @@ fn show_record(
         is_encrypted (content_of is_encrypted (view_raw_record raw.now))) }
 {
     if is_encrypted {
-        writeln!(text, "{direction} Encrypted")?;
+        add_line(text, direction, "Encrypted")?;
         return Ok(Next::Record(true));
     }
     match parse_tls_record_with_header(alloc, raw.bytes, &raw.hdr) {
