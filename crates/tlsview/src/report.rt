@@ -13,7 +13,7 @@ use crate::fault::Fault;
 use crate::lines::{first_line, without_return};
 use crate::names::state_name;
 use crate::records::show_bytes;
-use crate::statement::{Statement, said};
+use crate::statement::said;
 use std::alloc::{AllocError, Global};
 use tls_parser::{Err, Needed};
 
@@ -24,11 +24,13 @@ pub struct Report {
     pub exit: Exit,
 }
 
-/// Prints what a line says, and answers the fault that ends the run there.
+/// Prints what a line says, and answers the fault that ends the run there. Its bytes are left in `bytes`, whose room serves each
+/// line in turn.
 fn show_line(
     alloc: Global,
     text: &mut String,
     conversation: &mut Conversation,
+    bytes: &mut Vec<u8>,
     line: &[u8],
 ) -> Result<Option<Fault>, AllocError>
     ensures { IfOk result (λ fault. (string_bytes text.new ≡ string_bytes text.old ++ (line_part conversation.old line.now).0)
@@ -37,7 +39,7 @@ fn show_line(
     if line.is_empty() {
         return Ok(None);
     }
-    let Some(Statement { direction, bytes }) = said(alloc, line)? else {
+    let Some(direction) = said(line, bytes)? else {
         return Ok(Some(Fault::BadLine));
     };
     let bytes = bytes.as_slice();
@@ -104,10 +106,12 @@ pub fn report_of(alloc: Global, input: &[u8]) -> Result<Report, AllocError>
 {
     let mut text = String::new(alloc);
     let mut conversation = Conversation::new(alloc);
+    let mut bytes = Vec::new(alloc);
     let mut rest = input;
     let mut number: usize = 1;
     'lines: while let Some((line, others)) = first_line(rest) {
-        if let Some(fault) = show_line(alloc, &mut text, &mut conversation, without_return(line))? {
+        let line = without_return(line);
+        if let Some(fault) = show_line(alloc, &mut text, &mut conversation, &mut bytes, line)? {
             writeln!(text, "line {number}: {fault}")?;
             let exit = fault.exit();
             return Ok(Report { text, exit });

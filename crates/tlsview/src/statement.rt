@@ -3,20 +3,13 @@ ghost use Rattle.std.specs.Prelude.{◌≡◌, Option, None, Some, IfOk, MatchOp
 ghost use Rattle.tlsview.specs.Statement.{said_by};
 
 use crate::direction::Direction;
-use hex::FromHexError;
-use std::alloc::{AllocError, Global};
+use std::alloc::AllocError;
 
-/// The bytes that a line gives, and which way they went.
-#[derive(Drop)]
-pub struct Statement {
-    pub direction: Direction,
-    pub bytes: Vec<u8>,
-}
-
-/// Reads a line: a sign, a space, and an even number of hexadecimal digits. `None` is a line of another form.
-pub fn said(alloc: Global, line: &[u8]) -> Result<Option<Statement>, AllocError>
+/// Reads a line: a sign, a space, and an even number of hexadecimal digits, whose bytes it leaves in `bytes`. `None` is a
+/// line of another form.
+pub fn said(line: &[u8], bytes: &mut Vec<u8>) -> Result<Option<Direction>, AllocError>
     ensures { IfOk result (λ found. MatchOption found (said_by line.now ≡ None)
-        (λ statement. said_by line.now ≡ Some (statement.direction, statement.bytes.items))) }
+        (λ direction. said_by line.now ≡ Some (direction, bytes.new.items))) }
 {
     let [sign, b' ', digits @ ..] = line else {
         return Ok(None);
@@ -24,9 +17,9 @@ pub fn said(alloc: Global, line: &[u8]) -> Result<Option<Statement>, AllocError>
     let Some(direction) = Direction::from_sign(*sign) else {
         return Ok(None);
     };
-    match hex::decode(alloc, digits) {
-        Ok(bytes) => Ok(Some(Statement { direction, bytes })),
-        Err(FromHexError::OutOfMemory) => Err(AllocError),
+    bytes.resize(digits.len() / 2, 0)?;
+    match hex::decode_to_slice(digits, bytes.as_mut_slice()) {
+        Ok(()) => Ok(Some(direction)),
         Err(_) => Ok(None),
     }
 }
