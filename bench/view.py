@@ -3,6 +3,7 @@
     view.py PROGRAM CORE
 """
 import os
+import random
 import subprocess
 import sys
 import tempfile
@@ -35,8 +36,8 @@ def repeated(taken):
     return line(b">", taken) * (TOTAL // len(line(b">", taken)))
 
 
-def encrypted():
-    return line(b">", hello(517)) + line(b">", record(20, b"\1")) + repeated(record(23, bytes(16000)))
+def encrypted(fragment):
+    return line(b">", hello(517)) + line(b">", record(20, b"\1")) + repeated(record(23, fragment))
 
 
 def cut():
@@ -53,7 +54,8 @@ def one_line():
 INPUTS = {
     "ClientHellos of 517 bytes, one a line": lambda: repeated(hello(517)),
     "alerts of 7 bytes, one a line": lambda: repeated(record(21, b"\1\0")),
-    "records of 16,005 bytes behind a ChangeCipherSpec": encrypted,
+    "records of 16,005 bytes behind a ChangeCipherSpec": lambda: encrypted(bytes(16000)),
+    "the same, of random bytes": lambda: encrypted(random.Random(1).randbytes(16000)),
     "ClientHellos of 517 bytes, cut after each 100": cut,
     "ClientHellos of 517 bytes, all in one line": one_line,
 }
