@@ -1,5 +1,5 @@
 //! Numbers of cipher suites.
-ghost use Rattle.std.specs.Prelude.{ℕ, ◌≡◌, Some, IfOk, string_bytes, ◌≤◌, length};
+ghost use Rattle.std.specs.Prelude.{◌≡◌, Some, IfOk, string_bytes};
 ghost use Rattle.tls_fields.specs.Layout.{number};
 ghost use Rattle.tls_fields.specs.Answers.{Gives};
 ghost use Rattle.tls_base.specs.Names.{hexadecimal};
@@ -8,7 +8,7 @@ ghost use Rattle.std.specs.Fmt.{decimal};
 use std::alloc::Global;
 use std::fmt;
 use std::ops::Deref;
-use tls_fields::{IResult, Item, OutOfMemory, Room, number2};
+use tls_fields::{IResult, Number, OutOfMemory, number2};
 
 /// The number of a cipher suite: the CipherSuite of RFC 5246, section 7.4.1.2, its two bytes as one number,
 /// big-endian.
@@ -60,25 +60,15 @@ impl Deref for TlsCipherSuiteID {
     }
 }
 
-impl<'a> Item<'a> for TlsCipherSuiteID {
-    type Read = Self;
+impl Number for TlsCipherSuiteID {
+    ghost width = { 2 };
 
-    ghost Value = { ℕ };
+    ghost value = { λ v. v.0 };
 
-    ghost view = { λ v. v.0 };
-
-    ghost layout = { number 2 };
-
-    fn read(_alloc: Global, i: &'a [u8]) -> IResult<&'a [u8], Self> {
-        TlsCipherSuiteID::parse(i)
-    }
-}
-
-impl Room for TlsCipherSuiteID {
-    fn room(i: &[u8]) -> usize
-        ensures { result ≤ length i.now }
-    {
-        i.len() / 2
+    #[inline(always)]
+    fn read_present(i: &[u8]) -> (&[u8], Self) {
+        let (i, n) = u16::read_present(i);
+        (i, TlsCipherSuiteID(n))
     }
 }
 

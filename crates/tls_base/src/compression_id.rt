@@ -1,15 +1,14 @@
 //! Numbers of compression methods.
-ghost use Rattle.std.specs.Prelude.{ℕ, Some, codes, ◌≡◌, ◌≤◌, length};
+ghost use Rattle.std.specs.Prelude.{Some, codes, ◌≡◌};
 ghost use Rattle.tls_fields.specs.Layout.{number};
 ghost use Rattle.tls_fields.specs.Answers.{Gives};
 ghost use Rattle.tls_base.specs.Names.{name};
 ghost use Rattle.tls_base.specs.Constants.{compression_methods};
 
 use crate::name::{names, write_name};
-use std::alloc::Global;
 use std::fmt;
 use std::ops::Deref;
-use tls_fields::{IResult, Item, Room, number1};
+use tls_fields::{IResult, Number, number1};
 
 /// The number of a compression method: the CompressionMethod of RFC 5246, section 7.4.1.2.
 #[derive(Clone, Copy, Debug, Default, PartialEq, Eq)]
@@ -56,25 +55,15 @@ impl Deref for TlsCompressionID {
     }
 }
 
-impl<'a> Item<'a> for TlsCompressionID {
-    type Read = Self;
+impl Number for TlsCompressionID {
+    ghost width = { 1 };
 
-    ghost Value = { ℕ };
+    ghost value = { λ v. v.0 };
 
-    ghost view = { λ v. v.0 };
-
-    ghost layout = { number 1 };
-
-    fn read(_alloc: Global, i: &'a [u8]) -> IResult<&'a [u8], Self> {
-        TlsCompressionID::parse(i)
-    }
-}
-
-impl Room for TlsCompressionID {
-    fn room(i: &[u8]) -> usize
-        ensures { result ≤ length i.now }
-    {
-        i.len()
+    #[inline(always)]
+    fn read_present(i: &[u8]) -> (&[u8], Self) {
+        let (i, n) = u8::read_present(i);
+        (i, TlsCompressionID(n))
     }
 }
 

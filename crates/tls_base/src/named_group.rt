@@ -1,14 +1,13 @@
 //! Groups for a key exchange.
-ghost use Rattle.std.specs.Prelude.{ℕ, Some, codes, ◌≡◌, ◌≤◌, length};
+ghost use Rattle.std.specs.Prelude.{Some, codes, ◌≡◌};
 ghost use Rattle.tls_fields.specs.Layout.{number};
 ghost use Rattle.tls_fields.specs.Answers.{Gives};
 ghost use Rattle.tls_base.specs.Names.{name};
 ghost use Rattle.tls_base.specs.Constants.{key_bits as key_bits_of, named_groups};
 
 use crate::name::{find_number, names, write_name};
-use std::alloc::Global;
 use std::fmt;
-use tls_fields::{IResult, Item, Room, number2};
+use tls_fields::{IResult, Number, number2};
 
 /// A group for a key exchange: the NamedGroup of RFC 8446, section 4.2.7, its two bytes as one number, big-endian, with
 /// the NamedCurve of RFC 4492, section 5.1.1, of which RFC 8422, section 5.1.1, deprecates 1 to 22, 0xff01 and 0xff02.
@@ -123,25 +122,15 @@ impl NamedGroup {
     }
 }
 
-impl<'a> Item<'a> for NamedGroup {
-    type Read = Self;
+impl Number for NamedGroup {
+    ghost width = { 2 };
 
-    ghost Value = { ℕ };
+    ghost value = { λ v. v.0 };
 
-    ghost view = { λ v. v.0 };
-
-    ghost layout = { number 2 };
-
-    fn read(_alloc: Global, i: &'a [u8]) -> IResult<&'a [u8], Self> {
-        NamedGroup::parse(i)
-    }
-}
-
-impl Room for NamedGroup {
-    fn room(i: &[u8]) -> usize
-        ensures { result ≤ length i.now }
-    {
-        i.len() / 2
+    #[inline(always)]
+    fn read_present(i: &[u8]) -> (&[u8], Self) {
+        let (i, n) = u16::read_present(i);
+        (i, NamedGroup(n))
     }
 }
 

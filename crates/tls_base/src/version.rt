@@ -1,5 +1,5 @@
 //! Versions of TLS and DTLS.
-ghost use Rattle.std.specs.Prelude.{ℕ, Some, codes, ◌≡◌, IfOk, string_bytes, ◌≤◌, length};
+ghost use Rattle.std.specs.Prelude.{Some, codes, ◌≡◌, IfOk, string_bytes};
 ghost use Rattle.tls_fields.specs.Layout.{number};
 ghost use Rattle.tls_fields.specs.Answers.{Gives};
 ghost use Rattle.tls_base.specs.Names.{name, hexadecimal};
@@ -9,7 +9,7 @@ ghost use Rattle.tls_fields.specs.Bytes.{bytes_of};
 use crate::name::{names, write_name};
 use std::alloc::Global;
 use std::fmt;
-use tls_fields::{IResult, Item, OutOfMemory, Room, number2};
+use tls_fields::{IResult, Number, OutOfMemory, number2};
 
 /// A version of TLS or DTLS: the ProtocolVersion of RFC 5246, section 6.2.1, its two bytes as one number, big-endian.
 ///
@@ -76,25 +76,15 @@ impl TlsVersion {
     }
 }
 
-impl<'a> Item<'a> for TlsVersion {
-    type Read = Self;
+impl Number for TlsVersion {
+    ghost width = { 2 };
 
-    ghost Value = { ℕ };
+    ghost value = { λ v. v.0 };
 
-    ghost view = { λ v. v.0 };
-
-    ghost layout = { number 2 };
-
-    fn read(_alloc: Global, i: &'a [u8]) -> IResult<&'a [u8], Self> {
-        TlsVersion::parse(i)
-    }
-}
-
-impl Room for TlsVersion {
-    fn room(i: &[u8]) -> usize
-        ensures { result ≤ length i.now }
-    {
-        i.len() / 2
+    #[inline(always)]
+    fn read_present(i: &[u8]) -> (&[u8], Self) {
+        let (i, n) = u16::read_present(i);
+        (i, TlsVersion(n))
     }
 }
 

@@ -1,14 +1,12 @@
 -- A layout so many times, one more time.
-use Rattle.std.proofs.Common.{◌≡◌, ℕ, zero, suc, ◌+◌, ◌<◌, List, [], ◌∷◌, ◌++◌, map, Ok, Err, sym, subst, ◌∙◌, refl, ap, arith}
+use Rattle.std.proofs.Common.{◌≡◌, ℕ, zero, suc, ◌+◌, List, [], ◌∷◌, ◌++◌, map, Ok, Err, sym, subst, ◌∙◌, refl, ap}
 use Rattle.std.proofs.Math.Numerals.{add-one}
 use Rattle.std.proofs.lemmas.List.{map-append}
 use Rattle.tls_fields.specs.Bytes.{Bytes, AreBytes}
 use Rattle.tls_fields.specs.Layout.{Layout, times}
-use Rattle.tls_fields.specs.Meaning.{Refusal, Answer}
+use Rattle.tls_fields.specs.Meaning.{Answer}
 use Rattle.tls_fields.specs.Reading.{reading, ◌and_then◌}
-use Rattle.tls_fields.specs.Answers.{GivesOrMemory, refusal_of}
-use Rattle.tls_fields.specs.declared.result.Error.{Error}
-use Rattle.tls_fields.specs.declared.result.Err.{Err as Failed}
+use Rattle.tls_fields.specs.Answers.{Gives, GivesOrMemory}
 use Rattle.std.specs.Borrow.{Bor}
 use Rattle.tls_fields.proofs.OneAnswerLemmas.{read_allowed}
 
@@ -46,33 +44,17 @@ push_read (suc n) l b xs m x r h e =
 push_one : {A : Type 0} (n : ℕ) (l : Layout A) (b : Bytes) (xs : List A) (m : Bytes) (x : A) (r : Bytes) → reading (times n l) b ≡ Ok (xs, m) → reading l m ≡ Ok (x, r) → reading (times (n + 1) l) b ≡ Ok (xs ++ x ∷ [], r)
 push_one n l b xs m x r h e = rw add-one (push_read n l b xs m x r h e)
 
-stop_one : {A : Type 0} (k : ℕ) (l : Layout A) (b : Bytes) (n : ℕ) (xs : List A) (m : Bytes) (e : Refusal) → reading (times n l) b ≡ Ok (xs, m) → reading l m ≡ Err e → n < k → reading (times k l) b ≡ Err e
-stop_one zero l b n xs m e h g i = absurd (omega arith)
-stop_one (suc k) l b zero xs m e h g i = rw ((none_read l b xs m h).1, g) refl
-stop_one (suc k) l b (suc n) xs m e h g i =
-    let f = first_read n l b xs m h in
-    ap (λ a. a and_then λ x. reading (times k l) x.1 and_then λ y. Ok (x.0 ∷ y.0, y.1)) f.3
-    ∙ ap (λ a. a and_then λ y. Ok (f.0 ∷ y.0, y.1)) (stop_one k l f.2 n f.1 m e f.4 g (omega arith))
-
 -- n items are read from b: xs, and m is behind them
 pub record TimesRead {A : Type 0} (l : Layout A) (b : Bytes) (n : ℕ) (xs : List A) (m : Bytes) : Type 0 where
   pub read : reading (times n l) b ≡ Ok (xs, m)
 
 -- The same of what calls return.
 module _ {X A : Type 0} (view : X → A) (l : Layout A) (b : Bytes) where
-  pub times_push : (n : ℕ) (xs : List X) (m : Bytes) (x : X) (r : Bor (List ℕ)) → TimesRead l b n (map view xs) m → GivesOrMemory view l m (Ok (r, x)) → TimesRead l b (n + 1) (map view (xs ++ x ∷ [])) r.now
-  times_push n xs m x r h g = record { read = rw map-append (push_one n l b (map view xs) m (view x) r.now h.read (g.read tt)) }
+  pub times_push : (n : ℕ) (xs : List X) (m : Bytes) (x : X) (r : Bor (List ℕ)) → TimesRead l b n (map view xs) m → Gives view l m (Ok (r, x)) → TimesRead l b (n + 1) (map view (xs ++ x ∷ [])) r.now
+  times_push n xs m x r h g = record { read = rw map-append (push_one n l b (map view xs) m (view x) r.now h.read g.read) }
 
   module _ {V : Type 0} (views : V → List A) (k : ℕ) (are : AreBytes b) where
     pub times_end : (v : V) (o : Bor (List ℕ)) (n : ℕ) → TimesRead l b n (views v) o.now → n ≡ k → GivesOrMemory views (times k l) b (Ok (o, v))
     times_end v o n h e =
         let all : reading (times k l) b ≡ Ok (views v, o.now) = subst (λ n. reading (times n l) b ≡ Ok (views v, o.now)) e h.read in
         record { answers = λ _. tt; read = λ _. all; allowed = λ _. read_allowed (times k l) b _ are all }
-
-    -- an item is refused, and so are all
-    pub times_refused : (e : Failed (Error (Bor (List ℕ)))) (n : ℕ) (xs : List A) (m : Bytes) → TimesRead l b n xs m → n < k → GivesOrMemory view l m (Err e) → GivesOrMemory views (times k l) b (Err e)
-    times_refused e n xs m h i g = record {
-      answers = g.answers;
-      read = λ had. stop_one k l b n xs m (refusal_of e) h.read (g.read had) i;
-      allowed = λ had. read_allowed (times k l) b _ are (stop_one k l b n xs m (refusal_of e) h.read (g.read had) i);
-    }

@@ -19,8 +19,8 @@ mod write;
 
 pub use bytes::{block, counted1, counted2, counted3, maybe2, rest, tag};
 pub use item::{Counted1, Counted2, Item, Number2};
-pub use list::{items, items_times, items1, pairs};
-pub use number::{number1, number2, number3, number4, number8};
+pub use list::{items, items1, numbers, pairs};
+pub use number::{Number, number1, number2, number3, number4, number8};
 pub use result::{Err, Error, ErrorKind, IResult, Needed, OutOfMemory, refused};
 pub use room::{Room, at_most, hops1, hops2};
 pub use table::place;

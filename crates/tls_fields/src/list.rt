@@ -1,9 +1,10 @@
 //! Lists, read item by item.
-ghost use Rattle.std.specs.Prelude.{◌≤◌, length, map};
-ghost use Rattle.tls_fields.specs.Layout.{behind, list, list1, pairs_of, times};
+ghost use Rattle.std.specs.Prelude.{◌≡◌, ◌*◌, ◌≤◌, length, map};
+ghost use Rattle.tls_fields.specs.Layout.{behind, list, list1, number, pairs_of, times};
 ghost use Rattle.tls_fields.specs.Answers.{GivesOrMemory};
 
 use crate::item::Item;
+use crate::number::Number;
 use crate::result::{Err, ErrorKind, IResult, refused};
 use crate::room::room_at_first;
 use std::alloc::Global;
@@ -75,40 +76,33 @@ pub fn items1<'a, T: Item<'a>>(alloc: Global, i: &'a [u8]) -> IResult<&'a [u8], 
     }
 }
 
-/// `count` items, of which there are no more than bytes. The room for them is asked for at once.
+/// `count` numbers, all of which are there. The room for them is asked for at once.
 ///
-/// It refuses as its first refused item does. `OutOfMemory` where the list, or an item, could not be held.
+/// It refuses for memory alone: `OutOfMemory` where the list could not be held.
 #[inline(always)]
-pub fn items_times<'a, T: Item<'a>>(
-    alloc: Global,
-    i: &'a [u8],
-    count: usize,
-) -> IResult<&'a [u8], Vec<T::Read>>
-    requires { count ≤ length i.now }
-    ensures { GivesOrMemory (λ v. map T.view v.items) (times count T.layout) i.now result }
+pub fn numbers<T: Number>(alloc: Global, i: &[u8], count: usize) -> IResult<&[u8], Vec<T>>
+    requires { T.width * count ≤ length i.now }
+    ensures { GivesOrMemory (λ v. map T.value v.items) (times count (number T.width)) i.now result }
 {
-    let mut items = Vec::with_capacity(alloc, count)?;
+    let mut numbers = Vec::with_capacity(alloc, count)?;
     let mut rest = i;
     for _ in 0..count {
-        match T::read(alloc, rest) {
-            Ok((after, item)) => {
-                items.push_reserved(item);
-                rest = after;
-            }
-            Err(e) => return Err(e),
-        }
+        let (after, number) = T::read_present(rest);
+        numbers.push_reserved(number);
+        rest = after;
     }
-    Ok((rest, items))
+    Ok((rest, numbers))
 }
 
-/// All bytes of `i` as items of 2 bytes each.
+/// All bytes of `i` as numbers of 2 bytes each.
 ///
-/// `Error` of kind `LengthValue` where their number is odd. `OutOfMemory` where the list could not be held.
-pub fn pairs<'a, T: Item<'a>>(alloc: Global, i: &'a [u8]) -> IResult<&'a [u8], Vec<T::Read>>
-    ensures { GivesOrMemory (λ v. map T.view v.items) (pairs_of T.layout) i.now result }
+/// `Error` of kind `LengthValue` where the count of bytes is odd. `OutOfMemory` where the list could not be held.
+pub fn pairs<T: Number>(alloc: Global, i: &[u8]) -> IResult<&[u8], Vec<T>>
+    requires { T.width ≡ 2 }
+    ensures { GivesOrMemory (λ v. map T.value v.items) (pairs_of (number T.width)) i.now result }
 {
     if i.len() % 2 != 0 {
         return refused(i, ErrorKind::LengthValue);
     }
-    items_times::<T>(alloc, i, i.len() / 2)
+    numbers::<T>(alloc, i, i.len() / 2)
 }

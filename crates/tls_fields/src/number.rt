@@ -1,10 +1,28 @@
 //! Numbers of one to eight bytes, big-endian.
 #![tactic(auto, using(crate::proofs::GivesLemmas::reads), unfolding(crate::specs::Reading::split_at, crate::specs::Reading::number_at))]
 
+ghost use Rattle.std.specs.Prelude.{◌≡◌, ◌+◌, ◌≤◌, ℕ, Ok, length};
 ghost use Rattle.tls_fields.specs.Layout.{number};
 ghost use Rattle.tls_fields.specs.Answers.{Gives};
 
 use crate::result::{Err, IResult, Needed};
+
+/// A value that is a number of so many bytes.
+///
+/// Where its bytes are there, it is read without a test, so that the bytes of many are turned round at once.
+pub trait Number: Drop {
+    /// How many bytes it has.
+    ghost width: { ℕ };
+
+    /// The number.
+    ghost value: { Self → ℕ };
+
+    /// Reads one from the front of `i`, big-endian.
+    fn read_present(i: &[u8]) -> (&[u8], Self)
+        requires { width ≤ length i.now }
+        ensures read { Gives value (number width) i.now (Ok result) }
+        ensures behind { width + length result.0.now ≡ length i.now };
+}
 
 /// A number of 1 byte (`uint8`; RFC 8446, section 3.3).
 ///
@@ -27,6 +45,30 @@ pub fn number2(i: &[u8]) -> IResult<&[u8], u16>
     match i {
         [a, b, rest @ ..] => Ok((rest, u16::from_be_bytes([*a, *b]))),
         _ => Err(Err::Incomplete(Needed::Size(2 - i.len()))),
+    }
+}
+
+impl Number for u8 {
+    ghost width = { 1 };
+
+    ghost value = { λ n. n };
+
+    #[inline(always)]
+    fn read_present(i: &[u8]) -> (&[u8], u8) {
+        let (front, rest) = i.split_at(1);
+        (rest, front[0])
+    }
+}
+
+impl Number for u16 {
+    ghost width = { 2 };
+
+    ghost value = { λ n. n };
+
+    #[inline(always)]
+    fn read_present(i: &[u8]) -> (&[u8], u16) {
+        let (front, rest) = i.split_at(2);
+        (rest, u16::from_be_bytes([front[0], front[1]]))
     }
 }
 

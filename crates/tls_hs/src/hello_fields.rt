@@ -7,7 +7,7 @@ ghost use Rattle.tls_hs.specs.Hello.{session_id as session_id_layout, cipher_sui
 
 use std::alloc::Global;
 use tls_base::{CipherTable, TlsCipherSuite, TlsCipherSuiteID, TlsCompressionID};
-use tls_fields::{ErrorKind, IResult, OutOfMemory, block, items_times, number1, number2, refused};
+use tls_fields::{ErrorKind, IResult, OutOfMemory, block, number1, number2, numbers, refused};
 
 /// Reads a session id (RFC 5246, section 7.4.1.2): 1 byte of length, at most 32, and so many bytes; one of no bytes is `None`.
 ///
@@ -43,7 +43,7 @@ pub fn cipher_suites(alloc: Global, i: &[u8]) -> IResult<&[u8], Vec<TlsCipherSui
     if k % 2 != 0 || k > rest.len() {
         return refused(i, ErrorKind::LengthValue);
     }
-    items_times::<TlsCipherSuiteID>(alloc, rest, k / 2)
+    numbers::<TlsCipherSuiteID>(alloc, rest, k / 2)
 }
 
 /// Reads compression methods (RFC 5246, section 7.4.1.2): 1 byte of length, and so many bytes, 1 for each method.
@@ -61,7 +61,7 @@ pub fn compressions(alloc: Global, i: &[u8]) -> IResult<&[u8], Vec<TlsCompressio
     if k > rest.len() {
         return refused(i, ErrorKind::LengthValue);
     }
-    items_times::<TlsCompressionID>(alloc, rest, k)
+    numbers::<TlsCompressionID>(alloc, rest, k)
 }
 
 /// The suite that `table` has for each of `ciphers`, in their order; `None` where it has none.
