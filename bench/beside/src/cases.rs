@@ -40,8 +40,8 @@ impl Cases {
 
     fn parse(&mut self, group: &'static str, what: &str, o: Repeated, r: Repeated, bytes: Vec<u8>) {
         let name = format!("{what}, {} bytes", bytes.len());
-        let bytes = leak(bytes);
-        self.add(group, name, repeated(o, bytes), repeated(r, bytes));
+        let copies = leak(bytes.repeat(2));
+        self.add(group, name, repeated(o, copies), repeated(r, copies));
     }
 
     fn plaintext(&mut self, what: &str, bytes: Vec<u8>) {

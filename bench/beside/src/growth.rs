@@ -45,12 +45,9 @@ fn timestamps(size: usize) -> Vec<u8> {
     bytes
 }
 
-fn each_byte(bytes: *const u8, len: usize, times: usize) -> u64 {
-    (0..times).map(|_| ours::ours_stream(bytes, len, 1)).sum()
-}
-
+/// Of its two copies it takes one.
 extern "C" fn stream_of_bytes(bytes: *const u8, len: usize, times: usize) -> u64 {
-    each_byte(bytes, len, times)
+    (0..times).map(|_| ours::ours_stream(bytes, len / 2, 1)).sum()
 }
 
 fn all() -> [Growing; 9] {
@@ -77,8 +74,8 @@ fn sizes(most: usize) -> [usize; 3] {
 pub fn table(measured: &dyn Fn(&dyn Fn() -> u64, usize) -> String) {
     for Growing { name, call, input, most } in all() {
         let cells = sizes(most).map(|size| {
-            let bytes = input(size);
-            measured(&|| black_box(call)(bytes.as_ptr(), bytes.len(), 1), bytes.len())
+            let copies = input(size).repeat(2);
+            measured(&|| black_box(call)(copies.as_ptr(), copies.len(), 1), copies.len() / 2)
         });
         println!("| {name} | {} | {} |", most, cells.join(" | "));
     }

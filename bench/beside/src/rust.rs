@@ -4,21 +4,24 @@ use crate::number::{answer, then};
 use cookie_factory::gen_simple;
 use tls_parser::*;
 
-/// A call on bytes, made so many times. The number of the round is in the answer, so that no round can be left out.
+/// A call, made so many times in a loop, in turn on the two copies of an input that lie one behind the other, so that no round can
+/// be left out.
 macro_rules! parses {
     ($($name:ident: $call:path;)*) => {
         $(
             #[unsafe(no_mangle)]
             #[inline(never)]
             pub extern "C" fn $name(bytes: *const u8, len: usize, times: usize) -> u64 {
-                #[inline(never)]
-                fn once(i: &[u8], round: u64) -> u64 {
-                    then(round, answer(&$call(i)))
+                #[cfg_attr(feature = "apart", inline(never))]
+                #[cfg_attr(not(feature = "apart"), inline(always))]
+                fn once(i: &[u8]) -> u64 {
+                    answer(&$call(i))
                 }
-                let i = unsafe { std::slice::from_raw_parts(bytes, len) };
+                let half = len / 2;
                 let mut number = 0;
                 for round in 0..times {
-                    number = then(number, once(i, round as u64));
+                    let i = unsafe { std::slice::from_raw_parts(bytes.add(round % 2 * half), half) };
+                    number = then(number, once(i));
                 }
                 number
             }

@@ -67,6 +67,7 @@ impl<'a> Item<'a> for Handshake {
 
     ghost layout = { handshake };
 
+    #[inline(always)]
     fn read(alloc: Global, i: &'a [u8]) -> IResult<&'a [u8], DTLSMessage<'a>> {
         parse_dtls_message_handshake(alloc, i)
     }

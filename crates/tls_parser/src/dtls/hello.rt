@@ -90,6 +90,7 @@ pub struct DTLSHelloVerifyRequest<'a> {
 /// - `Error` of kind `LengthValue` where the length of the suites is odd, or where that of the suites or of the methods
 ///   is above the bytes that are left.
 /// - `OutOfMemory` where a list could not be held.
+#[inline(always)]
 pub(crate) fn client_hello(alloc: Global, i: &[u8]) -> IResult<&[u8], DTLSClientHello>
     ensures { GivesOrMemory view_client_hello client_hello_layout i.now result }
 {

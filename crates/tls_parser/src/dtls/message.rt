@@ -51,6 +51,7 @@ impl<'a> DTLSMessage<'a> {
 /// - `Error` of kind `Switch` where the body is whole, and its type is not 1, 2, 3, 11, 14 or 16.
 /// - What the body refuses, `Incomplete` too.
 /// - `OutOfMemory` where a list could not be held.
+#[inline(always)]
 pub fn parse_dtls_message_handshake(alloc: Global, i: &[u8]) -> IResult<&[u8], DTLSMessage>
     ensures { GivesOrMemory view_message handshake_layout i.now result }
 {
