@@ -93,7 +93,7 @@ pub fn parse_tls_record_with_header<'a>(
 
 /// A raw record, and then its fragment by its header.
 #[tactic(auto, using(tls_fields::proofs::OneAnswerLemmas::read_allowed, crate::proofs::ContentLemmas::plaintext_is_raw_then_content))]
-#[inline(always)]
+#[inline(never)]
 fn record_with_messages(alloc: Global, i: &[u8]) -> IResult<&[u8], TlsPlaintext>
     ensures gives { GivesOrMemory view_plaintext plaintext i.now result }
     ensures never_out_of_memory_without_raw_record { IsErr (reading raw_record i.now) → MemorySufficed result }
@@ -117,6 +117,7 @@ fn record_with_messages(alloc: Global, i: &[u8]) -> IResult<&[u8], TlsPlaintext>
 /// [`crate::gen_tls_plaintext`] writes what was read as the same bytes, where nothing of them was dropped, and the messages
 /// are of kinds that it knows, of which each hello has `ext`.
 #[tactic(auto, using(tls_fields::proofs::OneAnswerLemmas::one_answer, crate::proofs::IncompleteLemmas::plaintext_memory, crate::proofs::IncompleteLemmas::plaintext_incomplete))]
+#[inline(always)]
 pub fn parse_tls_plaintext(alloc: Global, i: &[u8]) -> IResult<&[u8], TlsPlaintext>
     ensures gives { GivesOrMemory view_plaintext plaintext i.now result }
     ensures only_one { AllowsOne plaintext i.now }

@@ -111,7 +111,7 @@ pub fn parse_dtls_record_with_header<'a>(
 
 /// A raw record, and then its fragment by its header.
 #[tactic(auto, using(tls_fields::proofs::OneAnswerLemmas::read_allowed, crate::proofs::ContentLemmas::dtls_plaintext_is_raw_then_content))]
-#[inline(always)]
+#[inline(never)]
 fn record_with_messages(alloc: Global, i: &[u8]) -> IResult<&[u8], DTLSPlaintext>
     ensures gives { GivesOrMemory view_plaintext plaintext i.now result }
     ensures never_out_of_memory_without_raw_record { IsErr (reading raw_record_layout i.now) → MemorySufficed result }
@@ -131,6 +131,7 @@ fn record_with_messages(alloc: Global, i: &[u8]) -> IResult<&[u8], DTLSPlaintext
 /// - `Incomplete` of the count of bytes that are missing of the fragment.
 /// - `OutOfMemory` only where the record is whole and not too large.
 #[tactic(auto, using(tls_fields::proofs::OneAnswerLemmas::one_answer, crate::proofs::IncompleteLemmas::dtls_plaintext_memory, crate::proofs::IncompleteLemmas::dtls_plaintext_incomplete))]
+#[inline(always)]
 pub fn parse_dtls_plaintext_record(alloc: Global, i: &[u8]) -> IResult<&[u8], DTLSPlaintext>
     ensures gives { GivesOrMemory view_plaintext plaintext i.now result }
     ensures only_one { AllowsOne plaintext i.now }
