@@ -4,10 +4,14 @@ the second. The first warmed up.
     instructions.py FOLDER table           the table
     instructions.py FOLDER store FILE      writes our side's counts to FILE
     instructions.py FOLDER compare FILE    compares them with FILE's; the status is 1 where one rose by more than 1 in 100
+    instructions.py FOLDER moves PROGRAM   what the compilers and not the sources say: moves of large values, and the heap's wrapper
 """
 import math
 import os
+import re
+import subprocess
 import sys
+from collections import Counter
 
 
 def total(folder, number):
@@ -20,14 +24,71 @@ def total(folder, number):
 
 def counted(folder):
     """Each case: its group, its name, and the instructions of a call on our side and on Rust's."""
-    with open(os.path.join(folder, "cases"), encoding="utf-8") as lines:
-        cases = [line.rstrip("\n").split("\t") for line in lines]
     found = []
-    for place, (group, name) in enumerate(cases):
+    for place, (group, name) in enumerate(cases_of(folder)):
         first = 6 * place + 1
         ours, rust = ((total(folder, at + 2) - total(folder, at + 1)) / 10 for at in (first, first + 3))
         found.append((group, name, ours, rust))
     return found
+
+
+def cases_of(folder):
+    with open(os.path.join(folder, "cases"), encoding="utf-8") as lines:
+        return [line.rstrip("\n").split("\t") for line in lines]
+
+
+# What moves or zeroes 16 bytes at once, or writes a zero of 8 bytes.
+MOVE = re.compile(r"\b(movups|movaps|movdqu|movdqa|xorps|pxor)\b.*%xmm|movq +\$0x0,")
+MOVERS = ("memcpy", "memmove", "memset")
+WRAPPERS = ("rattle_alloc", "rattle_dealloc", "rattle_realloc", "___rust_alloc", "___rust_dealloc", "___rust_realloc")
+
+
+def moving_addresses(program):
+    text = subprocess.run(["objdump", "-d", "--no-show-raw-insn", program], capture_output=True, text=True, check=True).stdout
+    lines = (line.split("\t", 1) for line in text.splitlines() if "\t" in line)
+    return {int(at.strip(" :"), 16) for at, instruction in lines if MOVE.search(instruction)}
+
+
+def by_kind(folder, number, moving):
+    """The instructions of a dump: moves, those of the heap's wrappers, and the others."""
+    names, found = {}, Counter()
+    function, address, is_call = "", 0, False
+    with open(os.path.join(folder, f"dump.{number}"), encoding="utf-8") as dump:
+        for line in dump:
+            if named := re.match(r"(c?fn)=\((\d+)\)(?: (.*))?$", line):
+                kind, key, name = named.groups()
+                names[key] = name or names.get(key, "")
+                function = names[key] if kind == "fn" else function
+            elif line.startswith("calls="):
+                is_call = True
+            elif cost := re.match(r"(0x[0-9a-f]+|[+-]\d+|\*) \S+ (\d+)$", line):
+                at, count = cost.groups()
+                address = int(at, 16) if at.startswith("0x") else address + (0 if at == "*" else int(at))
+                if not is_call:
+                    found[kind_of(function, address in moving)] += int(count)
+                is_call = False
+    return found
+
+
+def kind_of(function, moves):
+    if any(word in function for word in WRAPPERS):
+        return "wrapper"
+    return "moves" if moves or any(word in function for word in MOVERS) else "other"
+
+
+def moves_table(folder, program):
+    moving = moving_addresses(program)
+    print("| group | case | ours: moves | wrapper | other | Rust: moves | wrapper | other | ratio | of the other |")
+    print("|---|---|---|---|---|---|---|---|---|---|")
+    for place, (group, name) in enumerate(cases_of(folder)):
+        sides = []
+        for first in (6 * place + 1, 6 * place + 4):
+            found = by_kind(folder, first + 2, moving)
+            found.subtract(by_kind(folder, first + 1, moving))
+            sides.append([found[kind] / 10 for kind in ("moves", "wrapper", "other")])
+        cells = " | ".join(f"{count:.0f}" for side in sides for count in side)
+        ours, rust = (sum(side) for side in sides)
+        print(f"| {group} | {name} | {cells} | {ours / rust:.2f} | {sides[0][2] / sides[1][2]:.2f} |")
 
 
 def mean(ratios):
@@ -70,6 +131,9 @@ def compare(found, path):
 
 def main():
     folder, verb = sys.argv[1:3]
+    if verb == "moves":
+        moves_table(folder, sys.argv[3])
+        return
     found = counted(folder)
     if verb == "table":
         table(found)

@@ -8,8 +8,8 @@ use std::alloc::{AllocError, Global};
 use std::test::Fail;
 use tls_fields::{
     Counted1, Counted2, Err, Error, ErrorKind, IResult, Item, Needed, Number2, OutOfMemory, Room,
-    block, counted1, counted2, counted3, items, items_times, items1, maybe2, number1, number2,
-    number3, number4, number8, pairs, place, tag,
+    block, counted1, counted2, counted3, items, items1, maybe2, number1, number2, number3,
+    number4, number8, numbers as numbers_of, pairs, place, tag,
 };
 
 /// A number of 1 byte that is at most 9.
@@ -183,23 +183,23 @@ fn lists_of_one_or_more(rt: HostRuntime) {
 
 #[test]
 fn lists_of_a_known_length(rt: HostRuntime) {
-    lists(&rt, items_times::<Digit>(rt.alloc(), &[10], 0), &[], &[10]);
-    let numbers = items_times::<Number2>(rt.alloc(), &[0, 1, 0, 2, 0], 2);
-    lists(&rt, numbers, &[1, 2], &[0]);
-    let cut = items_times::<Number2>(rt.alloc(), &[0, 1, 0], 2);
-    refuses(&rt, cut, Refused::Incomplete(1));
-    let refused = items_times::<Digit>(rt.alloc(), &[1, 10, 11], 3);
-    refuses(&rt, refused, Refused::Error(ErrorKind::Verify));
+    let none: [u8; 0] = [];
+    lists(&rt, numbers_of(rt.alloc(), &[10], 0), &none, &[10]);
+    lists(&rt, numbers_of(rt.alloc(), &[9, 8, 7], 2), &[9_u8, 8], &[7]);
+    lists(&rt, numbers_of(rt.alloc(), &[9, 8], 2), &[9_u8, 8], &[]);
+    let two: [u16; 2] = [0x0102, 0xfffe];
+    lists(&rt, numbers_of(rt.alloc(), &[1, 2, 0xff, 0xfe, 5], 2), &two, &[5]);
+    lists(&rt, numbers_of(rt.alloc(), &[1, 2, 0xff, 0xfe], 2), &two, &[]);
 }
 
 #[test]
 fn lists_of_pairs(rt: HostRuntime) {
-    lists(&rt, pairs::<Number2>(rt.alloc(), &[]), &[], &[]);
-    let groups = pairs::<Number2>(rt.alloc(), &[0, 0x17, 0, 0x1d]);
+    lists(&rt, pairs::<u16>(rt.alloc(), &[]), &[], &[]);
+    let groups = pairs::<u16>(rt.alloc(), &[0, 0x17, 0, 0x1d]);
     lists(&rt, groups, &[0x17, 0x1d], &[]);
     let odd = Refused::Error(ErrorKind::LengthValue);
-    refuses(&rt, pairs::<Number2>(rt.alloc(), &[0]), odd);
-    refuses(&rt, pairs::<Number2>(rt.alloc(), &[0, 1, 2]), odd);
+    refuses(&rt, pairs::<u16>(rt.alloc(), &[0]), odd);
+    refuses(&rt, pairs::<u16>(rt.alloc(), &[0, 1, 2]), odd);
 }
 
 #[test]
