@@ -246,8 +246,8 @@ pub(crate) fn supported_versions_content(alloc: Global, i: &[u8]) -> IResult<&[u
 {
     if i.len() == 2 {
         let (i, version) = TlsVersion::parse(i)?;
-        let mut versions = Vec::new(alloc);
-        versions.push(version)?;
+        let mut versions = Vec::with_capacity(alloc, 1)?;
+        versions.push_reserved(version);
         return Ok((i, TlsExtension::SupportedVersions(versions)));
     }
     let (i, _) = block(i, 1)?;
