@@ -326,6 +326,7 @@ pub fn parse_tls_extension_renegotiation_info_content(i: &[u8]) -> IResult<&[u8]
 /// and a key share, a digest and the encrypted name, each after 2 bytes of length.
 ///
 /// `Incomplete` of the missing bytes of the first part that isn't whole.
+#[inline(always)]
 pub fn parse_tls_extension_encrypted_server_name(i: &[u8]) -> IResult<&[u8], TlsExtension>
     ensures { Gives view content.encrypted_server_name i.now result }
 {
