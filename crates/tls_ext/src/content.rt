@@ -9,10 +9,8 @@ ghost use Rattle.tls_fields.specs.Answers.{Gives, GivesOrMemory};
 ghost use Rattle.tls_ext.specs.Extension.{OidFilter as OIDFilter, ServerName as ServerNameEntry, view_oid_filter, view_server_name, view};
 ghost use Rattle.tls_ext.specs.Content as content;
 ghost use Rattle.tls_ext.specs.Content.{server_name, oid_filter};
-ghost use Rattle.tls_ext.specs.Kinds.{empty_content as empty_layout, opaque_content as opaque_layout};
 
 use crate::extension::{OidFilter, TlsExtension};
-use crate::kind::{EmptyKind, OpaqueKind};
 use std::alloc::Global;
 use tls_base::{CertificateStatusType, NamedGroup, SNIType, TlsCipherSuiteID, TlsVersion};
 use tls_fields::{
@@ -20,36 +18,92 @@ use tls_fields::{
     maybe2, number1, number2, number4, pairs, refused, rest,
 };
 
-/// All bytes of `i`, as the value of that kind. It never refuses.
-pub(crate) fn opaque_content(i: &[u8], kind: OpaqueKind) -> IResult<&[u8], TlsExtension>
-    ensures { Gives view (opaque_layout kind) i.now result }
+/// Padding (RFC 7685, section 3), which is all bytes of `i`. It never refuses.
+pub(crate) fn padding_content(i: &[u8]) -> IResult<&[u8], TlsExtension>
+    ensures { Gives view content.padding i.now result }
 {
     let (i, bytes) = rest(i)?;
-    match kind {
-        OpaqueKind::Padding => Ok((i, TlsExtension::Padding(bytes))),
-        OpaqueKind::SessionTicket => Ok((i, TlsExtension::SessionTicket(bytes))),
-        OpaqueKind::KeyShareOld => Ok((i, TlsExtension::KeyShareOld(bytes))),
-        OpaqueKind::PreSharedKey => Ok((i, TlsExtension::PreSharedKey(bytes))),
-        OpaqueKind::Cookie => Ok((i, TlsExtension::Cookie(bytes))),
-        OpaqueKind::KeyShare => Ok((i, TlsExtension::KeyShare(bytes))),
-    }
+    Ok((i, TlsExtension::Padding(bytes)))
 }
 
-/// The value of that kind, which says all by being there.
-///
-/// `Error` of kind `Verify` where `i` isn't empty.
-pub(crate) fn empty_content(i: &[u8], kind: EmptyKind) -> IResult<&[u8], TlsExtension>
-    ensures { Gives view (empty_layout kind) i.now result }
+/// A session ticket (RFC 5077, section 3.2), which is all bytes of `i`. It never refuses.
+pub(crate) fn session_ticket_content(i: &[u8]) -> IResult<&[u8], TlsExtension>
+    ensures { Gives view content.session_ticket i.now result }
+{
+    let (i, bytes) = rest(i)?;
+    Ok((i, TlsExtension::SessionTicket(bytes)))
+}
+
+/// Key shares under their older number, which are all bytes of `i`. It never refuses.
+pub(crate) fn key_share_old_content(i: &[u8]) -> IResult<&[u8], TlsExtension>
+    ensures { Gives view content.key_share_old i.now result }
+{
+    let (i, bytes) = rest(i)?;
+    Ok((i, TlsExtension::KeyShareOld(bytes)))
+}
+
+/// Pre-shared keys (RFC 8446, section 4.2.11), which are all bytes of `i`. It never refuses.
+pub(crate) fn pre_shared_key_content(i: &[u8]) -> IResult<&[u8], TlsExtension>
+    ensures { Gives view content.pre_shared_key i.now result }
+{
+    let (i, bytes) = rest(i)?;
+    Ok((i, TlsExtension::PreSharedKey(bytes)))
+}
+
+/// A cookie (RFC 8446, section 4.2.2), which is all bytes of `i`. It never refuses.
+pub(crate) fn cookie_content(i: &[u8]) -> IResult<&[u8], TlsExtension>
+    ensures { Gives view content.cookie i.now result }
+{
+    let (i, bytes) = rest(i)?;
+    Ok((i, TlsExtension::Cookie(bytes)))
+}
+
+/// Key shares (RFC 8446, section 4.2.8), which are all bytes of `i`. It never refuses.
+pub(crate) fn key_share_content(i: &[u8]) -> IResult<&[u8], TlsExtension>
+    ensures { Gives view content.key_share i.now result }
+{
+    let (i, bytes) = rest(i)?;
+    Ok((i, TlsExtension::KeyShare(bytes)))
+}
+
+/// The wish to encrypt before the MAC (RFC 7366, section 2). `Error` of kind `Verify` where `i` isn't empty.
+pub(crate) fn encrypt_then_mac_content(i: &[u8]) -> IResult<&[u8], TlsExtension>
+    ensures { Gives view content.encrypt_then_mac i.now result }
 {
     if !i.is_empty() {
         return refused(i, ErrorKind::Verify);
     }
-    match kind {
-        EmptyKind::EncryptThenMac => Ok((i, TlsExtension::EncryptThenMac)),
-        EmptyKind::ExtendedMasterSecret => Ok((i, TlsExtension::ExtendedMasterSecret)),
-        EmptyKind::PostHandshakeAuth => Ok((i, TlsExtension::PostHandshakeAuth)),
-        EmptyKind::NextProtocolNegotiation => Ok((i, TlsExtension::NextProtocolNegotiation)),
+    Ok((i, TlsExtension::EncryptThenMac))
+}
+
+/// The wish for an extended master secret (RFC 7627, section 5.1). `Error` of kind `Verify` where `i` isn't empty.
+pub(crate) fn extended_master_secret_content(i: &[u8]) -> IResult<&[u8], TlsExtension>
+    ensures { Gives view content.extended_master_secret i.now result }
+{
+    if !i.is_empty() {
+        return refused(i, ErrorKind::Verify);
     }
+    Ok((i, TlsExtension::ExtendedMasterSecret))
+}
+
+/// The leave to ask for authentication after the handshake (RFC 8446, section 4.2.6). `Error` of kind `Verify` where `i` isn't empty.
+pub(crate) fn post_handshake_auth_content(i: &[u8]) -> IResult<&[u8], TlsExtension>
+    ensures { Gives view content.post_handshake_auth i.now result }
+{
+    if !i.is_empty() {
+        return refused(i, ErrorKind::Verify);
+    }
+    Ok((i, TlsExtension::PostHandshakeAuth))
+}
+
+/// Next protocol negotiation (draft-agl-tls-nextprotoneg-04, section 3). `Error` of kind `Verify` where `i` isn't empty.
+pub(crate) fn next_protocol_negotiation_content(i: &[u8]) -> IResult<&[u8], TlsExtension>
+    ensures { Gives view content.next_protocol_negotiation i.now result }
+{
+    if !i.is_empty() {
+        return refused(i, ErrorKind::Verify);
+    }
+    Ok((i, TlsExtension::NextProtocolNegotiation))
 }
 
 /// Reads the name of a server (RFC 6066, section 3): 1 byte of type, 2 bytes of length, and that many
@@ -326,6 +380,7 @@ pub fn parse_tls_extension_renegotiation_info_content(i: &[u8]) -> IResult<&[u8]
 /// and a key share, a digest and the encrypted name, each after 2 bytes of length.
 ///
 /// `Incomplete` of the missing bytes of the first part that isn't whole.
+// The one content of a few fields that the compiler would leave a call: then all of them went through its answer's memory.
 #[inline(always)]
 pub fn parse_tls_extension_encrypted_server_name(i: &[u8]) -> IResult<&[u8], TlsExtension>
     ensures { Gives view content.encrypted_server_name i.now result }

@@ -1,24 +1,27 @@
 //! Extensions of any kind (RFC 8446, section 4.2), each read as the content that its type has.
 ghost use Rattle.std.specs.Prelude.{◌≤◌, length, map};
-ghost use Rattle.tls_fields.specs.Answers.{Gives, GivesOrMemory};
+ghost use Rattle.tls_fields.specs.Answers.{GivesOrMemory};
 ghost use Rattle.tls_ext.specs.Extension.{Extension, view};
 ghost use Rattle.tls_ext.specs.Dispatch.{extension as extension_layout, extension_content as extension_content_layout, extensions};
-ghost use Rattle.tls_ext.specs.Kinds.{field_content as field_layout, kind_content as kind_layout, list_content as list_layout};
+ghost use Rattle.tls_ext.specs.Kinds.{kind_content as kind_layout, list_content as list_layout};
 ghost use Rattle.tls_ext.specs.declared.kind.Side.TheVariants.{General as general, Client as client, Server as server};
 
 use crate::content::{
-    early_data_content, empty_content, oid_filters_content, opaque_content,
-    parse_tls_extension_alpn_content, parse_tls_extension_ec_point_formats_content,
-    parse_tls_extension_elliptic_curves_content, parse_tls_extension_encrypted_server_name,
-    parse_tls_extension_heartbeat_content, parse_tls_extension_max_fragment_length_content,
+    cookie_content, early_data_content, encrypt_then_mac_content, extended_master_secret_content,
+    key_share_content, key_share_old_content, next_protocol_negotiation_content,
+    oid_filters_content, padding_content, parse_tls_extension_alpn_content,
+    parse_tls_extension_ec_point_formats_content, parse_tls_extension_elliptic_curves_content,
+    parse_tls_extension_encrypted_server_name, parse_tls_extension_heartbeat_content,
+    parse_tls_extension_max_fragment_length_content,
     parse_tls_extension_psk_key_exchange_modes_content,
     parse_tls_extension_renegotiation_info_content,
     parse_tls_extension_signature_algorithms_content,
     parse_tls_extension_signed_certificate_timestamp_content, parse_tls_extension_sni_content,
-    record_size_limit_content, status_request_content, supported_versions_content,
+    post_handshake_auth_content, pre_shared_key_content, record_size_limit_content,
+    session_ticket_content, status_request_content, supported_versions_content,
 };
 use crate::extension::TlsExtension;
-use crate::kind::{FieldKind, Kind, ListKind, Side, kind_of};
+use crate::kind::{Kind, ListKind, Side, kind_of};
 use std::alloc::Global;
 use tls_base::TlsExtensionType;
 use tls_fields::{IResult, Item, Room, counted2, hops2, items, rest};
@@ -41,26 +44,6 @@ fn list_content(alloc: Global, i: &[u8], kind: ListKind) -> IResult<&[u8], TlsEx
     }
 }
 
-/// The content of a kind of one or a few fields.
-#[inline(always)]
-fn field_content(i: &[u8], kind: FieldKind) -> IResult<&[u8], TlsExtension>
-    ensures { Gives view (field_layout kind) i.now result }
-{
-    match kind {
-        FieldKind::MaxFragmentLength => parse_tls_extension_max_fragment_length_content(i),
-        FieldKind::StatusRequest => status_request_content(i),
-        FieldKind::EcPointFormats => parse_tls_extension_ec_point_formats_content(i),
-        FieldKind::Heartbeat => parse_tls_extension_heartbeat_content(i),
-        FieldKind::SignedCertificateTimestamp => {
-            parse_tls_extension_signed_certificate_timestamp_content(i)
-        }
-        FieldKind::RecordSizeLimit => record_size_limit_content(i),
-        FieldKind::EarlyData => early_data_content(i),
-        FieldKind::RenegotiationInfo => parse_tls_extension_renegotiation_info_content(i),
-        FieldKind::EncryptedServerName => parse_tls_extension_encrypted_server_name(i),
-    }
-}
-
 /// The content of an extension of that kind.
 #[inline(always)]
 fn kind_content(alloc: Global, i: &[u8], kind: Kind) -> IResult<&[u8], TlsExtension>
@@ -68,9 +51,27 @@ fn kind_content(alloc: Global, i: &[u8], kind: Kind) -> IResult<&[u8], TlsExtens
 {
     match kind {
         Kind::List(kind) => list_content(alloc, i, kind),
-        Kind::Opaque(kind) => opaque_content(i, kind),
-        Kind::Empty(kind) => empty_content(i, kind),
-        Kind::Field(kind) => field_content(i, kind),
+        Kind::MaxFragmentLength => parse_tls_extension_max_fragment_length_content(i),
+        Kind::StatusRequest => status_request_content(i),
+        Kind::EcPointFormats => parse_tls_extension_ec_point_formats_content(i),
+        Kind::Heartbeat => parse_tls_extension_heartbeat_content(i),
+        Kind::SignedCertificateTimestamp => {
+            parse_tls_extension_signed_certificate_timestamp_content(i)
+        }
+        Kind::Padding => padding_content(i),
+        Kind::EncryptThenMac => encrypt_then_mac_content(i),
+        Kind::ExtendedMasterSecret => extended_master_secret_content(i),
+        Kind::RecordSizeLimit => record_size_limit_content(i),
+        Kind::SessionTicket => session_ticket_content(i),
+        Kind::KeyShareOld => key_share_old_content(i),
+        Kind::PreSharedKey => pre_shared_key_content(i),
+        Kind::EarlyData => early_data_content(i),
+        Kind::Cookie => cookie_content(i),
+        Kind::PostHandshakeAuth => post_handshake_auth_content(i),
+        Kind::KeyShare => key_share_content(i),
+        Kind::NextProtocolNegotiation => next_protocol_negotiation_content(i),
+        Kind::RenegotiationInfo => parse_tls_extension_renegotiation_info_content(i),
+        Kind::EncryptedServerName => parse_tls_extension_encrypted_server_name(i),
     }
 }
 

@@ -37,47 +37,30 @@ pub(crate) enum ListKind {
     OidFilters,
 }
 
-/// Kinds whose content is all bytes that are there.
+/// A kind of extension whose content is read. Lists stand apart, since they are read by calls and all others in place: in
+/// one match, what is made in place would go through the memory that the calls answer in.
 #[derive(Clone, Copy)]
-pub(crate) enum OpaqueKind {
-    Padding,
-    SessionTicket,
-    KeyShareOld,
-    PreSharedKey,
-    Cookie,
-    KeyShare,
-}
-
-/// Kinds that say all by being there.
-#[derive(Clone, Copy)]
-pub(crate) enum EmptyKind {
-    EncryptThenMac,
-    ExtendedMasterSecret,
-    PostHandshakeAuth,
-    NextProtocolNegotiation,
-}
-
-/// Kinds of one or a few fields.
-#[derive(Clone, Copy)]
-pub(crate) enum FieldKind {
+pub(crate) enum Kind {
+    List(ListKind),
     MaxFragmentLength,
     StatusRequest,
     EcPointFormats,
     Heartbeat,
     SignedCertificateTimestamp,
+    Padding,
+    EncryptThenMac,
+    ExtendedMasterSecret,
     RecordSizeLimit,
+    SessionTicket,
+    KeyShareOld,
+    PreSharedKey,
     EarlyData,
+    Cookie,
+    PostHandshakeAuth,
+    KeyShare,
+    NextProtocolNegotiation,
     RenegotiationInfo,
     EncryptedServerName,
-}
-
-/// A kind of extension whose content is read.
-#[derive(Clone, Copy)]
-pub(crate) enum Kind {
-    List(ListKind),
-    Opaque(OpaqueKind),
-    Empty(EmptyKind),
-    Field(FieldKind),
 }
 
 impl Sides {
@@ -116,47 +99,47 @@ macro_rules! rows {
     ($column:ident) => {
         $column!(
             ServerName: List(ListKind::ServerName), ALL;
-            MaxFragmentLength: Field(FieldKind::MaxFragmentLength), ALL;
-            StatusRequest: Field(FieldKind::StatusRequest), ALL;
+            MaxFragmentLength: MaxFragmentLength, ALL;
+            StatusRequest: StatusRequest, ALL;
             SupportedGroups: List(ListKind::SupportedGroups), NOT_SERVER;
-            EcPointFormats: Field(FieldKind::EcPointFormats), ALL;
+            EcPointFormats: EcPointFormats, ALL;
             SignatureAlgorithms: List(ListKind::SignatureAlgorithms), ALL;
-            Heartbeat: Field(FieldKind::Heartbeat), ALL;
+            Heartbeat: Heartbeat, ALL;
             ApplicationLayerProtocolNegotiation:
                 List(ListKind::ApplicationLayerProtocolNegotiation), ALL;
-            SignedCertificateTimestamp: Field(FieldKind::SignedCertificateTimestamp), ALL;
-            Padding: Opaque(OpaqueKind::Padding), NOT_SERVER;
-            EncryptThenMac: Empty(EmptyKind::EncryptThenMac), ALL;
-            ExtendedMasterSecret: Empty(EmptyKind::ExtendedMasterSecret), ALL;
-            RecordSizeLimit: Field(FieldKind::RecordSizeLimit), ALL;
-            SessionTicketTLS: Opaque(OpaqueKind::SessionTicket), ALL;
-            KeyShareOld: Opaque(OpaqueKind::KeyShareOld), GENERAL_ONLY;
-            PreSharedKey: Opaque(OpaqueKind::PreSharedKey), ALL;
-            EarlyData: Field(FieldKind::EarlyData), ALL;
+            SignedCertificateTimestamp: SignedCertificateTimestamp, ALL;
+            Padding: Padding, NOT_SERVER;
+            EncryptThenMac: EncryptThenMac, ALL;
+            ExtendedMasterSecret: ExtendedMasterSecret, ALL;
+            RecordSizeLimit: RecordSizeLimit, ALL;
+            SessionTicketTLS: SessionTicket, ALL;
+            KeyShareOld: KeyShareOld, GENERAL_ONLY;
+            PreSharedKey: PreSharedKey, ALL;
+            EarlyData: EarlyData, ALL;
             SupportedVersions: List(ListKind::SupportedVersions), ALL;
-            Cookie: Opaque(OpaqueKind::Cookie), ALL;
+            Cookie: Cookie, ALL;
             PskExchangeModes: List(ListKind::PskKeyExchangeModes), NOT_SERVER;
             OidFilters: List(ListKind::OidFilters), NOT_SERVER;
-            PostHandshakeAuth: Empty(EmptyKind::PostHandshakeAuth), NOT_SERVER;
-            KeyShare: Opaque(OpaqueKind::KeyShare), ALL;
-            NextProtocolNegotiation: Empty(EmptyKind::NextProtocolNegotiation), ALL;
-            RenegotiationInfo: Field(FieldKind::RenegotiationInfo), ALL;
-            EncryptedServerName: Field(FieldKind::EncryptedServerName), NOT_SERVER;
+            PostHandshakeAuth: PostHandshakeAuth, NOT_SERVER;
+            KeyShare: KeyShare, ALL;
+            NextProtocolNegotiation: NextProtocolNegotiation, ALL;
+            RenegotiationInfo: RenegotiationInfo, ALL;
+            EncryptedServerName: EncryptedServerName, NOT_SERVER;
         )
     };
 }
 
 /// The numbers of the rows.
 macro_rules! numbers {
-    ($($number:ident: $kind:ident($content:path), $sides:ident;)*) => {
+    ($($number:ident: $kind:ident$(($list:path))?, $sides:ident;)*) => {
         [$(TlsExtensionType::$number.0),*]
     };
 }
 
 /// The kinds of the rows, and the sides.
 macro_rules! kinds {
-    ($($number:ident: $kind:ident($content:path), $sides:ident;)*) => {
-        [$((Kind::$kind($content), Sides::$sides)),*]
+    ($($number:ident: $kind:ident$(($list:path))?, $sides:ident;)*) => {
+        [$((Kind::$kind$(($list))?, Sides::$sides)),*]
     };
 }
 

@@ -12,15 +12,16 @@ ghost use Rattle.tls_ext.specs.Content as content;
 ghost use Rattle.tls_ext.specs.Tagged.{tagged, tagged_bytes as tagged_bytes_layout, tagged_heartbeat, unknown};
 
 use crate::content::{
-    early_data_content, empty_content, opaque_content,
-    parse_tls_extension_ec_point_formats_content, parse_tls_extension_elliptic_curves_content,
-    parse_tls_extension_heartbeat_content, parse_tls_extension_max_fragment_length_content,
+    cookie_content, early_data_content, encrypt_then_mac_content, extended_master_secret_content,
+    key_share_content, parse_tls_extension_ec_point_formats_content,
+    parse_tls_extension_elliptic_curves_content, parse_tls_extension_heartbeat_content,
+    parse_tls_extension_max_fragment_length_content,
     parse_tls_extension_psk_key_exchange_modes_content,
     parse_tls_extension_signature_algorithms_content, parse_tls_extension_sni_content,
-    status_request_content, supported_versions_content,
+    pre_shared_key_content, session_ticket_content, status_request_content,
+    supported_versions_content,
 };
 use crate::extension::TlsExtension;
-use crate::kind::{EmptyKind, OpaqueKind};
 use std::alloc::Global;
 use tls_base::TlsExtensionType;
 use tls_fields::{Err, Error, ErrorKind, IResult, block, counted2, number2, tag};
@@ -129,7 +130,7 @@ pub fn parse_tls_extension_encrypt_then_mac(i: &[u8]) -> IResult<&[u8], TlsExten
     ensures { Gives view (tagged extension_number.encrypt_then_mac content.encrypt_then_mac) i.now result }
 {
     let (i, content) = tagged_bytes(i, TlsExtensionType::EncryptThenMac)?;
-    let (_, extension) = empty_content(content, EmptyKind::EncryptThenMac)?;
+    let (_, extension) = encrypt_then_mac_content(content)?;
     Ok((i, extension))
 }
 
@@ -142,7 +143,7 @@ pub fn parse_tls_extension_extended_master_secret(i: &[u8]) -> IResult<&[u8], Tl
     ensures { Gives view (tagged extension_number.extended_master_secret content.extended_master_secret) i.now result }
 {
     let (i, content) = tagged_bytes(i, TlsExtensionType::ExtendedMasterSecret)?;
-    let (_, extension) = empty_content(content, EmptyKind::ExtendedMasterSecret)?;
+    let (_, extension) = extended_master_secret_content(content)?;
     Ok((i, extension))
 }
 
@@ -154,7 +155,7 @@ pub fn parse_tls_extension_session_ticket(i: &[u8]) -> IResult<&[u8], TlsExtensi
     ensures { Gives view (tagged extension_number.session_ticket content.session_ticket) i.now result }
 {
     let (i, content) = tagged_bytes(i, TlsExtensionType::SessionTicketTLS)?;
-    let (_, extension) = opaque_content(content, OpaqueKind::SessionTicket)?;
+    let (_, extension) = session_ticket_content(content)?;
     Ok((i, extension))
 }
 
@@ -166,7 +167,7 @@ pub fn parse_tls_extension_key_share(i: &[u8]) -> IResult<&[u8], TlsExtension>
     ensures { Gives view (tagged extension_number.key_share content.key_share) i.now result }
 {
     let (i, content) = tagged_bytes(i, TlsExtensionType::KeyShare)?;
-    let (_, extension) = opaque_content(content, OpaqueKind::KeyShare)?;
+    let (_, extension) = key_share_content(content)?;
     Ok((i, extension))
 }
 
@@ -178,7 +179,7 @@ pub fn parse_tls_extension_pre_shared_key(i: &[u8]) -> IResult<&[u8], TlsExtensi
     ensures { Gives view (tagged extension_number.pre_shared_key content.pre_shared_key) i.now result }
 {
     let (i, content) = tagged_bytes(i, TlsExtensionType::PreSharedKey)?;
-    let (_, extension) = opaque_content(content, OpaqueKind::PreSharedKey)?;
+    let (_, extension) = pre_shared_key_content(content)?;
     Ok((i, extension))
 }
 
@@ -224,7 +225,7 @@ pub fn parse_tls_extension_cookie(i: &[u8]) -> IResult<&[u8], TlsExtension>
     ensures { Gives view (tagged extension_number.cookie content.cookie) i.now result }
 {
     let (i, content) = tagged_bytes(i, TlsExtensionType::Cookie)?;
-    let (_, extension) = opaque_content(content, OpaqueKind::Cookie)?;
+    let (_, extension) = cookie_content(content)?;
     Ok((i, extension))
 }
 
