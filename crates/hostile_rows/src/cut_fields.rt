@@ -1,67 +1,81 @@
-//! Numbers, key exchange, signatures and timestamps, cut.
+//! Numbers, key exchange and signatures, cut.
 
 use crate::support::{Call, Found, Part, cut, found_in};
 use Part::{Missing, Read, Refused};
 use std::alloc::Global;
 use tls_parser::{
-    ECCurveType, ECParametersContent, ECPoint, ErrorKind, ExplicitPrimeContent, HashAlgorithm,
-    NamedGroup, ServerECDHParams, SignatureAndHashAlgorithm, TlsMessageAlert,
-    parse_content_and_signature, parse_ct_signed_certificate_timestamp,
-    parse_ct_signed_certificate_timestamp_list, parse_dh_params, parse_digitally_signed,
-    parse_digitally_signed_old, parse_ec_parameters, parse_ecdh_params, parse_named_groups,
+    ECCurve, ECCurveType, ECParameters, ECParametersContent, ECPoint, ErrorKind,
+    ExplicitPrimeContent, HashAlgorithm, NamedGroup, ServerDHParams, ServerECDHParams,
+    SignatureAndHashAlgorithm, TlsMessageAlert, parse_content_and_signature, parse_dh_params,
+    parse_digitally_signed, parse_digitally_signed_old, parse_ec_parameters, parse_ecdh_params,
+    parse_named_groups,
 };
 
-/// The calls that are cut.
+/// The calls of key exchange that are cut.
+#[derive(Clone, Copy)]
+enum KeyExchange {
+    ServerDHParams,
+    DhParams,
+    ECPoint,
+    ECCurve,
+    ExplicitPrimeContent,
+    /// The content of parameters of this type.
+    ECParametersContent(ECCurveType),
+    ECParameters,
+    EcParameters,
+    ServerECDHParams,
+    EcdhParams,
+    NamedGroups,
+}
+
+impl Call for KeyExchange {
+    fn on(&self, alloc: Global, i: &[u8]) -> Found {
+        match self {
+            KeyExchange::ServerDHParams => found_in(ServerDHParams::parse(i)),
+            KeyExchange::DhParams => found_in(parse_dh_params(i)),
+            KeyExchange::ECPoint => found_in(ECPoint::parse(i)),
+            KeyExchange::ECCurve => found_in(ECCurve::parse(i)),
+            KeyExchange::ExplicitPrimeContent => found_in(ExplicitPrimeContent::parse(i)),
+            KeyExchange::ECParametersContent(curve_type) => found_in(ECParametersContent::parse(
+                i,
+                *curve_type,
+            )),
+            KeyExchange::ECParameters => found_in(ECParameters::parse(i)),
+            KeyExchange::EcParameters => found_in(parse_ec_parameters(i)),
+            KeyExchange::ServerECDHParams => found_in(ServerECDHParams::parse(i)),
+            KeyExchange::EcdhParams => found_in(parse_ecdh_params(i)),
+            KeyExchange::NamedGroups => found_in(parse_named_groups(alloc, i)),
+        }
+    }
+}
+
+/// The calls of numbers and signatures that are cut.
 #[derive(Clone, Copy)]
 enum Field {
     HashAlgorithm,
     NamedGroup,
     SignatureAndHashAlgorithm,
     TlsMessageAlert,
-    DhParams,
-    EcdhParams,
-    ServerECDHParams,
-    EcParameters,
-    ExplicitPrimeContent,
-    ECParametersContent,
-    NamedGroups,
     DigitallySigned,
     DigitallySignedOld,
-    ContentAndSignature,
-    CtSignedCertificateTimestamp,
-    CtSignedCertificateTimestampList,
+    /// A point and its signature, whether with an algorithm.
+    ContentAndSignature(bool),
 }
 
 impl Call for Field {
-    fn on(&self, alloc: Global, i: &[u8]) -> Found {
+    fn on(&self, _alloc: Global, i: &[u8]) -> Found {
         match self {
             Field::HashAlgorithm => found_in(HashAlgorithm::parse(i)),
             Field::NamedGroup => found_in(NamedGroup::parse(i)),
             Field::SignatureAndHashAlgorithm => found_in(SignatureAndHashAlgorithm::parse(i)),
             Field::TlsMessageAlert => found_in(TlsMessageAlert::parse(i)),
-            Field::DhParams => found_in(parse_dh_params(i)),
-            Field::EcdhParams => found_in(parse_ecdh_params(i)),
-            Field::ServerECDHParams => found_in(ServerECDHParams::parse(i)),
-            Field::EcParameters => found_in(parse_ec_parameters(i)),
-            Field::ExplicitPrimeContent => found_in(ExplicitPrimeContent::parse(i)),
-            Field::ECParametersContent => found_in(ECParametersContent::parse(
-                i,
-                ECCurveType::ExplicitPrime,
-            )),
-            Field::NamedGroups => found_in(parse_named_groups(alloc, i)),
             Field::DigitallySigned => found_in(parse_digitally_signed(i)),
             Field::DigitallySignedOld => found_in(parse_digitally_signed_old(i)),
-            Field::ContentAndSignature => found_in(parse_content_and_signature(
+            Field::ContentAndSignature(ext) => found_in(parse_content_and_signature(
                 i,
                 |i| ECPoint::parse(i),
-                true,
+                *ext,
             )),
-            Field::CtSignedCertificateTimestamp => found_in(parse_ct_signed_certificate_timestamp(
-                i,
-            )),
-            Field::CtSignedCertificateTimestampList => found_in(
-                parse_ct_signed_certificate_timestamp_list(alloc, i),
-            ),
         }
     }
 }
@@ -75,45 +89,125 @@ fn numbers(rt: HostRuntime) {
     cut(&rt, &Field::TlsMessageAlert, b"\x01\x00", &parts);
 }
 
+/// Three blocks, each with its length.
+const DH_PARAMS: &[u8] = b"\x00\x01\x05\x00\x02\x02\x03\x00\x01\x03";
+
+const OF_DH_PARAMS: &[Part] = &[
+    Missing(2),
+    Missing(1),
+    Missing(2),
+    Missing(2),
+    Missing(2),
+    Missing(1),
+];
+
 #[test]
-fn key_exchanges(rt: HostRuntime) {
-    let block = [
-        Missing(2),
-        Missing(1),
-        Missing(2),
-        Missing(1),
-        Missing(2),
-        Missing(1),
-    ];
+fn diffie_hellman(rt: HostRuntime) {
+    for call in [KeyExchange::ServerDHParams, KeyExchange::DhParams] {
+        cut(&rt, &call, DH_PARAMS, OF_DH_PARAMS);
+    }
+}
+
+/// A prime, the two numbers of a curve, a point, an order and a cofactor.
+const PRIME: &[u8] = b"\x01\x07\x01\x01\x01\x02\x02\x04\x04\x01\x05\x01\x06";
+
+/// Six blocks, each with its length.
+const OF_PRIME: &[Part] = &[
+    Missing(1),
+    Missing(1),
+    Missing(1),
+    Missing(1),
+    Missing(1),
+    Missing(1),
+    Missing(1),
+    Missing(2),
+    Missing(1),
+    Missing(1),
+    Missing(1),
+    Missing(1),
+];
+
+#[test]
+fn curves(rt: HostRuntime) {
     cut(
         &rt,
-        &Field::DhParams,
-        b"\x00\x01\x05\x00\x01\x02\x00\x01\x03",
-        &block,
-    );
-    cut(
-        &rt,
-        &Field::EcdhParams,
-        b"\x03\x00\x19\x01\x04",
-        &[Missing(1), Missing(2), Missing(1), Missing(1)],
-    );
-    cut(
-        &rt,
-        &Field::ServerECDHParams,
-        b"\x03\x00\x19\x01\x04",
-        &[Missing(1), Missing(2), Missing(1), Missing(1)],
-    );
-    cut(
-        &rt,
-        &Field::EcParameters,
-        b"\x03\x00\x19",
+        &KeyExchange::ECPoint,
+        b"\x02\x04\x05",
         &[Missing(1), Missing(2)],
     );
-    // Six counted blocks of a byte each.
-    let blocks = [Missing(1); 12];
-    let prime = b"\x01\x07\x01\x01\x01\x02\x01\x04\x01\x05\x01\x06";
-    cut(&rt, &Field::ExplicitPrimeContent, prime, &blocks);
-    cut(&rt, &Field::ECParametersContent, prime, &blocks);
+    cut(
+        &rt,
+        &KeyExchange::ECCurve,
+        b"\x01\x01\x02\x02\x03",
+        &[Missing(1), Missing(1), Missing(1), Missing(2)],
+    );
+    cut(&rt, &KeyExchange::ExplicitPrimeContent, PRIME, OF_PRIME);
+    let explicit = KeyExchange::ECParametersContent(ECCurveType::ExplicitPrime);
+    cut(&rt, &explicit, PRIME, OF_PRIME);
+    let named = KeyExchange::ECParametersContent(ECCurveType::NamedGroup);
+    cut(&rt, &named, b"\x00\x19", &[Missing(2)]);
+}
+
+/// Parameters of a prime.
+const EXPLICIT: &[u8] = b"\x01\x01\x07\x01\x01\x01\x02\x02\x04\x04\x01\x05\x01\x06";
+
+const OF_EXPLICIT: &[Part] = &[
+    Missing(1),
+    Missing(1),
+    Missing(1),
+    Missing(1),
+    Missing(1),
+    Missing(1),
+    Missing(1),
+    Missing(1),
+    Missing(2),
+    Missing(1),
+    Missing(1),
+    Missing(1),
+    Missing(1),
+];
+
+#[test]
+fn curve_parameters(rt: HostRuntime) {
+    for call in [KeyExchange::ECParameters, KeyExchange::EcParameters] {
+        cut(&rt, &call, EXPLICIT, OF_EXPLICIT);
+        cut(&rt, &call, b"\x03\x00\x19", &[Missing(1), Missing(2)]);
+    }
+}
+
+/// The same parameters and a point.
+const EXPLICIT_PUBLIC: &[u8] =
+    b"\x01\x01\x07\x01\x01\x01\x02\x02\x04\x04\x01\x05\x01\x06\x02\x08\x09";
+
+const OF_EXPLICIT_PUBLIC: &[Part] = &[
+    Missing(1),
+    Missing(1),
+    Missing(1),
+    Missing(1),
+    Missing(1),
+    Missing(1),
+    Missing(1),
+    Missing(1),
+    Missing(2),
+    Missing(1),
+    Missing(1),
+    Missing(1),
+    Missing(1),
+    Missing(1),
+    Missing(2),
+];
+
+#[test]
+fn elliptic_diffie_hellman(rt: HostRuntime) {
+    for call in [KeyExchange::ServerECDHParams, KeyExchange::EcdhParams] {
+        cut(&rt, &call, EXPLICIT_PUBLIC, OF_EXPLICIT_PUBLIC);
+        cut(
+            &rt,
+            &call,
+            b"\x03\x00\x19\x02\x04\x05",
+            &[Missing(1), Missing(2), Missing(1), Missing(2)],
+        );
+    }
 }
 
 #[test]
@@ -122,7 +216,7 @@ fn groups(rt: HostRuntime) {
     let odd = ErrorKind::LengthValue;
     cut(
         &rt,
-        &Field::NamedGroups,
+        &KeyExchange::NamedGroups,
         b"\x00\x17\x00\x1d",
         &[Read(1), Refused(1, odd), Read(1), Refused(1, odd)],
     );
@@ -142,34 +236,28 @@ fn signatures(rt: HostRuntime) {
         b"\x00\x02\xaa\xbb",
         &[Missing(2), Missing(2)],
     );
-    cut(
-        &rt,
-        &Field::ContentAndSignature,
-        b"\x01\x04\x04\x03\x00\x00",
-        &[Missing(1), Missing(1), Missing(1), Missing(1), Missing(2)],
-    );
 }
 
-/// A timestamp with its length.
-const TIMESTAMP: &[u8] =
-    b"\x00\x2f\x00\0\0\0\0\0\0\0\0\0\0\0\0\0\0\0\0\0\0\0\0\0\0\0\0\0\0\0\0\0\0\0\0\x00\x00\x00\x00\x00\x00\x00\x01\x00\x00\x04\x03\x00\x00";
-
-/// The same in a list.
-const LIST: &[u8] =
-    b"\x00\x31\x00\x2f\x00\0\0\0\0\0\0\0\0\0\0\0\0\0\0\0\0\0\0\0\0\0\0\0\0\0\0\0\0\0\0\0\0\x00\x00\x00\x00\x00\x00\x00\x01\x00\x00\x04\x03\x00\x00";
-
+/// A point, and what is signed of it.
 #[test]
-fn timestamps(rt: HostRuntime) {
+fn signed_points(rt: HostRuntime) {
     cut(
         &rt,
-        &Field::CtSignedCertificateTimestamp,
-        TIMESTAMP,
-        &[Missing(2), Missing(47)],
+        &Field::ContentAndSignature(true),
+        b"\x01\x04\x04\x03\x00\x01\xaa",
+        &[
+            Missing(1),
+            Missing(1),
+            Missing(1),
+            Missing(1),
+            Missing(2),
+            Missing(1),
+        ],
     );
     cut(
         &rt,
-        &Field::CtSignedCertificateTimestampList,
-        LIST,
-        &[Missing(2), Missing(49)],
+        &Field::ContentAndSignature(false),
+        b"\x01\x04\x00\x02\xaa\xbb",
+        &[Missing(1), Missing(1), Missing(2), Missing(2)],
     );
 }

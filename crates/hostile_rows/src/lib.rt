@@ -5,6 +5,8 @@
 #![tactic(auto)]
 
 #[cfg(test)]
+mod cut_dtls;
+#[cfg(test)]
 mod cut_extensions;
 #[cfg(test)]
 mod cut_fields;
@@ -12,6 +14,12 @@ mod cut_fields;
 mod cut_handshakes;
 #[cfg(test)]
 mod cut_records;
+#[cfg(test)]
+mod cut_timestamps;
+#[cfg(test)]
+mod extension_calls;
+#[cfg(test)]
+mod handshake_calls;
 #[cfg(test)]
 mod long_lists;
 #[cfg(test)]
