@@ -1,0 +1,50 @@
+// A heap that refuses one request for memory. It is laid over malloc and realloc of a program by LD_PRELOAD, and takes the
+// memory of all other requests from the C library.
+//
+// REFUSED: the number of the request that is refused, counted from 1; none is where there is no such request.
+// TOLD: a file, to which the number of the requests that were made is written when the program ends.
+
+#include <errno.h>
+#include <fcntl.h>
+#include <stdlib.h>
+#include <unistd.h>
+
+void *__libc_malloc(size_t size);
+void *__libc_realloc(void *block, size_t size);
+
+static unsigned long made;
+static unsigned long refused;
+
+static int is_refused(void) {
+    made++;
+    if (made != refused) {
+        return 0;
+    }
+    errno = ENOMEM;
+    return 1;
+}
+
+void *malloc(size_t size) {
+    return is_refused() ? NULL : __libc_malloc(size);
+}
+
+void *realloc(void *block, size_t size) {
+    return is_refused() ? NULL : __libc_realloc(block, size);
+}
+
+__attribute__((constructor)) static void begin(void) {
+    const char *number = getenv("REFUSED");
+    refused = number ? strtoul(number, NULL, 10) : 0;
+    made = 0;
+}
+
+__attribute__((destructor)) static void end(void) {
+    const char *told = getenv("TOLD");
+    int file = told ? open(told, O_WRONLY | O_CREAT | O_TRUNC, 0600) : -1;
+    if (file >= 0) {
+        // A file that is shorter is no answer, and its reader says so.
+        ssize_t written = write(file, &made, sizeof made);
+        (void)written;
+        close(file);
+    }
+}
