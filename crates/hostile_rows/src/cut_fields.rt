@@ -15,16 +15,16 @@ use tls_parser::{
 #[derive(Clone, Copy)]
 enum KeyExchange {
     ServerDHParams,
-    DhParams,
+    ParseDhParams,
     ECPoint,
     ECCurve,
     ExplicitPrimeContent,
     /// The content of parameters of this type.
     ECParametersContent(ECCurveType),
     ECParameters,
-    EcParameters,
+    ParseEcParameters,
     ServerECDHParams,
-    EcdhParams,
+    ParseEcdhParams,
     NamedGroups,
 }
 
@@ -32,7 +32,7 @@ impl Call for KeyExchange {
     fn on(&self, alloc: Global, i: &[u8]) -> Found {
         match self {
             KeyExchange::ServerDHParams => found_in(ServerDHParams::parse(i)),
-            KeyExchange::DhParams => found_in(parse_dh_params(i)),
+            KeyExchange::ParseDhParams => found_in(parse_dh_params(i)),
             KeyExchange::ECPoint => found_in(ECPoint::parse(i)),
             KeyExchange::ECCurve => found_in(ECCurve::parse(i)),
             KeyExchange::ExplicitPrimeContent => found_in(ExplicitPrimeContent::parse(i)),
@@ -41,9 +41,9 @@ impl Call for KeyExchange {
                 *curve_type,
             )),
             KeyExchange::ECParameters => found_in(ECParameters::parse(i)),
-            KeyExchange::EcParameters => found_in(parse_ec_parameters(i)),
+            KeyExchange::ParseEcParameters => found_in(parse_ec_parameters(i)),
             KeyExchange::ServerECDHParams => found_in(ServerECDHParams::parse(i)),
-            KeyExchange::EcdhParams => found_in(parse_ecdh_params(i)),
+            KeyExchange::ParseEcdhParams => found_in(parse_ecdh_params(i)),
             KeyExchange::NamedGroups => found_in(parse_named_groups(alloc, i)),
         }
     }
@@ -103,7 +103,7 @@ const OF_DH_PARAMS: &[Part] = &[
 
 #[test]
 fn diffie_hellman(rt: HostRuntime) {
-    for call in [KeyExchange::ServerDHParams, KeyExchange::DhParams] {
+    for call in [KeyExchange::ServerDHParams, KeyExchange::ParseDhParams] {
         cut(&rt, &call, DH_PARAMS, OF_DH_PARAMS);
     }
 }
@@ -169,7 +169,7 @@ const OF_EXPLICIT: &[Part] = &[
 
 #[test]
 fn curve_parameters(rt: HostRuntime) {
-    for call in [KeyExchange::ECParameters, KeyExchange::EcParameters] {
+    for call in [KeyExchange::ECParameters, KeyExchange::ParseEcParameters] {
         cut(&rt, &call, EXPLICIT, OF_EXPLICIT);
         cut(&rt, &call, b"\x03\x00\x19", &[Missing(1), Missing(2)]);
     }
@@ -199,7 +199,7 @@ const OF_EXPLICIT_PUBLIC: &[Part] = &[
 
 #[test]
 fn elliptic_diffie_hellman(rt: HostRuntime) {
-    for call in [KeyExchange::ServerECDHParams, KeyExchange::EcdhParams] {
+    for call in [KeyExchange::ServerECDHParams, KeyExchange::ParseEcdhParams] {
         cut(&rt, &call, EXPLICIT_PUBLIC, OF_EXPLICIT_PUBLIC);
         cut(
             &rt,
