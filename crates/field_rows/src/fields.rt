@@ -8,8 +8,8 @@ use std::alloc::{AllocError, Global};
 use std::test::Fail;
 use tls_fields::{
     Counted1, Counted2, Err, Error, ErrorKind, IResult, Item, Needed, Number2, OutOfMemory, Room,
-    block, counted1, counted2, counted3, items, items1, maybe2, number1, number2, number3,
-    number4, number8, numbers as numbers_of, pairs, place, tag,
+    block, counted1, counted2, counted3, items, items1, maybe2, number1, number2, number3, number4,
+    number8, numbers as numbers_of, pairs, place, tag,
 };
 
 /// A number of 1 byte that is at most 9.
@@ -188,8 +188,18 @@ fn lists_of_a_known_length(rt: HostRuntime) {
     lists(&rt, numbers_of(rt.alloc(), &[9, 8, 7], 2), &[9_u8, 8], &[7]);
     lists(&rt, numbers_of(rt.alloc(), &[9, 8], 2), &[9_u8, 8], &[]);
     let two: [u16; 2] = [0x0102, 0xfffe];
-    lists(&rt, numbers_of(rt.alloc(), &[1, 2, 0xff, 0xfe, 5], 2), &two, &[5]);
-    lists(&rt, numbers_of(rt.alloc(), &[1, 2, 0xff, 0xfe], 2), &two, &[]);
+    lists(
+        &rt,
+        numbers_of(rt.alloc(), &[1, 2, 0xff, 0xfe, 5], 2),
+        &two,
+        &[5],
+    );
+    lists(
+        &rt,
+        numbers_of(rt.alloc(), &[1, 2, 0xff, 0xfe], 2),
+        &two,
+        &[],
+    );
 }
 
 #[test]
