@@ -15,6 +15,7 @@ use tls_base::{
     TlsCipherSuiteID, TlsCompressionID, TlsExtensionType, TlsHandshakeType,
     TlsHeartbeatMessageType, TlsRecordType, TlsVersion,
 };
+use tls_fields::GenError;
 
 /// Writing the value answers Ok, and this is its text.
 fn says<T: Display>(rt: &impl Abort, alloc: Global, value: &T, text: &str) {
@@ -101,6 +102,22 @@ fn texts_of_refusals(rt: HostRuntime) {
     }
     tells(&rt, alloc, &Needed::Size(3), "3 more bytes are needed");
     tells(&rt, alloc, &OutOfMemory, "out of memory");
+}
+
+#[test]
+fn texts_of_writing_refusals(rt: HostRuntime) {
+    let refusals = [
+        (
+            GenError::NotYetImplemented,
+            "the writer does not know this kind",
+        ),
+        (GenError::BadLength, "a length does not fit its field"),
+        (GenError::Io, "the writer failed"),
+        (GenError::OutOfMemory, "out of memory"),
+    ];
+    for (refusal, text) in refusals {
+        tells(&rt, rt.alloc(), &refusal, text);
+    }
 }
 
 #[test]
