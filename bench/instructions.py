@@ -40,7 +40,7 @@ def cases_of(folder):
 # What moves or zeroes 16 bytes at once, or writes a zero of 8 bytes.
 MOVE = re.compile(r"\b(movups|movaps|movdqu|movdqa|xorps|pxor)\b.*%xmm|movq +\$0x0,")
 MOVERS = ("memcpy", "memmove", "memset")
-WRAPPERS = ("rattle_alloc", "rattle_dealloc", "rattle_realloc", "___rust_alloc", "___rust_dealloc", "___rust_realloc")
+WRAPPERS = ("rattle_alloc", "rattle_dealloc", "rattle_realloc", "rust_alloc", "rust_dealloc", "rust_realloc")
 
 
 def moving_addresses(program):
