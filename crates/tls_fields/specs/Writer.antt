@@ -1,5 +1,5 @@
--- What the calls that write answer. `Fits` says that the value can be written; `Refused e` that it can't, and that e
--- tells why; `text` is the bytes that it is written as.
+-- What the calls that write answer. `Fits` says that the value can be written; `Refused e` that it can't, and that e tells
+-- why; `text` is the bytes that it is written as.
 use Rattle.std.specs.Prelude.{◌≡◌, ◌⊎◌, ℕ, List, [], ◌∷◌, length, Option, Result, Ok, Err, ⊤}
 use Rattle.std.specs.Io.KnownBytes.{Appends, Keeps}
 use Rattle.tls_fields.specs.Bytes.{Bytes}
@@ -29,8 +29,8 @@ Builds Fits Refused text (Ok b) = Fits × (b ≡ text)
 Builds Fits Refused text (Err OutOfMemory) = Fits
 Builds Fits Refused text (Err e) = IsRefusal e × (Fits → ⊥) × Refused e
 
--- The text, appended to what the writer holds. A refusal, and running out of memory, leave the writer as it was; where
--- the writer failed, how much it took is unknown.
+-- The text, appended to what the writer holds. A refusal, and running out of memory, leave the writer as it was; where the
+-- writer failed, how much it took is unknown.
 abbrev pub Writes : Type 0 → (GenError → Type 0) → Bytes → Option Bytes → Option Bytes → Result Unit GenError → Type 0
 Writes Fits Refused text old new (Ok u) = Fits × Appends old new text
 Writes Fits Refused text old new (Err OutOfMemory) = Fits × Keeps old new
