@@ -26,7 +26,7 @@ rises_from x (y ∷ ys) e (suc k) h =
     let bound : k + 1 < length (y ∷ ys) = omega arith in
     let next : suc k + 1 ≡ suc (k + 1) = omega arith in
     let below : slice_index (y ∷ ys) k < slice_index (y ∷ ys) (k + 1) =
-        rises_from y ys (both (nat_lt x y) (rise y ys) e).1 k bound in
+    rises_from y ys (both (nat_lt x y) (rise y ys) e).1 k bound in
     rw next below
 
 -- the test of all numbers, and what it means
@@ -42,7 +42,7 @@ rising (x ∷ xs) e = rises_from x xs e
 here : {A : Type 0} (x n : ℕ) (v : A) (rest : List (ℕ × A)) → x ≡ n → look_up ((x, v) ∷ rest) n ≡ Some v
 here x n v rest e =
     ap (λ b. option_map (λ y. y.1) (cond b (Some (x, v)) (find (λ y. y.0 == n) rest)))
-        (ap (λ m. eqb x m) (sym e) ∙ eqb_same x)
+    (ap (λ m. eqb x m) (sym e) ∙ eqb_same x)
 
 later : {A : Type 0} (x n : ℕ) (v : A) (rest : List (ℕ × A)) → x ≢ n → look_up ((x, v) ∷ rest) n ≡ look_up rest n
 later x n v rest ne =

@@ -68,4 +68,4 @@ never-rest b n (inr (a, m, d, s, h)) =
 pub never-list1 : {A : Type 0} (l : Layout A) → NeverLacks (list1 l)
 never-list1 l =
     never-chain (complete l) (λ x. behind (x ∷ []) (list l)) (never-complete l)
-        (λ x. never-chain (list l) (λ ys. done ((x ∷ []) ++ ys)) (never-list l) (λ ys. never-done ((x ∷ []) ++ ys)))
+    (λ x. never-chain (list l) (λ ys. done ((x ∷ []) ++ ys)) (never-list l) (λ ys. never-done ((x ∷ []) ++ ys)))

@@ -77,16 +77,16 @@ leaves (done a) b = le_refl _
 leaves (refuse k) b = tt
 leaves (number k) b =
     leaves_then _ (split_at k b) (λ x. Ok (number_of x.0, x.1))
-        (leaves_fewer _ _ (split_at k b) (omega arith) (split_leaves k b)) (λ x. le_refl _)
+    (leaves_fewer _ _ (split_at k b) (omega arith) (split_leaves k b)) (λ x. le_refl _)
 leaves (ignored k) b =
     leaves_then _ (split_at k b) (λ x. Ok (tt, x.1)) (leaves_fewer _ _ (split_at k b) (omega arith) (split_leaves k b))
-        (λ x. le_refl _)
+    (λ x. le_refl _)
 leaves (block n) b = leaves_fewer _ _ (split_at n b) (omega arith) (split_leaves n b)
 leaves left b = le_refl _
 leaves (tag t) b = tag_leaves t b
 leaves (window n l) b =
     leaves_then _ (split_at n b) (λ w. reading l w.0 and_then λ x. Ok (x.0, w.1))
-        (leaves_fewer _ _ (split_at n b) (omega arith) (split_leaves n b)) (λ w. keeps w (reading l w.0))
+    (leaves_fewer _ _ (split_at n b) (omega arith) (split_leaves n b)) (λ w. keeps w (reading l w.0))
   where
     keeps : {A : Type 0} (w : Bytes × Bytes) (a : Answer A) → Leaves (length w.1) (a and_then λ x. Ok (x.0, w.1))
     keeps w (Ok x) = le_refl _

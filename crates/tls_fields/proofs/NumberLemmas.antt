@@ -42,7 +42,7 @@ bytes_of-number_from j n [] h = rw (add-zero, append-nil)
 bytes_of-number_from j n (x ∷ xs) h =
     let here : x < 256 = h 0 in
     let more : bytes_of (suc j + length xs) (number_from (n * 256 + x) xs) ≡ bytes_of (suc j) (n * 256 + x) ++ xs =
-        bytes_of-number_from (suc j) (n * 256 + x) xs (λ i. h (suc i)) in
+    bytes_of-number_from (suc j) (n * 256 + x) xs (λ i. h (suc i)) in
     rw add-suc (rw (div-mul-add n 256 x here, mod-mul-add n 256 x here, append_assoc, suc-add) at more)
 
 pub bytes_of-number_of : (xs : Bytes) → AreBytes xs → bytes_of (length xs) (number_of xs) ≡ xs
@@ -56,7 +56,7 @@ number_from-below n [] h = omega arith
 number_from-below n (x ∷ xs) h =
     let here : x < 256 = h 0 in
     let more : number_from (n * 256 + x) xs < (n * 256 + x + 1) * 256 ^ length xs =
-        number_from-below (n * 256 + x) xs (λ i. h (suc i)) in
+    number_from-below (n * 256 + x) xs (λ i. h (suc i)) in
     rw pow-suc (widen (n * 256 + x + 1) (n + 1) (256 ^ length xs) _ more (omega arith))
 
 pub number_of-below : (xs : Bytes) → AreBytes xs → number_of xs < 256 ^ length xs
@@ -65,7 +65,7 @@ number_of-below xs h = omega (arith, number_from-below 0 xs h)
 -- eight bytes, one by one
 pub number_of_8 : (b : Bytes) → length b ≡ 8
     → number_of b ≡ from_be_bytes w64
-        (get_or b 0 0 ∷ get_or b 1 0 ∷ get_or b 2 0 ∷ get_or b 3 0 ∷ get_or b 4 0 ∷ get_or b 5 0 ∷ get_or b 6 0 ∷
-                get_or b 7 0 ∷ [])
+    (get_or b 0 0 ∷ get_or b 1 0 ∷ get_or b 2 0 ∷ get_or b 3 0 ∷ get_or b 4 0 ∷ get_or b 5 0 ∷ get_or b 6 0 ∷
+    get_or b 7 0 ∷ [])
 number_of_8 (a ∷ b ∷ c ∷ d ∷ e ∷ f ∷ g ∷ h ∷ []) l = omega arith
 number_of_8 b l = absurd (omega arith)

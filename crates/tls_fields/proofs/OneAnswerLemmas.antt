@@ -27,7 +27,7 @@ MeetsAll l = (b : Bytes) → AreBytes b → Meets l b
 nothing : {A : Type 0} (l : Layout A) (b : Bytes) (e : Refusal) → Meets l b → Refuses l b e → SpellsNothing (Spells l) b
 nothing l b e m h =
     λ v r d s.
-        let yes : reading l b ≡ Ok (v, r) = m.spelled v r d s in let no : reading l b ≡ Err e = m.refused e h in cc
+    let yes : reading l b ≡ Ok (v, r) = m.spelled v r d s in let no : reading l b ≡ Err e = m.refused e h in cc
 
 some_refusal : {A : Type 0} (l : Layout A) (b : Bytes) → Meets l b → SpellsNothing (Spells l) b
     → (e : Refusal) × Refuses l b e × (reading l b ≡ Err e)
@@ -89,12 +89,12 @@ split_exact : (v r : Bytes) → split_at (length v) (v ++ r) ≡ Ok (v, r)
 unfolding Allows split_at number_at ignored_at tag_at items_at
 split_exact v r =
     let test : ltb (length (v ++ r)) (length v) ≡ false =
-        ltb_no (length (v ++ r)) (length v) (omega (arith, length-append v r)) in
+    ltb_no (length (v ++ r)) (length v) (omega (arith, length-append v r)) in
     ap
-        (λ t.
-                cond t (Err (Lacks (length v - length (v ++ r))))
-                    (Ok (take (length v) (v ++ r), drop (length v) (v ++ r))))
-        test
+    (λ t.
+    cond t (Err (Lacks (length v - length (v ++ r))))
+    (Ok (take (length v) (v ++ r), drop (length v) (v ++ r))))
+    test
     ∙ rw (take-append_seam, drop-append_seam)
 
 split_spelled : (n : ℕ) (b v r : Bytes) → length v ≡ n → b ≡ v ++ r → split_at n b ≡ Ok (v, r)
@@ -126,8 +126,7 @@ unfolding Allows split_at number_at ignored_at tag_at items_at
 number_allowed k b h (Ok x) (d, s) =
     let are : AreBytes x.0 = AreBytes-front x.0 x.1 (subst AreBytes s.1 h) in
     let back : bytes_of k (number_of x.0) ≡ x.0 =
-        subst (λ n. bytes_of n (number_of x.0) ≡ x.0) s.0 (bytes_of-number_of x.0 are) in
-    (
+    subst (λ n. bytes_of n (number_of x.0) ≡ x.0) s.0 (bytes_of-number_of x.0 are) in (
       [],
       (subst (λ n. number_of x.0 < 256 ^ n) s.0 (number_of-below x.0 are), s.1 ∙ ap (λ f. f ++ x.1) (sym back), refl),
     )
@@ -139,9 +138,9 @@ meets_number k b are = record {
   allowed = number_allowed k b are (split_at k b) (split_allowed k b);
   spelled =
       λ v r d s.
-          ap (λ a. a and_then λ x. Ok (number_of x.0, x.1))
-              (split_spelled k b (bytes_of k v) r (length-bytes_of k v) s.1)
-          ∙ ap (λ n. Ok (n, r)) (number_of-bytes_of k v s.0);
+      ap (λ a. a and_then λ x. Ok (number_of x.0, x.1))
+      (split_spelled k b (bytes_of k v) r (length-bytes_of k v) s.1)
+      ∙ ap (λ n. Ok (n, r)) (number_of-bytes_of k v s.0);
   refused = λ e h. ap (λ a. a and_then λ x. Ok (number_of x.0, x.1)) (split_refused k b e h);
 }
 
@@ -253,7 +252,7 @@ meets_window n l b are inner = record {
   spelled = λ v r d s.
       ap (λ a. a and_then λ w. reading l w.0 and_then λ x. Ok (x.0, w.1)) (split_spelled n b s.0 r s.3 s.4)
       ∙ ap (λ a. a and_then λ x. Ok (x.0, r))
-            ((inner s.0 (AreBytes-front s.0 r (subst AreBytes s.4 are))).spelled v s.1 s.2 s.5);
+      ((inner s.0 (AreBytes-front s.0 r (subst AreBytes s.4 are))).spelled v s.1 s.2 s.5);
   refused = λ e h. window_refused n l b are inner e h;
 }
 
@@ -286,7 +285,7 @@ items_answer : {A : Type 0} (l : Layout A) (b : Bytes) (more : Bytes → List A 
 unfolding Allows split_at number_at ignored_at tag_at items_at
 items_answer l b more are known then (Ok x) (d, s) =
     items_test l b more x.0 x.1 d known s (then x.1 (AreBytes-rest l b x.0 x.1 d s are)) (ltb (length x.1) (length b))
-        refl
+    refl
 items_answer l b more are known then (Err e) h = ([], (refl, refl, λ v r d s. nothing l b e known h v r d s.0))
 
 none_in_none : {A : Type 0} (l : Layout A) (b : Bytes) → length b ≤ 0 → SpellsNothing (SpellsItem (Spells l)) b
@@ -298,14 +297,14 @@ unfolding Allows split_at number_at ignored_at tag_at items_at
 items_allowed l known zero b are h = ([], (refl, refl, none_in_none l b h))
 items_allowed l known (suc n) b are h =
     items_answer l b (items_at (reading l) n) are (known b are)
-        (λ m are2 short. items_allowed l known n m are2 (omega arith)) (reading l b) (known b are).allowed
+    (λ m are2 short. items_allowed l known n m are2 (omega arith)) (reading l b) (known b are).allowed
 
 items_end : {A : Type 0} (l : Layout A) (b : Bytes) (more : Bytes → List A × Bytes)
     → SpellsNothing (SpellsItem (Spells l)) b → (a : Answer A) → Allows l b a → with_items a more b ≡ ([], b)
 unfolding Allows split_at number_at ignored_at tag_at items_at
 items_end l b more none (Ok x) (d, s) =
     ap (λ t. cond t (x.0 ∷ (more x.1).0, (more x.1).1) ([], b))
-        (ltb_no (length x.1) (length b) (not_below _ _ (λ short. none x.0 x.1 d (s, short))))
+    (ltb_no (length x.1) (length b) (not_below _ _ (λ short. none x.0 x.1 d (s, short))))
 items_end l b more none (Err e) h = refl
 
 items_spelled : {A : Type 0} (l : Layout A) → MeetsAll l → (n : ℕ) (b : Bytes) → AreBytes b → length b ≤ n
@@ -318,10 +317,10 @@ items_spelled l known (suc n) b are h [] r d s =
 items_spelled l known (suc n) b are h (v ∷ vs) r d (m, d1, d2, first, rest, e) =
     let are2 : AreBytes m = AreBytes-rest l b v m d1 first.0 are in
     let then : items_at (reading l) n m ≡ (vs, r) =
-        items_spelled l known n m are2 (omega (arith, first.1)) vs r d2 rest in
+    items_spelled l known n m are2 (omega (arith, first.1)) vs r d2 rest in
     ap (λ a. with_items a (items_at (reading l) n) b) ((known b are).spelled v m d1 first.0)
     ∙ ap (λ t. cond t (v ∷ (items_at (reading l) n m).0, (items_at (reading l) n m).1) ([], b))
-          (ltb_yes (length m) (length b) first.1)
+    (ltb_yes (length m) (length b) first.1)
     ∙ ap (λ x. (v ∷ x.0, x.1)) then
 
 meets_list : {A : Type 0} (l : Layout A) (b : Bytes) → AreBytes b → MeetsAll l → Meets (list l) b

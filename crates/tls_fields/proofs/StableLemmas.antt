@@ -28,7 +28,7 @@ split_stays n b s = go (ltb (length b) n) refl
     go false e =
         let long : n ≤ length b = ltb-false (length b) n e in
         ap (λ t. cond t (Err (Lacks (n - length (b ++ s)))) (Ok (take n (b ++ s), drop n (b ++ s))))
-            (ltb_no (length (b ++ s)) n (omega (arith, length-append b s)))
+        (ltb_no (length (b ++ s)) n (omega (arith, length-append b s)))
         ∙ rw (take-append-le, drop-append-le)
 
 tag_tests : (c : Bool) (s : Bytes) (k : ErrorKind) (x y : Answer Unit) → Stays s x y
@@ -69,7 +69,7 @@ stays left h b s = absurd h
 stays (tag t) h b s = tag_stays t b s
 stays (window n l) h b s =
     then_stays s (λ w. reading l w.0 and_then λ x. Ok (x.0, w.1)) (λ w. window_stays w.1 s (reading l w.0))
-        (split_at n b) (split_at n (b ++ s)) (split_stays n b s)
+    (split_at n b) (split_at n (b ++ s)) (split_stays n b s)
 stays (list l) h b s = absurd h
 stays (maybe l) h b s = absurd h
 stays (either l m) h b s = absurd h
@@ -77,7 +77,7 @@ stays (complete l) h b s = absurd h
 stays (look l) h b s = absurd h
 stays (chain l f) h b s =
     then_stays s (λ x. reading (f x.0) x.1) (λ x. stays (f x.0) (h.1 x.0) x.1 s) (reading l b) (reading l (b ++ s))
-        (stays l h.0 b s)
+    (stays l h.0 b s)
 
 -- what is read stays, with more behind it
 pub read_stays : {A : Type 0} (l : Layout A) → IsStable l → (b s : Bytes) (v : A) (r : Bytes) → reading l b ≡ Ok (v, r)
@@ -108,7 +108,7 @@ split_counts k b s n e short = go (ltb (length b) k) refl e
     go true f g =
         let is : k - length b ≡ n = cc in
         ap (λ t. cond t (Err (Lacks (k - length (b ++ s)))) (Ok (take k (b ++ s), drop k (b ++ s))))
-            (ltb_yes (length (b ++ s)) k (omega (arith, length-append b s)))
+        (ltb_yes (length (b ++ s)) k (omega (arith, length-append b s)))
         ∙ ap (λ m. Err (Lacks m)) (omega (arith, length-append b s))
     go false f g = absurd cc
 
@@ -122,10 +122,10 @@ refused_front (Err g) f e h none = let is : g ≡ e = cc in ap Err is
 chain_counts : {A B : Type 0} (s : Bytes) (f : A → Layout B) (n : ℕ) (a a' : Answer A) → Stays s a a'
     → (a ≡ Err (Lacks n) → a' ≡ Err (Lacks (n - length s)))
     →
-        ((x : A × Bytes) → a ≡ Ok x → reading (f x.0) x.1 ≡ Err (Lacks n) → reading (f x.0) (x.1 ++ s) ≡ Err
-                (Lacks (n - length s)))
+    ((x : A × Bytes) → a ≡ Ok x → reading (f x.0) x.1 ≡ Err (Lacks n) → reading (f x.0) (x.1 ++ s) ≡ Err
+    (Lacks (n - length s)))
     → (a and_then λ x. reading (f x.0) x.1) ≡ Err (Lacks n) → (a' and_then λ x. reading (f x.0) x.1) ≡ Err
-        (Lacks (n - length s))
+    (Lacks (n - length s))
 chain_counts s f n (Ok x) a' stay first then e = ap (λ a. a and_then λ x. reading (f x.0) x.1) stay ∙ then x refl e
 chain_counts s f n (Err g) a' stay first then e =
     let is : g ≡ Lacks n = cc in ap (λ a. a and_then λ x. reading (f x.0) x.1) (first (ap Err is))
@@ -153,11 +153,11 @@ counts (done a) h b s are n e short = absurd cc
 counts (refuse k) h b s are n e short = absurd cc
 counts (number k) h b s are n e short =
     ap (λ a. a and_then λ x. Ok (number_of x.0, x.1))
-        (split_counts k b s n
-                (refused_front (split_at k b) (λ x. Ok (number_of x.0, x.1)) (Lacks n) e (λ x f g. absurd cc)) short)
+    (split_counts k b s n
+    (refused_front (split_at k b) (λ x. Ok (number_of x.0, x.1)) (Lacks n) e (λ x f g. absurd cc)) short)
 counts (ignored k) h b s are n e short =
     ap (λ a. a and_then λ x. Ok (tt, x.1))
-        (split_counts k b s n (refused_front (split_at k b) (λ x. Ok (tt, x.1)) (Lacks n) e (λ x f g. absurd cc)) short)
+    (split_counts k b s n (refused_front (split_at k b) (λ x. Ok (tt, x.1)) (Lacks n) e (λ x f g. absurd cc)) short)
 counts (block k) h b s are n e short = split_counts k b s n e short
 counts left h b s are n e short = absurd h
 counts (tag t) h b s are n e short = absurd h
@@ -166,8 +166,8 @@ counts (window k l) h b s are n e short =
     (split_counts k b s n
     (refused_front (split_at k b) (λ w. reading l w.0 and_then λ x. Ok (x.0, w.1)) (Lacks n) e
     (λ w f g.
-        none_lacks l h w.0 (AreBytes-window k b w are f) n
-        (refused_front (reading l w.0) (λ x. Ok (x.0, w.1)) (Lacks n) g (λ x i j. absurd cc))))
+    none_lacks l h w.0 (AreBytes-window k b w are f) n
+    (refused_front (reading l w.0) (λ x. Ok (x.0, w.1)) (Lacks n) g (λ x i j. absurd cc))))
     short)
 counts (list l) h b s are n e short = absurd h
 counts (maybe l) h b s are n e short = absurd h
@@ -185,16 +185,16 @@ pub decides : {A : Type 0} (l : Layout A) → IsStable l → (b s : Bytes) → A
 decides l h b s are more = record {
   value =
       λ v r a.
-          read_allowed l (b ++ s) (Ok (v, r ++ s)) (AreBytes-append b s are more)
-              (read_stays l h b s v r (sym (only_reading l b are (Ok (v, r)) a)));
+      read_allowed l (b ++ s) (Ok (v, r ++ s)) (AreBytes-append b s are more)
+      (read_stays l h b s v r (sym (only_reading l b are (Ok (v, r)) a)));
   broken =
       λ k a.
-          read_allowed l (b ++ s) (Err (Broken k)) (AreBytes-append b s are more)
-              (broken_stays l h b s k (sym (only_reading l b are (Err (Broken k)) a)));
+      read_allowed l (b ++ s) (Err (Broken k)) (AreBytes-append b s are more)
+      (broken_stays l h b s k (sym (only_reading l b are (Err (Broken k)) a)));
 }
 
 pub counts_down : {A : Type 0} (l : Layout A) → CountsMissing l → (b s : Bytes) → AreBytes b → AreBytes s
     → CountsDown l b s
 counts_down l h b s are more n a short =
     read_allowed l (b ++ s) (Err (Lacks (n - length s))) (AreBytes-append b s are more)
-        (counts l h b s are n (sym (only_reading l b are (Err (Lacks n)) a)) short)
+    (counts l h b s are n (sym (only_reading l b are (Err (Lacks n)) a)) short)

@@ -38,14 +38,14 @@ place_found xs n (Ok i) o up found e k =
       λ there.
           e
           ∙ ap Some
-                (one_place xs up i k at.0 (slice_get_within xs k n there)
-                        (at.1 ∙ sym (get_or_from_slice_get xs k n 0 there))),
+          (one_place xs up i k at.0 (slice_get_within xs k n there)
+          (at.1 ∙ sym (get_or_from_slice_get xs k n 0 there))),
     )
 place_found xs n (Err i) o up found e k =
     let at = searched xs n (Err i) found (rises xs up) in (
       λ is. absurd cc,
       λ there.
           absurd
-              (no_place k i (get_or xs k 0) n (at.1 k) (λ h. at.2 k h (slice_get_within xs k n there))
-                      (get_or_from_slice_get xs k n 0 there)),
+          (no_place k i (get_or xs k 0) n (at.1 k) (λ h. at.2 k h (slice_get_within xs k n there))
+          (get_or_from_slice_get xs k n 0 there)),
     )

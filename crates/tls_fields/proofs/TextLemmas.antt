@@ -102,13 +102,12 @@ pub counted_whole : (k : ℕ) (b v r : Bytes) → Spells (counted k) b v r []
 counted_whole k b v r s =
     let p = parts (number k) block b v r s in
     let n = p.first in
-    let c = p.then in
-    (
+    let c = p.then in (
       subst (λ x. x < 256 ^ k) (sym c.0) n.0,
       n.1
-      ∙ ap (λ x. bytes_of k x ++ p.middle) (sym c.0)
-      ∙ ap (λ x. bytes_of k (length v) ++ x) c.1
-      ∙ sym (append_assoc (bytes_of k (length v)) v r),
+          ∙ ap (λ x. bytes_of k x ++ p.middle) (sym c.0)
+          ∙ ap (λ x. bytes_of k (length v) ++ x) c.1
+          ∙ sym (append_assoc (bytes_of k (length v)) v r),
     )
 
 -- two texts, one behind the other
@@ -122,9 +121,9 @@ then_text b t m u r e f = e ∙ ap (λ x. t ++ x) f ∙ sym (append_assoc t u r)
 
 -- what joined items are
 pub record Joined {A : Type 0} (text : A → Bytes) (Fits : A → Type 0) (b : Bytes) (vs : List A) (r : Bytes) : Type 0
-        where
-  pub fits : All Fits vs
-  pub is : b ≡ flat_map text vs ++ r
+  where
+    pub fits : All Fits vs
+    pub is : b ≡ flat_map text vs ++ r
 
 none_joined : {A : Type 0} (text : A → Bytes) (Fits : A → Type 0) (b : Bytes) (vs : List A) (r : Bytes) → vs ≡ []
     → b ≡ r → Joined text Fits b vs r
@@ -132,7 +131,7 @@ none_joined text Fits b vs r e f =
     subst (λ vs. Joined text Fits b vs r) (sym e) (record { fits = All-nil Fits; is = f })
 
 pub more_joined : {A : Type 0} (text : A → Bytes) (Fits : A → Type 0) (b : Bytes) (v : A) (m : Bytes) (vs : List A)
-        (r : Bytes)
+    (r : Bytes)
     → Fits v → b ≡ text v ++ m → Joined text Fits m vs r → Joined text Fits b (v ∷ vs) r
 more_joined text Fits b v m vs r h e j =
     record { fits = All-cons Fits v vs h j.fits; is = then_text b (text v) m (flat_map text vs) r e j.is }
@@ -146,7 +145,7 @@ module _ {A : Type 0} (l : Layout A) (text : A → Bytes) (Fits : A → Type 0) 
       chain_spelled l (λ x. chain (times (length vs) l) (λ xs. done (x ∷ xs))) (text v) (flat_map text vs) r v (v ∷ vs)
       (one v (flat_map text vs ++ r) (All-head Fits v vs h))
       (joined (times (length vs) l) (λ xs. done (v ∷ xs)) (flat_map text vs ++ r) (v ∷ vs) r vs r
-              (times_spelled one vs r (All-tail Fits v vs h)) (refl, refl, refl))
+      (times_spelled one vs r (All-tail Fits v vs h)) (refl, refl, refl))
 
   pub times_whole : ((b : Bytes) (v : A) (r : Bytes) → Spells l b v r [] → Fits v × (b ≡ text v ++ r))
       → (n : ℕ) (b : Bytes) (vs : List A) (r : Bytes) → Spells (times n l) b vs r []
@@ -157,10 +156,9 @@ module _ {A : Type 0} (l : Layout A) (text : A → Bytes) (Fits : A → Type 0) 
       let q = parts (times n l) (λ xs. done (p.value ∷ xs)) p.middle vs r p.then in
       let here = one b p.value p.middle p.first in
       let more =
-          times_whole one n p.middle q.value r (subst (λ m. Spells (times n l) p.middle q.value m []) q.then.1 q.first)
+      times_whole one n p.middle q.value r (subst (λ m. Spells (times n l) p.middle q.value m []) q.then.1 q.first)
       in
-      let is : vs ≡ p.value ∷ q.value = q.then.0 in
-      (
+      let is : vs ≡ p.value ∷ q.value = q.then.0 in (
         ap length is ∙ ap suc more.0,
         subst (λ vs. Joined text Fits b vs r) (sym is)
             (more_joined text Fits b p.value p.middle q.value r here.0 here.1 more.1),
@@ -175,8 +173,8 @@ module _ {A : Type 0} (l : Layout A) (text : A → Bytes) (Fits : A → Type 0) 
       let none = both_empty d1 d2 e in
       let here = one b v m (All-head Kind v vs kinds) (subst (λ d. Spells l b v m d) none.0 item.0) in
       more_joined text Fits b v m vs r here.0 here.1
-          (list_whole Kind one m vs r (All-tail Kind v vs kinds)
-                  (subst (λ d. SpellsItems (Spells l) m vs r d) none.1 more))
+      (list_whole Kind one m vs r (All-tail Kind v vs kinds)
+      (subst (λ d. SpellsItems (Spells l) m vs r d) none.1 more))
 
 -- what is read, whatever is dropped
 abbrev pub Reads : {A : Type 0} → Layout A → Bytes → A → Bytes → Type 0
@@ -201,8 +199,7 @@ pub list_reads : {V A : Type 0} (l : Layout A) (text : V → Bytes) (value : V �
 list_reads l text value Fits one some [] h = ([], (refl, refl, λ v r d s. absurd (omega (arith, s.1))))
 list_reads l text value Fits one some (v ∷ vs) h =
     let here = one v (flat_map text vs) (All-head Fits v vs h) in
-    let more = list_reads l text value Fits one some vs (All-tail Fits v vs h) in
-    (
+    let more = list_reads l text value Fits one some vs (All-tail Fits v vs h) in (
       here.0 ++ more.0,
       (
         flat_map text vs,
@@ -269,10 +266,10 @@ AreBytes-bytes_of (suc k) x =
 pub number_back : (k x : ℕ) (r : Bytes) → AreBytes r → x < 256 ^ k → reading (number k) (bytes_of k x ++ r) ≡ Ok (x, r)
 number_back k x r are h =
     spelled_read (number k) (bytes_of k x ++ r) x r [] (AreBytes-append (bytes_of k x) r (AreBytes-bytes_of k x) are)
-        (number_spelled k x r h)
+    (number_spelled k x r h)
 
 pub all_behind : {X Y : Type 0} (P : Y → Type 0) (f : X → Y) (xs : List X) (i : ℕ) (d : X) → i < length xs
     → All P (map f (take i xs)) → P (f (get_or xs i d)) → All P (map f (take (i + 1) xs))
 all_behind P f xs i d h all here =
     subst (All P) (sym (ap (λ ys. map f ys) (take_more xs i d h) ∙ map-append f (take i xs) (get_or xs i d ∷ [])))
-        (All-push P (map f (take i xs)) (f (get_or xs i d)) all here)
+    (All-push P (map f (take i xs)) (f (get_or xs i d)) all here)

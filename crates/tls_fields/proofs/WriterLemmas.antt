@@ -45,7 +45,7 @@ module _ {A : Type 0} (Fits : A → Type 0) (Refused : A → GenError → Type 0
       → x ≡ get_or xs i x → All Fits (map f (take i xs)) → Refused (f x) e → RefusesFirst Fits Refused (map f xs) e
   refused_at f xs i x e h is fits r =
       subst (λ ys. RefusesFirst Fits Refused ys e)
-          (sym (ap (λ ys. map f ys) (item_at xs i x h is) ∙ map-append f (take i xs) (x ∷ drop (suc i) xs)))
+      (sym (ap (λ ys. map f ys) (item_at xs i x h is) ∙ map-append f (take i xs) (x ∷ drop (suc i) xs)))
       (first_refused (map f (take i xs)) (map f (drop (suc i) xs)) (f x) e fits r)
 
 -- each that fits
@@ -64,15 +64,15 @@ texts_within : {X A : Type 0} (text : A → Bytes) (f : X → A) (xs : List X) (
     → length (flat_map text (map f (take i xs))) ≤ length (flat_map text (map f xs))
 texts_within text f xs i =
     let all : flat_map text (map f xs) ≡ flat_map text (map f (take i xs)) ++ flat_map text (map f (drop i xs)) =
-        ap (λ ys. flat_map text (map f ys)) (sym (take-append-drop i xs))
-        ∙ ap (λ ys. flat_map text ys) (map-append f (take i xs) (drop i xs))
-        ∙ flat_map-append text (map f (take i xs)) (map f (drop i xs)) in
+    ap (λ ys. flat_map text (map f ys)) (sym (take-append-drop i xs))
+    ∙ ap (λ ys. flat_map text ys) (map-append f (take i xs) (drop i xs))
+    ∙ flat_map-append text (map f (take i xs)) (map f (drop i xs)) in
     omega (arith, ap length all, length-append (flat_map text (map f (take i xs))) (flat_map text (map f (drop i xs))))
 
 -- some and one more
 pub texts_at : {X A : Type 0} (text : A → Bytes) (f : X → A) (xs : List X) (i : ℕ) (d : X) → i < length xs
     → length (flat_map text (map f (take (i + 1) xs)))
-        ≡ length (flat_map text (map f (take i xs))) + length (text (f (get_or xs i d)))
+    ≡ length (flat_map text (map f (take i xs))) + length (text (f (get_or xs i d)))
 texts_at text f xs i d h =
     ap length (texts_more text f xs i d h)
     ∙ length-append (flat_map text (map f (take i xs))) (text (f (get_or xs i d)))

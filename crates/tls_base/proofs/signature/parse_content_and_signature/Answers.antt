@@ -6,8 +6,7 @@ use Rattle.tls_base.proofs.signature.parse_content_and_signature.Goals as goal
 
 pub returns : goal.returns
 returns g c =
-    let signed = c.in_ok-i-2.ensures in
-    (
+    let signed = c.in_ok-i-2.ensures in (
       Ok (c.in_ok-i.i, c.in_ok-i.content),
       c.in_ok-i.ensures,
       put_beside c.in_ok-i.content c.args.ext c.in_ok-i.i.now (Ok (c.in_ok-i-2.i, c.in_ok-i-2.signature)) signed,
