@@ -7,7 +7,7 @@ ghost use Rattle.std.specs.List.{All, flat_map};
 ghost use Rattle.tls_fields.specs.Bytes.{bytes_of};
 ghost use Rattle.tls_fields.specs.Text.{numbers_text};
 ghost use Rattle.tls_fields.specs.Meaning.{Allows};
-ghost use Rattle.tls_fields.specs.Write.{Judges, Writes};
+ghost use Rattle.tls_fields.specs.Writer.{Judges, Writes};
 ghost use Rattle.tls_ext.specs.Extension.{view, view_server_name};
 ghost use Rattle.tls_ext.specs.Dispatch.{extensions as extensions_layout};
 ghost use Rattle.tls_ext.specs.declared.kind.Side.TheVariants.{General as general};
@@ -17,7 +17,7 @@ use crate::extension::TlsExtension;
 use std::alloc::Global;
 use std::io::Write;
 use tls_base::{NamedGroup, SNIType, TlsExtensionType};
-use tls_fields::text::{add_bytes, add1, add2};
+use tls_fields::writer::builder::{add_bytes, add1, add2};
 use tls_fields::{GenError, write_whole};
 
 /// A length that no field of 2 bytes can say.
