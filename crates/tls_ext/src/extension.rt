@@ -2,6 +2,7 @@
 ghost use Rattle.std.specs.Prelude.{◌≡◌, IfOk, map};
 ghost use Rattle.tls_ext.specs.Extension.{view, view_oid_filter, extension_type};
 
+use crate::kind::rows;
 use std::alloc::{AllocError, Global};
 use tls_base::{
     CertificateStatusType, NamedGroup, OutOfMemory, SNIType, TlsCipherSuiteID, TlsExtensionType,
@@ -100,43 +101,23 @@ pub enum TlsExtension<'a> {
     Unknown(TlsExtensionType, &'a [u8]),
 }
 
+/// For each row of the table of kinds the arm of its variant.
+macro_rules! type_of {
+    ([$extension:ident] $($number:ident => $form:ident($kind:ident, $read:ident), $sides:ident;)*) => {
+        match $extension {
+            $(TlsExtension::$kind { .. } => TlsExtensionType::$number,)*
+            TlsExtension::Grease(_, _) => TlsExtensionType::Grease,
+            TlsExtension::Unknown(kind, _) => *kind,
+        }
+    };
+}
+
 /// The type of an extension. `Grease` has 0xfafa, and `Unknown` the type that it holds.
 impl From<&TlsExtension<'_>> for TlsExtensionType {
     ghost from_gives = { λ e t. t.0 ≡ extension_type (view e.now) };
 
     fn from(extension: &TlsExtension) -> TlsExtensionType {
-        match extension {
-            TlsExtension::SNI(_) => TlsExtensionType::ServerName,
-            TlsExtension::MaxFragmentLength(_) => TlsExtensionType::MaxFragmentLength,
-            TlsExtension::StatusRequest(_) => TlsExtensionType::StatusRequest,
-            TlsExtension::EllipticCurves(_) => TlsExtensionType::SupportedGroups,
-            TlsExtension::EcPointFormats(_) => TlsExtensionType::EcPointFormats,
-            TlsExtension::SignatureAlgorithms(_) => TlsExtensionType::SignatureAlgorithms,
-            TlsExtension::Heartbeat(_) => TlsExtensionType::Heartbeat,
-            TlsExtension::ALPN(_) => TlsExtensionType::ApplicationLayerProtocolNegotiation,
-            TlsExtension::SignedCertificateTimestamp(_) => {
-                TlsExtensionType::SignedCertificateTimestamp
-            }
-            TlsExtension::Padding(_) => TlsExtensionType::Padding,
-            TlsExtension::EncryptThenMac => TlsExtensionType::EncryptThenMac,
-            TlsExtension::ExtendedMasterSecret => TlsExtensionType::ExtendedMasterSecret,
-            TlsExtension::RecordSizeLimit(_) => TlsExtensionType::RecordSizeLimit,
-            TlsExtension::SessionTicket(_) => TlsExtensionType::SessionTicketTLS,
-            TlsExtension::KeyShareOld(_) => TlsExtensionType::KeyShareOld,
-            TlsExtension::PreSharedKey(_) => TlsExtensionType::PreSharedKey,
-            TlsExtension::EarlyData(_) => TlsExtensionType::EarlyData,
-            TlsExtension::SupportedVersions(_) => TlsExtensionType::SupportedVersions,
-            TlsExtension::Cookie(_) => TlsExtensionType::Cookie,
-            TlsExtension::PskExchangeModes(_) => TlsExtensionType::PskExchangeModes,
-            TlsExtension::OidFilters(_) => TlsExtensionType::OidFilters,
-            TlsExtension::PostHandshakeAuth => TlsExtensionType::PostHandshakeAuth,
-            TlsExtension::KeyShare(_) => TlsExtensionType::KeyShare,
-            TlsExtension::NextProtocolNegotiation => TlsExtensionType::NextProtocolNegotiation,
-            TlsExtension::RenegotiationInfo(_) => TlsExtensionType::RenegotiationInfo,
-            TlsExtension::EncryptedServerName { .. } => TlsExtensionType::EncryptedServerName,
-            TlsExtension::Grease(_, _) => TlsExtensionType::Grease,
-            TlsExtension::Unknown(kind, _) => *kind,
-        }
+        rows!(type_of extension)
     }
 }
 
