@@ -7,8 +7,8 @@ use Rattle.tls_ext.specs.Extension.{view}
 use Rattle.tls_ext.specs.declared.extension.TlsExtension.{TlsExtension}
 use Rattle.tls_ext.specs.ExtensionText.{extension_text, FitsExtension, RefusedExtension, InRangeExtension}
 use Rattle.tls_ext.proofs.WritingLemmas.{fits_at, fits_behind, texts_taken, room_for}
-use Rattle.tls_ext.proofs.writer.add_extensions.Goals as goal
-use Rattle.tls_ext.proofs.writer.add_extensions.Goals.{in-Ok, in_default}
+use Rattle.tls_ext.proofs.writer.builder.add_extensions.Goals as goal
+use Rattle.tls_ext.proofs.writer.builder.add_extensions.Goals.{in-Ok, in_default}
 
 -- what fits has a length
 never : (r : Result ℕ GenError) (x : TlsExtension) → Judges (FitsExtension (view x)) (RefusedExtension (view x)) (extension_text (view x)) r → FitsExtension (view x) → ((n : ℕ) → r ≡ Ok n → ⊥) → ⊥

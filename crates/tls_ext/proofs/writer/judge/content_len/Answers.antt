@@ -3,7 +3,7 @@ use Rattle.std.proofs.Math.ListN.{length-map}
 use Rattle.tls_fields.specs.Text.{counted_text, numbers_text}
 use Rattle.tls_fields.proofs.TextLemmas.{length-numbers}
 use Rattle.tls_ext.proofs.ExtensionTextLemmas.{length-counted}
-use Rattle.tls_ext.proofs.writer.content_len.Goals as goal
+use Rattle.tls_ext.proofs.writer.judge.content_len.Goals as goal
 
 groups_counted : (xs : List ℕ) (n : ℕ) → n ≡ min (length xs) 65536 → min (2 + 2 * n) 65536 ≡ min (length (counted_text 2 (numbers_text 2 xs))) 65536
 groups_counted xs n e = omega (arith, e, length-counted 2 (numbers_text 2 xs), length-numbers 2 xs)

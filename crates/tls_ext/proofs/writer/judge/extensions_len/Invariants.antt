@@ -2,7 +2,7 @@ use Rattle.std.proofs.Common.{◌≡◌, length, map, take, min}
 use Rattle.std.specs.List.{All, flat_map}
 use Rattle.tls_ext.specs.Extension.{view}
 use Rattle.tls_ext.specs.ExtensionText.{extension_text, FitsExtension}
-use Rattle.tls_ext.proofs.writer.extensions_len.Given as goal
+use Rattle.tls_ext.proofs.writer.judge.extensions_len.Given as goal
 
 abbrev pub invariant-loop-extension : goal.invariant-loop-extension
 invariant-loop-extension l = record {

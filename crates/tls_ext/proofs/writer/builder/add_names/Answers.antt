@@ -8,7 +8,7 @@ use Rattle.tls_ext.specs.Extension.{view_server_name}
 use Rattle.tls_ext.specs.ExtensionText.{server_name_text}
 use Rattle.tls_ext.proofs.WritingLemmas.{texts_more, texts_at, room_at}
 use Rattle.tls_ext.proofs.ExtensionTextLemmas.{length-name}
-use Rattle.tls_ext.proofs.writer.add_names.Goals as goal
+use Rattle.tls_ext.proofs.writer.builder.add_names.Goals as goal
 
 abbrev nameless : SNIType × Bor (List ℕ)
 nameless = (record { 0 = 0 }, record { ref_ptr = (0, 0); now = [] })

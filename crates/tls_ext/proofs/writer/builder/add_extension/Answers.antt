@@ -5,7 +5,7 @@ use Rattle.tls_fields.proofs.TextLemmas.{length-numbers}
 use Rattle.tls_ext.specs.Extension.{view, supported_groups}
 use Rattle.tls_ext.specs.ExtensionText.{extension_text}
 use Rattle.tls_ext.proofs.ExtensionTextLemmas.{length-counted, length-extension}
-use Rattle.tls_ext.proofs.writer.add_extension.Goals as goal
+use Rattle.tls_ext.proofs.writer.builder.add_extension.Goals as goal
 
 length-groups : (xs : List ℕ) → length (extension_text (supported_groups xs)) ≡ 6 + 2 * length xs
 length-groups xs = omega (arith, length-extension (supported_groups xs), length-counted 2 (numbers_text 2 xs), length-numbers 2 xs)

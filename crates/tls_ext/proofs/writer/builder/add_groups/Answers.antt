@@ -1,6 +1,6 @@
 use Rattle.std.proofs.Common.{arith, ◌<◌, ◌^◌}
 use Rattle.tls_fields.proofs.TextLemmas.{numbers_behind, all_behind}
-use Rattle.tls_ext.proofs.writer.add_groups.Goals as goal
+use Rattle.tls_ext.proofs.writer.builder.add_groups.Goals as goal
 
 pub loop-group-preserved : goal.loop-group-preserved
 loop-group-preserved c = record {
