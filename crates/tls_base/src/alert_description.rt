@@ -100,7 +100,7 @@ impl TlsAlertDescription {
 }
 
 /// The constants, each with its number and its name.
-const NAMES: [(u16, &str); 34] = names!(
+static NAMES: &[(u16, &str)] = names!(
     TlsAlertDescription: CloseNotify, UnexpectedMessage, BadRecordMac, DecryptionFailed,
     RecordOverflow, DecompressionFailure, HandshakeFailure, NoCertificate, BadCertificate,
     UnsupportedCertificate, CertificateRevoked, CertificateExpired, CertificateUnknown,
@@ -115,6 +115,6 @@ impl fmt::Display for TlsAlertDescription {
     ghost output = { λ v. Some (name (codes "TlsAlertDescription") alert_descriptions v.0) };
 
     fn fmt<W: fmt::Write>(&self, f: &mut fmt::Formatter<W>) -> fmt::Result {
-        write_name(f, "TlsAlertDescription", &NAMES, self.0 as u16)
+        write_name(f, "TlsAlertDescription", NAMES, self.0 as u16)
     }
 }

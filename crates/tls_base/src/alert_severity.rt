@@ -28,12 +28,12 @@ impl TlsAlertSeverity {
 }
 
 /// The constants, each with its number and its name.
-const NAMES: [(u16, &str); 2] = names!(TlsAlertSeverity: Warning, Fatal);
+static NAMES: &[(u16, &str)] = names!(TlsAlertSeverity: Warning, Fatal);
 
 impl fmt::Display for TlsAlertSeverity {
     ghost output = { λ v. Some (name (codes "TlsAlertSeverity") alert_levels v.0) };
 
     fn fmt<W: fmt::Write>(&self, f: &mut fmt::Formatter<W>) -> fmt::Result {
-        write_name(f, "TlsAlertSeverity", &NAMES, self.0 as u16)
+        write_name(f, "TlsAlertSeverity", NAMES, self.0 as u16)
     }
 }

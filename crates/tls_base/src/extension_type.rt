@@ -133,76 +133,39 @@ impl From<TlsExtensionType> for u16 {
     }
 }
 
-/// The numbers of the constants, in rising order.
-const NUMBERS: [u16; 44] = numbers!(
-    TlsExtensionType: ServerName, MaxFragmentLength, ClientCertificate, TrustedCaKeys,
-    TruncatedHMac, StatusRequest, UserMapping, ClientAuthz, ServerAuthz, CertType, SupportedGroups,
-    EcPointFormats, Srp, SignatureAlgorithms, UseSrtp, Heartbeat,
-    ApplicationLayerProtocolNegotiation, StatusRequestv2, SignedCertificateTimestamp,
-    ClientCertificateType, ServerCertificateType, Padding, EncryptThenMac, ExtendedMasterSecret,
-    TokenBinding, CachedInfo, RecordSizeLimit, SessionTicketTLS, KeyShareOld, PreSharedKey,
-    EarlyData, SupportedVersions, Cookie, PskExchangeModes, TicketEarlyDataInfo,
-    CertificateAuthorities, OidFilters, PostHandshakeAuth, SigAlgorithmsCert, KeyShare,
-    NextProtocolNegotiation, Grease, RenegotiationInfo, EncryptedServerName
-);
+/// The constants, in the order of their numbers, which rises.
+macro_rules! constants {
+    ($column:ident) => {
+        $column!(
+            TlsExtensionType: ServerName, MaxFragmentLength, ClientCertificate, TrustedCaKeys,
+            TruncatedHMac, StatusRequest, UserMapping, ClientAuthz, ServerAuthz, CertType,
+            SupportedGroups, EcPointFormats, Srp, SignatureAlgorithms, UseSrtp, Heartbeat,
+            ApplicationLayerProtocolNegotiation, StatusRequestv2, SignedCertificateTimestamp,
+            ClientCertificateType, ServerCertificateType, Padding, EncryptThenMac,
+            ExtendedMasterSecret, TokenBinding, CachedInfo, RecordSizeLimit, SessionTicketTLS,
+            KeyShareOld, PreSharedKey, EarlyData, SupportedVersions, Cookie, PskExchangeModes,
+            TicketEarlyDataInfo, CertificateAuthorities, OidFilters, PostHandshakeAuth,
+            SigAlgorithmsCert, KeyShare, NextProtocolNegotiation, Grease, RenegotiationInfo,
+            EncryptedServerName
+        )
+    };
+}
+
+/// The numbers of the constants.
+static NUMBERS: &[u16] = constants!(numbers);
 
 /// The names of the constants, in the same order.
-const NAMES: [&str; 44] = texts!(
-    ServerName,
-    MaxFragmentLength,
-    ClientCertificate,
-    TrustedCaKeys,
-    TruncatedHMac,
-    StatusRequest,
-    UserMapping,
-    ClientAuthz,
-    ServerAuthz,
-    CertType,
-    SupportedGroups,
-    EcPointFormats,
-    Srp,
-    SignatureAlgorithms,
-    UseSrtp,
-    Heartbeat,
-    ApplicationLayerProtocolNegotiation,
-    StatusRequestv2,
-    SignedCertificateTimestamp,
-    ClientCertificateType,
-    ServerCertificateType,
-    Padding,
-    EncryptThenMac,
-    ExtendedMasterSecret,
-    TokenBinding,
-    CachedInfo,
-    RecordSizeLimit,
-    SessionTicketTLS,
-    KeyShareOld,
-    PreSharedKey,
-    EarlyData,
-    SupportedVersions,
-    Cookie,
-    PskExchangeModes,
-    TicketEarlyDataInfo,
-    CertificateAuthorities,
-    OidFilters,
-    PostHandshakeAuth,
-    SigAlgorithmsCert,
-    KeyShare,
-    NextProtocolNegotiation,
-    Grease,
-    RenegotiationInfo,
-    EncryptedServerName
-);
+static NAMES: &[&str] = constants!(texts);
 
 /// The numbers rise strictly, so that one is found by binary search.
 fn numbers_rise()
-    ensures { IsStrictlyIncreasing NUMBERS }
+    ensures { IsStrictlyIncreasing NUMBERS.now }
 {}
 
 impl fmt::Display for TlsExtensionType {
     ghost output = { λ v. Some (name (codes "TlsExtensionType") extension_types v.0) };
 
     fn fmt<W: fmt::Write>(&self, f: &mut fmt::Formatter<W>) -> fmt::Result {
-        write_rising(f, "TlsExtensionType", &NUMBERS, &NAMES, self.0)
+        write_rising(f, "TlsExtensionType", NUMBERS, NAMES, self.0)
     }
 }

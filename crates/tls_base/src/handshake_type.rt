@@ -71,7 +71,7 @@ impl TlsHandshakeType {
 }
 
 /// The constants, each with its number and its name.
-const NAMES: [(u16, &str); 19] = names!(
+static NAMES: &[(u16, &str)] = names!(
     TlsHandshakeType: HelloRequest, ClientHello, ServerHello, HelloVerifyRequest, NewSessionTicket,
     EndOfEarlyData, HelloRetryRequest, EncryptedExtensions, Certificate, ServerKeyExchange,
     CertificateRequest, ServerDone, CertificateVerify, ClientKeyExchange, Finished, CertificateURL,
@@ -82,7 +82,7 @@ impl fmt::Display for TlsHandshakeType {
     ghost output = { λ v. Some (name (codes "TlsHandshakeType") handshake_types v.0) };
 
     fn fmt<W: fmt::Write>(&self, f: &mut fmt::Formatter<W>) -> fmt::Result {
-        write_name(f, "TlsHandshakeType", &NAMES, self.0 as u16)
+        write_name(f, "TlsHandshakeType", NAMES, self.0 as u16)
     }
 }
 

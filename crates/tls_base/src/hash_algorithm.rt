@@ -41,7 +41,7 @@ impl HashAlgorithm {
 }
 
 /// The constants, each with its number and its name.
-const NAMES: [(u16, &str); 8] = names!(
+static NAMES: &[(u16, &str)] = names!(
     HashAlgorithm: None, Md5, Sha1, Sha224, Sha256, Sha384, Sha512, Intrinsic
 );
 
@@ -49,6 +49,6 @@ impl fmt::Display for HashAlgorithm {
     ghost output = { λ v. Some (name (codes "HashAlgorithm") hash_algorithms v.0) };
 
     fn fmt<W: fmt::Write>(&self, f: &mut fmt::Formatter<W>) -> fmt::Result {
-        write_name(f, "HashAlgorithm", &NAMES, self.0 as u16)
+        write_name(f, "HashAlgorithm", NAMES, self.0 as u16)
     }
 }

@@ -28,7 +28,7 @@ impl TlsHeartbeatMessageType {
 }
 
 /// The constants, each with its number and its name.
-const NAMES: [(u16, &str); 2] = names!(
+static NAMES: &[(u16, &str)] = names!(
     TlsHeartbeatMessageType: HeartBeatRequest, HeartBeatResponse
 );
 
@@ -36,7 +36,7 @@ impl fmt::Display for TlsHeartbeatMessageType {
     ghost output = { λ v. Some (name (codes "TlsHeartbeatMessageType") heartbeat_message_types v.0) };
 
     fn fmt<W: fmt::Write>(&self, f: &mut fmt::Formatter<W>) -> fmt::Result {
-        write_name(f, "TlsHeartbeatMessageType", &NAMES, self.0 as u16)
+        write_name(f, "TlsHeartbeatMessageType", NAMES, self.0 as u16)
     }
 }
 

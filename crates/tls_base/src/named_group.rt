@@ -110,7 +110,7 @@ impl NamedGroup {
     pub fn key_bits(self) -> Option<u16>
         ensures { result ≡ key_bits_of self.0 }
     {
-        find_number(&KEY_BITS, self.0)
+        find_number(KEY_BITS, self.0)
     }
 
     /// Reads 2 bytes, big-endian. `Incomplete` of the bytes that are missing, 2 or 1.
@@ -135,7 +135,7 @@ impl Number for NamedGroup {
 }
 
 /// The length of a key, in bits, for the groups that have one here.
-const KEY_BITS: [(u16, u16); 29] = [
+static KEY_BITS: &[(u16, u16)] = &[
     (NamedGroup::Sect163k1.0, 163),
     (NamedGroup::Sect163r1.0, 163),
     (NamedGroup::Sect163r2.0, 163),
@@ -168,7 +168,7 @@ const KEY_BITS: [(u16, u16); 29] = [
 ];
 
 /// The constants, each with its number and its name.
-const NAMES: [(u16, &str); 41] = names!(
+static NAMES: &[(u16, &str)] = names!(
     NamedGroup: Sect163k1, Sect163r1, Sect163r2, Sect193r1, Sect193r2, Sect233k1, Sect233r1,
     Sect239k1, Sect283k1, Sect283r1, Sect409k1, Sect409r1, Sect571k1, Sect571r1, Secp160k1,
     Secp160r1, Secp160r2, Secp192k1, Secp192r1, Secp224k1, Secp224r1, Secp256k1, Secp256r1,
@@ -181,6 +181,6 @@ impl fmt::Display for NamedGroup {
     ghost output = { λ v. Some (name (codes "NamedGroup") named_groups v.0) };
 
     fn fmt<W: fmt::Write>(&self, f: &mut fmt::Formatter<W>) -> fmt::Result {
-        write_name(f, "NamedGroup", &NAMES, self.0)
+        write_name(f, "NamedGroup", NAMES, self.0)
     }
 }

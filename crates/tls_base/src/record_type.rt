@@ -34,7 +34,7 @@ impl TlsRecordType {
 }
 
 /// The constants, each with its number and its name.
-const NAMES: [(u16, &str); 5] = names!(
+static NAMES: &[(u16, &str)] = names!(
     TlsRecordType: ChangeCipherSpec, Alert, Handshake, ApplicationData, Heartbeat
 );
 
@@ -42,7 +42,7 @@ impl fmt::Display for TlsRecordType {
     ghost output = { λ v. Some (name (codes "TlsRecordType") content_types v.0) };
 
     fn fmt<W: fmt::Write>(&self, f: &mut fmt::Formatter<W>) -> fmt::Result {
-        write_name(f, "TlsRecordType", &NAMES, self.0 as u16)
+        write_name(f, "TlsRecordType", NAMES, self.0 as u16)
     }
 }
 

@@ -38,12 +38,12 @@ impl SignAlgorithm {
 }
 
 /// The constants, each with its number and its name.
-const NAMES: [(u16, &str); 6] = names!(SignAlgorithm: Anonymous, Rsa, Dsa, Ecdsa, Ed25519, Ed448);
+static NAMES: &[(u16, &str)] = names!(SignAlgorithm: Anonymous, Rsa, Dsa, Ecdsa, Ed25519, Ed448);
 
 impl fmt::Display for SignAlgorithm {
     ghost output = { λ v. Some (name (codes "SignAlgorithm") signature_algorithms v.0) };
 
     fn fmt<W: fmt::Write>(&self, f: &mut fmt::Formatter<W>) -> fmt::Result {
-        write_name(f, "SignAlgorithm", &NAMES, self.0 as u16)
+        write_name(f, "SignAlgorithm", NAMES, self.0 as u16)
     }
 }

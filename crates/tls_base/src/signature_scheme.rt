@@ -89,7 +89,7 @@ impl SignatureScheme {
 }
 
 /// The constants, each with its number and its name.
-const NAMES: [(u16, &str); 20] = names!(
+static NAMES: &[(u16, &str)] = names!(
     SignatureScheme: rsa_pkcs1_sha256, rsa_pkcs1_sha384, rsa_pkcs1_sha512, rsa_pkcs1_sha1,
     ecdsa_secp256r1_sha256, ecdsa_secp384r1_sha384, ecdsa_secp521r1_sha512, ecdsa_sha1, sm2sig_sm3,
     rsa_pss_rsae_sha256, rsa_pss_rsae_sha384, rsa_pss_rsae_sha512, ed25519, ed448,
@@ -101,6 +101,6 @@ impl fmt::Display for SignatureScheme {
     ghost output = { λ v. Some (name (codes "SignatureScheme") signature_schemes v.0) };
 
     fn fmt<W: fmt::Write>(&self, f: &mut fmt::Formatter<W>) -> fmt::Result {
-        write_name(f, "SignatureScheme", &NAMES, self.0)
+        write_name(f, "SignatureScheme", NAMES, self.0)
     }
 }

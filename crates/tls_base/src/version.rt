@@ -89,7 +89,7 @@ impl Number for TlsVersion {
 }
 
 /// The constants, each with its number and its name.
-const NAMES: [(u16, &str); 14] = names!(
+static NAMES: &[(u16, &str)] = names!(
     TlsVersion: Ssl30, Tls10, Tls11, Tls12, Tls13, Tls13Draft18, Tls13Draft19, Tls13Draft20,
     Tls13Draft21, Tls13Draft22, Tls13Draft23, DTls10, DTls11, DTls12
 );
@@ -98,7 +98,7 @@ impl fmt::Display for TlsVersion {
     ghost output = { λ v. Some (name (codes "TlsVersion") protocol_versions v.0) };
 
     fn fmt<W: fmt::Write>(&self, f: &mut fmt::Formatter<W>) -> fmt::Result {
-        write_name(f, "TlsVersion", &NAMES, self.0)
+        write_name(f, "TlsVersion", NAMES, self.0)
     }
 }
 

@@ -4,9 +4,9 @@ use Rattle.std.specs.Prelude.{◌≡◌, ℕ, ◌≤◌, ◌<◌, ◌^◌, min, 
 use Rattle.std.specs.List.{All, flat_map}
 use Rattle.tls_fields.specs.Bytes.{Bytes, bytes_of}
 use Rattle.tls_fields.specs.Text.{counted_text, numbers_text}
-use Rattle.tls_fields.specs.Write.{RefusesFirst}
-use Rattle.tls_fields.specs.declared.write.GenError.{GenError}
-use Rattle.tls_fields.specs.declared.write.GenError.TheVariants.{NotYetImplemented, BadLength}
+use Rattle.tls_fields.specs.Writer.{RefusesFirst}
+use Rattle.tls_fields.specs.declared.writer.GenError.{GenError}
+use Rattle.tls_fields.specs.declared.writer.GenError.TheVariants.{NotYetImplemented, BadLength}
 use Rattle.tls_ext.specs.Extension.{Extension, ServerName, server_name, max_fragment_length, supported_groups, extension_type}
 
 -- NameType name_type; opaque HostName<1..2^16-1> (RFC 6066, section 3).

@@ -5,7 +5,7 @@
 //! was.
 ghost use Rattle.std.specs.Prelude.{map, drop, OnOk, Ok, []};
 ghost use Rattle.tls_fields.specs.Meaning.{Allows};
-ghost use Rattle.tls_fields.specs.Write.{Writes};
+ghost use Rattle.tls_fields.specs.Writer.{Writes};
 ghost use Rattle.tls_ext.specs.Extension.{view};
 ghost use Rattle.tls_ext.specs.Dispatch.{general_extensions};
 ghost use Rattle.tls_ext.specs.ExtensionText.{extension_text, extensions_text, FitsExtension, FitsExtensions, RefusedExtension, RefusedExtensions};
@@ -13,7 +13,7 @@ ghost use Rattle.tls_ext.specs.ExtensionText.{extension_text, extensions_text, F
 use crate::extension::TlsExtension;
 use std::alloc::Global;
 use std::io::Write;
-use tls_fields::text::add2;
+use tls_fields::writer::builder::add2;
 use tls_fields::{GenError, write_whole};
 
 mod builder;

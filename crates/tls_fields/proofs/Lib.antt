@@ -9,4 +9,4 @@ pub mod TimesLemmas
 pub mod ListLemmas
 pub mod LeavesLemmas
 pub mod TextLemmas
-pub mod WriteLemmas
+pub mod WriterLemmas

@@ -1,14 +1,13 @@
 -- A layout so many times, one more time.
-use Rattle.std.proofs.Common.{◌≡◌, ℕ, zero, suc, ◌+◌, List, [], ◌∷◌, ◌++◌, map, Ok, Err, sym, subst, ◌∙◌, refl, ap}
+use Rattle.std.proofs.Common.{◌≡◌, ℕ, zero, suc, ◌+◌, List, [], ◌∷◌, ◌++◌, map, Ok, Err, sym, ◌∙◌, refl, ap}
 use Rattle.std.proofs.Math.Numerals.{add-one}
 use Rattle.std.proofs.lemmas.List.{map-append}
-use Rattle.tls_fields.specs.Bytes.{Bytes, AreBytes}
+use Rattle.tls_fields.specs.Bytes.{Bytes}
 use Rattle.tls_fields.specs.Layout.{Layout, times}
 use Rattle.tls_fields.specs.Meaning.{Answer}
 use Rattle.tls_fields.specs.Reading.{reading, ◌and_then◌}
-use Rattle.tls_fields.specs.Answers.{Gives, GivesOrMemory}
+use Rattle.tls_fields.specs.Answers.{Gives}
 use Rattle.std.specs.Borrow.{Bor}
-use Rattle.tls_fields.proofs.OneAnswerLemmas.{read_allowed}
 
 -- a first item is read, and n behind it
 first_read : {A : Type 0} (n : ℕ) (l : Layout A) (b : Bytes) (xs : List A) (m : Bytes) → reading (times (suc n) l) b ≡ Ok (xs, m)
@@ -52,9 +51,3 @@ pub record TimesRead {A : Type 0} (l : Layout A) (b : Bytes) (n : ℕ) (xs : Lis
 module _ {X A : Type 0} (view : X → A) (l : Layout A) (b : Bytes) where
   pub times_push : (n : ℕ) (xs : List X) (m : Bytes) (x : X) (r : Bor (List ℕ)) → TimesRead l b n (map view xs) m → Gives view l m (Ok (r, x)) → TimesRead l b (n + 1) (map view (xs ++ x ∷ [])) r.now
   times_push n xs m x r h g = record { read = rw map-append (push_one n l b (map view xs) m (view x) r.now h.read g.read) }
-
-  module _ {V : Type 0} (views : V → List A) (k : ℕ) (are : AreBytes b) where
-    pub times_end : (v : V) (o : Bor (List ℕ)) (n : ℕ) → TimesRead l b n (views v) o.now → n ≡ k → GivesOrMemory views (times k l) b (Ok (o, v))
-    times_end v o n h e =
-        let all : reading (times k l) b ≡ Ok (views v, o.now) = subst (λ n. reading (times n l) b ≡ Ok (views v, o.now)) e h.read in
-        record { answers = λ _. tt; read = λ _. all; allowed = λ _. read_allowed (times k l) b _ are all }

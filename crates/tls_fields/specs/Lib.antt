@@ -5,4 +5,4 @@ pub mod Reading
 pub mod Stable
 pub mod Answers
 pub mod Text
-pub mod Write
+pub mod Writer

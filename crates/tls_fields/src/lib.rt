@@ -2,8 +2,8 @@
 //!
 //! Each reader's contract names a layout (`specs/Layout.antt`), and says that the call answers what that layout allows
 //! on the bytes: the value and the exact rest, the kind of the broken rule, or the exact count of missing bytes. Numbers
-//! are big-endian (RFC 8446, section 3.3). Here stands also what every writer shares: the pieces of a text (`text`), the
-//! refusals, and the loop over a writer.
+//! are big-endian (RFC 8446, section 3.3). Here stands also what every writer shares (`writer`): why a value isn't
+//! written, what adds numbers and bytes to a vector, and the loop over a writer.
 #![tactic(auto, using(crate::proofs::OneAnswerLemmas::read_allowed))]
 
 mod bytes;
@@ -14,8 +14,7 @@ mod number;
 mod result;
 mod room;
 mod table;
-pub mod text;
-mod write;
+pub mod writer;
 
 pub use bytes::{block, counted1, counted2, counted3, maybe2, rest, tag};
 pub use item::{Counted1, Counted2, Item, Number2};
@@ -24,4 +23,4 @@ pub use number::{Number, number1, number2, number3, number4, number8};
 pub use result::{Err, Error, ErrorKind, IResult, Needed, OutOfMemory, refused};
 pub use room::{Room, at_most, hops1, hops2};
 pub use table::place;
-pub use write::{GenError, write_whole};
+pub use writer::{GenError, write_whole};

@@ -5,8 +5,8 @@ use Rattle.tls_fields.specs.Bytes.{Bytes, bytes_of}
 use Rattle.tls_fields.specs.Layout.{Layout, done, number, block, window, look, chain, choose}
 use Rattle.std.specs.Result.{result_map_both}
 use Rattle.tls_fields.specs.Meaning.{Spells, Allows}
-use Rattle.tls_fields.specs.Write.{Builds}
-use Rattle.tls_fields.specs.declared.write.GenError.{GenError}
+use Rattle.tls_fields.specs.Writer.{Builds}
+use Rattle.tls_fields.specs.declared.writer.GenError.{GenError}
 use Rattle.tls_fields.proofs.OneAnswerLemmas.{eqb_other}
 use Rattle.tls_hs.specs.Hello as hello
 use Rattle.tls_hs.specs.ServerHello as server

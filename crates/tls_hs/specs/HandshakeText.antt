@@ -5,8 +5,8 @@ use Rattle.std.specs.Option.{IsSome}
 use Rattle.std.specs.List.{All}
 use Rattle.tls_fields.specs.Bytes.{Bytes, bytes_of}
 use Rattle.tls_fields.specs.Text.{counted_text, numbers_text, held}
-use Rattle.tls_fields.specs.declared.write.GenError.{GenError}
-use Rattle.tls_fields.specs.declared.write.GenError.TheVariants.{NotYetImplemented, BadLength}
+use Rattle.tls_fields.specs.declared.writer.GenError.{GenError}
+use Rattle.tls_fields.specs.declared.writer.GenError.TheVariants.{NotYetImplemented, BadLength}
 use Rattle.tls_hs.specs.Hello as hello
 use Rattle.tls_hs.specs.ServerHello as server
 use Rattle.tls_hs.specs.Session as session

@@ -11,4 +11,4 @@ pub use Rattle.tls_fields.specs.Layout
 pub use Rattle.tls_fields.specs.Meaning
 pub use Rattle.tls_fields.specs.Answers
 pub use Rattle.tls_fields.specs.Text
-pub use Rattle.tls_fields.specs.Write
+pub use Rattle.tls_fields.specs.Writer

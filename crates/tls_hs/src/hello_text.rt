@@ -2,8 +2,8 @@
 ghost use Rattle.std.specs.Prelude.{◌≡◌, ◌≤◌, ◌<◌, ◌+◌, ◌*◌, ◌^◌, ◌++◌, length, map, IfOk, MatchResult, vec_len, vec_capacity};
 ghost use Rattle.std.specs.List.{All};
 ghost use Rattle.tls_fields.specs.Text.{counted_text, numbers_text};
-ghost use Rattle.tls_fields.specs.Write.{Judges};
-ghost use Rattle.tls_fields.specs.declared.write.GenError.TheVariants.{BadLength};
+ghost use Rattle.tls_fields.specs.Writer.{Judges};
+ghost use Rattle.tls_fields.specs.declared.writer.GenError.TheVariants.{BadLength};
 ghost use Rattle.tls_hs.specs.Hello.{view_client_hello};
 ghost use Rattle.tls_hs.specs.ServerHello.{view_server_hello, view_server_hello_draft18};
 ghost use Rattle.tls_hs.specs.HandshakeText.{client_hello_text, FitsClientHello, InRangeClientHello, server_hello_text, FitsServerHello, InRangeServerHello, server_hello_draft18_text, FitsServerHelloDraft18, InRangeServerHelloDraft18};
@@ -12,7 +12,7 @@ use crate::client_hello::TlsClientHelloContents;
 use crate::server_hello::{TlsServerHelloContents, TlsServerHelloV13Draft18Contents};
 use tls_base::{TlsCipherSuiteID, TlsCompressionID};
 use tls_fields::GenError;
-use tls_fields::text::{add_bytes, add1, add2, held};
+use tls_fields::writer::builder::{add_bytes, add1, add2, held};
 
 /// Adds bytes after 1 byte of their count.
 pub(crate) fn add_counted1(out: &mut Vec<u8>, b: &[u8])

@@ -1,7 +1,7 @@
 //! The texts of handshake messages (RFC 5246, section 7.4), for callers that build a text of their own around them, as that
 //! of a record.
 ghost use Rattle.std.specs.Prelude.{◌≡◌, ◌≤◌, ◌+◌, ◌++◌, length, vec_len, vec_capacity};
-ghost use Rattle.tls_fields.specs.Write.{Judges};
+ghost use Rattle.tls_fields.specs.Writer.{Judges};
 ghost use Rattle.tls_hs.specs.Handshake.{view_handshake};
 ghost use Rattle.tls_hs.specs.HandshakeText.{handshake_text, FitsHandshake, InRangeHandshake, refusal_of_handshake};
 

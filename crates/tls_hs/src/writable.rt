@@ -1,8 +1,8 @@
 //! The handshake messages that the writer knows, each by reference: how long its text is, the text, and its writing.
 ghost use Rattle.std.specs.Prelude.{◌≡◌, ◌≤◌, ◌+◌, ◌++◌, length, IfOk, MatchOption, vec_len, vec_capacity};
 ghost use Rattle.std.specs.Result.{result_map_both};
-ghost use Rattle.tls_fields.specs.Write.{Judges, Builds, Writes};
-ghost use Rattle.tls_fields.specs.declared.write.GenError.TheVariants.{BadLength, NotYetImplemented};
+ghost use Rattle.tls_fields.specs.Writer.{Judges, Builds, Writes};
+ghost use Rattle.tls_fields.specs.declared.writer.GenError.TheVariants.{BadLength, NotYetImplemented};
 ghost use Rattle.tls_hs.specs.Handshake.{view_handshake};
 ghost use Rattle.tls_hs.specs.Session.{view_client_key_exchange};
 ghost use Rattle.tls_hs.specs.HandshakeText.{client_key_exchange_text, FitsClientKeyExchange, body_text, handshake_text, FitsBody, FitsHandshake, InRangeHandshake, refusal_of_handshake, msg_type_of};
@@ -19,7 +19,7 @@ use crate::session::TlsClientKeyExchangeContents;
 use std::alloc::Global;
 use std::io::Write;
 use tls_base::TlsHandshakeType;
-use tls_fields::text::{add_bytes, add1, add3};
+use tls_fields::writer::builder::{add_bytes, add1, add3};
 use tls_fields::{GenError, write_whole};
 
 /// The longest body of a handshake message, in bytes: its length has 3 bytes.

@@ -8,8 +8,8 @@
 //! - `OutOfMemory` where memory for the text runs out. Nothing is written.
 //! - `Io` where a write fails, also where it is interrupted, or takes nothing. How much went out is unknown.
 ghost use Rattle.std.specs.Prelude.{◌≡◌};
-ghost use Rattle.tls_fields.specs.Write.{Writes};
-ghost use Rattle.tls_fields.specs.declared.write.GenError.TheVariants.{BadLength};
+ghost use Rattle.tls_fields.specs.Writer.{Writes};
+ghost use Rattle.tls_fields.specs.declared.writer.GenError.TheVariants.{BadLength};
 ghost use Rattle.tls_hs.specs.Hello.{view_client_hello};
 ghost use Rattle.tls_hs.specs.ServerHello.{view_server_hello, view_server_hello_draft18};
 ghost use Rattle.tls_hs.specs.Session.{view_client_key_exchange};

@@ -12,8 +12,8 @@ use Rattle.std.specs.Prelude.{Result, Err, IfOk}
 use Rattle.std.specs.Global.{Vec}
 use Rattle.std.specs.Result.{result_map_both}
 use Rattle.tls_fields.specs.Text.{counted_text}
-use Rattle.tls_fields.specs.Write.{Builds}
-use Rattle.tls_fields.specs.declared.write.GenError.{GenError}
+use Rattle.tls_fields.specs.Writer.{Builds}
+use Rattle.tls_fields.specs.declared.writer.GenError.{GenError}
 use Rattle.tls_fields.specs.declared.result.ErrorKind.TheVariants.{TooLarge, Switch, Verify}
 use Rattle.tls_fields.proofs.NumberLemmas.{length-bytes_of}
 use Rattle.tls_fields.proofs.TextLemmas.{Joined, more_joined, parts, joined, filled, Reads, reads_chain, reads_window, reads_allowed, list_reads, number_spelled, test_spelled, test_whole, list_whole, First, Second, picked}

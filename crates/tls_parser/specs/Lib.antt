@@ -11,7 +11,7 @@ pub use Rattle.tls_fields.specs.Reading
 pub use Rattle.tls_fields.specs.Answers
 pub use Rattle.tls_fields.specs.Stable
 pub use Rattle.tls_fields.specs.Text
-pub use Rattle.tls_fields.specs.Write
+pub use Rattle.tls_fields.specs.Writer
 pub use Rattle.tls_base.specs.Names
 pub use Rattle.tls_base.specs.Constants
 pub use Rattle.tls_base.specs.KeyExchange

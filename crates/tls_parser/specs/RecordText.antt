@@ -5,9 +5,9 @@ use Rattle.std.specs.List.{All, flat_map}
 use Rattle.tls_fields.specs.Bytes.{Bytes, bytes_of}
 use Rattle.tls_fields.specs.Meaning.{Spells}
 use Rattle.tls_fields.specs.Text.{counted_text}
-use Rattle.tls_fields.specs.Write.{RefusesFirst}
-use Rattle.tls_fields.specs.declared.write.GenError.{GenError}
-use Rattle.tls_fields.specs.declared.write.GenError.TheVariants.{NotYetImplemented}
+use Rattle.tls_fields.specs.Writer.{RefusesFirst}
+use Rattle.tls_fields.specs.declared.writer.GenError.{GenError}
+use Rattle.tls_fields.specs.declared.writer.GenError.TheVariants.{NotYetImplemented}
 use Rattle.tls_hs.specs.HandshakeText.{handshake_text, FitsHandshake, InRangeHandshake, refusal_of_handshake, IsReadableHandshake, normal_handshake, IsWrittenBack}
 use Rattle.tls_hs.specs.Message.{Message, Handshake, ChangeCipherSpec}
 use Rattle.tls_parser.specs.Framing.{max_fragment_length}

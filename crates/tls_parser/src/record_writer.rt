@@ -11,7 +11,7 @@ ghost use Rattle.std.specs.Prelude.{◌≡◌, ◌≤◌, ◌<◌, ◌+◌, ◌+
 ghost use Rattle.std.specs.List.{All};
 ghost use Rattle.std.specs.Result.{result_map_both};
 ghost use Rattle.tls_fields.specs.Meaning.{Allows};
-ghost use Rattle.tls_fields.specs.Write.{Judges, Builds, Writes, RefusesFirst};
+ghost use Rattle.tls_fields.specs.Writer.{Judges, Builds, Writes, RefusesFirst};
 ghost use Rattle.tls_hs.specs.Handshake.{view_handshake};
 ghost use Rattle.tls_hs.specs.HandshakeText.{handshake_text, FitsHandshake, InRangeHandshake, refusal_of_handshake};
 ghost use Rattle.tls_hs.specs.Message.{view_message, ChangeCipherSpec};
@@ -21,7 +21,7 @@ ghost use Rattle.tls_parser.specs.RecordText.{message_text, FitsMessage, refusal
 use crate::plaintext::TlsPlaintext;
 use std::alloc::Global;
 use std::io::Write;
-use tls_fields::text::{add1, add2};
+use tls_fields::writer::builder::{add1, add2};
 use tls_fields::{GenError, write_whole};
 use tls_hs::text::{append_handshake, handshake_len};
 use tls_hs::{TlsMessage, TlsMessageHandshake};

@@ -8,7 +8,7 @@ ghost use Rattle.tls_ext.specs.ExtensionText.{server_name_text, extension_text, 
 use crate::extension::TlsExtension;
 use crate::writer::judge::extension_len;
 use tls_base::{NamedGroup, SNIType, TlsExtensionType};
-use tls_fields::text::{add_bytes, add1, add2};
+use tls_fields::writer::builder::{add_bytes, add1, add2};
 
 /// Adds the names of a server.
 fn add_names(out: &mut Vec<u8>, names: &[(SNIType, &[u8])])

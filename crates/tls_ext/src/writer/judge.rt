@@ -2,7 +2,7 @@
 //! memory.
 ghost use Rattle.std.specs.Prelude.{◌≡◌, length, map, min};
 ghost use Rattle.std.specs.List.{flat_map};
-ghost use Rattle.tls_fields.specs.Write.{Judges};
+ghost use Rattle.tls_fields.specs.Writer.{Judges};
 ghost use Rattle.tls_ext.specs.Extension.{view, view_server_name};
 ghost use Rattle.tls_ext.specs.ExtensionText.{server_name_text, extension_text, extensions_text, Counts, FitsExtension, FitsExtensions, RefusedExtension, RefusedExtensions};
 

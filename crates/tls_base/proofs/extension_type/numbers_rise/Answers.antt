@@ -4,4 +4,4 @@ use Rattle.tls_base.proofs.RisingLemmas.{rising}
 use Rattle.tls_base.proofs.extension_type.numbers_rise.Goals as goal
 
 pub returns : goal.returns
-returns c = rising NUMBERS refl
+returns c = rising NUMBERS.now refl

@@ -1,6 +1,6 @@
 use Rattle.std.proofs.Common.{◌++◌, ◌∙◌, length, map, take, sym, ap, arith, append_assoc}
 use Rattle.std.proofs.lemmas.List.{length-append}
-use Rattle.tls_ext.proofs.WritingLemmas.{fits_at, fits_behind, texts_taken, room_for}
+use Rattle.tls_fields.proofs.WriterLemmas.{fits_at, fits_behind, texts_taken, room_for}
 use Rattle.tls_hs.specs.Message.{view_message}
 use Rattle.tls_parser.specs.RecordText.{message_text, fragment_text, FitsMessage, InRangeMessage}
 use Rattle.tls_parser.proofs.record_writer.append_messages.Goals as goal

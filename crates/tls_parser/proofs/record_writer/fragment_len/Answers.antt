@@ -2,9 +2,9 @@ use Rattle.std.proofs.Common.{◌≡◌, ◌<◌, ◌≤◌, List, ℕ, length, 
 use Rattle.std.proofs.lemmas.List.{take_all, length-append}
 use Rattle.std.proofs.lemmas.Result.{err_from_is_err_and}
 use Rattle.std.specs.List.{All}
-use Rattle.tls_fields.specs.Write.{Judges, RefusesFirst}
-use Rattle.tls_fields.specs.declared.write.GenError.{GenError}
-use Rattle.tls_ext.proofs.WritingLemmas.{refused_at, none_refused, fits_at, fits_behind, texts_taken}
+use Rattle.tls_fields.specs.Writer.{Judges, RefusesFirst}
+use Rattle.tls_fields.specs.declared.writer.GenError.{GenError}
+use Rattle.tls_fields.proofs.WriterLemmas.{refused_at, none_refused, fits_at, fits_behind, texts_taken}
 use Rattle.tls_hs.specs.Message.{view_message}
 use Rattle.tls_hs.specs.declared.message.TlsMessage.{TlsMessage}
 use Rattle.tls_parser.specs.RecordText.{FitsMessage, RefusesMessage, refusal_of_message, message_text, fragment_text}

@@ -6,7 +6,7 @@ use Rattle.tls_fields.specs.Bytes.{Bytes, bytes_of}
 use Rattle.tls_fields.proofs.TextLemmas.{all_behind}
 use Rattle.tls_ext.specs.Extension.{view_server_name}
 use Rattle.tls_ext.specs.ExtensionText.{server_name_text}
-use Rattle.tls_ext.proofs.WritingLemmas.{texts_more, texts_at, room_at}
+use Rattle.tls_fields.proofs.WriterLemmas.{texts_more, texts_at, room_at}
 use Rattle.tls_ext.proofs.ExtensionTextLemmas.{length-name}
 use Rattle.tls_ext.proofs.writer.builder.add_names.Goals as goal
 

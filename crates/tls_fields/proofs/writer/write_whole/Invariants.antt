@@ -1,7 +1,7 @@
 -- what the writer has taken is a front of the bytes
 use Rattle.std.proofs.Common.{◌-◌, ◌≤◌, length, take}
 use Rattle.std.specs.Io.KnownBytes.{Appends}
-use Rattle.tls_fields.proofs.write.write_whole.Given as goal
+use Rattle.tls_fields.proofs.writer.write_whole.Given as goal
 
 abbrev pub invariant-writes : goal.invariant-writes
 invariant-writes g l = record {

@@ -1,10 +1,12 @@
-//! Writing: why a value isn't written, and the loop that hands a text to a writer.
+//! What every writer shares: why a value isn't written, the loop that hands a text to a writer, and what builds a text.
 ghost use Rattle.std.specs.Prelude.{◌≡◌, ℕ, IfErr, OnOk, take};
 ghost use Rattle.std.specs.Io.KnownBytes.{Appends};
 
 use std::alloc::{AllocError, AllocFailed};
 use std::fmt;
 use std::io::Write;
+
+pub mod builder;
 
 /// Why a value is not written.
 #[derive(Debug, PartialEq, Drop)]
@@ -20,7 +22,7 @@ pub enum GenError {
 }
 
 impl From<AllocError> for GenError {
-    ghost use Rattle.tls_fields.specs.declared.write.GenError.TheVariants.{OutOfMemory};
+    ghost use Rattle.tls_fields.specs.declared.writer.GenError.TheVariants.{OutOfMemory};
 
     ghost from_gives = { λ _ e. e ≡ OutOfMemory };
 
@@ -30,7 +32,7 @@ impl From<AllocError> for GenError {
 }
 
 impl<T: Drop> From<AllocFailed<T>> for GenError {
-    ghost use Rattle.tls_fields.specs.declared.write.GenError.TheVariants.{OutOfMemory};
+    ghost use Rattle.tls_fields.specs.declared.writer.GenError.TheVariants.{OutOfMemory};
 
     ghost from_gives = { λ _ e. e ≡ OutOfMemory };
 
@@ -55,7 +57,7 @@ impl std::error::Error for GenError {}
 /// Hands all of `bytes` to the writer; a short write is gone on with.
 ///
 /// `Io` where a write fails, also where it was interrupted, or takes nothing. The writer isn't flushed.
-#[tactic(auto, using(crate::proofs::WriteLemmas::longer_front))]
+#[tactic(auto, using(crate::proofs::WriterLemmas::longer_front))]
 pub fn write_whole<W: Write>(w: &mut W, bytes: &[u8]) -> Result<(), GenError>
     ensures ok { OnOk result (Appends (W.contents w.old) (W.contents w.new) bytes.now) }
     ensures err { IfErr result (λ e. e ≡ GenError.Io) }

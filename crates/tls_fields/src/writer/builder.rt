@@ -1,4 +1,4 @@
-//! Pieces of a text, put into a vector that has room for them.
+//! Adds the parts of a text to a vector that has room for them.
 ghost use Rattle.std.specs.Prelude.{◌≡◌, ◌<◌, ◌≤◌, ◌+◌, ◌^◌, ◌++◌, length, vec_len, vec_capacity};
 ghost use Rattle.std.specs.Option.{option_map};
 ghost use Rattle.tls_fields.specs.Bytes.{bytes_of};

@@ -1,14 +1,17 @@
--- Texts of items, one after the other, and the first item that is refused.
-use Rattle.std.proofs.Common.{◌≡◌, ℕ, suc, ◌+◌, ◌<◌, ◌≤◌, inl, inr, List, [], ◌∷◌, ◌++◌, length, map, take, drop, get_or, refl, sym, ◌∙◌, ap, subst, arith, append-nil, drop-cons}
+-- What writers share: texts of items one after the other, the first item that is refused, and what a writer has taken.
+use Rattle.std.proofs.Common.{◌≡◌, ℕ, suc, ◌+◌, ◌-◌, ◌<◌, ◌≤◌, inl, inr, List, [], ◌∷◌, ◌++◌, length, map, take, drop, get_or, Option, refl, sym, ◌∙◌, ap, subst, arith, append-nil, drop-cons}
 use Rattle.std.specs.List.{All, flat_map}
-use Rattle.std.proofs.lemmas.List.{length-append, map-append, take_more, take-append-drop, length-map, get_or-map}
+use Rattle.std.specs.Io.KnownBytes.{Appends}
+use Rattle.std.proofs.KnownBytes.{Appends-trans}
+use Rattle.std.proofs.Math.Seq.{take-add}
+use Rattle.std.proofs.lemmas.List.{length-append, map-append, take_more, take-append-drop, take_rest, length-map, get_or-map}
 use Rattle.std.proofs.lemmas.Grind.{flat_map-append}
 use Rattle.std.proofs.lemmas.List.Elements.{All-head, All-tail, All-get_or}
 use Rattle.tls_fields.specs.Bytes.{Bytes}
-use Rattle.tls_fields.specs.Write.{RefusesFirst}
+use Rattle.tls_fields.specs.Writer.{RefusesFirst}
 use Rattle.tls_fields.proofs.TextLemmas.{all_behind}
-use Rattle.tls_fields.specs.declared.write.GenError.{GenError}
-use Rattle.tls_fields.specs.declared.write.GenError.TheVariants.{BadLength}
+use Rattle.tls_fields.specs.declared.writer.GenError.{GenError}
+use Rattle.tls_fields.specs.declared.writer.GenError.TheVariants.{BadLength}
 
 -- one more text
 pub texts_more : {X A : Type 0} (text : A → Bytes) (f : X → A) (xs : List X) (i : ℕ) (d : X) → i < length xs → flat_map text (map f (take (i + 1) xs)) ≡ flat_map text (map f (take i xs)) ++ text (f (get_or xs i d))
@@ -64,3 +67,8 @@ texts_taken text f xs i x h is = texts_more text f xs i x h ∙ ap (λ y. flat_m
 
 pub room_for : {X A : Type 0} (text : A → Bytes) (f : X → A) (xs : List X) (i : ℕ) (x : X) → i < length xs → x ≡ get_or xs i x → length (flat_map text (map f (take i xs))) + length (text (f x)) ≤ length (flat_map text (map f xs))
 room_for text f xs i x h is = omega (arith, room_at text f xs i x h, ap (λ y. length (text (f y))) is)
+
+-- a front, and then n bytes of the others, is a longer front
+pub longer_front : (a b c : Option (List ℕ)) (xs : List ℕ) (i n : ℕ) → Appends a b (take i xs)
+    → Appends b c (take n (take (length xs - i) (drop i xs))) → Appends a c (take (i + n) xs)
+longer_front a b c xs i n front more = rw (take-add i n xs, ← take_rest xs i) (Appends-trans a b c _ _ front more)

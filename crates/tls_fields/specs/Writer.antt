@@ -3,8 +3,8 @@
 use Rattle.std.specs.Prelude.{◌≡◌, ◌⊎◌, ℕ, List, [], ◌∷◌, length, Option, Result, Ok, Err, ⊤}
 use Rattle.std.specs.Io.KnownBytes.{Appends, Keeps}
 use Rattle.tls_fields.specs.Bytes.{Bytes}
-use Rattle.tls_fields.specs.declared.write.GenError.{GenError}
-use Rattle.tls_fields.specs.declared.write.GenError.TheVariants.{NotYetImplemented, BadLength, Io, OutOfMemory}
+use Rattle.tls_fields.specs.declared.writer.GenError.{GenError}
+use Rattle.tls_fields.specs.declared.writer.GenError.TheVariants.{NotYetImplemented, BadLength, Io, OutOfMemory}
 
 -- It refuses the value, and neither the memory nor the writer is at fault.
 abbrev pub IsRefusal : GenError → Type 0
