@@ -14,8 +14,10 @@ use tls_fields::{IResult, number1};
 pub struct TlsAlertSeverity(pub u8);
 
 impl TlsAlertSeverity {
+    /// The warning of RFC 5246, section 7.2: the sender may go on.
     pub const Warning: TlsAlertSeverity = TlsAlertSeverity(1);
 
+    /// The fatal of RFC 5246, section 7.2: the connection ends.
     pub const Fatal: TlsAlertSeverity = TlsAlertSeverity(2);
 
     /// Reads 1 byte. `Incomplete(1)` where there is none.

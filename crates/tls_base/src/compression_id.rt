@@ -15,10 +15,10 @@ use tls_fields::{IResult, Number, number1};
 pub struct TlsCompressionID(pub u8);
 
 impl TlsCompressionID {
-    /// No compression.
+    /// No compression: the null of RFC 5246, section 6.1.
     pub const Null: TlsCompressionID = TlsCompressionID(0);
 
-    /// The method of RFC 3749.
+    /// The DEFLATE of RFC 3749, section 2.
     pub const Deflate: TlsCompressionID = TlsCompressionID(1);
 
     /// The number.

@@ -14,6 +14,7 @@ use tls_fields::{IResult, number1};
 pub struct CtVersion(pub u8);
 
 impl CtVersion {
+    /// The v1 of RFC 6962, section 3.2.
     pub const V1: CtVersion = CtVersion(0);
 
     /// Reads 1 byte. `Incomplete(1)` where there is none.

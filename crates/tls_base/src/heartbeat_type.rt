@@ -14,8 +14,10 @@ use tls_fields::{IResult, number1};
 pub struct TlsHeartbeatMessageType(pub u8);
 
 impl TlsHeartbeatMessageType {
+    /// The heartbeat_request of RFC 6520, section 3.
     pub const HeartBeatRequest: TlsHeartbeatMessageType = TlsHeartbeatMessageType(1);
 
+    /// The heartbeat_response of RFC 6520, section 3.
     pub const HeartBeatResponse: TlsHeartbeatMessageType = TlsHeartbeatMessageType(2);
 
     /// Reads 1 byte. `Incomplete(1)` where there is none.

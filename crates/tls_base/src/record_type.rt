@@ -14,14 +14,19 @@ use tls_fields::{IResult, number1};
 pub struct TlsRecordType(pub u8);
 
 impl TlsRecordType {
+    /// The change_cipher_spec of RFC 5246, section 7.1.
     pub const ChangeCipherSpec: TlsRecordType = TlsRecordType(20);
 
+    /// The alert of RFC 5246, section 7.2.
     pub const Alert: TlsRecordType = TlsRecordType(21);
 
+    /// The handshake of RFC 5246, section 7.4.
     pub const Handshake: TlsRecordType = TlsRecordType(22);
 
+    /// The application_data of RFC 5246, section 10.
     pub const ApplicationData: TlsRecordType = TlsRecordType(23);
 
+    /// The heartbeat of RFC 6520, section 3.
     pub const Heartbeat: TlsRecordType = TlsRecordType(24);
 
     /// Reads 1 byte. `Incomplete(1)` where there is none.

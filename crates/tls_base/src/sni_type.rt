@@ -14,6 +14,7 @@ use tls_fields::{IResult, number1};
 pub struct SNIType(pub u8);
 
 impl SNIType {
+    /// The host_name of RFC 6066, section 3.
     pub const HostName: SNIType = SNIType(0);
 
     /// Reads 1 byte. `Incomplete(1)` where there is none.

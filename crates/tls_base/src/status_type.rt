@@ -14,6 +14,7 @@ use tls_fields::{IResult, number1};
 pub struct CertificateStatusType(pub u8);
 
 impl CertificateStatusType {
+    /// The ocsp of RFC 6066, section 8.
     pub const OCSP: CertificateStatusType = CertificateStatusType(1);
 
     /// Reads 1 byte. `Incomplete(1)` where there is none.

@@ -20,34 +20,46 @@ use tls_fields::{IResult, Number, OutOfMemory, number2};
 pub struct TlsVersion(pub u16);
 
 impl TlsVersion {
+    /// SSL 3.0 (RFC 6101).
     pub const Ssl30: TlsVersion = TlsVersion(0x0300);
 
+    /// TLS 1.0 (RFC 2246).
     pub const Tls10: TlsVersion = TlsVersion(0x0301);
 
+    /// TLS 1.1 (RFC 4346).
     pub const Tls11: TlsVersion = TlsVersion(0x0302);
 
+    /// TLS 1.2 (RFC 5246).
     pub const Tls12: TlsVersion = TlsVersion(0x0303);
 
+    /// TLS 1.3 (RFC 8446).
     pub const Tls13: TlsVersion = TlsVersion(0x0304);
 
-    /// The 18th draft of TLS 1.3; the next five are later drafts.
+    /// TLS 1.3 as draft-ietf-tls-tls13-18 has it.
     pub const Tls13Draft18: TlsVersion = TlsVersion(0x7f12);
 
+    /// TLS 1.3 as draft-ietf-tls-tls13-19 has it.
     pub const Tls13Draft19: TlsVersion = TlsVersion(0x7f13);
 
+    /// TLS 1.3 as draft-ietf-tls-tls13-20 has it.
     pub const Tls13Draft20: TlsVersion = TlsVersion(0x7f14);
 
+    /// TLS 1.3 as draft-ietf-tls-tls13-21 has it.
     pub const Tls13Draft21: TlsVersion = TlsVersion(0x7f15);
 
+    /// TLS 1.3 as draft-ietf-tls-tls13-22 has it.
     pub const Tls13Draft22: TlsVersion = TlsVersion(0x7f16);
 
+    /// TLS 1.3 as draft-ietf-tls-tls13-23 has it.
     pub const Tls13Draft23: TlsVersion = TlsVersion(0x7f17);
 
+    /// DTLS 1.0 (RFC 4347).
     pub const DTls10: TlsVersion = TlsVersion(0xfeff);
 
     /// There is no such version (RFC 6347, section 1); its number is that which DTLS 1.1 would have.
     pub const DTls11: TlsVersion = TlsVersion(0xfefe);
 
+    /// DTLS 1.2 (RFC 6347).
     pub const DTls12: TlsVersion = TlsVersion(0xfefd);
 
     /// The two bytes of the number, big-endian.
