@@ -6,7 +6,8 @@
 
 ghost use Rattle.std.specs.Prelude.{◌≤◌, length};
 ghost use Rattle.tls_fields.specs.Answers.{Gives, GivesOrMemory};
-ghost use Rattle.tls_ext.specs.Extension.{OidFilter as OIDFilter, ServerName as ServerNameEntry, view_oid_filter, view_server_name, view};
+ghost use Rattle.tls_ext.specs.Extension.{OidFilter as OIDFilter, ServerName as ServerNameEntry};
+ghost use Rattle.tls_ext.specs.Extension.{view_oid_filter, view_server_name, view};
 ghost use Rattle.tls_ext.specs.Content as content;
 ghost use Rattle.tls_ext.specs.Content.{server_name, oid_filter};
 
@@ -100,7 +101,8 @@ pub(crate) fn extended_master_secret_content(i: &[u8]) -> IResult<&[u8], TlsExte
     empty!(i, ExtendedMasterSecret)
 }
 
-/// The leave to ask for authentication after the handshake (RFC 8446, section 4.2.6). `Error` of kind `Verify` where `i` isn't empty.
+/// The leave to ask for authentication after the handshake (RFC 8446, section 4.2.6). `Error` of kind `Verify` where `i`
+/// isn't empty.
 #[tactic(auto, using(tls_fields::proofs::OneAnswerLemmas::read_allowed), unfolding(crate::specs::Content::post_handshake_auth))]
 pub(crate) fn post_handshake_auth_content(i: &[u8]) -> IResult<&[u8], TlsExtension>
     ensures { Gives view content.post_handshake_auth i.now result }

@@ -2,7 +2,8 @@
 ghost use Rattle.std.specs.Prelude.{◌≡◌, ◌≤◌, length, map};
 ghost use Rattle.tls_fields.specs.Answers.{GivesOrMemory};
 ghost use Rattle.tls_ext.specs.Extension.{Extension, view};
-ghost use Rattle.tls_ext.specs.Dispatch.{extension as extension_layout, extension_content as extension_content_layout, extensions};
+ghost use Rattle.tls_ext.specs.Dispatch.{extension as extension_layout, extension_content as content_layout};
+ghost use Rattle.tls_ext.specs.Dispatch.{extensions};
 ghost use Rattle.tls_ext.specs.Kinds.{kind_content as kind_layout, list_content as list_layout};
 ghost use Rattle.tls_ext.specs.declared.kind.Side.{Side};
 ghost use Rattle.tls_ext.specs.declared.kind.Side.TheVariants.{General as general, Client as client, Server as server};
@@ -63,7 +64,7 @@ fn extension_content(
     kind: TlsExtensionType,
     side: Side,
 ) -> IResult<&[u8], TlsExtension>
-    ensures { GivesOrMemory view (extension_content_layout side kind.0) i.now result }
+    ensures { GivesOrMemory view (content_layout side kind.0) i.now result }
 {
     if kind.0 & 0x0f0f == 0x0a0a {
         let (i, content) = rest(i)?;

@@ -3,12 +3,9 @@
 //! A call judges the whole value first (`judge`), without memory; then it builds the text (`builder`), in one piece of memory
 //! of its very length; then it hands the text to the writer. So a refusal, and running out of memory, leave the writer as it
 //! was.
-ghost use Rattle.std.specs.Prelude.{map, drop, OnOk, Ok, []};
-ghost use Rattle.tls_fields.specs.Meaning.{Allows};
-ghost use Rattle.tls_fields.specs.Writer.{Writes};
+ghost use Rattle.std.specs.Prelude.{map, OnOk};
 ghost use Rattle.tls_ext.specs.Extension.{view};
-ghost use Rattle.tls_ext.specs.Dispatch.{general_extensions};
-ghost use Rattle.tls_ext.specs.ExtensionText.{extension_text, extensions_text, FitsExtension, FitsExtensions, RefusedExtension, RefusedExtensions};
+ghost use Rattle.tls_ext.specs.ExtensionText.{IsReadBack, WritesExtension, WritesExtensions};
 
 use crate::extension::TlsExtension;
 use std::alloc::Global;
@@ -45,7 +42,7 @@ pub fn gen_tls_extension<W: Write>(
     extension: &TlsExtension,
     w: &mut W,
 ) -> Result<(), GenError>
-    ensures { Writes (FitsExtension (view extension.now)) (RefusedExtension (view extension.now)) (extension_text (view extension.now)) (W.contents w.old) (W.contents w.new) result }
+    ensures { WritesExtension (view extension.now) W.contents w.old w.new result }
 {
     let len = extension_len(extension)?;
     let mut text = Vec::with_capacity(alloc, len)?;
@@ -70,8 +67,8 @@ pub fn gen_tls_extensions<W: Write>(
     extensions: &[TlsExtension],
     w: &mut W,
 ) -> Result<(), GenError>
-    ensures writes { Writes (FitsExtensions (map view extensions.now)) (RefusedExtensions (map view extensions.now)) (extensions_text (map view extensions.now)) (W.contents w.old) (W.contents w.new) result }
-    ensures reads_back { OnOk result (Allows general_extensions (drop 2 (extensions_text (map view extensions.now))) (Ok (map view extensions.now, []))) }
+    ensures writes { WritesExtensions (map view extensions.now) W.contents w.old w.new result }
+    ensures reads_back { OnOk result (IsReadBack (map view extensions.now)) }
 {
     let len = extensions_len(extensions)?;
     let mut text = Vec::with_capacity(alloc, len)?;

@@ -1,9 +1,10 @@
 //! The builder of extensions: adds their parts to a vector that has room for them.
 ghost use Rattle.std.specs.Prelude.{◌≡◌, ◌<◌, ◌≤◌, ◌+◌, ◌*◌, ◌^◌, ◌++◌, length, map, vec_len, vec_capacity};
-ghost use Rattle.std.specs.List.{All, flat_map};
+ghost use Rattle.std.specs.List.{All};
 ghost use Rattle.tls_fields.specs.Text.{numbers_text};
 ghost use Rattle.tls_ext.specs.Extension.{view, view_server_name};
-ghost use Rattle.tls_ext.specs.ExtensionText.{server_name_text, extension_text, FitsExtension, FitsExtensions, InRangeExtension};
+ghost use Rattle.tls_ext.specs.ExtensionText.{names_text, extension_text, joined_text};
+ghost use Rattle.tls_ext.specs.ExtensionText.{FitsExtension, FitsExtensions, InRangeExtension};
 
 use crate::extension::TlsExtension;
 use crate::writer::judge::extension_len;
@@ -12,11 +13,11 @@ use tls_fields::writer::builder::{add_bytes, add1, add2};
 
 /// Adds the names of a server.
 fn add_names(out: &mut Vec<u8>, names: &[(SNIType, &[u8])])
-    requires fits { length (flat_map server_name_text (map view_server_name names.now)) ≤ 65535 }
-    requires room { vec_len out.old + length (flat_map server_name_text (map view_server_name names.now)) ≤ vec_capacity out.old }
-    ensures items { out.new.items ≡ out.old.items ++ flat_map server_name_text (map view_server_name names.now) }
+    requires fits { length (names_text (map view_server_name names.now)) ≤ 65535 }
+    requires room { vec_len out.old + length (names_text (map view_server_name names.now)) ≤ vec_capacity out.old }
+    ensures items { out.new.items ≡ out.old.items ++ names_text (map view_server_name names.now) }
     ensures range { All (λ n. n.name_type < 256 ^ 1) (map view_server_name names.now) }
-    ensures len { vec_len out.new ≡ vec_len out.old + length (flat_map server_name_text (map view_server_name names.now)) }
+    ensures len { vec_len out.new ≡ vec_len out.old + length (names_text (map view_server_name names.now)) }
     ensures capacity { vec_capacity out.old ≤ vec_capacity out.new }
 {
     for (name_type, name) in names {
@@ -68,8 +69,8 @@ pub(crate) fn add_extension(out: &mut Vec<u8>, extension: &TlsExtension, len: us
 /// Adds the texts of extensions, one after the other.
 pub(crate) fn add_extensions(out: &mut Vec<u8>, extensions: &[TlsExtension])
     requires fits { FitsExtensions (map view extensions.now) }
-    requires room { vec_len out.old + length (flat_map extension_text (map view extensions.now)) ≤ vec_capacity out.old }
-    ensures items { out.new.items ≡ out.old.items ++ flat_map extension_text (map view extensions.now) }
+    requires room { vec_len out.old + length (joined_text (map view extensions.now)) ≤ vec_capacity out.old }
+    ensures items { out.new.items ≡ out.old.items ++ joined_text (map view extensions.now) }
     ensures range { All InRangeExtension (map view extensions.now) }
 {
     for extension in extensions {

@@ -1,10 +1,8 @@
 //! The judge of extensions: the length of a value's text, or the refusal of its first part that doesn't fit, without
 //! memory.
 ghost use Rattle.std.specs.Prelude.{◌≡◌, length, map, min};
-ghost use Rattle.std.specs.List.{flat_map};
-ghost use Rattle.tls_fields.specs.Writer.{Judges};
 ghost use Rattle.tls_ext.specs.Extension.{view, view_server_name};
-ghost use Rattle.tls_ext.specs.ExtensionText.{server_name_text, extension_text, extensions_text, Counts, FitsExtension, FitsExtensions, RefusedExtension, RefusedExtensions};
+ghost use Rattle.tls_ext.specs.ExtensionText.{names_text, Counts, JudgesExtension, JudgesExtensions};
 
 use crate::extension::TlsExtension;
 use tls_base::SNIType;
@@ -15,7 +13,7 @@ const TOO_LONG: usize = 65536;
 
 /// The length of the names of a server, each 1 byte of type, 2 bytes of length, and the name; [`TOO_LONG`] at most.
 fn names_len(names: &[(SNIType, &[u8])]) -> usize
-    ensures { result ≡ min (length (flat_map server_name_text (map view_server_name names.now))) 65536 }
+    ensures { result ≡ min (length (names_text (map view_server_name names.now))) 65536 }
 {
     let mut total = 0;
     for (_, name) in names {
@@ -67,7 +65,7 @@ fn content_len(extension: &TlsExtension) -> Result<usize, GenError>
 /// - `NotYetImplemented` where its kind is not one that is written.
 /// - `BadLength` where its content is above 65535 bytes.
 pub(crate) fn extension_len(extension: &TlsExtension) -> Result<usize, GenError>
-    ensures { Judges (FitsExtension (view extension.now)) (RefusedExtension (view extension.now)) (extension_text (view extension.now)) result }
+    ensures { JudgesExtension (view extension.now) result }
 {
     let len = content_len(extension)?;
     if len >= TOO_LONG {
@@ -81,7 +79,7 @@ pub(crate) fn extension_len(extension: &TlsExtension) -> Result<usize, GenError>
 /// - What the first extension that can't be written is refused by.
 /// - `BadLength` where together they are above 65535 bytes.
 pub(crate) fn extensions_len(extensions: &[TlsExtension]) -> Result<usize, GenError>
-    ensures { Judges (FitsExtensions (map view extensions.now)) (RefusedExtensions (map view extensions.now)) (extensions_text (map view extensions.now)) result }
+    ensures { JudgesExtensions (map view extensions.now) result }
 {
     let mut total = 0;
     for extension in extensions {

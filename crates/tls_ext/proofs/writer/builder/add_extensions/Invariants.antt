@@ -8,6 +8,7 @@ abbrev pub invariant-loop-extension : goal.invariant-loop-extension
 invariant-loop-extension l = record {
   items : l.out.items ≡ l.fn.out.items ++ flat_map extension_text (map view (take l.extension-index l.extensions));
   range : All InRangeExtension (map view (take l.extension-index l.extensions));
-  count : vec_len l.out ≡ vec_len l.fn.out + length (flat_map extension_text (map view (take l.extension-index l.extensions)));
+  count : vec_len l.out ≡ vec_len l.fn.out + length (flat_map extension_text
+      (map view (take l.extension-index l.extensions)));
   room : vec_capacity l.fn.out ≤ vec_capacity l.out;
 }
