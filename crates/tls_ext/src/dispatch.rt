@@ -19,7 +19,7 @@ use tls_fields::{IResult, Item, Room, counted2, hops2, items, rest};
 /// For each row of the table whose content is a list the arm that reads it.
 macro_rules! read_list {
     ([$kind:ident $alloc:ident $i:ident] $($number:ident =>
-        $(list($list:ident, $read:ident))? $(other($other:ident, $read_other:ident))?, $sides:ident;)*) => {
+        $(list($list:ident, $read:ident))? $(value $v:tt)? $(empty $e:tt)? $(fields $f:tt)?, $sides:ident;)*) => {
         match $kind {
             $($(ListKind::$list => content::$read($alloc, $i),)?)*
         }
@@ -29,10 +29,13 @@ macro_rules! read_list {
 /// For each other row the arm that reads it.
 macro_rules! read_other {
     ([$kind:ident $alloc:ident $i:ident] $($number:ident =>
-        $(list($list:ident, $read_list:ident))? $(other($other:ident, $read:ident))?, $sides:ident;)*) => {
+        $(list $l:tt)? $(value($value:ident, $read_value:ident))? $(empty($empty:ident, $read_empty:ident))?
+        $(fields($fields:ident, $read_fields:ident))?, $sides:ident;)*) => {
         match $kind {
             Kind::List(list) => list_content($alloc, $i, list),
-            $($(Kind::$other => content::$read($i),)?)*
+            $($(Kind::$value => content::$read_value($i),)?)*
+            $($(Kind::$empty => content::$read_empty($i),)?)*
+            $($(Kind::$fields => content::$read_fields($i),)?)*
         }
     };
 }

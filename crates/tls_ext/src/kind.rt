@@ -95,39 +95,39 @@ impl Sides {
 }
 
 /// The table, told once: it hands its rows to the macro that it is passed, behind the words in brackets. A row has an
-/// extension type, the kind of its content with the call that reads it, and which sides read it. The rows stand in the order
-/// of the types' numbers.
+/// extension type, the form and the name of the variant of `TlsExtension`, the call that reads the content, and which sides
+/// read it. The rows stand in the order of the types' numbers.
 macro_rules! rows {
     ($then:ident $($words:tt)*) => {
         $then! {
             [$($words)*]
             ServerName => list(SNI, parse_tls_extension_sni_content), ALL;
-            MaxFragmentLength => other(MaxFragmentLength, parse_tls_extension_max_fragment_length_content), ALL;
-            StatusRequest => other(StatusRequest, status_request_content), ALL;
+            MaxFragmentLength => value(MaxFragmentLength, parse_tls_extension_max_fragment_length_content), ALL;
+            StatusRequest => value(StatusRequest, status_request_content), ALL;
             SupportedGroups => list(EllipticCurves, parse_tls_extension_elliptic_curves_content), NOT_SERVER;
-            EcPointFormats => other(EcPointFormats, parse_tls_extension_ec_point_formats_content), ALL;
+            EcPointFormats => value(EcPointFormats, parse_tls_extension_ec_point_formats_content), ALL;
             SignatureAlgorithms => list(SignatureAlgorithms, parse_tls_extension_signature_algorithms_content), ALL;
-            Heartbeat => other(Heartbeat, parse_tls_extension_heartbeat_content), ALL;
+            Heartbeat => value(Heartbeat, parse_tls_extension_heartbeat_content), ALL;
             ApplicationLayerProtocolNegotiation => list(ALPN, parse_tls_extension_alpn_content), ALL;
             SignedCertificateTimestamp =>
-                other(SignedCertificateTimestamp, parse_tls_extension_signed_certificate_timestamp_content), ALL;
-            Padding => other(Padding, padding_content), NOT_SERVER;
-            EncryptThenMac => other(EncryptThenMac, encrypt_then_mac_content), ALL;
-            ExtendedMasterSecret => other(ExtendedMasterSecret, extended_master_secret_content), ALL;
-            RecordSizeLimit => other(RecordSizeLimit, record_size_limit_content), ALL;
-            SessionTicketTLS => other(SessionTicket, session_ticket_content), ALL;
-            KeyShareOld => other(KeyShareOld, key_share_old_content), GENERAL_ONLY;
-            PreSharedKey => other(PreSharedKey, pre_shared_key_content), ALL;
-            EarlyData => other(EarlyData, early_data_content), ALL;
+                value(SignedCertificateTimestamp, parse_tls_extension_signed_certificate_timestamp_content), ALL;
+            Padding => value(Padding, padding_content), NOT_SERVER;
+            EncryptThenMac => empty(EncryptThenMac, encrypt_then_mac_content), ALL;
+            ExtendedMasterSecret => empty(ExtendedMasterSecret, extended_master_secret_content), ALL;
+            RecordSizeLimit => value(RecordSizeLimit, record_size_limit_content), ALL;
+            SessionTicketTLS => value(SessionTicket, session_ticket_content), ALL;
+            KeyShareOld => value(KeyShareOld, key_share_old_content), GENERAL_ONLY;
+            PreSharedKey => value(PreSharedKey, pre_shared_key_content), ALL;
+            EarlyData => value(EarlyData, early_data_content), ALL;
             SupportedVersions => list(SupportedVersions, supported_versions_content), ALL;
-            Cookie => other(Cookie, cookie_content), ALL;
+            Cookie => value(Cookie, cookie_content), ALL;
             PskExchangeModes => list(PskExchangeModes, parse_tls_extension_psk_key_exchange_modes_content), NOT_SERVER;
             OidFilters => list(OidFilters, oid_filters_content), NOT_SERVER;
-            PostHandshakeAuth => other(PostHandshakeAuth, post_handshake_auth_content), NOT_SERVER;
-            KeyShare => other(KeyShare, key_share_content), ALL;
-            NextProtocolNegotiation => other(NextProtocolNegotiation, next_protocol_negotiation_content), ALL;
-            RenegotiationInfo => other(RenegotiationInfo, parse_tls_extension_renegotiation_info_content), ALL;
-            EncryptedServerName => other(EncryptedServerName, parse_tls_extension_encrypted_server_name), NOT_SERVER;
+            PostHandshakeAuth => empty(PostHandshakeAuth, post_handshake_auth_content), NOT_SERVER;
+            KeyShare => value(KeyShare, key_share_content), ALL;
+            NextProtocolNegotiation => empty(NextProtocolNegotiation, next_protocol_negotiation_content), ALL;
+            RenegotiationInfo => value(RenegotiationInfo, parse_tls_extension_renegotiation_info_content), ALL;
+            EncryptedServerName => fields(EncryptedServerName, parse_tls_extension_encrypted_server_name), NOT_SERVER;
         }
     };
 }
@@ -157,9 +157,12 @@ macro_rules! numbers {
 
 /// The kinds of the rows, and the sides.
 macro_rules! kinds {
-    ([] $($number:ident =>
-        $(list($list:ident, $read_list:ident))? $(other($other:ident, $read:ident))?, $sides:ident;)*) => {
-        [$(($(Kind::List(ListKind::$list))? $(Kind::$other)?, Sides::$sides)),*]
+    ([] $($number:ident => $(list($list:ident, $l:ident))? $(value($value:ident, $v:ident))?
+        $(empty($empty:ident, $e:ident))? $(fields($fields:ident, $f:ident))?, $sides:ident;)*) => {
+        [$((
+            $(Kind::List(ListKind::$list))? $(Kind::$value)? $(Kind::$empty)? $(Kind::$fields)?,
+            Sides::$sides,
+        )),*]
     };
 }
 
