@@ -169,7 +169,7 @@ pub fn gen_tls_extension<W: Write>(
     extension: &TlsExtension,
     w: &mut W,
 ) -> Result<(), GenError>
-    ensures { Writes (FitsExtension (view extension.now)) (RefusedExtension (view extension.now)) (extension_text (view extension.now)) (W.contents w.old) (W.contents w.new) result }
+    ensures { Writes (FitsExtension (view extension.now)) (RefusedExtension (view extension.now)) (extension_text (view extension.now)) W.contents w.old w.new result }
 {
     let len = extension_len(extension)?;
     let mut text = Vec::with_capacity(alloc, len)?;
@@ -192,7 +192,7 @@ pub fn gen_tls_extensions<W: Write>(
     extensions: &[TlsExtension],
     w: &mut W,
 ) -> Result<(), GenError>
-    ensures writes { Writes (FitsExtensions (map view extensions.now)) (RefusedExtensions (map view extensions.now)) (extensions_text (map view extensions.now)) (W.contents w.old) (W.contents w.new) result }
+    ensures writes { Writes (FitsExtensions (map view extensions.now)) (RefusedExtensions (map view extensions.now)) (extensions_text (map view extensions.now)) W.contents w.old w.new result }
     ensures reads_back { OnOk result (Allows (extensions_layout general) (drop 2 (extensions_text (map view extensions.now))) (Ok (map view extensions.now, []))) }
 {
     let len = extensions_len(extensions)?;

@@ -1,5 +1,5 @@
 -- How long texts of hellos are, as sums of the lengths of their fields.
-use Rattle.std.proofs.Common.{◌≡◌, ℕ, ◌+◌, ◌*◌, ◌++◌, length, map, ◌∙◌, ap, arith, append_assoc}
+use Rattle.std.proofs.Common.{◌≡◌, ℕ, ◌≤◌, ◌+◌, ◌*◌, ◌++◌, length, map, ◌∙◌, ap, arith, append_assoc}
 use Rattle.std.proofs.Math.ListN.{length-map}
 use Rattle.std.proofs.lemmas.List.{length-append}
 use Rattle.tls_fields.specs.Bytes.{Bytes, bytes_of}
@@ -8,7 +8,7 @@ use Rattle.tls_fields.proofs.NumberLemmas.{length-bytes_of}
 use Rattle.tls_fields.proofs.TextLemmas.{length-numbers}
 use Rattle.tls_hs.specs.Hello.{ClientHello, view_client_hello}
 use Rattle.tls_hs.specs.ServerHello.{ServerHello, ServerHelloDraft18}
-use Rattle.tls_hs.specs.HandshakeText.{client_hello_text, server_hello_text, server_hello_draft18_text}
+use Rattle.tls_hs.specs.HandshakeText.{FitsClientHello, client_hello_text, server_hello_text, server_hello_draft18_text}
 use Rattle.tls_hs.specs.declared.client_hello.TlsClientHelloContents.{TlsClientHelloContents}
 
 length-six : (a b c d e f : Bytes) → length (a ++ b ++ c ++ d ++ e ++ f) ≡ length a + length b + length c + length d + length e + length f
@@ -36,6 +36,21 @@ client_hello_length h =
     let suites : length (map (λ x. x.0) h.ciphers.items) ≡ length h.ciphers.items = length-map _ _ in
     let methods : length (map (λ x. x.0) h.comp.items) ≡ length h.comp.items = length-map _ _ in
     omega (arith, length-hello (view_client_hello h), suites, methods)
+
+-- and it fits where these are short
+pub client_hello_fits : (h : TlsClientHelloContents) → length (view_client_hello h).random ≡ 32
+    → length (held (view_client_hello h).session_id) ≤ 32 → length h.ciphers.items ≤ 32767 → length h.comp.items ≤ 255
+    → length (held (view_client_hello h).extensions) ≤ 65535 → FitsClientHello (view_client_hello h)
+client_hello_fits h random id suites methods extensions =
+    let as_many : length (map (λ x. x.0) h.ciphers.items) ≡ length h.ciphers.items = length-map _ _ in
+    let no_more : length (map (λ x. x.0) h.comp.items) ≡ length h.comp.items = length-map _ _ in
+    record {
+      random = random;
+      session_id = id;
+      suites = omega (arith, suites, as_many);
+      methods = omega (arith, methods, no_more);
+      extensions = extensions;
+    }
 
 pub server_hello_length : (h : ServerHello) → length (server_hello_text h) ≡ 2 + length h.random + 1 + length (held h.session_id) + 2 + 1 + 2 + length (held h.extensions)
 unfolding server_hello_text

@@ -175,6 +175,14 @@ refusal_of_handshake (ClientKeyExchange k) = BadLength
 refusal_of_handshake (Finished b) = BadLength
 refusal_of_handshake m = NotYetImplemented
 
+-- The writer knows its kind, so a length is at fault where it can't be written.
+abbrev pub IsKnown : Handshake → Type 0
+IsKnown m = refusal_of_handshake m ≡ BadLength
+
+-- The writer doesn't know its kind.
+abbrev pub IsUnknown : Handshake → Type 0
+IsUnknown m = (FitsBody m → ⊥) × (refusal_of_handshake m ≡ NotYetImplemented)
+
 -- The version in a hello of a server is one whose form is read back.
 abbrev pub IsReadableHandshake : Handshake → Type 0
 IsReadableHandshake (ServerHello h) = (0x0300 ≤ h.server_version) × (h.server_version ≤ 0x0303)

@@ -11,8 +11,7 @@ mod dtls;
 pub mod laws;
 mod plaintext;
 mod record;
-mod record_writer;
-mod serialize;
+mod writer;
 
 pub use dtls::{
     DTLSClientHello, DTLSHelloVerifyRequest, DTLSMessage, DTLSMessageHandshake,
@@ -28,8 +27,7 @@ pub use record::{
     MAX_RECORD_LEN, TlsEncrypted, TlsEncryptedContent, TlsRawRecord, TlsRecordHeader,
     parse_tls_encrypted, parse_tls_raw_record, parse_tls_record_header,
 };
-pub use record_writer::{gen_tls_changecipherspec, gen_tls_message, gen_tls_plaintext};
-pub use serialize::Serialize;
+pub use writer::{Serialize, gen_tls_changecipherspec, gen_tls_message, gen_tls_plaintext};
 
 // Why a value isn't written.
 pub use tls_fields::GenError;
