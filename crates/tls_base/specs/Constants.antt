@@ -1,8 +1,8 @@
 -- The numbers that have a name, type by type: those of the registries that the RFCs keep. The code has the same numbers
--- a second time, as constants of its types, and prints by them what stands here.
+-- a second time, as constants of its types, and prints by them what stands here. Those of extensions are in
+-- ExtensionNumbers.
 use Rattle.std.specs.Prelude.{ℕ, List, [], ◌∷◌, Option, codes}
 use Rattle.tls_base.specs.Names.{Text, look_up}
-use Rattle.tls_base.specs.ExtensionNumbers as extension
 
 -- The Version of RFC 6962, section 3.2.
 abbrev pub ct_versions : List (ℕ × Text)
@@ -194,56 +194,6 @@ named_groups =
     ∷ (0x0104, codes "Ffdhe8192")
     ∷ (0xff01, codes "ArbitraryExplicitPrimeCurves")
     ∷ (0xff02, codes "ArbitraryExplicitChar2Curves")
-    ∷ []
-
--- The ExtensionType of RFC 8446, section 4.2, with those of earlier versions and of drafts. Grease is one of the
--- sixteen values of RFC 8701, section 2; the others have no name here.
-abbrev pub extension_types : List (ℕ × Text)
-extension_types =
-    (extension.server_name, codes "ServerName")
-    ∷ (extension.max_fragment_length, codes "MaxFragmentLength")
-    ∷ (2, codes "ClientCertificate")
-    ∷ (3, codes "TrustedCaKeys")
-    ∷ (4, codes "TruncatedHMac")
-    ∷ (extension.status_request, codes "StatusRequest")
-    ∷ (6, codes "UserMapping")
-    ∷ (7, codes "ClientAuthz")
-    ∷ (8, codes "ServerAuthz")
-    ∷ (9, codes "CertType")
-    ∷ (extension.supported_groups, codes "SupportedGroups")
-    ∷ (extension.ec_point_formats, codes "EcPointFormats")
-    ∷ (12, codes "Srp")
-    ∷ (extension.signature_algorithms, codes "SignatureAlgorithms")
-    ∷ (14, codes "UseSrtp")
-    ∷ (extension.heartbeat, codes "Heartbeat")
-    ∷ (extension.application_layer_protocol_negotiation, codes "ApplicationLayerProtocolNegotiation")
-    ∷ (17, codes "StatusRequestv2")
-    ∷ (extension.signed_certificate_timestamp, codes "SignedCertificateTimestamp")
-    ∷ (19, codes "ClientCertificateType")
-    ∷ (20, codes "ServerCertificateType")
-    ∷ (extension.padding, codes "Padding")
-    ∷ (extension.encrypt_then_mac, codes "EncryptThenMac")
-    ∷ (extension.extended_master_secret, codes "ExtendedMasterSecret")
-    ∷ (24, codes "TokenBinding")
-    ∷ (25, codes "CachedInfo")
-    ∷ (extension.record_size_limit, codes "RecordSizeLimit")
-    ∷ (extension.session_ticket, codes "SessionTicketTLS")
-    ∷ (extension.key_share_old, codes "KeyShareOld")
-    ∷ (extension.pre_shared_key, codes "PreSharedKey")
-    ∷ (extension.early_data, codes "EarlyData")
-    ∷ (extension.supported_versions, codes "SupportedVersions")
-    ∷ (extension.cookie, codes "Cookie")
-    ∷ (extension.psk_key_exchange_modes, codes "PskExchangeModes")
-    ∷ (46, codes "TicketEarlyDataInfo")
-    ∷ (47, codes "CertificateAuthorities")
-    ∷ (extension.oid_filters, codes "OidFilters")
-    ∷ (extension.post_handshake_auth, codes "PostHandshakeAuth")
-    ∷ (50, codes "SigAlgorithmsCert")
-    ∷ (extension.key_share, codes "KeyShare")
-    ∷ (extension.next_protocol_negotiation, codes "NextProtocolNegotiation")
-    ∷ (0xfafa, codes "Grease")
-    ∷ (extension.renegotiation_info, codes "RenegotiationInfo")
-    ∷ (extension.encrypted_server_name, codes "EncryptedServerName")
     ∷ []
 
 -- The ProtocolVersion of RFC 5246, section 6.2.1, RFC 6347, section 4.1, and RFC 8446, section 4.1.2, with those of its

@@ -1,6 +1,8 @@
--- The numbers of the extensions whose content is read (the ExtensionType of RFC 8446, section 4.2), by the names that
--- the RFCs give them. The code has them a second time, as constants.
-use Rattle.std.specs.Prelude.{ℕ}
+-- The types of extensions (the ExtensionType of RFC 8446, section 4.2, with those of earlier versions and of drafts): the
+-- numbers of those whose content is read, by the names that the RFCs give them, and what each number is shown as. The code
+-- has the numbers a second time, as constants, and prints by them what stands here.
+use Rattle.std.specs.Prelude.{ℕ, List, [], ◌∷◌, codes}
+use Rattle.tls_base.specs.Names.{Text}
 
 abbrev pub server_name : ℕ
 server_name = 0
@@ -82,3 +84,53 @@ renegotiation_info = 0xff01
 -- Of early drafts of Encrypted Client Hello.
 abbrev pub encrypted_server_name : ℕ
 encrypted_server_name = 0xffce
+
+-- Each number and what it is shown as. Grease is one of the sixteen values of RFC 8701, section 2; the others have no name
+-- here.
+abbrev pub extension_types : List (ℕ × Text)
+extension_types =
+    (server_name, codes "ServerName")
+    ∷ (max_fragment_length, codes "MaxFragmentLength")
+    ∷ (2, codes "ClientCertificate")
+    ∷ (3, codes "TrustedCaKeys")
+    ∷ (4, codes "TruncatedHMac")
+    ∷ (status_request, codes "StatusRequest")
+    ∷ (6, codes "UserMapping")
+    ∷ (7, codes "ClientAuthz")
+    ∷ (8, codes "ServerAuthz")
+    ∷ (9, codes "CertType")
+    ∷ (supported_groups, codes "SupportedGroups")
+    ∷ (ec_point_formats, codes "EcPointFormats")
+    ∷ (12, codes "Srp")
+    ∷ (signature_algorithms, codes "SignatureAlgorithms")
+    ∷ (14, codes "UseSrtp")
+    ∷ (heartbeat, codes "Heartbeat")
+    ∷ (application_layer_protocol_negotiation, codes "ApplicationLayerProtocolNegotiation")
+    ∷ (17, codes "StatusRequestv2")
+    ∷ (signed_certificate_timestamp, codes "SignedCertificateTimestamp")
+    ∷ (19, codes "ClientCertificateType")
+    ∷ (20, codes "ServerCertificateType")
+    ∷ (padding, codes "Padding")
+    ∷ (encrypt_then_mac, codes "EncryptThenMac")
+    ∷ (extended_master_secret, codes "ExtendedMasterSecret")
+    ∷ (24, codes "TokenBinding")
+    ∷ (25, codes "CachedInfo")
+    ∷ (record_size_limit, codes "RecordSizeLimit")
+    ∷ (session_ticket, codes "SessionTicketTLS")
+    ∷ (key_share_old, codes "KeyShareOld")
+    ∷ (pre_shared_key, codes "PreSharedKey")
+    ∷ (early_data, codes "EarlyData")
+    ∷ (supported_versions, codes "SupportedVersions")
+    ∷ (cookie, codes "Cookie")
+    ∷ (psk_key_exchange_modes, codes "PskExchangeModes")
+    ∷ (46, codes "TicketEarlyDataInfo")
+    ∷ (47, codes "CertificateAuthorities")
+    ∷ (oid_filters, codes "OidFilters")
+    ∷ (post_handshake_auth, codes "PostHandshakeAuth")
+    ∷ (50, codes "SigAlgorithmsCert")
+    ∷ (key_share, codes "KeyShare")
+    ∷ (next_protocol_negotiation, codes "NextProtocolNegotiation")
+    ∷ (0xfafa, codes "Grease")
+    ∷ (renegotiation_info, codes "RenegotiationInfo")
+    ∷ (encrypted_server_name, codes "EncryptedServerName")
+    ∷ []

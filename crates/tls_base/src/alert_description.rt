@@ -14,80 +14,106 @@ use tls_fields::{IResult, number1};
 pub struct TlsAlertDescription(pub u8);
 
 impl TlsAlertDescription {
+    /// The close_notify of RFC 8446, section 6.1.
     pub const CloseNotify: TlsAlertDescription = TlsAlertDescription(0);
 
+    /// The unexpected_message of RFC 8446, section 6.2.
     pub const UnexpectedMessage: TlsAlertDescription = TlsAlertDescription(10);
 
+    /// The bad_record_mac of RFC 8446, section 6.2.
     pub const BadRecordMac: TlsAlertDescription = TlsAlertDescription(20);
 
-    /// Of some versions before TLS 1.2.
+    /// The decryption_failed of some versions before TLS 1.2 (RFC 2246, section 7.2.2).
     pub const DecryptionFailed: TlsAlertDescription = TlsAlertDescription(21);
 
+    /// The record_overflow of RFC 8446, section 6.2.
     pub const RecordOverflow: TlsAlertDescription = TlsAlertDescription(22);
 
-    /// Of the versions before TLS 1.3.
+    /// The decompression_failure of the versions before TLS 1.3 (RFC 5246, section 7.2.2).
     pub const DecompressionFailure: TlsAlertDescription = TlsAlertDescription(30);
 
+    /// The handshake_failure of RFC 8446, section 6.2.
     pub const HandshakeFailure: TlsAlertDescription = TlsAlertDescription(40);
 
-    /// Of SSL 3.0 alone.
+    /// The no_certificate of SSL 3.0 alone (RFC 6101, section 5.4.2).
     pub const NoCertificate: TlsAlertDescription = TlsAlertDescription(41);
 
+    /// The bad_certificate of RFC 8446, section 6.2.
     pub const BadCertificate: TlsAlertDescription = TlsAlertDescription(42);
 
+    /// The unsupported_certificate of RFC 8446, section 6.2.
     pub const UnsupportedCertificate: TlsAlertDescription = TlsAlertDescription(43);
 
+    /// The certificate_revoked of RFC 8446, section 6.2.
     pub const CertificateRevoked: TlsAlertDescription = TlsAlertDescription(44);
 
+    /// The certificate_expired of RFC 8446, section 6.2.
     pub const CertificateExpired: TlsAlertDescription = TlsAlertDescription(45);
 
+    /// The certificate_unknown of RFC 8446, section 6.2.
     pub const CertificateUnknown: TlsAlertDescription = TlsAlertDescription(46);
 
+    /// The illegal_parameter of RFC 8446, section 6.2.
     pub const IllegalParameter: TlsAlertDescription = TlsAlertDescription(47);
 
+    /// The unknown_ca of RFC 8446, section 6.2.
     pub const UnknownCa: TlsAlertDescription = TlsAlertDescription(48);
 
+    /// The access_denied of RFC 8446, section 6.2.
     pub const AccessDenied: TlsAlertDescription = TlsAlertDescription(49);
 
+    /// The decode_error of RFC 8446, section 6.2.
     pub const DecodeError: TlsAlertDescription = TlsAlertDescription(50);
 
+    /// The decrypt_error of RFC 8446, section 6.2.
     pub const DecryptError: TlsAlertDescription = TlsAlertDescription(51);
 
-    /// Of some versions before TLS 1.2.
+    /// The export_restriction of some versions before TLS 1.2 (RFC 2246, section 7.2.2).
     pub const ExportRestriction: TlsAlertDescription = TlsAlertDescription(60);
 
+    /// The protocol_version of RFC 8446, section 6.2.
     pub const ProtocolVersion: TlsAlertDescription = TlsAlertDescription(70);
 
+    /// The insufficient_security of RFC 8446, section 6.2.
     pub const InsufficientSecurity: TlsAlertDescription = TlsAlertDescription(71);
 
+    /// The internal_error of RFC 8446, section 6.2.
     pub const InternalError: TlsAlertDescription = TlsAlertDescription(80);
 
-    /// The client came back with a lower version than the server has (RFC 7507).
+    /// The inappropriate_fallback of RFC 7507: the client came back with a lower version than the server has.
     pub const InappropriateFallback: TlsAlertDescription = TlsAlertDescription(86);
 
+    /// The user_canceled of RFC 8446, section 6.1.
     pub const UserCancelled: TlsAlertDescription = TlsAlertDescription(90);
 
-    /// Of the versions before TLS 1.3.
+    /// The no_renegotiation of the versions before TLS 1.3 (RFC 5246, section 7.2.2).
     pub const NoRenegotiation: TlsAlertDescription = TlsAlertDescription(100);
 
+    /// The missing_extension of RFC 8446, section 6.2.
     pub const MissingExtension: TlsAlertDescription = TlsAlertDescription(109);
 
+    /// The unsupported_extension of RFC 8446, section 6.2.
     pub const UnsupportedExtension: TlsAlertDescription = TlsAlertDescription(110);
 
-    /// The certificate could not be fetched (RFC 6066, section 9).
+    /// The certificate_unobtainable of RFC 6066, section 9: the certificate could not be fetched.
     pub const CertUnobtainable: TlsAlertDescription = TlsAlertDescription(111);
 
+    /// The unrecognized_name of RFC 6066, section 9.
     pub const UnrecognizedName: TlsAlertDescription = TlsAlertDescription(112);
 
+    /// The bad_certificate_status_response of RFC 6066, section 9.
     pub const BadCertStatusResponse: TlsAlertDescription = TlsAlertDescription(113);
 
-    /// The fetched certificate has another hash (RFC 6066, section 9).
+    /// The bad_certificate_hash_value of RFC 6066, section 9: the fetched certificate has another hash.
     pub const BadCertHashValue: TlsAlertDescription = TlsAlertDescription(114);
 
+    /// The unknown_psk_identity of RFC 4279.
     pub const UnknownPskIdentity: TlsAlertDescription = TlsAlertDescription(115);
 
+    /// The certificate_required of RFC 8446, section 6.2.
     pub const CertificateRequired: TlsAlertDescription = TlsAlertDescription(116);
 
+    /// The no_application_protocol of RFC 7301, section 3.2.
     pub const NoApplicationProtocol: TlsAlertDescription = TlsAlertDescription(120);
 
     /// Reads 1 byte. `Incomplete(1)` where there is none.
@@ -100,7 +126,7 @@ impl TlsAlertDescription {
 }
 
 /// The constants, each with its number and its name.
-const NAMES: [(u16, &str); 34] = names!(
+static NAMES: &[(u16, &str)] = names!(
     TlsAlertDescription: CloseNotify, UnexpectedMessage, BadRecordMac, DecryptionFailed,
     RecordOverflow, DecompressionFailure, HandshakeFailure, NoCertificate, BadCertificate,
     UnsupportedCertificate, CertificateRevoked, CertificateExpired, CertificateUnknown,
@@ -115,6 +141,6 @@ impl fmt::Display for TlsAlertDescription {
     ghost output = { λ v. Some (name (codes "TlsAlertDescription") alert_descriptions v.0) };
 
     fn fmt<W: fmt::Write>(&self, f: &mut fmt::Formatter<W>) -> fmt::Result {
-        write_name(f, "TlsAlertDescription", &NAMES, self.0 as u16)
+        write_name(f, "TlsAlertDescription", NAMES, self.0 as u16)
     }
 }

@@ -14,8 +14,10 @@ use tls_fields::{IResult, number1};
 pub struct TlsAlertSeverity(pub u8);
 
 impl TlsAlertSeverity {
+    /// The warning of RFC 5246, section 7.2: the sender may go on.
     pub const Warning: TlsAlertSeverity = TlsAlertSeverity(1);
 
+    /// The fatal of RFC 5246, section 7.2: the connection ends.
     pub const Fatal: TlsAlertSeverity = TlsAlertSeverity(2);
 
     /// Reads 1 byte. `Incomplete(1)` where there is none.
@@ -28,12 +30,12 @@ impl TlsAlertSeverity {
 }
 
 /// The constants, each with its number and its name.
-const NAMES: [(u16, &str); 2] = names!(TlsAlertSeverity: Warning, Fatal);
+static NAMES: &[(u16, &str)] = names!(TlsAlertSeverity: Warning, Fatal);
 
 impl fmt::Display for TlsAlertSeverity {
     ghost output = { λ v. Some (name (codes "TlsAlertSeverity") alert_levels v.0) };
 
     fn fmt<W: fmt::Write>(&self, f: &mut fmt::Formatter<W>) -> fmt::Result {
-        write_name(f, "TlsAlertSeverity", &NAMES, self.0 as u16)
+        write_name(f, "TlsAlertSeverity", NAMES, self.0 as u16)
     }
 }

@@ -15,10 +15,10 @@ use tls_fields::{IResult, Number, number1};
 pub struct TlsCompressionID(pub u8);
 
 impl TlsCompressionID {
-    /// No compression.
+    /// No compression: the null of RFC 5246, section 6.1.
     pub const Null: TlsCompressionID = TlsCompressionID(0);
 
-    /// The method of RFC 3749.
+    /// The DEFLATE of RFC 3749, section 2.
     pub const Deflate: TlsCompressionID = TlsCompressionID(1);
 
     /// The number.
@@ -68,13 +68,13 @@ impl Number for TlsCompressionID {
 }
 
 /// The constants, each with its number and its name.
-const NAMES: [(u16, &str); 2] = names!(TlsCompressionID: Null, Deflate);
+static NAMES: &[(u16, &str)] = names!(TlsCompressionID: Null, Deflate);
 
 impl fmt::Display for TlsCompressionID {
     ghost output = { λ v. Some (name (codes "TlsCompressionID") compression_methods v.0) };
 
     fn fmt<W: fmt::Write>(&self, f: &mut fmt::Formatter<W>) -> fmt::Result {
-        write_name(f, "TlsCompressionID", &NAMES, self.0 as u16)
+        write_name(f, "TlsCompressionID", NAMES, self.0 as u16)
     }
 }
 

@@ -14,6 +14,7 @@ use tls_fields::{IResult, number1};
 pub struct CtVersion(pub u8);
 
 impl CtVersion {
+    /// The v1 of RFC 6962, section 3.2.
     pub const V1: CtVersion = CtVersion(0);
 
     /// Reads 1 byte. `Incomplete(1)` where there is none.
@@ -26,12 +27,12 @@ impl CtVersion {
 }
 
 /// The constants, each with its number and its name.
-const NAMES: [(u16, &str); 1] = names!(CtVersion: V1);
+static NAMES: &[(u16, &str)] = names!(CtVersion: V1);
 
 impl fmt::Display for CtVersion {
     ghost output = { λ v. Some (name (codes "CtVersion") ct_versions v.0) };
 
     fn fmt<W: fmt::Write>(&self, f: &mut fmt::Formatter<W>) -> fmt::Result {
-        write_name(f, "CtVersion", &NAMES, self.0 as u16)
+        write_name(f, "CtVersion", NAMES, self.0 as u16)
     }
 }

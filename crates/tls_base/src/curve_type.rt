@@ -33,12 +33,12 @@ impl ECCurveType {
 }
 
 /// The constants, each with its number and its name.
-const NAMES: [(u16, &str); 3] = names!(ECCurveType: ExplicitPrime, ExplicitChar2, NamedGroup);
+static NAMES: &[(u16, &str)] = names!(ECCurveType: ExplicitPrime, ExplicitChar2, NamedGroup);
 
 impl fmt::Display for ECCurveType {
     ghost output = { λ v. Some (name (codes "ECCurveType") curve_types v.0) };
 
     fn fmt<W: fmt::Write>(&self, f: &mut fmt::Formatter<W>) -> fmt::Result {
-        write_name(f, "ECCurveType", &NAMES, self.0 as u16)
+        write_name(f, "ECCurveType", NAMES, self.0 as u16)
     }
 }

@@ -1,10 +1,9 @@
 //! Numbers of extensions.
 ghost use Rattle.std.specs.Prelude.{◌≡◌, Some, codes};
-ghost use Rattle.std.specs.List.Sorted.{IsStrictlyIncreasing};
 ghost use Rattle.tls_fields.specs.Layout.{number};
 ghost use Rattle.tls_fields.specs.Answers.{Gives};
 ghost use Rattle.tls_base.specs.Names.{name};
-ghost use Rattle.tls_base.specs.Constants.{extension_types};
+ghost use Rattle.tls_base.specs.ExtensionNumbers.{extension_types};
 
 use crate::name::{numbers, texts, write_rising};
 use std::fmt;
@@ -16,97 +15,136 @@ use tls_fields::{IResult, number2};
 pub struct TlsExtensionType(pub u16);
 
 impl TlsExtensionType {
+    /// The server_name of RFC 6066, section 3.
     pub const ServerName: TlsExtensionType = TlsExtensionType(0);
 
+    /// The max_fragment_length of RFC 6066, section 4.
     pub const MaxFragmentLength: TlsExtensionType = TlsExtensionType(1);
 
+    /// The client_certificate_url of RFC 6066, section 5.
     pub const ClientCertificate: TlsExtensionType = TlsExtensionType(2);
 
+    /// The trusted_ca_keys of RFC 6066, section 6.
     pub const TrustedCaKeys: TlsExtensionType = TlsExtensionType(3);
 
+    /// The truncated_hmac of RFC 6066, section 7.
     pub const TruncatedHMac: TlsExtensionType = TlsExtensionType(4);
 
+    /// The status_request of RFC 6066, section 8.
     pub const StatusRequest: TlsExtensionType = TlsExtensionType(5);
 
+    /// The user_mapping of RFC 4681.
     pub const UserMapping: TlsExtensionType = TlsExtensionType(6);
 
+    /// The client_authz of RFC 5878.
     pub const ClientAuthz: TlsExtensionType = TlsExtensionType(7);
 
+    /// The server_authz of RFC 5878.
     pub const ServerAuthz: TlsExtensionType = TlsExtensionType(8);
 
+    /// The cert_type of RFC 6091.
     pub const CertType: TlsExtensionType = TlsExtensionType(9);
 
+    /// The supported_groups of RFC 8446, section 4.2.7; the elliptic_curves of RFC 4492.
     pub const SupportedGroups: TlsExtensionType = TlsExtensionType(10);
 
+    /// The ec_point_formats of RFC 8422, section 5.1.2.
     pub const EcPointFormats: TlsExtensionType = TlsExtensionType(11);
 
+    /// The srp of RFC 5054.
     pub const Srp: TlsExtensionType = TlsExtensionType(12);
 
+    /// The signature_algorithms of RFC 8446, section 4.2.3.
     pub const SignatureAlgorithms: TlsExtensionType = TlsExtensionType(13);
 
+    /// The use_srtp of RFC 5764, section 4.1.
     pub const UseSrtp: TlsExtensionType = TlsExtensionType(14);
 
+    /// The heartbeat of RFC 6520, section 2.
     pub const Heartbeat: TlsExtensionType = TlsExtensionType(15);
 
+    /// The application_layer_protocol_negotiation of RFC 7301, section 3.1.
     pub const ApplicationLayerProtocolNegotiation: TlsExtensionType = TlsExtensionType(16);
 
+    /// The status_request_v2 of RFC 6961.
     pub const StatusRequestv2: TlsExtensionType = TlsExtensionType(17);
 
+    /// The signed_certificate_timestamp of RFC 6962, section 3.3.1.
     pub const SignedCertificateTimestamp: TlsExtensionType = TlsExtensionType(18);
 
+    /// The client_certificate_type of RFC 7250.
     pub const ClientCertificateType: TlsExtensionType = TlsExtensionType(19);
 
+    /// The server_certificate_type of RFC 7250.
     pub const ServerCertificateType: TlsExtensionType = TlsExtensionType(20);
 
+    /// The padding of RFC 7685, section 3.
     pub const Padding: TlsExtensionType = TlsExtensionType(21);
 
+    /// The encrypt_then_mac of RFC 7366, section 2.
     pub const EncryptThenMac: TlsExtensionType = TlsExtensionType(22);
 
+    /// The extended_master_secret of RFC 7627, section 5.1.
     pub const ExtendedMasterSecret: TlsExtensionType = TlsExtensionType(23);
 
+    /// The token_binding of RFC 8472.
     pub const TokenBinding: TlsExtensionType = TlsExtensionType(24);
 
+    /// The cached_info of RFC 7924.
     pub const CachedInfo: TlsExtensionType = TlsExtensionType(25);
 
+    /// The record_size_limit of RFC 8449, section 4.
     pub const RecordSizeLimit: TlsExtensionType = TlsExtensionType(28);
 
+    /// The SessionTicket TLS of RFC 5077, section 3.2.
     pub const SessionTicketTLS: TlsExtensionType = TlsExtensionType(35);
 
     /// The key_share of the drafts of TLS 1.3 up to the 22nd.
     pub const KeyShareOld: TlsExtensionType = TlsExtensionType(40);
 
+    /// The pre_shared_key of RFC 8446, section 4.2.11.
     pub const PreSharedKey: TlsExtensionType = TlsExtensionType(41);
 
+    /// The early_data of RFC 8446, section 4.2.10.
     pub const EarlyData: TlsExtensionType = TlsExtensionType(42);
 
+    /// The supported_versions of RFC 8446, section 4.2.1.
     pub const SupportedVersions: TlsExtensionType = TlsExtensionType(43);
 
+    /// The cookie of RFC 8446, section 4.2.2.
     pub const Cookie: TlsExtensionType = TlsExtensionType(44);
 
+    /// The psk_key_exchange_modes of RFC 8446, section 4.2.9.
     pub const PskExchangeModes: TlsExtensionType = TlsExtensionType(45);
 
-    /// Of drafts of TLS 1.3 alone.
+    /// The ticket_early_data_info of drafts of TLS 1.3 alone.
     pub const TicketEarlyDataInfo: TlsExtensionType = TlsExtensionType(46);
 
+    /// The certificate_authorities of RFC 8446, section 4.2.4.
     pub const CertificateAuthorities: TlsExtensionType = TlsExtensionType(47);
 
+    /// The oid_filters of RFC 8446, section 4.2.5.
     pub const OidFilters: TlsExtensionType = TlsExtensionType(48);
 
+    /// The post_handshake_auth of RFC 8446, section 4.2.6.
     pub const PostHandshakeAuth: TlsExtensionType = TlsExtensionType(49);
 
+    /// The signature_algorithms_cert of RFC 8446, section 4.2.3.
     pub const SigAlgorithmsCert: TlsExtensionType = TlsExtensionType(50);
 
+    /// The key_share of RFC 8446, section 4.2.8.
     pub const KeyShare: TlsExtensionType = TlsExtensionType(51);
 
-    /// Of draft-agl-tls-nextprotoneg.
+    /// The next_protocol_negotiation of draft-agl-tls-nextprotoneg.
     pub const NextProtocolNegotiation: TlsExtensionType = TlsExtensionType(13172);
 
     /// One of the sixteen values of RFC 8701, section 2; the others have no constant.
     pub const Grease: TlsExtensionType = TlsExtensionType(0xfafa);
 
+    /// The renegotiation_info of RFC 5746, section 3.2.
     pub const RenegotiationInfo: TlsExtensionType = TlsExtensionType(0xff01);
 
-    /// Of early drafts of Encrypted Client Hello.
+    /// The encrypted_server_name of early drafts of Encrypted Client Hello (draft-ietf-tls-esni).
     pub const EncryptedServerName: TlsExtensionType = TlsExtensionType(0xffce);
 
     /// The type of that number.
@@ -133,76 +171,34 @@ impl From<TlsExtensionType> for u16 {
     }
 }
 
-/// The numbers of the constants, in rising order.
-const NUMBERS: [u16; 44] = numbers!(
-    TlsExtensionType: ServerName, MaxFragmentLength, ClientCertificate, TrustedCaKeys,
-    TruncatedHMac, StatusRequest, UserMapping, ClientAuthz, ServerAuthz, CertType, SupportedGroups,
-    EcPointFormats, Srp, SignatureAlgorithms, UseSrtp, Heartbeat,
-    ApplicationLayerProtocolNegotiation, StatusRequestv2, SignedCertificateTimestamp,
-    ClientCertificateType, ServerCertificateType, Padding, EncryptThenMac, ExtendedMasterSecret,
-    TokenBinding, CachedInfo, RecordSizeLimit, SessionTicketTLS, KeyShareOld, PreSharedKey,
-    EarlyData, SupportedVersions, Cookie, PskExchangeModes, TicketEarlyDataInfo,
-    CertificateAuthorities, OidFilters, PostHandshakeAuth, SigAlgorithmsCert, KeyShare,
-    NextProtocolNegotiation, Grease, RenegotiationInfo, EncryptedServerName
-);
+/// The constants, in the order of their numbers, which rises.
+macro_rules! constants {
+    ($column:ident) => {
+        $column!(
+            TlsExtensionType: ServerName, MaxFragmentLength, ClientCertificate, TrustedCaKeys,
+            TruncatedHMac, StatusRequest, UserMapping, ClientAuthz, ServerAuthz, CertType,
+            SupportedGroups, EcPointFormats, Srp, SignatureAlgorithms, UseSrtp, Heartbeat,
+            ApplicationLayerProtocolNegotiation, StatusRequestv2, SignedCertificateTimestamp,
+            ClientCertificateType, ServerCertificateType, Padding, EncryptThenMac,
+            ExtendedMasterSecret, TokenBinding, CachedInfo, RecordSizeLimit, SessionTicketTLS,
+            KeyShareOld, PreSharedKey, EarlyData, SupportedVersions, Cookie, PskExchangeModes,
+            TicketEarlyDataInfo, CertificateAuthorities, OidFilters, PostHandshakeAuth,
+            SigAlgorithmsCert, KeyShare, NextProtocolNegotiation, Grease, RenegotiationInfo,
+            EncryptedServerName
+        )
+    };
+}
+
+/// The numbers of the constants.
+static NUMBERS: &[u16] = constants!(numbers);
 
 /// The names of the constants, in the same order.
-const NAMES: [&str; 44] = texts!(
-    ServerName,
-    MaxFragmentLength,
-    ClientCertificate,
-    TrustedCaKeys,
-    TruncatedHMac,
-    StatusRequest,
-    UserMapping,
-    ClientAuthz,
-    ServerAuthz,
-    CertType,
-    SupportedGroups,
-    EcPointFormats,
-    Srp,
-    SignatureAlgorithms,
-    UseSrtp,
-    Heartbeat,
-    ApplicationLayerProtocolNegotiation,
-    StatusRequestv2,
-    SignedCertificateTimestamp,
-    ClientCertificateType,
-    ServerCertificateType,
-    Padding,
-    EncryptThenMac,
-    ExtendedMasterSecret,
-    TokenBinding,
-    CachedInfo,
-    RecordSizeLimit,
-    SessionTicketTLS,
-    KeyShareOld,
-    PreSharedKey,
-    EarlyData,
-    SupportedVersions,
-    Cookie,
-    PskExchangeModes,
-    TicketEarlyDataInfo,
-    CertificateAuthorities,
-    OidFilters,
-    PostHandshakeAuth,
-    SigAlgorithmsCert,
-    KeyShare,
-    NextProtocolNegotiation,
-    Grease,
-    RenegotiationInfo,
-    EncryptedServerName
-);
-
-/// The numbers rise strictly, so that one is found by binary search.
-fn numbers_rise()
-    ensures { IsStrictlyIncreasing NUMBERS }
-{}
+static NAMES: &[&str] = constants!(texts);
 
 impl fmt::Display for TlsExtensionType {
     ghost output = { λ v. Some (name (codes "TlsExtensionType") extension_types v.0) };
 
     fn fmt<W: fmt::Write>(&self, f: &mut fmt::Formatter<W>) -> fmt::Result {
-        write_rising(f, "TlsExtensionType", &NUMBERS, &NAMES, self.0)
+        write_rising(f, "TlsExtensionType", NUMBERS, NAMES, self.0)
     }
 }

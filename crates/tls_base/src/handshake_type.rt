@@ -14,51 +14,61 @@ use tls_fields::{IResult, number1};
 pub struct TlsHandshakeType(pub u8);
 
 impl TlsHandshakeType {
+    /// The hello_request of RFC 5246, section 7.4.1.1.
     pub const HelloRequest: TlsHandshakeType = TlsHandshakeType(0);
 
+    /// The client_hello of RFC 8446, section 4.1.2.
     pub const ClientHello: TlsHandshakeType = TlsHandshakeType(1);
 
+    /// The server_hello of RFC 8446, section 4.1.3.
     pub const ServerHello: TlsHandshakeType = TlsHandshakeType(2);
 
-    /// Of DTLS alone (RFC 6347, section 4.3.2).
+    /// The hello_verify_request of DTLS alone (RFC 6347, section 4.2.1).
     pub const HelloVerifyRequest: TlsHandshakeType = TlsHandshakeType(3);
 
+    /// The new_session_ticket of RFC 5077, section 3.3, and RFC 8446, section 4.6.1.
     pub const NewSessionTicket: TlsHandshakeType = TlsHandshakeType(4);
 
-    /// Of TLS 1.3 (RFC 8446, section 4.5).
+    /// The end_of_early_data of TLS 1.3 (RFC 8446, section 4.5).
     pub const EndOfEarlyData: TlsHandshakeType = TlsHandshakeType(5);
 
-    /// Of drafts of TLS 1.3; in RFC 8446, section 4.1.4, it is a ServerHello.
+    /// The hello_retry_request of drafts of TLS 1.3; in RFC 8446, section 4.1.4, it is a ServerHello.
     pub const HelloRetryRequest: TlsHandshakeType = TlsHandshakeType(6);
 
-    /// Of TLS 1.3 (RFC 8446, section 4.3.1).
+    /// The encrypted_extensions of TLS 1.3 (RFC 8446, section 4.3.1).
     pub const EncryptedExtensions: TlsHandshakeType = TlsHandshakeType(8);
 
+    /// The certificate of RFC 5246, section 7.4.2, and RFC 8446, section 4.4.2.
     pub const Certificate: TlsHandshakeType = TlsHandshakeType(11);
 
+    /// The server_key_exchange of RFC 5246, section 7.4.3.
     pub const ServerKeyExchange: TlsHandshakeType = TlsHandshakeType(12);
 
+    /// The certificate_request of RFC 5246, section 7.4.4, and RFC 8446, section 4.3.2.
     pub const CertificateRequest: TlsHandshakeType = TlsHandshakeType(13);
 
-    /// The ServerHelloDone of RFC 5246, section 7.4.5.
+    /// The server_hello_done of RFC 5246, section 7.4.5.
     pub const ServerDone: TlsHandshakeType = TlsHandshakeType(14);
 
+    /// The certificate_verify of RFC 5246, section 7.4.8, and RFC 8446, section 4.4.3.
     pub const CertificateVerify: TlsHandshakeType = TlsHandshakeType(15);
 
+    /// The client_key_exchange of RFC 5246, section 7.4.7.
     pub const ClientKeyExchange: TlsHandshakeType = TlsHandshakeType(16);
 
+    /// The finished of RFC 5246, section 7.4.9, and RFC 8446, section 4.4.4.
     pub const Finished: TlsHandshakeType = TlsHandshakeType(20);
 
-    /// Where the client's certificate may be fetched (RFC 6066, section 5).
+    /// The certificate_url of RFC 6066, section 5: where the client's certificate may be fetched.
     pub const CertificateURL: TlsHandshakeType = TlsHandshakeType(21);
 
-    /// The state of the server's certificate (RFC 6066, section 8).
+    /// The certificate_status of RFC 6066, section 8: the state of the server's certificate.
     pub const CertificateStatus: TlsHandshakeType = TlsHandshakeType(22);
 
-    /// Of TLS 1.3 (RFC 8446, section 4.6.3).
+    /// The key_update of TLS 1.3 (RFC 8446, section 4.6.3).
     pub const KeyUpdate: TlsHandshakeType = TlsHandshakeType(24);
 
-    /// Of draft-agl-tls-nextprotoneg.
+    /// The next_protocol of draft-agl-tls-nextprotoneg.
     pub const NextProtocol: TlsHandshakeType = TlsHandshakeType(67);
 
     /// Reads 1 byte. `Incomplete(1)` where there is none.
@@ -71,7 +81,7 @@ impl TlsHandshakeType {
 }
 
 /// The constants, each with its number and its name.
-const NAMES: [(u16, &str); 19] = names!(
+static NAMES: &[(u16, &str)] = names!(
     TlsHandshakeType: HelloRequest, ClientHello, ServerHello, HelloVerifyRequest, NewSessionTicket,
     EndOfEarlyData, HelloRetryRequest, EncryptedExtensions, Certificate, ServerKeyExchange,
     CertificateRequest, ServerDone, CertificateVerify, ClientKeyExchange, Finished, CertificateURL,
@@ -82,7 +92,7 @@ impl fmt::Display for TlsHandshakeType {
     ghost output = { λ v. Some (name (codes "TlsHandshakeType") handshake_types v.0) };
 
     fn fmt<W: fmt::Write>(&self, f: &mut fmt::Formatter<W>) -> fmt::Result {
-        write_name(f, "TlsHandshakeType", &NAMES, self.0 as u16)
+        write_name(f, "TlsHandshakeType", NAMES, self.0 as u16)
     }
 }
 

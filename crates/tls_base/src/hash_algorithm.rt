@@ -14,18 +14,25 @@ use tls_fields::{IResult, number1};
 pub struct HashAlgorithm(pub u8);
 
 impl HashAlgorithm {
+    /// The none of RFC 5246, section 7.4.1.4.1.
     pub const None: HashAlgorithm = HashAlgorithm(0);
 
+    /// The md5 of RFC 5246, section 7.4.1.4.1.
     pub const Md5: HashAlgorithm = HashAlgorithm(1);
 
+    /// The sha1 of RFC 5246, section 7.4.1.4.1.
     pub const Sha1: HashAlgorithm = HashAlgorithm(2);
 
+    /// The sha224 of RFC 5246, section 7.4.1.4.1.
     pub const Sha224: HashAlgorithm = HashAlgorithm(3);
 
+    /// The sha256 of RFC 5246, section 7.4.1.4.1.
     pub const Sha256: HashAlgorithm = HashAlgorithm(4);
 
+    /// The sha384 of RFC 5246, section 7.4.1.4.1.
     pub const Sha384: HashAlgorithm = HashAlgorithm(5);
 
+    /// The sha512 of RFC 5246, section 7.4.1.4.1.
     pub const Sha512: HashAlgorithm = HashAlgorithm(6);
 
     /// The hash is part of the signature algorithm (RFC 8422, section 5.1.3).
@@ -41,7 +48,7 @@ impl HashAlgorithm {
 }
 
 /// The constants, each with its number and its name.
-const NAMES: [(u16, &str); 8] = names!(
+static NAMES: &[(u16, &str)] = names!(
     HashAlgorithm: None, Md5, Sha1, Sha224, Sha256, Sha384, Sha512, Intrinsic
 );
 
@@ -49,6 +56,6 @@ impl fmt::Display for HashAlgorithm {
     ghost output = { λ v. Some (name (codes "HashAlgorithm") hash_algorithms v.0) };
 
     fn fmt<W: fmt::Write>(&self, f: &mut fmt::Formatter<W>) -> fmt::Result {
-        write_name(f, "HashAlgorithm", &NAMES, self.0 as u16)
+        write_name(f, "HashAlgorithm", NAMES, self.0 as u16)
     }
 }

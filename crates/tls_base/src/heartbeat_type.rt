@@ -14,8 +14,10 @@ use tls_fields::{IResult, number1};
 pub struct TlsHeartbeatMessageType(pub u8);
 
 impl TlsHeartbeatMessageType {
+    /// The heartbeat_request of RFC 6520, section 3.
     pub const HeartBeatRequest: TlsHeartbeatMessageType = TlsHeartbeatMessageType(1);
 
+    /// The heartbeat_response of RFC 6520, section 3.
     pub const HeartBeatResponse: TlsHeartbeatMessageType = TlsHeartbeatMessageType(2);
 
     /// Reads 1 byte. `Incomplete(1)` where there is none.
@@ -28,7 +30,7 @@ impl TlsHeartbeatMessageType {
 }
 
 /// The constants, each with its number and its name.
-const NAMES: [(u16, &str); 2] = names!(
+static NAMES: &[(u16, &str)] = names!(
     TlsHeartbeatMessageType: HeartBeatRequest, HeartBeatResponse
 );
 
@@ -36,7 +38,7 @@ impl fmt::Display for TlsHeartbeatMessageType {
     ghost output = { λ v. Some (name (codes "TlsHeartbeatMessageType") heartbeat_message_types v.0) };
 
     fn fmt<W: fmt::Write>(&self, f: &mut fmt::Formatter<W>) -> fmt::Result {
-        write_name(f, "TlsHeartbeatMessageType", &NAMES, self.0 as u16)
+        write_name(f, "TlsHeartbeatMessageType", NAMES, self.0 as u16)
     }
 }
 

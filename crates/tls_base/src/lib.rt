@@ -21,7 +21,6 @@ mod extension_type;
 mod handshake_type;
 mod hash_algorithm;
 mod heartbeat_type;
-pub mod laws;
 mod name;
 mod named_group;
 mod psk_mode;

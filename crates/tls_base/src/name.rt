@@ -12,7 +12,7 @@ use tls_fields::place;
 /// Constants of a type, each as its number and its name.
 macro_rules! names {
     ($type:ident: $($constant:ident),*) => {
-        [$(($type::$constant.0 as u16, stringify!($constant))),*]
+        &[$(($type::$constant.0 as u16, stringify!($constant))),*]
     };
 }
 
@@ -21,16 +21,16 @@ pub(crate) use names;
 /// The numbers of constants of a type.
 macro_rules! numbers {
     ($type:ident: $($constant:ident),*) => {
-        [$($type::$constant.0),*]
+        &[$($type::$constant.0),*]
     };
 }
 
 pub(crate) use numbers;
 
-/// The names of constants.
+/// The names of constants of a type.
 macro_rules! texts {
-    ($($constant:ident),*) => {
-        [$(stringify!($constant)),*]
+    ($type:ident: $($constant:ident),*) => {
+        &[$(stringify!($constant)),*]
     };
 }
 

@@ -15,61 +15,88 @@ use tls_fields::{IResult, Number, number2};
 pub struct NamedGroup(pub u16);
 
 impl NamedGroup {
+    /// The sect163k1 of RFC 4492, section 5.1.1.
     pub const Sect163k1: NamedGroup = NamedGroup(1);
 
+    /// The sect163r1 of RFC 4492, section 5.1.1.
     pub const Sect163r1: NamedGroup = NamedGroup(2);
 
+    /// The sect163r2 of RFC 4492, section 5.1.1.
     pub const Sect163r2: NamedGroup = NamedGroup(3);
 
+    /// The sect193r1 of RFC 4492, section 5.1.1.
     pub const Sect193r1: NamedGroup = NamedGroup(4);
 
+    /// The sect193r2 of RFC 4492, section 5.1.1.
     pub const Sect193r2: NamedGroup = NamedGroup(5);
 
+    /// The sect233k1 of RFC 4492, section 5.1.1.
     pub const Sect233k1: NamedGroup = NamedGroup(6);
 
+    /// The sect233r1 of RFC 4492, section 5.1.1.
     pub const Sect233r1: NamedGroup = NamedGroup(7);
 
+    /// The sect239k1 of RFC 4492, section 5.1.1.
     pub const Sect239k1: NamedGroup = NamedGroup(8);
 
+    /// The sect283k1 of RFC 4492, section 5.1.1.
     pub const Sect283k1: NamedGroup = NamedGroup(9);
 
+    /// The sect283r1 of RFC 4492, section 5.1.1.
     pub const Sect283r1: NamedGroup = NamedGroup(10);
 
+    /// The sect409k1 of RFC 4492, section 5.1.1.
     pub const Sect409k1: NamedGroup = NamedGroup(11);
 
+    /// The sect409r1 of RFC 4492, section 5.1.1.
     pub const Sect409r1: NamedGroup = NamedGroup(12);
 
+    /// The sect571k1 of RFC 4492, section 5.1.1.
     pub const Sect571k1: NamedGroup = NamedGroup(13);
 
+    /// The sect571r1 of RFC 4492, section 5.1.1.
     pub const Sect571r1: NamedGroup = NamedGroup(14);
 
+    /// The secp160k1 of RFC 4492, section 5.1.1.
     pub const Secp160k1: NamedGroup = NamedGroup(15);
 
+    /// The secp160r1 of RFC 4492, section 5.1.1.
     pub const Secp160r1: NamedGroup = NamedGroup(16);
 
+    /// The secp160r2 of RFC 4492, section 5.1.1.
     pub const Secp160r2: NamedGroup = NamedGroup(17);
 
+    /// The secp192k1 of RFC 4492, section 5.1.1.
     pub const Secp192k1: NamedGroup = NamedGroup(18);
 
+    /// The secp192r1 of RFC 4492, section 5.1.1.
     pub const Secp192r1: NamedGroup = NamedGroup(19);
 
+    /// The secp224k1 of RFC 4492, section 5.1.1.
     pub const Secp224k1: NamedGroup = NamedGroup(20);
 
+    /// The secp224r1 of RFC 4492, section 5.1.1.
     pub const Secp224r1: NamedGroup = NamedGroup(21);
 
+    /// The secp256k1 of RFC 4492, section 5.1.1.
     pub const Secp256k1: NamedGroup = NamedGroup(22);
 
+    /// The secp256r1 of RFC 8422, section 5.1.1.
     pub const Secp256r1: NamedGroup = NamedGroup(23);
 
+    /// The secp384r1 of RFC 8422, section 5.1.1.
     pub const Secp384r1: NamedGroup = NamedGroup(24);
 
+    /// The secp521r1 of RFC 8422, section 5.1.1.
     pub const Secp521r1: NamedGroup = NamedGroup(25);
 
-    /// Of RFC 7027, as the next two; those of TLS 1.3 have other numbers.
+    /// The brainpoolP256r1 of RFC 7027; in TLS 1.3 it has another number.
     pub const BrainpoolP256r1: NamedGroup = NamedGroup(26);
 
+    /// The brainpoolP384r1 of RFC 7027; in TLS 1.3 it has another number.
     pub const BrainpoolP384r1: NamedGroup = NamedGroup(27);
 
+    /// The brainpoolP512r1 of RFC 7027; in TLS 1.3 it has another number.
     pub const BrainpoolP512r1: NamedGroup = NamedGroup(28);
 
     /// The x25519 of RFC 8422, section 5.1.1.
@@ -78,31 +105,37 @@ impl NamedGroup {
     /// The x448 of RFC 8422, section 5.1.1.
     pub const EcdhX448: NamedGroup = NamedGroup(30);
 
-    /// Of RFC 8734, as the next two.
+    /// The brainpoolP256r1tls13 of RFC 8734.
     pub const BrainpoolP256r1tls13: NamedGroup = NamedGroup(31);
 
+    /// The brainpoolP384r1tls13 of RFC 8734.
     pub const BrainpoolP384r1tls13: NamedGroup = NamedGroup(32);
 
+    /// The brainpoolP512r1tls13 of RFC 8734.
     pub const BrainpoolP512r1tls13: NamedGroup = NamedGroup(33);
 
     /// The curveSM2 of RFC 8998.
     pub const Sm2: NamedGroup = NamedGroup(41);
 
-    /// A group over the integers (RFC 7919), as the next four.
+    /// The ffdhe2048 of RFC 7919: a group over the integers.
     pub const Ffdhe2048: NamedGroup = NamedGroup(0x0100);
 
+    /// The ffdhe3072 of RFC 7919: a group over the integers.
     pub const Ffdhe3072: NamedGroup = NamedGroup(0x0101);
 
+    /// The ffdhe4096 of RFC 7919: a group over the integers.
     pub const Ffdhe4096: NamedGroup = NamedGroup(0x0102);
 
+    /// The ffdhe6144 of RFC 7919: a group over the integers.
     pub const Ffdhe6144: NamedGroup = NamedGroup(0x0103);
 
+    /// The ffdhe8192 of RFC 7919: a group over the integers.
     pub const Ffdhe8192: NamedGroup = NamedGroup(0x0104);
 
-    /// Any curve over a prime field that is given by its parameters.
+    /// The arbitrary_explicit_prime_curves of RFC 4492, section 5.1.1: any that is given by its parameters.
     pub const ArbitraryExplicitPrimeCurves: NamedGroup = NamedGroup(0xff01);
 
-    /// Any curve over a field of characteristic 2 that is given by its parameters.
+    /// The arbitrary_explicit_char2_curves of RFC 4492, section 5.1.1: the same over a field of characteristic 2.
     pub const ArbitraryExplicitChar2Curves: NamedGroup = NamedGroup(0xff02);
 
     /// The length of a key, in bits, for the curves of RFC 4492 and RFC 7027 and for X25519 (253); `None` for any other
@@ -110,7 +143,7 @@ impl NamedGroup {
     pub fn key_bits(self) -> Option<u16>
         ensures { result ≡ key_bits_of self.0 }
     {
-        find_number(&KEY_BITS, self.0)
+        find_number(KEY_BITS, self.0)
     }
 
     /// Reads 2 bytes, big-endian. `Incomplete` of the bytes that are missing, 2 or 1.
@@ -135,7 +168,7 @@ impl Number for NamedGroup {
 }
 
 /// The length of a key, in bits, for the groups that have one here.
-const KEY_BITS: [(u16, u16); 29] = [
+static KEY_BITS: &[(u16, u16)] = &[
     (NamedGroup::Sect163k1.0, 163),
     (NamedGroup::Sect163r1.0, 163),
     (NamedGroup::Sect163r2.0, 163),
@@ -168,7 +201,7 @@ const KEY_BITS: [(u16, u16); 29] = [
 ];
 
 /// The constants, each with its number and its name.
-const NAMES: [(u16, &str); 41] = names!(
+static NAMES: &[(u16, &str)] = names!(
     NamedGroup: Sect163k1, Sect163r1, Sect163r2, Sect193r1, Sect193r2, Sect233k1, Sect233r1,
     Sect239k1, Sect283k1, Sect283r1, Sect409k1, Sect409r1, Sect571k1, Sect571r1, Secp160k1,
     Secp160r1, Secp160r2, Secp192k1, Secp192r1, Secp224k1, Secp224r1, Secp256k1, Secp256r1,
@@ -181,6 +214,6 @@ impl fmt::Display for NamedGroup {
     ghost output = { λ v. Some (name (codes "NamedGroup") named_groups v.0) };
 
     fn fmt<W: fmt::Write>(&self, f: &mut fmt::Formatter<W>) -> fmt::Result {
-        write_name(f, "NamedGroup", &NAMES, self.0)
+        write_name(f, "NamedGroup", NAMES, self.0)
     }
 }

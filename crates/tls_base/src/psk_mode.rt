@@ -9,10 +9,10 @@ use tls_fields::{IResult, number1};
 pub struct PskKeyExchangeMode(pub u8);
 
 impl PskKeyExchangeMode {
-    /// The key alone.
+    /// The psk_ke of RFC 8446, section 4.2.9: the key alone.
     pub const Psk: PskKeyExchangeMode = PskKeyExchangeMode(0);
 
-    /// The key together with a Diffie-Hellman key exchange.
+    /// The psk_dhe_ke of RFC 8446, section 4.2.9: the key together with a Diffie-Hellman key exchange.
     pub const PskDhe: PskKeyExchangeMode = PskKeyExchangeMode(1);
 
     /// Reads 1 byte. `Incomplete(1)` where there is none.

@@ -14,14 +14,19 @@ use tls_fields::{IResult, number1};
 pub struct TlsRecordType(pub u8);
 
 impl TlsRecordType {
+    /// The change_cipher_spec of RFC 5246, section 7.1.
     pub const ChangeCipherSpec: TlsRecordType = TlsRecordType(20);
 
+    /// The alert of RFC 5246, section 7.2.
     pub const Alert: TlsRecordType = TlsRecordType(21);
 
+    /// The handshake of RFC 5246, section 7.4.
     pub const Handshake: TlsRecordType = TlsRecordType(22);
 
+    /// The application_data of RFC 5246, section 10.
     pub const ApplicationData: TlsRecordType = TlsRecordType(23);
 
+    /// The heartbeat of RFC 6520, section 3.
     pub const Heartbeat: TlsRecordType = TlsRecordType(24);
 
     /// Reads 1 byte. `Incomplete(1)` where there is none.
@@ -34,7 +39,7 @@ impl TlsRecordType {
 }
 
 /// The constants, each with its number and its name.
-const NAMES: [(u16, &str); 5] = names!(
+static NAMES: &[(u16, &str)] = names!(
     TlsRecordType: ChangeCipherSpec, Alert, Handshake, ApplicationData, Heartbeat
 );
 
@@ -42,7 +47,7 @@ impl fmt::Display for TlsRecordType {
     ghost output = { λ v. Some (name (codes "TlsRecordType") content_types v.0) };
 
     fn fmt<W: fmt::Write>(&self, f: &mut fmt::Formatter<W>) -> fmt::Result {
-        write_name(f, "TlsRecordType", &NAMES, self.0 as u16)
+        write_name(f, "TlsRecordType", NAMES, self.0 as u16)
     }
 }
 

@@ -15,46 +15,64 @@ use tls_fields::{IResult, number2};
 pub struct SignatureScheme(pub u16);
 
 impl SignatureScheme {
+    /// Of RFC 8446, section 4.2.3.
     pub const rsa_pkcs1_sha256: SignatureScheme = SignatureScheme(0x0401);
 
+    /// Of RFC 8446, section 4.2.3.
     pub const rsa_pkcs1_sha384: SignatureScheme = SignatureScheme(0x0501);
 
+    /// Of RFC 8446, section 4.2.3.
     pub const rsa_pkcs1_sha512: SignatureScheme = SignatureScheme(0x0601);
 
+    /// Of RFC 8446, section 4.2.3.
     pub const rsa_pkcs1_sha1: SignatureScheme = SignatureScheme(0x0201);
 
+    /// Of RFC 8446, section 4.2.3.
     pub const ecdsa_secp256r1_sha256: SignatureScheme = SignatureScheme(0x0403);
 
+    /// Of RFC 8446, section 4.2.3.
     pub const ecdsa_secp384r1_sha384: SignatureScheme = SignatureScheme(0x0503);
 
+    /// Of RFC 8446, section 4.2.3.
     pub const ecdsa_secp521r1_sha512: SignatureScheme = SignatureScheme(0x0603);
 
+    /// Of RFC 8446, section 4.2.3.
     pub const ecdsa_sha1: SignatureScheme = SignatureScheme(0x0203);
 
     /// Of RFC 8998.
     pub const sm2sig_sm3: SignatureScheme = SignatureScheme(0x0708);
 
+    /// Of RFC 8446, section 4.2.3.
     pub const rsa_pss_rsae_sha256: SignatureScheme = SignatureScheme(0x0804);
 
+    /// Of RFC 8446, section 4.2.3.
     pub const rsa_pss_rsae_sha384: SignatureScheme = SignatureScheme(0x0805);
 
+    /// Of RFC 8446, section 4.2.3.
     pub const rsa_pss_rsae_sha512: SignatureScheme = SignatureScheme(0x0806);
 
+    /// Of RFC 8446, section 4.2.3.
     pub const ed25519: SignatureScheme = SignatureScheme(0x0807);
 
+    /// Of RFC 8446, section 4.2.3.
     pub const ed448: SignatureScheme = SignatureScheme(0x0808);
 
+    /// Of RFC 8446, section 4.2.3.
     pub const rsa_pss_pss_sha256: SignatureScheme = SignatureScheme(0x0809);
 
+    /// Of RFC 8446, section 4.2.3.
     pub const rsa_pss_pss_sha384: SignatureScheme = SignatureScheme(0x080a);
 
+    /// Of RFC 8446, section 4.2.3.
     pub const rsa_pss_pss_sha512: SignatureScheme = SignatureScheme(0x080b);
 
-    /// Of RFC 8734, as the next two.
+    /// Of RFC 8734.
     pub const ecdsa_brainpoolP256r1tls13_sha256: SignatureScheme = SignatureScheme(0x081a);
 
+    /// Of RFC 8734.
     pub const ecdsa_brainpoolP384r1tls13_sha384: SignatureScheme = SignatureScheme(0x081b);
 
+    /// Of RFC 8734.
     pub const ecdsa_brainpoolP512r1tls13_sha512: SignatureScheme = SignatureScheme(0x081c);
 
     /// Whether the number is one of 0xfe00 to 0xfeff. RFC 8446, section 4.2.3, keeps 0xfe00 to 0xffff for private use:
@@ -89,7 +107,7 @@ impl SignatureScheme {
 }
 
 /// The constants, each with its number and its name.
-const NAMES: [(u16, &str); 20] = names!(
+static NAMES: &[(u16, &str)] = names!(
     SignatureScheme: rsa_pkcs1_sha256, rsa_pkcs1_sha384, rsa_pkcs1_sha512, rsa_pkcs1_sha1,
     ecdsa_secp256r1_sha256, ecdsa_secp384r1_sha384, ecdsa_secp521r1_sha512, ecdsa_sha1, sm2sig_sm3,
     rsa_pss_rsae_sha256, rsa_pss_rsae_sha384, rsa_pss_rsae_sha512, ed25519, ed448,
@@ -101,6 +119,6 @@ impl fmt::Display for SignatureScheme {
     ghost output = { λ v. Some (name (codes "SignatureScheme") signature_schemes v.0) };
 
     fn fmt<W: fmt::Write>(&self, f: &mut fmt::Formatter<W>) -> fmt::Result {
-        write_name(f, "SignatureScheme", &NAMES, self.0)
+        write_name(f, "SignatureScheme", NAMES, self.0)
     }
 }

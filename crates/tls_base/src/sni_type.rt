@@ -14,6 +14,7 @@ use tls_fields::{IResult, number1};
 pub struct SNIType(pub u8);
 
 impl SNIType {
+    /// The host_name of RFC 6066, section 3.
     pub const HostName: SNIType = SNIType(0);
 
     /// Reads 1 byte. `Incomplete(1)` where there is none.
@@ -26,12 +27,12 @@ impl SNIType {
 }
 
 /// The constants, each with its number and its name.
-const NAMES: [(u16, &str); 1] = names!(SNIType: HostName);
+static NAMES: &[(u16, &str)] = names!(SNIType: HostName);
 
 impl fmt::Display for SNIType {
     ghost output = { λ v. Some (name (codes "SNIType") name_types v.0) };
 
     fn fmt<W: fmt::Write>(&self, f: &mut fmt::Formatter<W>) -> fmt::Result {
-        write_name(f, "SNIType", &NAMES, self.0 as u16)
+        write_name(f, "SNIType", NAMES, self.0 as u16)
     }
 }

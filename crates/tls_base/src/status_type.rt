@@ -14,6 +14,7 @@ use tls_fields::{IResult, number1};
 pub struct CertificateStatusType(pub u8);
 
 impl CertificateStatusType {
+    /// The ocsp of RFC 6066, section 8.
     pub const OCSP: CertificateStatusType = CertificateStatusType(1);
 
     /// Reads 1 byte. `Incomplete(1)` where there is none.
@@ -26,12 +27,12 @@ impl CertificateStatusType {
 }
 
 /// The constants, each with its number and its name.
-const NAMES: [(u16, &str); 1] = names!(CertificateStatusType: OCSP);
+static NAMES: &[(u16, &str)] = names!(CertificateStatusType: OCSP);
 
 impl fmt::Display for CertificateStatusType {
     ghost output = { λ v. Some (name (codes "CertificateStatusType") certificate_status_types v.0) };
 
     fn fmt<W: fmt::Write>(&self, f: &mut fmt::Formatter<W>) -> fmt::Result {
-        write_name(f, "CertificateStatusType", &NAMES, self.0 as u16)
+        write_name(f, "CertificateStatusType", NAMES, self.0 as u16)
     }
 }

@@ -20,34 +20,46 @@ use tls_fields::{IResult, Number, OutOfMemory, number2};
 pub struct TlsVersion(pub u16);
 
 impl TlsVersion {
+    /// SSL 3.0 (RFC 6101).
     pub const Ssl30: TlsVersion = TlsVersion(0x0300);
 
+    /// TLS 1.0 (RFC 2246).
     pub const Tls10: TlsVersion = TlsVersion(0x0301);
 
+    /// TLS 1.1 (RFC 4346).
     pub const Tls11: TlsVersion = TlsVersion(0x0302);
 
+    /// TLS 1.2 (RFC 5246).
     pub const Tls12: TlsVersion = TlsVersion(0x0303);
 
+    /// TLS 1.3 (RFC 8446).
     pub const Tls13: TlsVersion = TlsVersion(0x0304);
 
-    /// The 18th draft of TLS 1.3; the next five are later drafts.
+    /// TLS 1.3 as draft-ietf-tls-tls13-18 has it.
     pub const Tls13Draft18: TlsVersion = TlsVersion(0x7f12);
 
+    /// TLS 1.3 as draft-ietf-tls-tls13-19 has it.
     pub const Tls13Draft19: TlsVersion = TlsVersion(0x7f13);
 
+    /// TLS 1.3 as draft-ietf-tls-tls13-20 has it.
     pub const Tls13Draft20: TlsVersion = TlsVersion(0x7f14);
 
+    /// TLS 1.3 as draft-ietf-tls-tls13-21 has it.
     pub const Tls13Draft21: TlsVersion = TlsVersion(0x7f15);
 
+    /// TLS 1.3 as draft-ietf-tls-tls13-22 has it.
     pub const Tls13Draft22: TlsVersion = TlsVersion(0x7f16);
 
+    /// TLS 1.3 as draft-ietf-tls-tls13-23 has it.
     pub const Tls13Draft23: TlsVersion = TlsVersion(0x7f17);
 
+    /// DTLS 1.0 (RFC 4347).
     pub const DTls10: TlsVersion = TlsVersion(0xfeff);
 
     /// There is no such version (RFC 6347, section 1); its number is that which DTLS 1.1 would have.
     pub const DTls11: TlsVersion = TlsVersion(0xfefe);
 
+    /// DTLS 1.2 (RFC 6347).
     pub const DTls12: TlsVersion = TlsVersion(0xfefd);
 
     /// The two bytes of the number, big-endian.
@@ -89,7 +101,7 @@ impl Number for TlsVersion {
 }
 
 /// The constants, each with its number and its name.
-const NAMES: [(u16, &str); 14] = names!(
+static NAMES: &[(u16, &str)] = names!(
     TlsVersion: Ssl30, Tls10, Tls11, Tls12, Tls13, Tls13Draft18, Tls13Draft19, Tls13Draft20,
     Tls13Draft21, Tls13Draft22, Tls13Draft23, DTls10, DTls11, DTls12
 );
@@ -98,7 +110,7 @@ impl fmt::Display for TlsVersion {
     ghost output = { λ v. Some (name (codes "TlsVersion") protocol_versions v.0) };
 
     fn fmt<W: fmt::Write>(&self, f: &mut fmt::Formatter<W>) -> fmt::Result {
-        write_name(f, "TlsVersion", &NAMES, self.0)
+        write_name(f, "TlsVersion", NAMES, self.0)
     }
 }
 

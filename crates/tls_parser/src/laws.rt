@@ -1,76 +1,14 @@
 //! What stands of the layouts alone. Each function's contract is one law; its body is empty.
-#![tactic(auto, using(tls_fields::proofs::OneAnswerLemmas::one_answer))]
 
 ghost use Rattle.std.specs.Prelude.{◌≡◌, ◌↔◌, ◌<◌, ◌++◌, ℕ, length, Ok, Err};
 ghost use Rattle.tls_fields.specs.Bytes.{Bytes, AreBytes};
-ghost use Rattle.tls_fields.specs.Layout.{list1};
-ghost use Rattle.tls_fields.specs.Meaning.{Allows, AllowsOne, Broken, Lacks};
+ghost use Rattle.tls_fields.specs.Meaning.{Allows, Broken, Lacks};
 ghost use Rattle.tls_fields.specs.Reading.{reading, ◌and_then◌};
 ghost use Rattle.tls_fields.specs.Stable.{NeverLacks, Decides, CountsDown};
 ghost use Rattle.tls_fields.specs.declared.result.ErrorKind.TheVariants.{TooLarge};
 ghost use Rattle.tls_parser.specs.Framing.{IsTooLarge, NeedsMore};
 ghost use Rattle.tls_parser.specs.Record as tls;
 ghost use Rattle.tls_parser.specs.DtlsRecord as dtls;
-
-/// The header of a record: on any bytes, its layout allows exactly one answer.
-pub fn record_header_has_one_answer()
-    ensures { (b : Bytes) → AreBytes b → AllowsOne tls.record_header b }
-{}
-
-/// A record whose fragment is not read, encrypted or not.
-pub fn raw_record_has_one_answer()
-    ensures { (b : Bytes) → AreBytes b → AllowsOne tls.raw_record b }
-{}
-
-/// The fragment of a record, for each header.
-pub fn record_content_has_one_answer()
-    ensures { (header : tls.RecordHeader) (b : Bytes) → AreBytes b → AllowsOne (tls.record_content header) b }
-{}
-
-/// A record with its messages.
-pub fn plaintext_has_one_answer()
-    ensures { (b : Bytes) → AreBytes b → AllowsOne tls.plaintext b }
-{}
-
-/// One or more records.
-pub fn plaintexts_have_one_answer()
-    ensures { (b : Bytes) → AreBytes b → AllowsOne (list1 tls.plaintext) b }
-{}
-
-/// A ChangeCipherSpec of DTLS.
-pub fn dtls_change_cipher_spec_has_one_answer()
-    ensures { (b : Bytes) → AreBytes b → AllowsOne dtls.change_cipher_spec b }
-{}
-
-/// An alert of DTLS.
-pub fn dtls_alert_has_one_answer()
-    ensures { (b : Bytes) → AreBytes b → AllowsOne dtls.alert b }
-{}
-
-/// A handshake message of DTLS.
-pub fn dtls_handshake_has_one_answer()
-    ensures { (b : Bytes) → AreBytes b → AllowsOne dtls.handshake b }
-{}
-
-/// The header of a DTLS record.
-pub fn dtls_record_header_has_one_answer()
-    ensures { (b : Bytes) → AreBytes b → AllowsOne dtls.record_header b }
-{}
-
-/// The fragment of a DTLS record, for each header.
-pub fn dtls_record_content_has_one_answer()
-    ensures { (header : dtls.RecordHeader) (b : Bytes) → AreBytes b → AllowsOne (dtls.record_content header) b }
-{}
-
-/// A DTLS record with its messages.
-pub fn dtls_plaintext_has_one_answer()
-    ensures { (b : Bytes) → AreBytes b → AllowsOne dtls.plaintext b }
-{}
-
-/// One or more DTLS records.
-pub fn dtls_plaintexts_have_one_answer()
-    ensures { (b : Bytes) → AreBytes b → AllowsOne (list1 dtls.plaintext) b }
-{}
 
 /// A record is read as a raw record is, and then its fragment: the messages are those of the fragment alone, and the
 /// rest is that of the raw record.
