@@ -10,7 +10,10 @@ use Rattle.tls_fields.specs.declared.writer.GenError.TheVariants.{NotYetImplemen
 use Rattle.tls_hs.specs.Hello as hello
 use Rattle.tls_hs.specs.ServerHello as server
 use Rattle.tls_hs.specs.Session as session
-use Rattle.tls_hs.specs.Handshake.{Handshake, HelloRequest, ClientHello, ServerHello, ServerHelloV13Draft18, NewSessionTicket, EndOfEarlyData, HelloRetryRequest, Certificate, ServerKeyExchange, CertificateRequest, ServerDone, CertificateVerify, ClientKeyExchange, Finished, CertificateStatus, NextProtocol, KeyUpdate}
+use Rattle.tls_hs.specs.Handshake.{Handshake, HelloRequest, ClientHello, ServerHello, ServerHelloV13Draft18}
+use Rattle.tls_hs.specs.Handshake.{NewSessionTicket, EndOfEarlyData, HelloRetryRequest, Certificate, ServerKeyExchange}
+use Rattle.tls_hs.specs.Handshake.{CertificateRequest, ServerDone, CertificateVerify, ClientKeyExchange, Finished}
+use Rattle.tls_hs.specs.Handshake.{CertificateStatus, NextProtocol, KeyUpdate}
 
 -- The body of a ClientHello (RFC 5246, section 7.4.1.2).
 unfoldable pub client_hello_text : hello.ClientHello → Bytes

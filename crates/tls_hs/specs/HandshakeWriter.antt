@@ -1,11 +1,14 @@
 -- What the calls answer that write handshake messages: their text is said in `HandshakeText`.
-use Rattle.std.specs.Prelude.{ℕ, ◌≡◌, Option, Result}
+use Rattle.std.specs.Prelude.{ℕ, ◌≡◌, ◌++◌, Option, Result, Ok}
 use Rattle.tls_fields.specs.Bytes.{Bytes}
+use Rattle.tls_fields.specs.Meaning.{Allows}
 use Rattle.tls_fields.specs.Writer.{Judges, Builds, Writes}
 use Rattle.tls_fields.specs.declared.writer.GenError.{GenError}
 use Rattle.tls_fields.specs.declared.writer.GenError.TheVariants.{BadLength}
 use Rattle.tls_hs.specs.Handshake.{Handshake}
-use Rattle.tls_hs.specs.HandshakeText.{body_text, FitsBody, handshake_text, FitsHandshake, refusal_of_handshake}
+use Rattle.tls_hs.specs.HandshakeText.{body_text, FitsBody, handshake_text, FitsHandshake, InRangeHandshake}
+use Rattle.tls_hs.specs.HandshakeText.{refusal_of_handshake, IsReadableHandshake, normal_handshake}
+use Rattle.tls_hs.specs.Message as message
 
 -- The length of the body of a message of a kind that the writer knows, were it not counted.
 abbrev pub JudgesBody : Handshake → Result ℕ GenError → Type 0
@@ -27,3 +30,15 @@ BuildsHandshake m r = Builds (FitsHandshake m) (λ e. e ≡ refusal_of_handshake
 abbrev pub WritesHandshake : {W : Type 0} → Handshake → (W → Option Bytes) → W → W → Result Unit GenError → Type 0
 WritesHandshake m contents old new r =
     Writes (FitsHandshake m) (λ e. e ≡ refusal_of_handshake m) (handshake_text m) contents old new r
+
+-- What its text is read as, whatever follows: its normal form, where it can be written and read back.
+abbrev pub IsReadBack : Handshake → Bytes → Type 0
+IsReadBack m r =
+    FitsHandshake m → InRangeHandshake m → IsReadableHandshake m
+    → Allows message.handshake (handshake_text m ++ r) (Ok (message.Handshake (normal_handshake m), r))
+
+-- It can be written, and b is its text and then r.
+pub record HasText (m : Handshake) (b r : Bytes) : Type 0 where
+  pub fits : FitsHandshake m
+  pub range : InRangeHandshake m
+  pub text : b ≡ handshake_text m ++ r

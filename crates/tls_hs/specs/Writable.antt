@@ -2,7 +2,8 @@
 use Rattle.tls_hs.specs.Hello.{view_client_hello}
 use Rattle.tls_hs.specs.ServerHello.{view_server_hello, view_server_hello_draft18}
 use Rattle.tls_hs.specs.Session.{view_client_key_exchange}
-use Rattle.tls_hs.specs.Handshake.{Handshake, HelloRequest, ClientHello, ServerHello, ServerHelloV13Draft18, ClientKeyExchange, Finished}
+use Rattle.tls_hs.specs.Handshake.{Handshake, HelloRequest, ClientHello, ServerHello, ServerHelloV13Draft18}
+use Rattle.tls_hs.specs.Handshake.{ClientKeyExchange, Finished}
 use Rattle.tls_hs.specs.declared.writer.Writable.{Writable}
 use Rattle.tls_hs.specs.declared.writer.Writable.TheVariants as writable
 

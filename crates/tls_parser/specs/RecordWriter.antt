@@ -9,7 +9,8 @@ use Rattle.tls_hs.specs.Handshake as handshakes
 use Rattle.tls_hs.specs.HandshakeText.{IsReadableHandshake, normal_handshake}
 use Rattle.tls_hs.specs.Message.{Message, Handshake, handshake}
 use Rattle.tls_parser.specs.Record.{Plaintext, plaintext}
-use Rattle.tls_parser.specs.RecordText.{message_text, FitsMessage, refusal_of_message, RefusesMessage, fragment_text, plaintext_text, FitsPlaintext, RefusesPlaintext, IsReadable, normal_plaintext}
+use Rattle.tls_parser.specs.RecordText.{message_text, FitsMessage, refusal_of_message, RefusesMessage, fragment_text}
+use Rattle.tls_parser.specs.RecordText.{plaintext_text, FitsPlaintext, RefusesPlaintext, IsReadable, normal_plaintext}
 
 -- The length of the text of a message.
 abbrev pub JudgesMessage : Message → Result ℕ GenError → Type 0

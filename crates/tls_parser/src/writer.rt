@@ -17,8 +17,10 @@ ghost use Rattle.tls_hs.specs.HandshakeText.{handshake_text, FitsHandshake, InRa
 ghost use Rattle.tls_hs.specs.HandshakeWriter.{BuildsHandshake};
 ghost use Rattle.tls_hs.specs.Message.{view_message, ChangeCipherSpec};
 ghost use Rattle.tls_parser.specs.Record.{view_plaintext};
-ghost use Rattle.tls_parser.specs.RecordText.{message_text, FitsMessage, refusal_of_message, plaintext_text, FitsPlaintext, RefusesPlaintext, InRangePlaintext};
-ghost use Rattle.tls_parser.specs.RecordWriter.{BuildsMessage, WritesMessage, BuildsPlaintext, WritesPlaintext, HandshakeReadsBack, PlaintextReadsBack};
+ghost use Rattle.tls_parser.specs.RecordText.{message_text, FitsMessage, refusal_of_message, plaintext_text};
+ghost use Rattle.tls_parser.specs.RecordText.{FitsPlaintext, RefusesPlaintext, InRangePlaintext};
+ghost use Rattle.tls_parser.specs.RecordWriter.{BuildsMessage, WritesMessage, BuildsPlaintext, WritesPlaintext};
+ghost use Rattle.tls_parser.specs.RecordWriter.{HandshakeReadsBack, PlaintextReadsBack};
 
 use crate::plaintext::TlsPlaintext;
 use crate::writer::builder::{append_message, append_messages};

@@ -6,9 +6,13 @@ ghost use Rattle.tls_hs.specs.Hello.{view_client_hello};
 ghost use Rattle.tls_hs.specs.ServerHello.{view_server_hello, view_server_hello_draft18};
 ghost use Rattle.tls_hs.specs.Session.{view_client_key_exchange};
 ghost use Rattle.tls_hs.specs.Handshake.{view_handshake};
-ghost use Rattle.tls_hs.specs.HandshakeText.{client_hello_text, FitsClientHello, InRangeClientHello, server_hello_text, FitsServerHello, InRangeServerHello};
-ghost use Rattle.tls_hs.specs.HandshakeText.{server_hello_draft18_text, FitsServerHelloDraft18, InRangeServerHelloDraft18, client_key_exchange_text, FitsClientKeyExchange};
-ghost use Rattle.tls_hs.specs.HandshakeText.{body_text, handshake_text, FitsBody, FitsHandshake, InRangeHandshake, msg_type_of};
+ghost use Rattle.tls_hs.specs.HandshakeText.{client_hello_text, FitsClientHello, InRangeClientHello, server_hello_text};
+ghost use Rattle.tls_hs.specs.HandshakeText.{FitsServerHello, InRangeServerHello};
+ghost use Rattle.tls_hs.specs.HandshakeText.{server_hello_draft18_text, FitsServerHelloDraft18};
+ghost use Rattle.tls_hs.specs.HandshakeText.{InRangeServerHelloDraft18, client_key_exchange_text};
+ghost use Rattle.tls_hs.specs.HandshakeText.{FitsClientKeyExchange};
+ghost use Rattle.tls_hs.specs.HandshakeText.{body_text, handshake_text, FitsBody, FitsHandshake, InRangeHandshake};
+ghost use Rattle.tls_hs.specs.HandshakeText.{msg_type_of};
 ghost use Rattle.tls_hs.specs.Writable.{view_writable};
 
 use crate::client_hello::TlsClientHelloContents;

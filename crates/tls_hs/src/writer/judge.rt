@@ -2,7 +2,8 @@
 ghost use Rattle.tls_hs.specs.Hello.{view_client_hello};
 ghost use Rattle.tls_hs.specs.ServerHello.{view_server_hello, view_server_hello_draft18};
 ghost use Rattle.tls_hs.specs.Session.{view_client_key_exchange};
-ghost use Rattle.tls_hs.specs.Handshake.{view_handshake, ClientHello, ServerHello, ServerHelloV13Draft18, ClientKeyExchange};
+ghost use Rattle.tls_hs.specs.Handshake.{view_handshake, ClientHello, ServerHello, ServerHelloV13Draft18};
+ghost use Rattle.tls_hs.specs.Handshake.{ClientKeyExchange};
 ghost use Rattle.tls_hs.specs.HandshakeWriter.{JudgesBody, JudgesCountedBody, JudgesHandshake};
 ghost use Rattle.tls_hs.specs.Writable.{view_writable};
 

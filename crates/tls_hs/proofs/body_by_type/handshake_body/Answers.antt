@@ -10,7 +10,8 @@ use Rattle.tls_hs.proofs.body_by_type.handshake_body.Goals as goal
 pub returns-in_default : goal.returns-in_default
 returns-in_default c =
     let none : handshake_body c.args.msg_type.0 c.args.len ≡ refuse {A = Handshake} Switch =
-    others_refuse c.args.msg_type.0 c.args.len (search rules) (search rules) (search rules) (search rules) (search rules)
+    others_refuse c.args.msg_type.0 c.args.len (search rules) (search rules) (search rules) (search rules)
+    (search rules)
     (search rules) (search rules) (search rules) (search rules) (search rules) (search rules) (search rules)
     (search rules) (search rules) (search rules) (search rules) in
     subst (λ l. GivesOrMemory view_handshake l c.args.i.now c.refused.result) (sym none) (search (rules, read_allowed))

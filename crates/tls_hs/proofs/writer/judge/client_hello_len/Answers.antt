@@ -9,6 +9,7 @@ returns c =
     let ext = c.held-ext.ensures.len in
     let suites = c.len-suites.ensures in
     let methods = c.len-methods.ensures in (
-      client_hello_fits h (search rules) (search (rules, id)) (search (rules, suites)) (search (rules, methods)) (search (rules, ext)),
+      client_hello_fits h (search rules) (search (rules, id)) (search (rules, suites)) (search (rules, methods))
+          (search (rules, ext)),
       omega (arith, client_hello_length h, id, ext, suites, methods),
     )

@@ -7,4 +7,5 @@ use Rattle.tls_parser.proofs.writer.TlsMessageHandshakeSerialize.serialize.Goals
 pub returns-clause-read_back : goal.returns-clause-read_back
 returns-clause-read_back c =
     let m = view_handshake c.args.self.now in
-    built_read (λ v. v.items) c.handshake_bytes.result m m (λ e. e ≡ refusal_of_handshake m) c.handshake_bytes.ensures.builds c.handshake_bytes.ensures.range refl
+    built_read (λ v. v.items) c.handshake_bytes.result m m (λ e. e ≡ refusal_of_handshake m)
+    c.handshake_bytes.ensures.builds c.handshake_bytes.ensures.range refl

@@ -8,6 +8,7 @@ abbrev pub invariant-loop-message : goal.invariant-loop-message
 invariant-loop-message l = record {
   items : l.out.items ≡ l.fn.out.items ++ fragment_text (map view_message (take l.message-index l.messages));
   range : All InRangeMessage (map view_message (take l.message-index l.messages));
-  count : vec_len l.out ≡ vec_len l.fn.out + length (fragment_text (map view_message (take l.message-index l.messages)));
+  count : vec_len l.out ≡ vec_len l.fn.out + length
+      (fragment_text (map view_message (take l.message-index l.messages)));
   room : vec_capacity l.fn.out ≤ vec_capacity l.out;
 }
