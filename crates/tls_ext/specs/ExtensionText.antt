@@ -82,11 +82,11 @@ JudgesExtensions es = Judges (FitsExtensions es) (RefusedExtensions es) (extensi
 -- What a call that writes an extension answers, and one that writes a list, to a writer that holds `contents`.
 abbrev pub WritesExtension : {W : Type 0} → Extension → (W → Option Bytes) → W → W → Result Unit GenError → Type 0
 WritesExtension e contents old new =
-    Writes (FitsExtension e) (RefusedExtension e) (extension_text e) (contents old) (contents new)
+    Writes (FitsExtension e) (RefusedExtension e) (extension_text e) contents old new
 
 abbrev pub WritesExtensions : {W : Type 0} → List Extension → (W → Option Bytes) → W → W → Result Unit GenError → Type 0
 WritesExtensions es contents old new =
-    Writes (FitsExtensions es) (RefusedExtensions es) (extensions_text es) (contents old) (contents new)
+    Writes (FitsExtensions es) (RefusedExtensions es) (extensions_text es) contents old new
 
 -- The numbers of an extension of a kind that is written are of their fields' sizes, as those of each value in memory are.
 abbrev pub InRangeExtension : Extension → Type 0
