@@ -10,7 +10,8 @@ use Rattle.tls_fields.specs.Answers.{Gives}
 use Rattle.tls_fields.proofs.OneAnswerLemmas.{ltb_no}
 
 -- the first n bytes, and the others as the rest
-pub front_read : {X : Type 0} (view : X → Bytes) (n : ℕ) (b : Bytes) (x : X) (r : Bor Bytes) → n ≤ length b → view x ≡ take n b → r.now ≡ drop n b → Gives view (block n) b (Ok (r, x))
+pub front_read : {X : Type 0} (view : X → Bytes) (n : ℕ) (b : Bytes) (x : X) (r : Bor Bytes) → n ≤ length b
+    → view x ≡ take n b → r.now ≡ drop n b → Gives view (block n) b (Ok (r, x))
 unfolding Allows split_at
 front_read view n b x r enough front back = record {
   answers = tt;

@@ -9,12 +9,15 @@ use Rattle.tls_base.specs.Signature.{view_signed, signature, beside_signature}
 use Rattle.tls_base.specs.declared.signature.DigitallySigned as signed_of
 
 -- the answer with the content put in
-abbrev pub with_content : {T : Type 0} → T → Returned signed_of.DigitallySigned → Returned (T × signed_of.DigitallySigned)
+abbrev pub with_content : {T : Type 0} → T → Returned signed_of.DigitallySigned
+    → Returned (T × signed_of.DigitallySigned)
 with_content content (Ok x) = Ok (x.0, (content, x.1))
 with_content content (Err e) = Err e
 
 -- the signature's answer gives that of both
-pub put_beside : {T : Type 0} (content : T) (ext : Bool) (b : Bytes) (r : Returned signed_of.DigitallySigned) → Gives view_signed (signature ext) b r → Gives (λ v. (v.0, view_signed v.1)) (beside_signature content ext) b (with_content content r)
+pub put_beside : {T : Type 0} (content : T) (ext : Bool) (b : Bytes) (r : Returned signed_of.DigitallySigned)
+    → Gives view_signed (signature ext) b r
+    → Gives (λ v. (v.0, view_signed v.1)) (beside_signature content ext) b (with_content content r)
 unfolding Allows beside_signature
 put_beside content ext b (Ok x) h = record {
   answers = h.answers;

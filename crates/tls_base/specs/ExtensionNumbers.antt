@@ -1,6 +1,6 @@
--- The types of extensions (the ExtensionType of RFC 8446, section 4.2, with those of earlier versions and of drafts): the
--- numbers of those whose content is read, by the names that the RFCs give them, and what each number is shown as. The code
--- has the numbers a second time, as constants, and prints by them what stands here.
+-- The types of extensions (the ExtensionType of RFC 8446, section 4.2, with those of earlier versions and of drafts):
+-- the numbers of those whose content is read, by the names that the RFCs give them, and what each number is shown as.
+-- The code has the numbers a second time, as constants, and prints by them what stands here.
 use Rattle.std.specs.Prelude.{ℕ, List, [], ◌∷◌, codes}
 use Rattle.tls_base.specs.Names.{Text}
 
@@ -85,8 +85,8 @@ renegotiation_info = 0xff01
 abbrev pub encrypted_server_name : ℕ
 encrypted_server_name = 0xffce
 
--- Each number and what it is shown as. Grease is one of the sixteen values of RFC 8701, section 2; the others have no name
--- here.
+-- Each number and what it is shown as. Grease is one of the sixteen values of RFC 8701, section 2; the others have no
+-- name here.
 abbrev pub extension_types : List (ℕ × Text)
 extension_types =
     (server_name, codes "ServerName")

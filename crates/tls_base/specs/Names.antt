@@ -1,5 +1,6 @@
 -- The names that numbers have, and how a number is shown.
-use Rattle.std.specs.Prelude.{ℕ, List, ◌++◌, Option, Some, None, ◌==◌, find, codes, false}
+use Rattle.std.specs.Prelude.{ℕ, List, ◌++◌, map, Option, Some, None, ◌==◌, find, codes, false}
+use Rattle.std.specs.Borrow.{Bor}
 use Rattle.std.specs.Option.{option_map}
 use Rattle.std.specs.Fmt.{decimal, digits}
 
@@ -10,6 +11,10 @@ Text = List ℕ
 -- What a table has beside a number, in its first entry with that number.
 abbrev pub look_up : {A : Type 0} → List (ℕ × A) → ℕ → Option A
 look_up table n = option_map (λ x. x.1) (find (λ x. x.0 == n) table)
+
+-- A table whose names lie in memory, as the names themselves.
+abbrev pub names_of : List (ℕ × Bor Text) → List (ℕ × Text)
+names_of table = map (λ x. (x.0, x.1.now)) table
 
 -- A number in lower-case hexadecimal, without leading zeros.
 abbrev pub hexadecimal : ℕ → Text

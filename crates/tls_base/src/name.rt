@@ -1,10 +1,10 @@
 //! Tables of numbers and names, and how a number is shown.
-ghost use Rattle.std.specs.Prelude.{◌≡◌, map, Some};
+ghost use Rattle.std.specs.Prelude.{◌≡◌, Some};
 ghost use Rattle.std.specs.List.{zip};
 ghost use Rattle.std.specs.List.Sorted.{IsStrictlyIncreasing};
 ghost use Rattle.std.specs.Option.{option_map};
 ghost use Rattle.std.specs.Fmt.{DisplaysOnOk};
-ghost use Rattle.tls_base.specs.Names.{look_up, name, shown};
+ghost use Rattle.tls_base.specs.Names.{look_up, name, names_of, shown};
 
 use std::fmt;
 use tls_fields::place;
@@ -66,7 +66,7 @@ pub(crate) fn write_name<W: fmt::Write>(
     table: &[(u16, &'static str)],
     n: u16,
 ) -> fmt::Result
-    ensures { DisplaysOnOk W.Write.write_str_gives f.old result (Some (name type_name.now (map (λ x. (x.0, x.1.now)) table.now) n)) f.new }
+    ensures { DisplaysOnOk W.Write.write_str_gives f.old result (Some (name type_name.now (names_of table.now) n)) f.new }
 {
     write_shown(f, type_name, n, find_number(table, n))
 }
@@ -91,7 +91,7 @@ pub(crate) fn write_rising<W: fmt::Write>(
     n: u16,
 ) -> fmt::Result
     requires { IsStrictlyIncreasing numbers.now }
-    ensures { DisplaysOnOk W.Write.write_str_gives f.old result (Some (name type_name.now (map (λ x. (x.0, x.1.now)) (zip numbers.now names.now)) n)) f.new }
+    ensures { DisplaysOnOk W.Write.write_str_gives f.old result (Some (name type_name.now (names_of (zip numbers.now names.now)) n)) f.new }
 {
     write_shown(f, type_name, n, find_rising(numbers, names, n))
 }

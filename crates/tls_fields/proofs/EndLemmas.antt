@@ -14,7 +14,8 @@ LeavesEnds {A} S = (b : Bytes) (v : A) (r d : Bytes) → S b v r d → EndsWith 
 
 ends_items : {A : Type 0} (S : Spelling A) → LeavesEnds S → LeavesEnds (SpellsItems S)
 ends_items S item b [] r d s = ([], s.0)
-ends_items S item b (v ∷ vs) r d (m, d1, d2, first, more, e) = ends_after b m r (item b v m d1 first.0) (ends_items S item m vs r d2 more)
+ends_items S item b (v ∷ vs) r d (m, d1, d2, first, more, e) =
+    ends_after b m r (item b v m d1 first.0) (ends_items S item m vs r d2 more)
 
 ends_option : {A : Type 0} (S : Spelling A) → LeavesEnds S → LeavesEnds (SpellsOption S)
 ends_option S item b None r d s = ([], s.0)
@@ -37,5 +38,7 @@ ends (complete l) b v r d s = ends l b v r d s
 ends (look l) b v r d s = ([], s.0)
 ends (chain l f) b v r d (a, m, d1, d2, s, t, e) = ends_after b m r (ends l b a m d1 s) (ends (f a) m v r d2 t)
 
-pub AreBytes-rest : {A : Type 0} (l : Layout A) (b : Bytes) (v : A) (r d : Bytes) → Spells l b v r d → AreBytes b → AreBytes r
-AreBytes-rest l b v r d s are = let end : EndsWith b r = ends l b v r d s in AreBytes-back end.0 r (subst AreBytes end.1 are)
+pub AreBytes-rest : {A : Type 0} (l : Layout A) (b : Bytes) (v : A) (r d : Bytes) → Spells l b v r d → AreBytes b
+    → AreBytes r
+AreBytes-rest l b v r d s are =
+    let end : EndsWith b r = ends l b v r d s in AreBytes-back end.0 r (subst AreBytes end.1 are)

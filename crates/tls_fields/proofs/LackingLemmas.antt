@@ -19,7 +19,8 @@ some_length (x ∷ xs) h = omega arith
 
 tag_lacks : (t b : Bytes) (n : ℕ) → Refuses (tag t) b (Lacks n) → 0 < n
 tag_lacks t b n (inl h) = not_broken n _ h.8
-tag_lacks t b n (inr (missing, some, e, is)) = let same : n ≡ length missing = cc in omega (arith, some_length missing some)
+tag_lacks t b n (inr (missing, some, e, is)) =
+    let same : n ≡ length missing = cc in omega (arith, some_length missing some)
 
 pub lacks_some : {A : Type 0} (l : Layout A) (b : Bytes) (n : ℕ) → Refuses l b (Lacks n) → 0 < n
 lacks_some (done a) b n h = absurd h
@@ -54,13 +55,17 @@ never-complete l b n (inr h) = let e : Lacks n ≡ Broken Complete = h.2 in cc
 pub never-list : {A : Type 0} (l : Layout A) → NeverLacks (list l)
 never-list l b n h = h
 
-pub never-chain : {A B : Type 0} (l : Layout A) (f : A → Layout B) → NeverLacks l → ((a : A) → NeverLacks (f a)) → NeverLacks (chain l f)
+pub never-chain : {A B : Type 0} (l : Layout A) (f : A → Layout B) → NeverLacks l → ((a : A) → NeverLacks (f a))
+    → NeverLacks (chain l f)
 never-chain l f first then b n (inl h) = first b n h
 never-chain l f first then b n (inr h) = then h.0 h.1 n h.4
 
 pub never-rest : NeverLacks rest
 never-rest b n (inl h) = h
-never-rest b n (inr (a, m, d, s, h)) = let same : a ≡ length b = s.0 in let all : length b ≡ length m = ap length s.1 in omega (arith, h.0)
+never-rest b n (inr (a, m, d, s, h)) =
+    let same : a ≡ length b = s.0 in let all : length b ≡ length m = ap length s.1 in omega (arith, h.0)
 
 pub never-list1 : {A : Type 0} (l : Layout A) → NeverLacks (list1 l)
-never-list1 l = never-chain (complete l) (λ x. behind (x ∷ []) (list l)) (never-complete l) (λ x. never-chain (list l) (λ ys. done ((x ∷ []) ++ ys)) (never-list l) (λ ys. never-done ((x ∷ []) ++ ys)))
+never-list1 l =
+    never-chain (complete l) (λ x. behind (x ∷ []) (list l)) (never-complete l)
+    (λ x. never-chain (list l) (λ ys. done ((x ∷ []) ++ ys)) (never-list l) (λ ys. never-done ((x ∷ []) ++ ys)))

@@ -17,7 +17,8 @@ leaves_fewer : {A : Type 0} (m n : ℕ) (a : Answer A) → m ≤ n → Leaves m 
 leaves_fewer m n (Ok x) h l = omega arith
 leaves_fewer m n (Err e) h l = tt
 
-leaves_then : {A B : Type 0} (n : ℕ) (a : Answer A) (f : A × Bytes → Answer B) → Leaves n a → ((x : A × Bytes) → Leaves (length x.1) (f x)) → Leaves n (a and_then f)
+leaves_then : {A B : Type 0} (n : ℕ) (a : Answer A) (f : A × Bytes → Answer B) → Leaves n a
+    → ((x : A × Bytes) → Leaves (length x.1) (f x)) → Leaves n (a and_then f)
 leaves_then n (Ok x) f h g = leaves_fewer (length x.1) n (f x) h (g x)
 leaves_then n (Err e) f h g = tt
 
@@ -40,7 +41,8 @@ tag_leaves (x ∷ t) (y ∷ b) = go (eqb x y) (tag_leaves t b)
     go true h = leaves_fewer (length b) (length (y ∷ b)) (tag_at t b) (omega arith) h
     go false h = tt
 
-with_leaves : {A : Type 0} (a : Answer A) (more : Bytes → List A × Bytes) (b : Bytes) → Leaves (length b) a → ((c : Bytes) → length (more c).1 ≤ length c) → length (with_items a more b).1 ≤ length b
+with_leaves : {A : Type 0} (a : Answer A) (more : Bytes → List A × Bytes) (b : Bytes) → Leaves (length b) a
+    → ((c : Bytes) → length (more c).1 ≤ length c) → length (with_items a more b).1 ≤ length b
 with_leaves (Err e) more b l h = le_refl _
 with_leaves {A} (Ok x) more b l h = test (ltb (length x.1) (length b))
   where
@@ -48,7 +50,8 @@ with_leaves {A} (Ok x) more b l h = test (ltb (length x.1) (length b))
     test true = omega (arith, h x.1)
     test false = le_refl _
 
-items_leave : {A : Type 0} (f : Bytes → Answer A) (n : ℕ) (b : Bytes) → ((c : Bytes) → Leaves (length c) (f c)) → length (items_at f n b).1 ≤ length b
+items_leave : {A : Type 0} (f : Bytes → Answer A) (n : ℕ) (b : Bytes) → ((c : Bytes) → Leaves (length c) (f c))
+    → length (items_at f n b).1 ≤ length b
 unfolding items_at
 items_leave f zero b h = le_refl _
 items_leave f (suc n) b h = with_leaves (f b) (items_at f n) b (h b) (λ c. items_leave f n c h)
@@ -72,12 +75,18 @@ pub leaves : {A : Type 0} (l : Layout A) (b : Bytes) → Leaves (length b) (read
 unfolding number_at ignored_at
 leaves (done a) b = le_refl _
 leaves (refuse k) b = tt
-leaves (number k) b = leaves_then _ (split_at k b) (λ x. Ok (number_of x.0, x.1)) (leaves_fewer _ _ (split_at k b) (omega arith) (split_leaves k b)) (λ x. le_refl _)
-leaves (ignored k) b = leaves_then _ (split_at k b) (λ x. Ok (tt, x.1)) (leaves_fewer _ _ (split_at k b) (omega arith) (split_leaves k b)) (λ x. le_refl _)
+leaves (number k) b =
+    leaves_then _ (split_at k b) (λ x. Ok (number_of x.0, x.1))
+    (leaves_fewer _ _ (split_at k b) (omega arith) (split_leaves k b)) (λ x. le_refl _)
+leaves (ignored k) b =
+    leaves_then _ (split_at k b) (λ x. Ok (tt, x.1)) (leaves_fewer _ _ (split_at k b) (omega arith) (split_leaves k b))
+    (λ x. le_refl _)
 leaves (block n) b = leaves_fewer _ _ (split_at n b) (omega arith) (split_leaves n b)
 leaves left b = le_refl _
 leaves (tag t) b = tag_leaves t b
-leaves (window n l) b = leaves_then _ (split_at n b) (λ w. reading l w.0 and_then λ x. Ok (x.0, w.1)) (leaves_fewer _ _ (split_at n b) (omega arith) (split_leaves n b)) (λ w. keeps w (reading l w.0))
+leaves (window n l) b =
+    leaves_then _ (split_at n b) (λ w. reading l w.0 and_then λ x. Ok (x.0, w.1))
+    (leaves_fewer _ _ (split_at n b) (omega arith) (split_leaves n b)) (λ w. keeps w (reading l w.0))
   where
     keeps : {A : Type 0} (w : Bytes × Bytes) (a : Answer A) → Leaves (length w.1) (a and_then λ x. Ok (x.0, w.1))
     keeps w (Ok x) = le_refl _
@@ -108,7 +117,8 @@ fewer_still : {A : Type 0} (m n : ℕ) (a : Answer A) → m < n → Leaves m a �
 fewer_still m n (Ok x) h l = omega arith
 fewer_still m n (Err e) h l = tt
 
-fewer_then : {A B : Type 0} (n : ℕ) (a : Answer A) (f : A × Bytes → Answer B) → LeavesFewer n a → ((x : A × Bytes) → Leaves (length x.1) (f x)) → LeavesFewer n (a and_then f)
+fewer_then : {A B : Type 0} (n : ℕ) (a : Answer A) (f : A × Bytes → Answer B) → LeavesFewer n a
+    → ((x : A × Bytes) → Leaves (length x.1) (f x)) → LeavesFewer n (a and_then f)
 fewer_then n (Ok x) f h g = fewer_still (length x.1) n (f x) h (g x)
 fewer_then n (Err e) f h g = tt
 
@@ -116,15 +126,18 @@ split_fewer : (k : ℕ) (b : Bytes) → LeavesFewer (length b) (split_at (suc k)
 unfolding split_at
 split_fewer k b = go (ltb (length b) (suc k)) refl
   where
-    go : (t : Bool) → ltb (length b) (suc k) ≡ t → LeavesFewer (length b) (cond t (Err (Lacks (suc k - length b))) (Ok (take (suc k) b, drop (suc k) b)))
+    go : (t : Bool) → ltb (length b) (suc k) ≡ t
+        → LeavesFewer (length b) (cond t (Err (Lacks (suc k - length b))) (Ok (take (suc k) b, drop (suc k) b)))
     go true e = tt
     go false e = omega (arith, length-drop (suc k) b, ltb-false (length b) (suc k) e)
 
 -- so it takes a byte
 pub takes_byte : {A : Type 0} (l : Layout A) (b : Bytes) → BeginsWithNumber l → LeavesFewer (length b) (reading l b)
 unfolding number_at
-takes_byte (number (suc k)) b h = fewer_then _ (split_at (suc k) b) (λ x. Ok (number_of x.0, x.1)) (split_fewer k b) (λ x. le_refl _)
-takes_byte (chain l f) b h = fewer_then _ (reading l b) (λ x. reading (f x.0) x.1) (takes_byte l b h) (λ x. leaves (f x.0) x.1)
+takes_byte (number (suc k)) b h =
+    fewer_then _ (split_at (suc k) b) (λ x. Ok (number_of x.0, x.1)) (split_fewer k b) (λ x. le_refl _)
+takes_byte (chain l f) b h =
+    fewer_then _ (reading l b) (λ x. reading (f x.0) x.1) (takes_byte l b h) (λ x. leaves (f x.0) x.1)
 takes_byte (number zero) b h = absurd h
 takes_byte (done a) b h = absurd h
 takes_byte (refuse e) b h = absurd h

@@ -1,5 +1,6 @@
--- The bytes that values are written as: fields in order, joined, each count in front of what it counts. This is a second
--- statement of the order of fields, independent of the layouts; what is read back and written back holds the two together.
+-- The bytes that values are written as: fields in order, joined, each count in front of what it counts. This is a
+-- second statement of the order of fields, independent of the layouts; what is read back and written back holds the two
+-- together.
 use Rattle.std.specs.Prelude.{ℕ, List, [], ◌++◌, length, Option, Some, None}
 use Rattle.std.specs.List.{flat_map}
 use Rattle.tls_fields.specs.Bytes.{Bytes, bytes_of}

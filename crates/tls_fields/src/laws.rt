@@ -1,7 +1,7 @@
 //! What stands of the layout of any structure. Each function's contract is one law; its body is empty.
 //!
-//! The first two are why a new structure costs no proof of its own: on any bytes its layout allows exactly one answer, and
-//! that is the one that reading gives.
+//! The first two are why a new structure costs no proof of its own: on any bytes its layout allows exactly one answer,
+//! and that is the one that reading gives.
 
 ghost use Rattle.std.specs.Prelude.{◌≡◌, ◌<◌, ◌↔◌, ℕ};
 ghost use Rattle.tls_fields.specs.Bytes.{Bytes, AreBytes};

@@ -1,9 +1,9 @@
 //! Fields of TLS structures: the results of parse calls, and readers of single fields and of lists.
 //!
 //! Each reader's contract names a layout (`specs/Layout.antt`), and says that the call answers what that layout allows
-//! on the bytes: the value and the exact rest, the kind of the broken rule, or the exact count of missing bytes. Numbers
-//! are big-endian (RFC 8446, section 3.3). Here stands also what every writer shares (`writer`): why a value isn't
-//! written, what adds numbers and bytes to a vector, and the loop over a writer.
+//! on the bytes: the value and the exact rest, the kind of the broken rule, or the exact count of missing bytes.
+//! Numbers are big-endian (RFC 8446, section 3.3). Here stands also what every writer shares (`writer`): why a value
+//! isn't written, what adds numbers and bytes to a vector, and the loop over a writer.
 #![tactic(auto, using(crate::proofs::OneAnswerLemmas::read_allowed))]
 
 mod bytes;
