@@ -21,6 +21,7 @@ tagged_opens : (l : Layout Extension) (t : Answer Unit) →
 tagged_opens l (Ok x) = window_opens l (number_at 2 x.1)
 tagged_opens l (Err e) = refl
 
-pub tagged_opened : (kind : ℕ) (l : Layout Extension) (b : Bytes) → reading (tagged kind l) b ≡ reading (tagged_bytes kind) b and_then in_window l
+pub tagged_opened : (kind : ℕ) (l : Layout Extension) (b : Bytes)
+    → reading (tagged kind l) b ≡ reading (tagged_bytes kind) b and_then in_window l
 unfolding tagged tagged_bytes
 tagged_opened kind l b = tagged_opens l (tag_at (bytes_of 2 kind) b)

@@ -4,7 +4,8 @@
 -- or a list may be empty.
 use Rattle.std.specs.Prelude.{Some, None, ◌==◌, [], ◌∷◌}
 use Rattle.tls_fields.specs.Bytes.{Bytes}
-use Rattle.tls_fields.specs.Layout.{Layout, done, number, ignored, left, list, maybe, ◌>>=◌, ◌>>◌, mapped, test, choose, rest, counted, counted_window, pairs}
+use Rattle.tls_fields.specs.Layout.{Layout, ◌>>=◌, ◌>>◌, done, mapped, test, choose, number, ignored, left, rest, maybe}
+use Rattle.tls_fields.specs.Layout.{counted, counted_window, list, pairs}
 use Rattle.tls_fields.specs.declared.result.ErrorKind.TheVariants.{Verify}
 use Rattle.tls_ext.specs.Extension as ext
 use Rattle.tls_ext.specs.Extension.{Extension, ServerName, StatusRequest, OidFilter}
@@ -67,7 +68,8 @@ heartbeat = mapped ext.heartbeat (number 1)
 
 -- ProtocolName protocol_name_list<2..2^16-1>, each an opaque<1..2^8-1> (RFC 7301, section 3.1).
 unfoldable pub application_layer_protocol_negotiation : Layout Extension
-application_layer_protocol_negotiation = mapped ext.application_layer_protocol_negotiation (counted_window 2 (list (counted 1)))
+application_layer_protocol_negotiation =
+    mapped ext.application_layer_protocol_negotiation (counted_window 2 (list (counted 1)))
 
 -- A SignedCertificateTimestampList, undivided, after its length (RFC 6962, section 3.3.1); none where a client asks.
 unfoldable pub signed_certificate_timestamp : Layout Extension

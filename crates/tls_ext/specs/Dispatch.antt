@@ -5,7 +5,8 @@ use Rattle.tls_base.specs.ExtensionNumbers as extension_number
 use Rattle.tls_fields.specs.Layout.{Layout, number, list, ◌>>=◌, choose, counted_window}
 use Rattle.tls_ext.specs.Extension as ext
 use Rattle.tls_ext.specs.Extension.{Extension}
-use Rattle.tls_ext.specs.Content.{opaque_content, server_names, max_fragment_length, status_request, supported_groups, ec_point_formats, signature_algorithms, heartbeat, application_layer_protocol_negotiation, signed_certificate_timestamp, padding, encrypt_then_mac, extended_master_secret, record_size_limit, session_ticket, key_share_old, pre_shared_key, early_data, supported_versions, cookie, psk_key_exchange_modes, oid_filters, post_handshake_auth, key_share, next_protocol_negotiation, renegotiation_info, encrypted_server_name}
+use Rattle.tls_ext.specs.Content as content
+use Rattle.tls_ext.specs.Content.{opaque_content}
 use Rattle.tls_ext.specs.declared.kind.Side.{Side}
 use Rattle.tls_ext.specs.declared.kind.Side.TheVariants.{General, Client, Server}
 
@@ -37,32 +38,32 @@ unknown_content side n = opaque_content (ext.unknown n)
 
 unfoldable pub registered : Contents
 registered =
-    row extension_number.server_name server_names all_sides (
-    row extension_number.max_fragment_length max_fragment_length all_sides (
-    row extension_number.status_request status_request all_sides (
-    row extension_number.supported_groups supported_groups not_server (
-    row extension_number.ec_point_formats ec_point_formats all_sides (
-    row extension_number.signature_algorithms signature_algorithms all_sides (
-    row extension_number.heartbeat heartbeat all_sides (
-    row extension_number.application_layer_protocol_negotiation application_layer_protocol_negotiation all_sides (
-    row extension_number.signed_certificate_timestamp signed_certificate_timestamp all_sides (
-    row extension_number.padding padding not_server (
-    row extension_number.encrypt_then_mac encrypt_then_mac all_sides (
-    row extension_number.extended_master_secret extended_master_secret all_sides (
-    row extension_number.record_size_limit record_size_limit all_sides (
-    row extension_number.session_ticket session_ticket all_sides (
-    row extension_number.key_share_old key_share_old general_only (
-    row extension_number.pre_shared_key pre_shared_key all_sides (
-    row extension_number.early_data early_data all_sides (
-    row extension_number.supported_versions supported_versions all_sides (
-    row extension_number.cookie cookie all_sides (
-    row extension_number.psk_key_exchange_modes psk_key_exchange_modes not_server (
-    row extension_number.oid_filters oid_filters not_server (
-    row extension_number.post_handshake_auth post_handshake_auth not_server (
-    row extension_number.key_share key_share all_sides (
-    row extension_number.next_protocol_negotiation next_protocol_negotiation all_sides (
-    row extension_number.renegotiation_info renegotiation_info all_sides (
-    row extension_number.encrypted_server_name encrypted_server_name not_server (
+    row extension_number.server_name content.server_names all_sides (
+    row extension_number.max_fragment_length content.max_fragment_length all_sides (
+    row extension_number.status_request content.status_request all_sides (
+    row extension_number.supported_groups content.supported_groups not_server (
+    row extension_number.ec_point_formats content.ec_point_formats all_sides (
+    row extension_number.signature_algorithms content.signature_algorithms all_sides (
+    row extension_number.heartbeat content.heartbeat all_sides (
+    row extension_number.application_layer_protocol_negotiation content.application_layer_protocol_negotiation all_sides (
+    row extension_number.signed_certificate_timestamp content.signed_certificate_timestamp all_sides (
+    row extension_number.padding content.padding not_server (
+    row extension_number.encrypt_then_mac content.encrypt_then_mac all_sides (
+    row extension_number.extended_master_secret content.extended_master_secret all_sides (
+    row extension_number.record_size_limit content.record_size_limit all_sides (
+    row extension_number.session_ticket content.session_ticket all_sides (
+    row extension_number.key_share_old content.key_share_old general_only (
+    row extension_number.pre_shared_key content.pre_shared_key all_sides (
+    row extension_number.early_data content.early_data all_sides (
+    row extension_number.supported_versions content.supported_versions all_sides (
+    row extension_number.cookie content.cookie all_sides (
+    row extension_number.psk_key_exchange_modes content.psk_key_exchange_modes not_server (
+    row extension_number.oid_filters content.oid_filters not_server (
+    row extension_number.post_handshake_auth content.post_handshake_auth not_server (
+    row extension_number.key_share content.key_share all_sides (
+    row extension_number.next_protocol_negotiation content.next_protocol_negotiation all_sides (
+    row extension_number.renegotiation_info content.renegotiation_info all_sides (
+    row extension_number.encrypted_server_name content.encrypted_server_name not_server (
     unknown_content))))))))))))))))))))))))))
 
 -- A number that is kept free so that peers ignore what they don't know: each of its bytes ends in the hexadecimal digit
@@ -85,7 +86,11 @@ extension side = do
 abbrev pub extensions : Side → Layout (List Extension)
 extensions side = list (extension side)
 
--- Those of any message, of a ClientHello and of a ServerHello: outside this crate the sides have no names.
+-- One of any message, and those of any message, of a ClientHello and of a ServerHello: outside this crate the sides have no
+-- names.
+abbrev pub general_extension : Layout Extension
+general_extension = extension General
+
 abbrev pub general_extensions : Layout (List Extension)
 general_extensions = extensions General
 

@@ -32,7 +32,10 @@ pub record OidFilter : Type 0 where
   pub certificate_extension_values : Bytes
 
 abbrev pub view_oid_filter : RustOidFilter → OidFilter
-view_oid_filter f = record { certificate_extension_oid = f.cert_ext_oid.now; certificate_extension_values = f.cert_ext_val.now }
+view_oid_filter f = record {
+  certificate_extension_oid = f.cert_ext_oid.now;
+  certificate_extension_values = f.cert_ext_val.now;
+}
 
 -- EncryptedSNI, a draft that came before encrypted hellos (draft-ietf-tls-esni-02, section 5).
 pub record EncryptedServerName : Type 0 where

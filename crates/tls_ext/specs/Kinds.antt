@@ -21,12 +21,12 @@ sides_of sides Client = sides.client
 sides_of sides Server = sides.server
 
 abbrev pub list_content : ListKind → Layout Extension
-list_content list.ServerName = content.server_names
-list_content list.SupportedGroups = content.supported_groups
+list_content list.SNI = content.server_names
+list_content list.EllipticCurves = content.supported_groups
 list_content list.SignatureAlgorithms = content.signature_algorithms
-list_content list.ApplicationLayerProtocolNegotiation = content.application_layer_protocol_negotiation
+list_content list.ALPN = content.application_layer_protocol_negotiation
 list_content list.SupportedVersions = content.supported_versions
-list_content list.PskKeyExchangeModes = content.psk_key_exchange_modes
+list_content list.PskExchangeModes = content.psk_key_exchange_modes
 list_content list.OidFilters = content.oid_filters
 
 -- What an extension of that kind holds.

@@ -1,47 +1,51 @@
 //! Extensions of any kind (RFC 8446, section 4.2), each read as the content that its type has.
-ghost use Rattle.std.specs.Prelude.{◌≤◌, length, map};
+ghost use Rattle.std.specs.Prelude.{◌≡◌, ◌≤◌, length, map};
 ghost use Rattle.tls_fields.specs.Answers.{GivesOrMemory};
 ghost use Rattle.tls_ext.specs.Extension.{Extension, view};
-ghost use Rattle.tls_ext.specs.Dispatch.{extension as extension_layout, extension_content as extension_content_layout, extensions};
+ghost use Rattle.tls_ext.specs.Dispatch.{extension as extension_layout, extension_content as content_layout};
+ghost use Rattle.tls_ext.specs.Dispatch.{extensions};
 ghost use Rattle.tls_ext.specs.Kinds.{kind_content as kind_layout, list_content as list_layout};
+ghost use Rattle.tls_ext.specs.declared.kind.Side.{Side};
 ghost use Rattle.tls_ext.specs.declared.kind.Side.TheVariants.{General as general, Client as client, Server as server};
 
-use crate::content::{
-    cookie_content, early_data_content, encrypt_then_mac_content, extended_master_secret_content,
-    key_share_content, key_share_old_content, next_protocol_negotiation_content,
-    oid_filters_content, padding_content, parse_tls_extension_alpn_content,
-    parse_tls_extension_ec_point_formats_content, parse_tls_extension_elliptic_curves_content,
-    parse_tls_extension_encrypted_server_name, parse_tls_extension_heartbeat_content,
-    parse_tls_extension_max_fragment_length_content,
-    parse_tls_extension_psk_key_exchange_modes_content,
-    parse_tls_extension_renegotiation_info_content,
-    parse_tls_extension_signature_algorithms_content,
-    parse_tls_extension_signed_certificate_timestamp_content, parse_tls_extension_sni_content,
-    post_handshake_auth_content, pre_shared_key_content, record_size_limit_content,
-    session_ticket_content, status_request_content, supported_versions_content,
-};
+use crate::content;
 use crate::extension::TlsExtension;
-use crate::kind::{Kind, ListKind, Side, kind_of};
+use crate::kind::{Kind, ListKind, Side, kind_of, rows};
 use std::alloc::Global;
+use std::marker::PhantomData;
 use tls_base::TlsExtensionType;
 use tls_fields::{IResult, Item, Room, counted2, hops2, items, rest};
+
+/// For each row of the table whose content is a list the arm that reads it.
+macro_rules! read_list {
+    ([$kind:ident $alloc:ident $i:ident] $($number:ident =>
+        $(list($list:ident, $read:ident))? $(value $v:tt)? $(empty $e:tt)? $(fields $f:tt)?, $sides:ident;)*) => {
+        match $kind {
+            $($(ListKind::$list => content::$read($alloc, $i),)?)*
+        }
+    };
+}
+
+/// For each other row the arm that reads it.
+macro_rules! read_other {
+    ([$kind:ident $alloc:ident $i:ident] $($number:ident =>
+        $(list $l:tt)? $(value($value:ident, $read_value:ident))? $(empty($empty:ident, $read_empty:ident))?
+        $(fields($fields:ident, $read_fields:ident))?, $sides:ident;)*) => {
+        match $kind {
+            Kind::List(list) => list_content($alloc, $i, list),
+            $($(Kind::$value => content::$read_value($i),)?)*
+            $($(Kind::$empty => content::$read_empty($i),)?)*
+            $($(Kind::$fields => content::$read_fields($i),)?)*
+        }
+    };
+}
 
 /// The content of a kind that is a list.
 #[inline(always)]
 fn list_content(alloc: Global, i: &[u8], kind: ListKind) -> IResult<&[u8], TlsExtension>
     ensures { GivesOrMemory view (list_layout kind) i.now result }
 {
-    match kind {
-        ListKind::ServerName => parse_tls_extension_sni_content(alloc, i),
-        ListKind::SupportedGroups => parse_tls_extension_elliptic_curves_content(alloc, i),
-        ListKind::SignatureAlgorithms => parse_tls_extension_signature_algorithms_content(alloc, i),
-        ListKind::ApplicationLayerProtocolNegotiation => parse_tls_extension_alpn_content(alloc, i),
-        ListKind::SupportedVersions => supported_versions_content(alloc, i),
-        ListKind::PskKeyExchangeModes => {
-            parse_tls_extension_psk_key_exchange_modes_content(alloc, i)
-        }
-        ListKind::OidFilters => oid_filters_content(alloc, i),
-    }
+    rows!(read_list kind alloc i)
 }
 
 /// The content of an extension of that kind.
@@ -49,30 +53,7 @@ fn list_content(alloc: Global, i: &[u8], kind: ListKind) -> IResult<&[u8], TlsEx
 fn kind_content(alloc: Global, i: &[u8], kind: Kind) -> IResult<&[u8], TlsExtension>
     ensures { GivesOrMemory view (kind_layout kind) i.now result }
 {
-    match kind {
-        Kind::List(kind) => list_content(alloc, i, kind),
-        Kind::MaxFragmentLength => parse_tls_extension_max_fragment_length_content(i),
-        Kind::StatusRequest => status_request_content(i),
-        Kind::EcPointFormats => parse_tls_extension_ec_point_formats_content(i),
-        Kind::Heartbeat => parse_tls_extension_heartbeat_content(i),
-        Kind::SignedCertificateTimestamp => {
-            parse_tls_extension_signed_certificate_timestamp_content(i)
-        }
-        Kind::Padding => padding_content(i),
-        Kind::EncryptThenMac => encrypt_then_mac_content(i),
-        Kind::ExtendedMasterSecret => extended_master_secret_content(i),
-        Kind::RecordSizeLimit => record_size_limit_content(i),
-        Kind::SessionTicket => session_ticket_content(i),
-        Kind::KeyShareOld => key_share_old_content(i),
-        Kind::PreSharedKey => pre_shared_key_content(i),
-        Kind::EarlyData => early_data_content(i),
-        Kind::Cookie => cookie_content(i),
-        Kind::PostHandshakeAuth => post_handshake_auth_content(i),
-        Kind::KeyShare => key_share_content(i),
-        Kind::NextProtocolNegotiation => next_protocol_negotiation_content(i),
-        Kind::RenegotiationInfo => parse_tls_extension_renegotiation_info_content(i),
-        Kind::EncryptedServerName => parse_tls_extension_encrypted_server_name(i),
-    }
+    rows!(read_other kind alloc i)
 }
 
 /// The content of an extension of the type `kind`, as `side` reads it.
@@ -86,7 +67,7 @@ fn extension_content(
     kind: TlsExtensionType,
     side: Side,
 ) -> IResult<&[u8], TlsExtension>
-    ensures { GivesOrMemory view (extension_content_layout side kind.0) i.now result }
+    ensures { GivesOrMemory view (content_layout side kind.0) i.now result }
 {
     if kind.0 & 0x0f0f == 0x0a0a {
         let (i, content) = rest(i)?;
@@ -154,74 +135,68 @@ pub fn parse_tls_server_hello_extension(alloc: Global, i: &[u8]) -> IResult<&[u8
     extension(alloc, i, Side::Server)
 }
 
-/// An extension of a list in any message.
-struct AnyExtension;
+/// A side as a type, which the items of a list name.
+trait Reader {
+    ghost side: { Side };
 
-impl<'a> Item<'a> for AnyExtension {
+    fn side() -> Side
+        ensures { result ≡ side };
+}
+
+/// The reader of any message.
+struct General;
+
+impl Reader for General {
+    ghost side = { general };
+
+    fn side() -> Side {
+        Side::General
+    }
+}
+
+/// The reader of a ClientHello.
+struct Client;
+
+impl Reader for Client {
+    ghost side = { client };
+
+    fn side() -> Side {
+        Side::Client
+    }
+}
+
+/// The reader of a ServerHello.
+struct Server;
+
+impl Reader for Server {
+    ghost side = { server };
+
+    fn side() -> Side {
+        Side::Server
+    }
+}
+
+/// An extension of a list, as that side reads it.
+struct ExtensionFor<R: Reader> {
+    reader: PhantomData<R>,
+}
+
+impl<'a, R: Reader> Item<'a> for ExtensionFor<R> {
     type Read = TlsExtension<'a>;
 
     ghost Value = { Extension };
 
     ghost view = { view };
 
-    ghost layout = { extension_layout general };
+    ghost layout = { extension_layout R.side };
 
+    #[inline(always)]
     fn read(alloc: Global, i: &'a [u8]) -> IResult<&'a [u8], TlsExtension<'a>> {
-        parse_tls_extension(alloc, i)
+        extension(alloc, i, R::side())
     }
 }
 
-impl Room for AnyExtension {
-    fn room(i: &[u8]) -> usize
-        ensures { result ≤ length i.now }
-    {
-        hops2(i, 2)
-    }
-}
-
-/// An extension of a ClientHello's list.
-struct ClientExtension;
-
-impl<'a> Item<'a> for ClientExtension {
-    type Read = TlsExtension<'a>;
-
-    ghost Value = { Extension };
-
-    ghost view = { view };
-
-    ghost layout = { extension_layout client };
-
-    fn read(alloc: Global, i: &'a [u8]) -> IResult<&'a [u8], TlsExtension<'a>> {
-        parse_tls_client_hello_extension(alloc, i)
-    }
-}
-
-impl Room for ClientExtension {
-    fn room(i: &[u8]) -> usize
-        ensures { result ≤ length i.now }
-    {
-        hops2(i, 2)
-    }
-}
-
-/// An extension of a ServerHello's list.
-struct ServerExtension;
-
-impl<'a> Item<'a> for ServerExtension {
-    type Read = TlsExtension<'a>;
-
-    ghost Value = { Extension };
-
-    ghost view = { view };
-
-    ghost layout = { extension_layout server };
-
-    fn read(alloc: Global, i: &'a [u8]) -> IResult<&'a [u8], TlsExtension<'a>> {
-        parse_tls_server_hello_extension(alloc, i)
-    }
-}
-
-impl Room for ServerExtension {
+impl<R: Reader> Room for ExtensionFor<R> {
     fn room(i: &[u8]) -> usize
         ensures { result ≤ length i.now }
     {
@@ -236,7 +211,7 @@ impl Room for ServerExtension {
 pub fn parse_tls_extensions(alloc: Global, i: &[u8]) -> IResult<&[u8], Vec<TlsExtension>>
     ensures { GivesOrMemory (λ v. map view v.items) (extensions general) i.now result }
 {
-    items::<AnyExtension>(alloc, i)
+    items::<ExtensionFor<General>>(alloc, i)
 }
 
 /// Reads the extensions of a ClientHello: as [`parse_tls_extensions`], but each as
@@ -247,7 +222,7 @@ pub fn parse_tls_client_hello_extensions(
 ) -> IResult<&[u8], Vec<TlsExtension>>
     ensures { GivesOrMemory (λ v. map view v.items) (extensions client) i.now result }
 {
-    items::<ClientExtension>(alloc, i)
+    items::<ExtensionFor<Client>>(alloc, i)
 }
 
 /// Reads the extensions of a ServerHello: as [`parse_tls_extensions`], but each as
@@ -258,5 +233,5 @@ pub fn parse_tls_server_hello_extensions(
 ) -> IResult<&[u8], Vec<TlsExtension>>
     ensures { GivesOrMemory (λ v. map view v.items) (extensions server) i.now result }
 {
-    items::<ServerExtension>(alloc, i)
+    items::<ExtensionFor<Server>>(alloc, i)
 }

@@ -1,7 +1,8 @@
 //! Extensions and what they hold.
-ghost use Rattle.std.specs.Prelude.{◌≡◌, IfOk, map};
-ghost use Rattle.tls_ext.specs.Extension.{view, view_oid_filter, extension_type};
+ghost use Rattle.std.specs.Prelude.{◌≡◌, IfOk};
+ghost use Rattle.tls_ext.specs.Extension.{view, extension_type};
 
+use crate::kind::rows;
 use std::alloc::{AllocError, Global};
 use tls_base::{
     CertificateStatusType, NamedGroup, OutOfMemory, SNIType, TlsCipherSuiteID, TlsExtensionType,
@@ -18,7 +19,7 @@ pub struct KeyShareEntry<'a> {
 }
 
 /// A filter on a certificate extension: the OIDFilter of RFC 8446, section 4.2.5.
-#[derive(Clone, Debug, PartialEq, Drop)]
+#[derive(Clone, Copy, Debug, PartialEq, Drop)]
 pub struct OidFilter<'a> {
     /// The object identifier, DER-encoded.
     pub cert_ext_oid: &'a [u8],
@@ -100,43 +101,23 @@ pub enum TlsExtension<'a> {
     Unknown(TlsExtensionType, &'a [u8]),
 }
 
+/// For each row of the table of kinds the arm of its variant.
+macro_rules! type_of {
+    ([$extension:ident] $($number:ident => $form:ident($kind:ident, $read:ident), $sides:ident;)*) => {
+        match $extension {
+            $(TlsExtension::$kind { .. } => TlsExtensionType::$number,)*
+            TlsExtension::Grease(_, _) => TlsExtensionType::Grease,
+            TlsExtension::Unknown(kind, _) => *kind,
+        }
+    };
+}
+
 /// The type of an extension. `Grease` has 0xfafa, and `Unknown` the type that it holds.
 impl From<&TlsExtension<'_>> for TlsExtensionType {
     ghost from_gives = { λ e t. t.0 ≡ extension_type (view e.now) };
 
     fn from(extension: &TlsExtension) -> TlsExtensionType {
-        match extension {
-            TlsExtension::SNI(_) => TlsExtensionType::ServerName,
-            TlsExtension::MaxFragmentLength(_) => TlsExtensionType::MaxFragmentLength,
-            TlsExtension::StatusRequest(_) => TlsExtensionType::StatusRequest,
-            TlsExtension::EllipticCurves(_) => TlsExtensionType::SupportedGroups,
-            TlsExtension::EcPointFormats(_) => TlsExtensionType::EcPointFormats,
-            TlsExtension::SignatureAlgorithms(_) => TlsExtensionType::SignatureAlgorithms,
-            TlsExtension::Heartbeat(_) => TlsExtensionType::Heartbeat,
-            TlsExtension::ALPN(_) => TlsExtensionType::ApplicationLayerProtocolNegotiation,
-            TlsExtension::SignedCertificateTimestamp(_) => {
-                TlsExtensionType::SignedCertificateTimestamp
-            }
-            TlsExtension::Padding(_) => TlsExtensionType::Padding,
-            TlsExtension::EncryptThenMac => TlsExtensionType::EncryptThenMac,
-            TlsExtension::ExtendedMasterSecret => TlsExtensionType::ExtendedMasterSecret,
-            TlsExtension::RecordSizeLimit(_) => TlsExtensionType::RecordSizeLimit,
-            TlsExtension::SessionTicket(_) => TlsExtensionType::SessionTicketTLS,
-            TlsExtension::KeyShareOld(_) => TlsExtensionType::KeyShareOld,
-            TlsExtension::PreSharedKey(_) => TlsExtensionType::PreSharedKey,
-            TlsExtension::EarlyData(_) => TlsExtensionType::EarlyData,
-            TlsExtension::SupportedVersions(_) => TlsExtensionType::SupportedVersions,
-            TlsExtension::Cookie(_) => TlsExtensionType::Cookie,
-            TlsExtension::PskExchangeModes(_) => TlsExtensionType::PskExchangeModes,
-            TlsExtension::OidFilters(_) => TlsExtensionType::OidFilters,
-            TlsExtension::PostHandshakeAuth => TlsExtensionType::PostHandshakeAuth,
-            TlsExtension::KeyShare(_) => TlsExtensionType::KeyShare,
-            TlsExtension::NextProtocolNegotiation => TlsExtensionType::NextProtocolNegotiation,
-            TlsExtension::RenegotiationInfo(_) => TlsExtensionType::RenegotiationInfo,
-            TlsExtension::EncryptedServerName { .. } => TlsExtensionType::EncryptedServerName,
-            TlsExtension::Grease(_, _) => TlsExtensionType::Grease,
-            TlsExtension::Unknown(kind, _) => *kind,
-        }
+        rows!(type_of extension)
     }
 }
 
@@ -147,14 +128,32 @@ fn copied<T: Copy>(alloc: Global, items: &Vec<T>) -> Result<Vec<T>, AllocError>
     Vec::from_slice(alloc, items.as_slice())
 }
 
-/// The same filters in a vector of their own.
-fn cloned_filters<'a>(
-    alloc: Global,
-    filters: &Vec<OidFilter<'a>>,
-) -> Result<Vec<OidFilter<'a>>, AllocError>
-    ensures { IfOk result (λ v. map view_oid_filter v.items ≡ map view_oid_filter filters.now.items) }
-{
-    filters.as_slice().to_vec(alloc)
+/// For each row of the table of kinds, but for those of several fields, the arm that copies its variant.
+macro_rules! copy_of {
+    ([$extension:ident $alloc:ident] $($number:ident =>
+        $(list($list:ident, $l:ident))? $(value($value:ident, $v:ident))? $(empty($empty:ident, $e:ident))?
+        $(fields $f:tt)?, $sides:ident;)*) => {
+        match $extension {
+            $($(TlsExtension::$list(items) => TlsExtension::$list(copied($alloc, items)?),)?)*
+            $($(TlsExtension::$value(value) => TlsExtension::$value(*value),)?)*
+            $($(TlsExtension::$empty => TlsExtension::$empty,)?)*
+            TlsExtension::EncryptedServerName {
+                ciphersuite,
+                group,
+                key_share,
+                record_digest,
+                encrypted_sni,
+            } => TlsExtension::EncryptedServerName {
+                ciphersuite: *ciphersuite,
+                group: *group,
+                key_share: *key_share,
+                record_digest: *record_digest,
+                encrypted_sni: *encrypted_sni,
+            },
+            TlsExtension::Grease(number, content) => TlsExtension::Grease(*number, *content),
+            TlsExtension::Unknown(kind, content) => TlsExtension::Unknown(*kind, *content),
+        }
+    };
 }
 
 impl<'a> TlsExtension<'a> {
@@ -164,54 +163,6 @@ impl<'a> TlsExtension<'a> {
     pub fn try_clone(&self, alloc: Global) -> Result<TlsExtension<'a>, OutOfMemory>
         ensures { IfOk result (λ e. view e ≡ view self.now) }
     {
-        let extension = match self {
-            Self::SNI(names) => Self::SNI(copied(alloc, names)?),
-            Self::MaxFragmentLength(code) => Self::MaxFragmentLength(*code),
-            Self::StatusRequest(request) => Self::StatusRequest(*request),
-            Self::EllipticCurves(groups) => { Self::EllipticCurves(copied(alloc, groups)?) }
-            Self::EcPointFormats(formats) => Self::EcPointFormats(*formats),
-            Self::SignatureAlgorithms(algorithms) => {
-                Self::SignatureAlgorithms(copied(alloc, algorithms)?)
-            }
-            Self::Heartbeat(mode) => Self::Heartbeat(*mode),
-            Self::ALPN(names) => Self::ALPN(copied(alloc, names)?),
-            Self::SignedCertificateTimestamp(timestamps) => {
-                Self::SignedCertificateTimestamp(*timestamps)
-            }
-            Self::Padding(bytes) => Self::Padding(*bytes),
-            Self::EncryptThenMac => Self::EncryptThenMac,
-            Self::ExtendedMasterSecret => Self::ExtendedMasterSecret,
-            Self::RecordSizeLimit(limit) => Self::RecordSizeLimit(*limit),
-            Self::SessionTicket(ticket) => Self::SessionTicket(*ticket),
-            Self::KeyShareOld(shares) => Self::KeyShareOld(*shares),
-            Self::PreSharedKey(keys) => Self::PreSharedKey(*keys),
-            Self::EarlyData(size) => Self::EarlyData(*size),
-            Self::SupportedVersions(versions) => {
-                Self::SupportedVersions(copied(alloc, versions)?)
-            }
-            Self::Cookie(bytes) => Self::Cookie(*bytes),
-            Self::PskExchangeModes(modes) => { Self::PskExchangeModes(copied(alloc, modes)?) }
-            Self::OidFilters(filters) => { Self::OidFilters(cloned_filters(alloc, filters)?) }
-            Self::PostHandshakeAuth => Self::PostHandshakeAuth,
-            Self::KeyShare(shares) => Self::KeyShare(*shares),
-            Self::NextProtocolNegotiation => Self::NextProtocolNegotiation,
-            Self::RenegotiationInfo(bytes) => Self::RenegotiationInfo(*bytes),
-            Self::EncryptedServerName {
-                ciphersuite,
-                group,
-                key_share,
-                record_digest,
-                encrypted_sni,
-            } => Self::EncryptedServerName {
-                ciphersuite: *ciphersuite,
-                group: *group,
-                key_share: *key_share,
-                record_digest: *record_digest,
-                encrypted_sni: *encrypted_sni,
-            },
-            Self::Grease(number, content) => Self::Grease(*number, *content),
-            Self::Unknown(kind, content) => Self::Unknown(*kind, *content),
-        };
-        Ok(extension)
+        Ok(rows!(copy_of self alloc))
     }
 }

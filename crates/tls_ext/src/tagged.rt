@@ -35,6 +35,15 @@ fn tagged_bytes(i: &[u8], kind: TlsExtensionType) -> IResult<&[u8], &[u8]>
     counted2(i)
 }
 
+/// An extension of that type, whose content that call reads.
+macro_rules! tagged {
+    ($i:ident, $kind:ident, $read:ident $(, $alloc:ident)?) => {{
+        let (i, content) = tagged_bytes($i, TlsExtensionType::$kind)?;
+        let (_, extension) = $read($($alloc,)? content)?;
+        Ok((i, extension))
+    }};
+}
+
 /// Reads the names of a server (type 0; RFC 6066, section 3): a content as
 /// [`crate::parse_tls_extension_sni_content`] reads it.
 ///
@@ -44,9 +53,7 @@ fn tagged_bytes(i: &[u8], kind: TlsExtensionType) -> IResult<&[u8], &[u8]>
 pub fn parse_tls_extension_sni(alloc: Global, i: &[u8]) -> IResult<&[u8], TlsExtension>
     ensures { GivesOrMemory view (tagged extension_number.server_name content.server_names) i.now result }
 {
-    let (i, content) = tagged_bytes(i, TlsExtensionType::ServerName)?;
-    let (_, extension) = parse_tls_extension_sni_content(alloc, content)?;
-    Ok((i, extension))
+    tagged! { i, ServerName, parse_tls_extension_sni_content, alloc }
 }
 
 /// Reads a maximum fragment length (type 1; RFC 6066, section 4): a content as
@@ -58,9 +65,7 @@ pub fn parse_tls_extension_sni(alloc: Global, i: &[u8]) -> IResult<&[u8], TlsExt
 pub fn parse_tls_extension_max_fragment_length(i: &[u8]) -> IResult<&[u8], TlsExtension>
     ensures { Gives view (tagged extension_number.max_fragment_length content.max_fragment_length) i.now result }
 {
-    let (i, content) = tagged_bytes(i, TlsExtensionType::MaxFragmentLength)?;
-    let (_, extension) = parse_tls_extension_max_fragment_length_content(content)?;
-    Ok((i, extension))
+    tagged! { i, MaxFragmentLength, parse_tls_extension_max_fragment_length_content }
 }
 
 /// Reads a status request (type 5; RFC 6066, section 8): an empty content, which is `None`, or 1 byte of status type and
@@ -71,9 +76,7 @@ pub fn parse_tls_extension_max_fragment_length(i: &[u8]) -> IResult<&[u8], TlsEx
 pub fn parse_tls_extension_status_request(i: &[u8]) -> IResult<&[u8], TlsExtension>
     ensures { Gives view (tagged extension_number.status_request content.status_request) i.now result }
 {
-    let (i, content) = tagged_bytes(i, TlsExtensionType::StatusRequest)?;
-    let (_, extension) = status_request_content(content)?;
-    Ok((i, extension))
+    tagged! { i, StatusRequest, status_request_content }
 }
 
 /// Reads the supported groups (type 10; RFC 8446, section 4.2.7): a content as
@@ -85,9 +88,7 @@ pub fn parse_tls_extension_status_request(i: &[u8]) -> IResult<&[u8], TlsExtensi
 pub fn parse_tls_extension_elliptic_curves(alloc: Global, i: &[u8]) -> IResult<&[u8], TlsExtension>
     ensures { GivesOrMemory view (tagged extension_number.supported_groups content.supported_groups) i.now result }
 {
-    let (i, content) = tagged_bytes(i, TlsExtensionType::SupportedGroups)?;
-    let (_, extension) = parse_tls_extension_elliptic_curves_content(alloc, content)?;
-    Ok((i, extension))
+    tagged! { i, SupportedGroups, parse_tls_extension_elliptic_curves_content, alloc }
 }
 
 /// Reads the supported point formats (type 11; RFC 8422, section 5.1.2): a content as
@@ -99,9 +100,7 @@ pub fn parse_tls_extension_elliptic_curves(alloc: Global, i: &[u8]) -> IResult<&
 pub fn parse_tls_extension_ec_point_formats(i: &[u8]) -> IResult<&[u8], TlsExtension>
     ensures { Gives view (tagged extension_number.ec_point_formats content.ec_point_formats) i.now result }
 {
-    let (i, content) = tagged_bytes(i, TlsExtensionType::EcPointFormats)?;
-    let (_, extension) = parse_tls_extension_ec_point_formats_content(content)?;
-    Ok((i, extension))
+    tagged! { i, EcPointFormats, parse_tls_extension_ec_point_formats_content }
 }
 
 /// Reads the supported signature algorithms (type 13; RFC 8446, section 4.2.3): a content as
@@ -116,9 +115,7 @@ pub fn parse_tls_extension_signature_algorithms(
 ) -> IResult<&[u8], TlsExtension>
     ensures { GivesOrMemory view (tagged extension_number.signature_algorithms content.signature_algorithms) i.now result }
 {
-    let (i, content) = tagged_bytes(i, TlsExtensionType::SignatureAlgorithms)?;
-    let (_, extension) = parse_tls_extension_signature_algorithms_content(alloc, content)?;
-    Ok((i, extension))
+    tagged! { i, SignatureAlgorithms, parse_tls_extension_signature_algorithms_content, alloc }
 }
 
 /// Reads the wish to encrypt before the MAC (type 22; RFC 7366, section 2), whose content is empty.
@@ -129,9 +126,7 @@ pub fn parse_tls_extension_signature_algorithms(
 pub fn parse_tls_extension_encrypt_then_mac(i: &[u8]) -> IResult<&[u8], TlsExtension>
     ensures { Gives view (tagged extension_number.encrypt_then_mac content.encrypt_then_mac) i.now result }
 {
-    let (i, content) = tagged_bytes(i, TlsExtensionType::EncryptThenMac)?;
-    let (_, extension) = encrypt_then_mac_content(content)?;
-    Ok((i, extension))
+    tagged! { i, EncryptThenMac, encrypt_then_mac_content }
 }
 
 /// Reads the wish for an extended master secret (type 23; RFC 7627, section 5.1), whose content is empty.
@@ -142,9 +137,7 @@ pub fn parse_tls_extension_encrypt_then_mac(i: &[u8]) -> IResult<&[u8], TlsExten
 pub fn parse_tls_extension_extended_master_secret(i: &[u8]) -> IResult<&[u8], TlsExtension>
     ensures { Gives view (tagged extension_number.extended_master_secret content.extended_master_secret) i.now result }
 {
-    let (i, content) = tagged_bytes(i, TlsExtensionType::ExtendedMasterSecret)?;
-    let (_, extension) = extended_master_secret_content(content)?;
-    Ok((i, extension))
+    tagged! { i, ExtendedMasterSecret, extended_master_secret_content }
 }
 
 /// Reads a session ticket (type 35; RFC 5077, section 3.2), which is the content.
@@ -154,9 +147,7 @@ pub fn parse_tls_extension_extended_master_secret(i: &[u8]) -> IResult<&[u8], Tl
 pub fn parse_tls_extension_session_ticket(i: &[u8]) -> IResult<&[u8], TlsExtension>
     ensures { Gives view (tagged extension_number.session_ticket content.session_ticket) i.now result }
 {
-    let (i, content) = tagged_bytes(i, TlsExtensionType::SessionTicketTLS)?;
-    let (_, extension) = session_ticket_content(content)?;
-    Ok((i, extension))
+    tagged! { i, SessionTicketTLS, session_ticket_content }
 }
 
 /// Reads key shares (type 51; RFC 8446, section 4.2.8), which are the content, undivided.
@@ -166,9 +157,7 @@ pub fn parse_tls_extension_session_ticket(i: &[u8]) -> IResult<&[u8], TlsExtensi
 pub fn parse_tls_extension_key_share(i: &[u8]) -> IResult<&[u8], TlsExtension>
     ensures { Gives view (tagged extension_number.key_share content.key_share) i.now result }
 {
-    let (i, content) = tagged_bytes(i, TlsExtensionType::KeyShare)?;
-    let (_, extension) = key_share_content(content)?;
-    Ok((i, extension))
+    tagged! { i, KeyShare, key_share_content }
 }
 
 /// Reads pre-shared keys (type 41; RFC 8446, section 4.2.11), which are the content, undivided.
@@ -178,9 +167,7 @@ pub fn parse_tls_extension_key_share(i: &[u8]) -> IResult<&[u8], TlsExtension>
 pub fn parse_tls_extension_pre_shared_key(i: &[u8]) -> IResult<&[u8], TlsExtension>
     ensures { Gives view (tagged extension_number.pre_shared_key content.pre_shared_key) i.now result }
 {
-    let (i, content) = tagged_bytes(i, TlsExtensionType::PreSharedKey)?;
-    let (_, extension) = pre_shared_key_content(content)?;
-    Ok((i, extension))
+    tagged! { i, PreSharedKey, pre_shared_key_content }
 }
 
 /// Reads early data (type 42; RFC 8446, section 4.2.10): an empty content, which is `None`, or 4 bytes, the most bytes of
@@ -192,9 +179,7 @@ pub fn parse_tls_extension_pre_shared_key(i: &[u8]) -> IResult<&[u8], TlsExtensi
 pub fn parse_tls_extension_early_data(i: &[u8]) -> IResult<&[u8], TlsExtension>
     ensures { Gives view (tagged extension_number.early_data content.early_data) i.now result }
 {
-    let (i, content) = tagged_bytes(i, TlsExtensionType::EarlyData)?;
-    let (_, extension) = early_data_content(content)?;
-    Ok((i, extension))
+    tagged! { i, EarlyData, early_data_content }
 }
 
 /// Reads the supported versions (type 43; RFC 8446, section 4.2.1): a content of 2 bytes, which is one version, or 1 byte
@@ -212,9 +197,7 @@ pub fn parse_tls_extension_supported_versions(
 ) -> IResult<&[u8], TlsExtension>
     ensures { GivesOrMemory view (tagged extension_number.supported_versions content.supported_versions) i.now result }
 {
-    let (i, content) = tagged_bytes(i, TlsExtensionType::SupportedVersions)?;
-    let (_, extension) = supported_versions_content(alloc, content)?;
-    Ok((i, extension))
+    tagged! { i, SupportedVersions, supported_versions_content, alloc }
 }
 
 /// Reads a cookie (type 44; RFC 8446, section 4.2.2), which is the content, undivided.
@@ -224,9 +207,7 @@ pub fn parse_tls_extension_supported_versions(
 pub fn parse_tls_extension_cookie(i: &[u8]) -> IResult<&[u8], TlsExtension>
     ensures { Gives view (tagged extension_number.cookie content.cookie) i.now result }
 {
-    let (i, content) = tagged_bytes(i, TlsExtensionType::Cookie)?;
-    let (_, extension) = cookie_content(content)?;
-    Ok((i, extension))
+    tagged! { i, Cookie, cookie_content }
 }
 
 /// Reads how pre-shared keys may be used (type 45; RFC 8446, section 4.2.9): a content as
@@ -241,9 +222,7 @@ pub fn parse_tls_extension_psk_key_exchange_modes(
 ) -> IResult<&[u8], TlsExtension>
     ensures { GivesOrMemory view (tagged extension_number.psk_key_exchange_modes content.psk_key_exchange_modes) i.now result }
 {
-    let (i, content) = tagged_bytes(i, TlsExtensionType::PskExchangeModes)?;
-    let (_, extension) = parse_tls_extension_psk_key_exchange_modes_content(alloc, content)?;
-    Ok((i, extension))
+    tagged! { i, PskExchangeModes, parse_tls_extension_psk_key_exchange_modes_content, alloc }
 }
 
 /// Reads who may send heartbeats (type 15; RFC 6520, section 2): a content of 1 byte.

@@ -1,7 +1,7 @@
 -- What the calls that write answer. `Fits` says that the value can be written; `Refused e` that it can't, and that e tells
 -- why; `text` is the bytes that it is written as.
 use Rattle.std.specs.Prelude.{◌≡◌, ◌⊎◌, ℕ, List, [], ◌∷◌, length, Option, Result, Ok, Err, ⊤}
-use Rattle.std.specs.Io.KnownBytes.{Appends, Keeps}
+use Rattle.std.specs.Io.KnownBytes.{Appends}
 use Rattle.tls_fields.specs.Bytes.{Bytes}
 use Rattle.tls_fields.specs.declared.writer.GenError.{GenError}
 use Rattle.tls_fields.specs.declared.writer.GenError.TheVariants.{NotYetImplemented, BadLength, Io, OutOfMemory}
@@ -29,10 +29,10 @@ Builds Fits Refused text (Ok b) = Fits × (b ≡ text)
 Builds Fits Refused text (Err OutOfMemory) = Fits
 Builds Fits Refused text (Err e) = IsRefusal e × (Fits → ⊥) × Refused e
 
--- The text, appended to what the writer holds. A refusal, and running out of memory, leave the writer as it was; where the
--- writer failed, how much it took is unknown.
-abbrev pub Writes : Type 0 → (GenError → Type 0) → Bytes → Option Bytes → Option Bytes → Result Unit GenError → Type 0
-Writes Fits Refused text old new (Ok u) = Fits × Appends old new text
-Writes Fits Refused text old new (Err OutOfMemory) = Fits × Keeps old new
-Writes Fits Refused text old new (Err Io) = Fits
-Writes Fits Refused text old new (Err e) = IsRefusal e × (Fits → ⊥) × Refused e × Keeps old new
+-- The text, appended to what the writer holds, which `contents` tells where it is known. A refusal, and running out of memory,
+-- leave the writer as it was: the same value, so it wasn't called. Where the writer failed, how much it took is unknown.
+abbrev pub Writes : {W : Type 0} → Type 0 → (GenError → Type 0) → Bytes → (W → Option Bytes) → W → W → Result Unit GenError → Type 0
+Writes Fits Refused text contents old new (Ok u) = Fits × Appends (contents old) (contents new) text
+Writes Fits Refused text contents old new (Err OutOfMemory) = Fits × (new ≡ old)
+Writes Fits Refused text contents old new (Err Io) = Fits
+Writes Fits Refused text contents old new (Err e) = IsRefusal e × (Fits → ⊥) × Refused e × (new ≡ old)

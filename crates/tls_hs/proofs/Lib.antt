@@ -1,5 +1,6 @@
 pub mod LengthLemmas
 pub mod ClientHelloTextLemmas
 pub mod ServerHelloTextLemmas
+pub mod ByTypeLemmas
 pub mod MsgTypeLemmas
 pub mod HandshakeTextLemmas

@@ -10,7 +10,10 @@ use Rattle.tls_fields.specs.declared.writer.GenError.TheVariants.{NotYetImplemen
 use Rattle.tls_hs.specs.Hello as hello
 use Rattle.tls_hs.specs.ServerHello as server
 use Rattle.tls_hs.specs.Session as session
-use Rattle.tls_hs.specs.Handshake.{Handshake, HelloRequest, ClientHello, ServerHello, ServerHelloV13Draft18, NewSessionTicket, EndOfEarlyData, HelloRetryRequest, Certificate, ServerKeyExchange, CertificateRequest, ServerDone, CertificateVerify, ClientKeyExchange, Finished, CertificateStatus, NextProtocol, KeyUpdate}
+use Rattle.tls_hs.specs.Handshake.{Handshake, HelloRequest, ClientHello, ServerHello, ServerHelloV13Draft18}
+use Rattle.tls_hs.specs.Handshake.{NewSessionTicket, EndOfEarlyData, HelloRetryRequest, Certificate, ServerKeyExchange}
+use Rattle.tls_hs.specs.Handshake.{CertificateRequest, ServerDone, CertificateVerify, ClientKeyExchange, Finished}
+use Rattle.tls_hs.specs.Handshake.{CertificateStatus, NextProtocol, KeyUpdate}
 
 -- The body of a ClientHello (RFC 5246, section 7.4.1.2).
 unfoldable pub client_hello_text : hello.ClientHello → Bytes
@@ -174,6 +177,14 @@ refusal_of_handshake (ServerHelloV13Draft18 h) = BadLength
 refusal_of_handshake (ClientKeyExchange k) = BadLength
 refusal_of_handshake (Finished b) = BadLength
 refusal_of_handshake m = NotYetImplemented
+
+-- The writer knows its kind, so a length is at fault where it can't be written.
+abbrev pub IsKnown : Handshake → Type 0
+IsKnown m = refusal_of_handshake m ≡ BadLength
+
+-- The writer doesn't know its kind.
+abbrev pub IsUnknown : Handshake → Type 0
+IsUnknown m = (FitsBody m → ⊥) × (refusal_of_handshake m ≡ NotYetImplemented)
 
 -- The version in a hello of a server is one whose form is read back.
 abbrev pub IsReadableHandshake : Handshake → Type 0

@@ -1,5 +1,6 @@
 -- The ClientHello (RFC 5246, section 7.4.1.2).
-use Rattle.std.specs.Prelude.{ℕ, ◌/◌, ◌%◌, List, map, take, drop, length, Option, Some, None, nat_le, nat_lt, ◌==◌, ◌&&◌, if◌then◌else◌}
+use Rattle.std.specs.Prelude.{ℕ, ◌/◌, ◌%◌, List, map, take, drop, length, Option, Some, None, nat_le, nat_lt, ◌==◌}
+use Rattle.std.specs.Prelude.{◌&&◌, if◌then◌else◌}
 use Rattle.std.specs.Option.{option_map}
 use Rattle.tls_fields.specs.Bytes.{Bytes, number_of}
 use Rattle.tls_fields.specs.Layout.{Layout, done, number, block, left, maybe, ◌>>=◌, ◌>>◌, test, counted, times}

@@ -5,6 +5,7 @@ pub mod Session
 pub mod Handshake
 pub mod Message
 pub mod HandshakeText
+pub mod HandshakeWriter
 pub mod Writable
 pub use Rattle.tls_fields.specs.Bytes
 pub use Rattle.tls_fields.specs.Layout

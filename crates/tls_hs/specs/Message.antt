@@ -16,7 +16,8 @@ pub record HeartbeatMessage : Type 0 where
   pub payload : Bytes
 
 abbrev pub view_heartbeat : TlsMessageHeartbeat → HeartbeatMessage
-view_heartbeat h = record { heartbeat_type = h.heartbeat_type.0; payload_length = h.payload_len; payload = h.payload.now }
+view_heartbeat h =
+    record { heartbeat_type = h.heartbeat_type.0; payload_length = h.payload_len; payload = h.payload.now }
 
 -- A message, apart from where it lies in memory.
 pub data Message : Type 0 where

@@ -2,9 +2,10 @@
 use Rattle.tls_hs.specs.Hello.{view_client_hello}
 use Rattle.tls_hs.specs.ServerHello.{view_server_hello, view_server_hello_draft18}
 use Rattle.tls_hs.specs.Session.{view_client_key_exchange}
-use Rattle.tls_hs.specs.Handshake.{Handshake, HelloRequest, ClientHello, ServerHello, ServerHelloV13Draft18, ClientKeyExchange, Finished}
-use Rattle.tls_hs.specs.declared.writable.Writable.{Writable}
-use Rattle.tls_hs.specs.declared.writable.Writable.TheVariants as writable
+use Rattle.tls_hs.specs.Handshake.{Handshake, HelloRequest, ClientHello, ServerHello, ServerHelloV13Draft18}
+use Rattle.tls_hs.specs.Handshake.{ClientKeyExchange, Finished}
+use Rattle.tls_hs.specs.declared.writer.Writable.{Writable}
+use Rattle.tls_hs.specs.declared.writer.Writable.TheVariants as writable
 
 abbrev pub view_writable : Writable → Handshake
 view_writable writable.HelloRequest = HelloRequest

@@ -1,9 +1,11 @@
 //! The bodies of handshake messages (RFC 5246, section 7.4), each read as a message. Where a call takes `len`, it is the
 //! length of the body in bytes, whatever `i` holds.
-#![tactic(auto, using(tls_fields::proofs::OneAnswerLemmas::read_allowed), unfolding(crate::specs::Handshake::hello_request_body, crate::specs::Handshake::client_hello_body, crate::specs::Handshake::server_hello_body, crate::specs::Handshake::new_session_ticket_body, crate::specs::Handshake::hello_retry_request_body, crate::specs::Handshake::certificate_body, crate::specs::Handshake::server_key_exchange_body, crate::specs::Handshake::certificate_request_body, crate::specs::Handshake::server_done_body, crate::specs::Handshake::certificate_verify_body, crate::specs::Handshake::client_key_exchange_body, crate::specs::Handshake::finished_body, crate::specs::Handshake::certificate_status_body, crate::specs::Handshake::next_protocol_body, crate::specs::Handshake::key_update_body))]
-
 ghost use Rattle.tls_fields.specs.Answers.{Gives, GivesOrMemory};
-ghost use Rattle.tls_hs.specs.Handshake.{view_handshake, hello_request_body, client_hello_body, server_hello_body, new_session_ticket_body, hello_retry_request_body, certificate_body, server_key_exchange_body, certificate_request_body, server_done_body, certificate_verify_body, client_key_exchange_body, finished_body, certificate_status_body, next_protocol_body, key_update_body};
+ghost use Rattle.tls_hs.specs.Handshake.{view_handshake, hello_request_body, client_hello_body, server_hello_body};
+ghost use Rattle.tls_hs.specs.Handshake.{new_session_ticket_body, hello_retry_request_body, certificate_body};
+ghost use Rattle.tls_hs.specs.Handshake.{server_key_exchange_body, certificate_request_body, server_done_body};
+ghost use Rattle.tls_hs.specs.Handshake.{certificate_verify_body, client_key_exchange_body, finished_body};
+ghost use Rattle.tls_hs.specs.Handshake.{certificate_status_body, next_protocol_body, key_update_body};
 
 use crate::certificate::{certificate, parse_tls_handshake_certificatestatus};
 use crate::certificate_request::parse_tls_handshake_certificaterequest;
@@ -21,6 +23,7 @@ use tls_base::TlsVersion;
 use tls_fields::{IResult, block, number1};
 
 /// Reads the body of a HelloRequest (RFC 5246, section 7.4.1.1): no bytes. It never refuses.
+#[tactic(auto, using(tls_fields::proofs::OneAnswerLemmas::read_allowed), unfolding(crate::specs::Handshake::hello_request_body))]
 pub fn parse_tls_handshake_msg_hello_request(i: &[u8]) -> IResult<&[u8], TlsMessageHandshake>
     ensures { Gives view_handshake hello_request_body i.now result }
 {
@@ -28,6 +31,7 @@ pub fn parse_tls_handshake_msg_hello_request(i: &[u8]) -> IResult<&[u8], TlsMess
 }
 
 /// Reads the body of a ClientHello (RFC 5246, section 7.4.1.2): as [`parse_tls_handshake_client_hello`].
+#[tactic(auto, using(tls_fields::proofs::OneAnswerLemmas::read_allowed), unfolding(crate::specs::Handshake::client_hello_body))]
 #[inline(always)]
 pub fn parse_tls_handshake_msg_client_hello(
     alloc: Global,
@@ -45,6 +49,7 @@ pub fn parse_tls_handshake_msg_client_hello(
 ///
 /// `Incomplete` of the count of missing bytes, where they are missing in front of the extensions; else what that call
 /// refuses.
+#[tactic(auto, using(tls_fields::proofs::OneAnswerLemmas::read_allowed), unfolding(crate::specs::Handshake::server_hello_body))]
 pub fn parse_tls_handshake_msg_server_hello(i: &[u8]) -> IResult<&[u8], TlsMessageHandshake>
     ensures { Gives view_handshake server_hello_body i.now result }
 {
@@ -65,6 +70,7 @@ pub fn parse_tls_handshake_msg_server_hello(i: &[u8]) -> IResult<&[u8], TlsMessa
 /// big-endian, and the `len - 4` that follow, the 2 bytes of the ticket's own length first.
 ///
 /// `Error` of kind `Verify` where `len` is below 4; else `Incomplete` of the count of missing bytes.
+#[tactic(auto, using(tls_fields::proofs::OneAnswerLemmas::read_allowed), unfolding(crate::specs::Handshake::new_session_ticket_body))]
 pub fn parse_tls_handshake_msg_newsessionticket(
     i: &[u8],
     len: usize,
@@ -79,6 +85,7 @@ pub fn parse_tls_handshake_msg_newsessionticket(
 /// 2 of cipher suite, and perhaps extensions after 2 bytes of length.
 ///
 /// `Incomplete` of the count of missing bytes, where they are missing in front of the extensions.
+#[tactic(auto, using(tls_fields::proofs::OneAnswerLemmas::read_allowed), unfolding(crate::specs::Handshake::hello_retry_request_body))]
 pub fn parse_tls_handshake_msg_hello_retry_request(i: &[u8]) -> IResult<&[u8], TlsMessageHandshake>
     ensures { Gives view_handshake hello_retry_request_body i.now result }
 {
@@ -87,6 +94,7 @@ pub fn parse_tls_handshake_msg_hello_retry_request(i: &[u8]) -> IResult<&[u8], T
 }
 
 /// Reads the body of a Certificate in its form up to TLS 1.2 (RFC 5246, section 7.4.2): as [`crate::parts::certificate`].
+#[tactic(auto, using(tls_fields::proofs::OneAnswerLemmas::read_allowed), unfolding(crate::specs::Handshake::certificate_body))]
 pub fn parse_tls_handshake_msg_certificate(
     alloc: Global,
     i: &[u8],
@@ -100,6 +108,7 @@ pub fn parse_tls_handshake_msg_certificate(
 /// Reads the body of a ServerKeyExchange (RFC 5246, section 7.4.3): `len` bytes.
 ///
 /// `Incomplete` of the count of missing bytes.
+#[tactic(auto, using(tls_fields::proofs::OneAnswerLemmas::read_allowed), unfolding(crate::specs::Handshake::server_key_exchange_body))]
 pub fn parse_tls_handshake_msg_serverkeyexchange(
     i: &[u8],
     len: usize,
@@ -113,6 +122,7 @@ pub fn parse_tls_handshake_msg_serverkeyexchange(
 
 /// Reads the body of a CertificateRequest in its form up to TLS 1.2 (RFC 5246, section 7.4.4): as
 /// [`parse_tls_handshake_certificaterequest`].
+#[tactic(auto, using(tls_fields::proofs::OneAnswerLemmas::read_allowed), unfolding(crate::specs::Handshake::certificate_request_body))]
 pub fn parse_tls_handshake_msg_certificaterequest(
     alloc: Global,
     i: &[u8],
@@ -126,6 +136,7 @@ pub fn parse_tls_handshake_msg_certificaterequest(
 /// Reads the body of a ServerHelloDone (RFC 5246, section 7.4.5): `len` bytes, which are kept.
 ///
 /// `Incomplete` of the count of missing bytes.
+#[tactic(auto, using(tls_fields::proofs::OneAnswerLemmas::read_allowed), unfolding(crate::specs::Handshake::server_done_body))]
 pub fn parse_tls_handshake_msg_serverdone(
     i: &[u8],
     len: usize,
@@ -139,6 +150,7 @@ pub fn parse_tls_handshake_msg_serverdone(
 /// Reads the body of a CertificateVerify (RFC 5246, section 7.4.8): `len` bytes.
 ///
 /// `Incomplete` of the count of missing bytes.
+#[tactic(auto, using(tls_fields::proofs::OneAnswerLemmas::read_allowed), unfolding(crate::specs::Handshake::certificate_verify_body))]
 pub fn parse_tls_handshake_msg_certificateverify(
     i: &[u8],
     len: usize,
@@ -152,6 +164,7 @@ pub fn parse_tls_handshake_msg_certificateverify(
 /// Reads the body of a ClientKeyExchange (RFC 5246, section 7.4.7): `len` bytes, which don't say which form they have.
 ///
 /// `Incomplete` of the count of missing bytes.
+#[tactic(auto, using(tls_fields::proofs::OneAnswerLemmas::read_allowed), unfolding(crate::specs::Handshake::client_key_exchange_body))]
 pub fn parse_tls_handshake_msg_clientkeyexchange(
     i: &[u8],
     len: usize,
@@ -166,6 +179,7 @@ pub fn parse_tls_handshake_msg_clientkeyexchange(
 /// Reads the body of a Finished (RFC 5246, section 7.4.9): `len` bytes.
 ///
 /// `Incomplete` of the count of missing bytes.
+#[tactic(auto, using(tls_fields::proofs::OneAnswerLemmas::read_allowed), unfolding(crate::specs::Handshake::finished_body))]
 pub fn parse_tls_handshake_msg_finished(i: &[u8], len: usize) -> IResult<&[u8], TlsMessageHandshake>
     ensures { Gives view_handshake (finished_body len) i.now result }
 {
@@ -174,6 +188,7 @@ pub fn parse_tls_handshake_msg_finished(i: &[u8], len: usize) -> IResult<&[u8], 
 }
 
 /// Reads the body of a CertificateStatus (RFC 6066, section 8): as [`parse_tls_handshake_certificatestatus`].
+#[tactic(auto, using(tls_fields::proofs::OneAnswerLemmas::read_allowed), unfolding(crate::specs::Handshake::certificate_status_body))]
 pub fn parse_tls_handshake_msg_certificatestatus(i: &[u8]) -> IResult<&[u8], TlsMessageHandshake>
     ensures { Gives view_handshake certificate_status_body i.now result }
 {
@@ -183,6 +198,7 @@ pub fn parse_tls_handshake_msg_certificatestatus(i: &[u8]) -> IResult<&[u8], Tls
 
 /// Reads the body of a NextProtocol (draft-agl-tls-nextprotoneg-04, section 3): as
 /// [`parse_tls_handshake_next_protocol`].
+#[tactic(auto, using(tls_fields::proofs::OneAnswerLemmas::read_allowed), unfolding(crate::specs::Handshake::next_protocol_body))]
 pub fn parse_tls_handshake_msg_next_protocol(i: &[u8]) -> IResult<&[u8], TlsMessageHandshake>
     ensures { Gives view_handshake next_protocol_body i.now result }
 {
@@ -193,6 +209,7 @@ pub fn parse_tls_handshake_msg_next_protocol(i: &[u8]) -> IResult<&[u8], TlsMess
 /// Reads the body of a KeyUpdate (RFC 8446, section 4.6.3): 1 byte, of which [`crate::KeyUpdateRequest`] names the values.
 ///
 /// `Incomplete` of 1 where there is no byte.
+#[tactic(auto, using(tls_fields::proofs::OneAnswerLemmas::read_allowed), unfolding(crate::specs::Handshake::key_update_body))]
 pub fn parse_tls_handshake_msg_key_update(i: &[u8]) -> IResult<&[u8], TlsMessageHandshake>
     ensures { Gives view_handshake key_update_body i.now result }
 {

@@ -3,7 +3,8 @@ ghost use Rattle.std.specs.Prelude.{◌≡◌, IfOk};
 ghost use Rattle.tls_fields.specs.Bytes.{Bytes};
 ghost use Rattle.tls_fields.specs.Layout.{counted};
 ghost use Rattle.tls_fields.specs.Answers.{Gives, GivesOrMemory};
-ghost use Rattle.tls_hs.specs.Certificate.{view_certificate, certificate as certificate_layout, view_certificate_status, certificate_status};
+ghost use Rattle.tls_hs.specs.Certificate.{view_certificate, certificate as certificate_layout};
+ghost use Rattle.tls_hs.specs.Certificate.{view_certificate_status, certificate_status};
 
 use std::alloc::Global;
 use tls_fields::{IResult, Item, OutOfMemory, Room, counted3, items, number1};

@@ -1,7 +1,11 @@
 //! The CertificateRequest, in its two forms up to TLS 1.2 (RFC 5246, section 7.4.4).
 ghost use Rattle.std.specs.Prelude.{◌≡◌, map, IfOk};
 ghost use Rattle.tls_fields.specs.Answers.{GivesOrMemory};
-ghost use Rattle.tls_hs.specs.Certificate.{view_certificate_request, certificate_types as certificate_types_layout, signature_algorithms as signature_algorithms_layout, certificate_authorities as certificate_authorities_layout, certificate_request_with_algorithms, certificate_request_without_algorithms, certificate_request};
+ghost use Rattle.tls_hs.specs.Certificate.{view_certificate_request, certificate_types as certificate_types_layout};
+ghost use Rattle.tls_hs.specs.Certificate.{signature_algorithms as signature_algorithms_layout};
+ghost use Rattle.tls_hs.specs.Certificate.{certificate_authorities as certificate_authorities_layout};
+ghost use Rattle.tls_hs.specs.Certificate.{certificate_request_with_algorithms, certificate_request_without_algorithms};
+ghost use Rattle.tls_hs.specs.Certificate.{certificate_request};
 
 use std::alloc::Global;
 use tls_fields::{

@@ -3,7 +3,8 @@ ghost use Rattle.std.specs.Prelude.{◌≡◌, map, IfOk};
 ghost use Rattle.std.specs.Option.{option_map};
 ghost use Rattle.tls_fields.specs.Answers.{Gives, GivesOrMemory};
 ghost use Rattle.tls_base.specs.CipherTable.{suite_of_id};
-ghost use Rattle.tls_hs.specs.Hello.{session_id as session_id_layout, cipher_suites as cipher_suites_layout, compression_methods, random_time as time_of, random_bytes as bytes_of};
+ghost use Rattle.tls_hs.specs.Hello.{session_id as session_id_layout, cipher_suites as cipher_suites_layout};
+ghost use Rattle.tls_hs.specs.Hello.{compression_methods, random_time as time_of, random_bytes as bytes_of};
 
 use std::alloc::Global;
 use tls_base::{CipherTable, TlsCipherSuite, TlsCipherSuiteID, TlsCompressionID};

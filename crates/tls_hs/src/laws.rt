@@ -1,23 +1,24 @@
 //! What stands of the layouts and texts alone: what is written is read back, and what is read is written back. Each function's
 //! contract is one law; its body is empty.
 
-ghost use Rattle.std.specs.Prelude.{◌≡◌, ◌++◌, [], Ok};
+ghost use Rattle.std.specs.Prelude.{[]};
 ghost use Rattle.tls_fields.specs.Bytes.{Bytes};
-ghost use Rattle.tls_fields.specs.Meaning.{Allows, Spells};
+ghost use Rattle.tls_fields.specs.Meaning.{Spells};
 ghost use Rattle.tls_hs.specs.Handshake.{Handshake};
-ghost use Rattle.tls_hs.specs.HandshakeText.{handshake_text, FitsHandshake, InRangeHandshake, IsReadableHandshake, normal_handshake, IsWrittenBack};
+ghost use Rattle.tls_hs.specs.HandshakeText.{IsWrittenBack};
+ghost use Rattle.tls_hs.specs.HandshakeWriter.{IsReadBack, HasText};
 ghost use Rattle.tls_hs.specs.Message.{Handshake as handshake_message, handshake};
 
 /// A handshake message that fits is read back from its text as its normal form, whatever follows; a ServerHello where its
 /// version is 0x0300 to 0x0303, one of draft 18 where it is 0x7f12.
 #[tactic(auto, using(crate::proofs::HandshakeTextLemmas::handshake_allowed))]
 pub fn handshake_is_read_back()
-    ensures { (m : Handshake) (r : Bytes) → FitsHandshake m → InRangeHandshake m → IsReadableHandshake m → Allows handshake (handshake_text m ++ r) (Ok (handshake_message (normal_handshake m), r)) }
+    ensures { (m : Handshake) (r : Bytes) → IsReadBack m r }
 {}
 
 /// Bytes that are read as a handshake message with nothing dropped are its text, where the writer knows its kind and a hello
 /// has extensions.
-#[tactic(auto, using(crate::proofs::HandshakeTextLemmas::handshake_whole))]
+#[tactic(auto, using(crate::proofs::HandshakeTextLemmas::handshake_written_back))]
 pub fn handshake_is_written_back()
-    ensures { (b r : Bytes) (m : Handshake) → IsWrittenBack m → Spells handshake b (handshake_message m) r [] → FitsHandshake m × InRangeHandshake m × (b ≡ handshake_text m ++ r) }
+    ensures { (b r : Bytes) (m : Handshake) → IsWrittenBack m → Spells handshake b (handshake_message m) r [] → HasText m b r }
 {}

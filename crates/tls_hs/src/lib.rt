@@ -12,15 +12,12 @@ mod client_hello;
 mod client_hello_trait;
 mod handshake;
 mod hello_fields;
-mod hello_text;
 pub mod laws;
 mod message;
 pub mod parts;
 mod server_hello;
 mod session;
-pub mod text;
-mod writable;
-mod write;
+pub mod writer;
 
 pub use bodies::{
     parse_tls_handshake_msg_certificate, parse_tls_handshake_msg_certificaterequest,
@@ -55,7 +52,7 @@ pub use session::{
     KeyUpdateRequest, TlsClientKeyExchangeContents, TlsNewSessionTicketContent,
     TlsNextProtocolContent, TlsServerKeyExchangeContents, parse_tls_handshake_next_protocol,
 };
-pub use write::{
+pub use writer::{
     gen_tls_clienthello, gen_tls_clientkeyexchange, gen_tls_finished, gen_tls_hellorequest,
     gen_tls_serverhello, gen_tls_serverhellodraft18,
 };

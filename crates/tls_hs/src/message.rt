@@ -1,7 +1,8 @@
 //! The messages of records.
 ghost use Rattle.std.specs.Prelude.{◌≡◌, map, IfOk};
 ghost use Rattle.tls_fields.specs.Answers.{Gives, GivesOrMemory};
-ghost use Rattle.tls_hs.specs.Message.{view_message, handshake, change_cipher_spec, alert as alert_layout, application_data, heartbeat};
+ghost use Rattle.tls_hs.specs.Message.{view_message, handshake, change_cipher_spec, alert as alert_layout};
+ghost use Rattle.tls_hs.specs.Message.{application_data, heartbeat};
 
 use crate::body_by_type::handshake_body;
 use crate::handshake::TlsMessageHandshake;

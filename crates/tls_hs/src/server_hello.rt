@@ -4,7 +4,12 @@ ghost use Rattle.std.specs.Prelude.{◌≡◌, None};
 ghost use Rattle.tls_fields.specs.Answers.{Gives};
 ghost use Rattle.tls_fields.specs.Layout.{choose, counted, done, maybe};
 ghost use Rattle.tls_base.specs.CipherTable.{suite_of_id};
-ghost use Rattle.tls_hs.specs.ServerHello.{view_server_hello, server_hello as server_hello_layout, server_hello_any as server_hello_any_layout, server_hello_ssl30 as server_hello_ssl30_layout, server_hello_with, view_server_hello_draft18, server_hello_draft18 as server_hello_draft18_layout, view_hello_retry_request, hello_retry_request as hello_retry_request_layout};
+ghost use Rattle.tls_hs.specs.ServerHello.{view_server_hello, server_hello as server_hello_layout};
+ghost use Rattle.tls_hs.specs.ServerHello.{server_hello_any as server_hello_any_layout};
+ghost use Rattle.tls_hs.specs.ServerHello.{server_hello_ssl30 as server_hello_ssl30_layout, server_hello_with};
+ghost use Rattle.tls_hs.specs.ServerHello.{view_server_hello_draft18};
+ghost use Rattle.tls_hs.specs.ServerHello.{server_hello_draft18 as server_hello_draft18_layout};
+ghost use Rattle.tls_hs.specs.ServerHello.{view_hello_retry_request, hello_retry_request as hello_retry_request_layout};
 
 use crate::hello_fields::session_id;
 use tls_base::{CipherTable, TlsCipherSuite, TlsCipherSuiteID, TlsCompressionID, TlsVersion};

@@ -2,7 +2,8 @@
 #![tactic(auto, using(tls_fields::proofs::OneAnswerLemmas::read_allowed), unfolding(crate::specs::Session::new_session_ticket, crate::specs::Session::next_protocol))]
 
 ghost use Rattle.tls_fields.specs.Answers.{Gives};
-ghost use Rattle.tls_hs.specs.Session.{view_new_session_ticket, new_session_ticket as new_session_ticket_layout, view_next_protocol, next_protocol};
+ghost use Rattle.tls_hs.specs.Session.{view_new_session_ticket, new_session_ticket as new_session_ticket_layout};
+ghost use Rattle.tls_hs.specs.Session.{view_next_protocol, next_protocol};
 
 use tls_base::ECPoint;
 use tls_fields::{ErrorKind, IResult, block, counted1, number4, refused};

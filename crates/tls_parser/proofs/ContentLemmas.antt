@@ -8,9 +8,16 @@ use Rattle.tls_parser.proofs.FramedLemmas.{framed_is_raw_then_content}
 
 pub plaintext_is_raw_then_content : (b : Bytes) → reading plaintext b ≡ reading raw_record b and_then read_content
 unfolding plaintext raw_record
-plaintext_is_raw_then_content b = framed_is_raw_then_content record_header (λ h. h.length) record_content (λ h m. record { header = h; messages = m }) (λ h f. record { header = h; fragment = f }) read_content (λ h f r. refl) b
+plaintext_is_raw_then_content b =
+    framed_is_raw_then_content record_header (λ h. h.length) record_content
+    (λ h m. record { header = h; messages = m }) (λ h f. record { header = h; fragment = f }) read_content
+    (λ h f r. refl) b
 
 -- The same of DTLS.
-pub dtls_plaintext_is_raw_then_content : (b : Bytes) → reading dtls.plaintext b ≡ reading dtls.raw_record b and_then dtls.read_content
+pub dtls_plaintext_is_raw_then_content : (b : Bytes)
+    → reading dtls.plaintext b ≡ reading dtls.raw_record b and_then dtls.read_content
 unfolding dtls.plaintext dtls.raw_record
-dtls_plaintext_is_raw_then_content b = framed_is_raw_then_content dtls.record_header (λ h. h.length) dtls.record_content (λ h m. record { header = h; messages = m }) (λ h f. record { header = h; fragment = f }) dtls.read_content (λ h f r. refl) b
+dtls_plaintext_is_raw_then_content b =
+    framed_is_raw_then_content dtls.record_header (λ h. h.length) dtls.record_content
+    (λ h m. record { header = h; messages = m }) (λ h f. record { header = h; fragment = f }) dtls.read_content
+    (λ h f r. refl) b

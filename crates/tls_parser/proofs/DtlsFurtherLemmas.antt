@@ -7,7 +7,8 @@ use Rattle.tls_fields.specs.Stable.{NeverLacks, CountsMissing, Decides, CountsDo
 use Rattle.tls_fields.specs.declared.result.ErrorKind.TheVariants.{Switch}
 use Rattle.tls_fields.proofs.LackingLemmas.{never-refuse, never-list1}
 use Rattle.tls_fields.proofs.StableLemmas.{decides, counts_down, counting_is_stable}
-use Rattle.tls_parser.specs.DtlsRecord.{Message, RecordHeader, RawRecord, Plaintext, change_cipher_spec, alert, handshake, record_header, record_content, plaintext}
+use Rattle.tls_parser.specs.DtlsRecord.{Message, RecordHeader, RawRecord, Plaintext, change_cipher_spec, alert}
+use Rattle.tls_parser.specs.DtlsRecord.{handshake, record_header, record_content, plaintext}
 use Rattle.tls_parser.proofs.FramedLemmas.{framed_counts}
 
 -- No bytes are missing in a fragment.
@@ -37,7 +38,8 @@ raw_of h f = record { header = h; fragment = f }
 
 plaintext_counts : CountsMissing plaintext
 unfolding plaintext
-plaintext_counts = framed_counts record_header (λ h. h.length) record_content whole_of raw_of content_never_lacks header_counts
+plaintext_counts =
+    framed_counts record_header (λ h. h.length) record_content whole_of raw_of content_never_lacks header_counts
 
 pub header_decides : (b s : Bytes) → AreBytes b → AreBytes s → Decides record_header b s
 header_decides b s are more = decides record_header (counting_is_stable record_header header_counts) b s are more

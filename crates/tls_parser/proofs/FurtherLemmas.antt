@@ -5,15 +5,19 @@ use Rattle.tls_fields.specs.Bytes.{Bytes, AreBytes}
 use Rattle.tls_fields.specs.Layout.{done, refuse, complete, chain, choose, list1, rest}
 use Rattle.tls_fields.specs.Stable.{NeverLacks, CountsMissing, Decides, CountsDown}
 use Rattle.tls_fields.specs.declared.result.ErrorKind.TheVariants.{Switch}
-use Rattle.tls_fields.proofs.LackingLemmas.{never-done, never-refuse, never-complete, never-chain, never-rest, never-list1}
+use Rattle.tls_fields.proofs.LackingLemmas.{never-done, never-refuse, never-complete, never-chain, never-rest}
+use Rattle.tls_fields.proofs.LackingLemmas.{never-list1}
 use Rattle.tls_fields.proofs.StableLemmas.{decides, counts_down, counting_is_stable}
-use Rattle.tls_hs.specs.Message.{Message, ApplicationData, change_cipher_spec, alert, handshake, application_data, heartbeat}
-use Rattle.tls_parser.specs.Record.{RecordHeader, RawRecord, Plaintext, record_header, raw_record, record_content, plaintext}
+use Rattle.tls_hs.specs.Message.{Message, ApplicationData, change_cipher_spec, alert, handshake, application_data}
+use Rattle.tls_hs.specs.Message.{heartbeat}
+use Rattle.tls_parser.specs.Record.{RecordHeader, RawRecord, Plaintext, record_header, raw_record, record_content}
+use Rattle.tls_parser.specs.Record.{plaintext}
 use Rattle.tls_parser.proofs.FramedLemmas.{raw_counts, framed_counts}
 
 pub application_data_never_lacks : NeverLacks application_data
 unfolding application_data
-application_data_never_lacks = never-chain rest (λ b. done (ApplicationData b)) never-rest (λ b. never-done (ApplicationData b))
+application_data_never_lacks =
+    never-chain rest (λ b. done (ApplicationData b)) never-rest (λ b. never-done (ApplicationData b))
 
 -- No bytes are missing in a fragment.
 picked_never_lacks : (a b c d e : Bool) (length : ℕ) → NeverLacks (
@@ -26,13 +30,16 @@ picked_never_lacks : (a b c d e : Bool) (length : ℕ) → NeverLacks (
 picked_never_lacks true b c d e length = never-list1 change_cipher_spec
 picked_never_lacks false true c d e length = never-list1 alert
 picked_never_lacks false false true d e length = never-list1 handshake
-picked_never_lacks false false false true e length = never-chain application_data (λ m. done (m ∷ [])) application_data_never_lacks (λ m. never-done (m ∷ []))
+picked_never_lacks false false false true e length =
+    never-chain application_data (λ m. done (m ∷ [])) application_data_never_lacks (λ m. never-done (m ∷ []))
 picked_never_lacks false false false false true length = never-complete (heartbeat length)
 picked_never_lacks false false false false false length = never-refuse (List Message) Switch
 
 pub content_never_lacks : (h : RecordHeader) → NeverLacks (record_content h)
 unfolding record_content
-content_never_lacks h = picked_never_lacks (h.content_type == 20) (h.content_type == 21) (h.content_type == 22) (h.content_type == 23) (h.content_type == 24) h.length
+content_never_lacks h =
+    picked_never_lacks (h.content_type == 20) (h.content_type == 21) (h.content_type == 22) (h.content_type == 23)
+    (h.content_type == 24) h.length
 
 abbrev pub whole_of : RecordHeader → List Message → Plaintext
 whole_of h m = record { header = h; messages = m }
@@ -50,7 +57,8 @@ raw_record_counts = raw_counts record_header (λ h. h.length) record_content who
 
 plaintext_counts : CountsMissing plaintext
 unfolding plaintext
-plaintext_counts = framed_counts record_header (λ h. h.length) record_content whole_of raw_of content_never_lacks header_counts
+plaintext_counts =
+    framed_counts record_header (λ h. h.length) record_content whole_of raw_of content_never_lacks header_counts
 
 pub header_decides : (b s : Bytes) → AreBytes b → AreBytes s → Decides record_header b s
 header_decides b s are more = decides record_header (counting_is_stable record_header header_counts) b s are more

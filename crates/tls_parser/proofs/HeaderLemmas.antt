@@ -1,5 +1,6 @@
 -- The headers of records: numbers, one behind the other.
-use Rattle.std.proofs.Common.{◌≡◌, ℕ, ◌+◌, ◌-◌, ◌/◌, ◌%◌, ◌^◌, ◌<◌, ◌≤◌, length, take, drop, Bool, true, false, cond, ltb, Ok, Err, refl, ap, ◌∙◌, arith}
+use Rattle.std.proofs.Common.{◌≡◌, ℕ, ◌+◌, ◌-◌, ◌/◌, ◌%◌, ◌^◌, ◌<◌, ◌≤◌, length, take, drop, Bool, true, false, cond}
+use Rattle.std.proofs.Common.{ltb, Ok, Err, refl, ap, ◌∙◌, arith}
 use Rattle.std.proofs.lemmas.Bool.{ltb-true, ltb-false}
 use Rattle.std.proofs.lemmas.List.{length-drop, drop-drop}
 use Rattle.tls_fields.specs.Bytes.{Bytes, number_of}
@@ -12,25 +13,32 @@ use Rattle.tls_parser.specs.Record.{RecordHeader, record_header}
 use Rattle.tls_parser.specs.DtlsRecord as dtls
 
 -- a number, and what stands behind it
-number_then : {A : Type 0} (k : ℕ) (f : ℕ → Layout A) (b : Bytes) → k ≤ length b → reading (chain (number k) f) b ≡ reading (f (number_of (take k b))) (drop k b)
-number_then k f b enough = ap (λ a. a and_then λ x. reading (f x.0) x.1) (number_read k b (take k b) (drop k b) (number_of (take k b)) enough refl refl refl)
+number_then : {A : Type 0} (k : ℕ) (f : ℕ → Layout A) (b : Bytes) → k ≤ length b
+    → reading (chain (number k) f) b ≡ reading (f (number_of (take k b))) (drop k b)
+number_then k f b enough =
+    ap (λ a. a and_then λ x. reading (f x.0) x.1)
+    (number_read k b (take k b) (drop k b) (number_of (take k b)) enough refl refl refl)
 
 abbrev number_in : Answer Bytes → Answer ℕ
 number_in a = a and_then λ x. Ok (number_of x.0, x.1)
 
 number_lacks : (k : ℕ) (b : Bytes) → length b < k → reading (number k) b ≡ Err (Lacks (k - length b))
 unfolding number_at split_at
-number_lacks k b short = ap (λ t. number_in (cond {A = Answer Bytes} t (Err (Lacks (k - length b))) (Ok (take k b, drop k b)))) (ltb_yes (length b) k short)
+number_lacks k b short =
+    ap (λ t. number_in (cond {A = Answer Bytes} t (Err (Lacks (k - length b))) (Ok (take k b, drop k b))))
+    (ltb_yes (length b) k short)
 
 -- fewer than m bytes are too few
 abbrev WantsBytes : {A : Type 0} → ℕ → Layout A → Type 0
 WantsBytes m l = (b : Bytes) → length b < m → (n : ℕ) × (reading l b ≡ Err (Lacks n))
 
-wants : {A : Type 0} (k m : ℕ) (f : ℕ → Layout A) → ((v : ℕ) → WantsBytes m (f v)) → WantsBytes (k + m) (chain (number k) f)
+wants : {A : Type 0} (k m : ℕ) (f : ℕ → Layout A) → ((v : ℕ) → WantsBytes m (f v))
+    → WantsBytes (k + m) (chain (number k) f)
 wants k m f more b short = go (ltb (length b) k) refl
   where
     go : (t : Bool) → ltb (length b) k ≡ t → (n : ℕ) × (reading (chain (number k) f) b ≡ Err (Lacks n))
-    go true e = (k - length b, ap (λ a. a and_then λ x. reading (f x.0) x.1) (number_lacks k b (ltb-true (length b) k e)))
+    go true e =
+        (k - length b, ap (λ a. a and_then λ x. reading (f x.0) x.1) (number_lacks k b (ltb-true (length b) k e)))
     go false e =
         let enough : k ≤ length b = ltb-false (length b) k e in
         let rest = more (number_of (take k b)) (drop k b) (omega (arith, short, length-drop k b)) in
@@ -51,20 +59,29 @@ header_from_version kind = chain (number 2) (λ version. header_from_length kind
 
 pub short_header : WantsBytes 5 record_header
 unfolding record_header
-short_header = wants 1 4 header_from_version (λ kind. wants 2 2 (header_from_length kind) (λ version. wants 2 0 (header_of kind version) (λ n. wants_none (header_of kind version n))))
+short_header =
+    wants 1 4 header_from_version (λ kind. wants 2 2 (header_from_length kind)
+    (λ version. wants 2 0 (header_of kind version) (λ n. wants_none (header_of kind version n))))
 
 -- enough bytes are a header, whose length is the number of its last 2
-pub long_header : (b : Bytes) → 5 ≤ length b → (h : RecordHeader) × (reading record_header b ≡ Ok (h, drop 5 b)) × (h.length ≡ fragment_length 5 b)
+pub long_header : (b : Bytes) → 5 ≤ length b → (h : RecordHeader) × (reading record_header b ≡ Ok (h, drop 5 b))
+    × (h.length ≡ fragment_length 5 b)
 unfolding record_header
 long_header b enough =
     let kind = number_of (take 1 b) in
     let version = number_of (take 2 (drop 1 b)) in
-    let header : RecordHeader = record { content_type = kind; version = version; length = number_of (take 2 (drop 2 (drop 1 b))) } in
+    let header : RecordHeader = record {
+      content_type = kind;
+      version = version;
+      length = number_of
+          (take 2 (drop 2 (drop 1 b)));
+    } in
     let behind : drop 2 (drop 2 (drop 1 b)) ≡ drop 5 b = ap (λ d. drop 2 d) (drop-drop 2 1 b) ∙ drop-drop 2 3 b in
     let read : reading record_header b ≡ Ok (header, drop 2 (drop 2 (drop 1 b)))
     = number_then 1 header_from_version b (omega (arith, enough))
     ∙ number_then 2 (header_from_length kind) (drop 1 b) (omega (arith, enough, length-drop 1 b))
-    ∙ number_then 2 (header_of kind version) (drop 2 (drop 1 b)) (omega (arith, enough, length-drop 1 b, length-drop 2 (drop 1 b))) in (
+    ∙ number_then 2 (header_of kind version) (drop 2 (drop 1 b))
+    (omega (arith, enough, length-drop 1 b, length-drop 2 (drop 1 b))) in (
       header,
       read ∙ ap (λ r. Ok (header, r)) behind,
       ap (λ d. number_of (take 2 d)) (drop-drop 2 1 b),
@@ -91,9 +108,14 @@ dtls_from_version kind = chain (number 2) (λ version. dtls_from_counter kind ve
 
 pub dtls_short_header : WantsBytes 13 dtls.record_header
 unfolding dtls.record_header
-dtls_short_header = wants 1 12 dtls_from_version (λ kind. wants 2 10 (dtls_from_counter kind) (λ version. wants 8 2 (dtls_from_length kind version) (λ counter. wants 2 0 (λ n. done (dtls_header kind version counter n)) (λ n. wants_none (done (dtls_header kind version counter n))))))
+dtls_short_header =
+    wants 1 12 dtls_from_version (λ kind. wants 2 10 (dtls_from_counter kind)
+    (λ version. wants 8 2 (dtls_from_length kind version)
+    (λ counter. wants 2 0 (λ n. done (dtls_header kind version counter n))
+    (λ n. wants_none (done (dtls_header kind version counter n))))))
 
-pub dtls_long_header : (b : Bytes) → 13 ≤ length b → (h : dtls.RecordHeader) × (reading dtls.record_header b ≡ Ok (h, drop 13 b)) × (h.length ≡ fragment_length 13 b)
+pub dtls_long_header : (b : Bytes) → 13 ≤ length b
+    → (h : dtls.RecordHeader) × (reading dtls.record_header b ≡ Ok (h, drop 13 b)) × (h.length ≡ fragment_length 13 b)
 unfolding dtls.record_header
 dtls_long_header b enough =
     let kind = number_of (take 1 b) in
@@ -109,7 +131,8 @@ dtls_long_header b enough =
     = number_then 1 dtls_from_version b (omega (arith, enough))
     ∙ number_then 2 (dtls_from_counter kind) (drop 1 b) (omega (arith, enough, length-drop 1 b))
     ∙ number_then 8 (dtls_from_length kind version) c (omega (arith, enough, length-drop 1 b, length-drop 2 (drop 1 b)))
-    ∙ number_then 2 (λ n. done (dtls_header kind version counter n)) l (omega (arith, enough, length-drop 1 b, length-drop 2 (drop 1 b), length-drop 8 c)) in (
+    ∙ number_then 2 (λ n. done (dtls_header kind version counter n)) l
+    (omega (arith, enough, length-drop 1 b, length-drop 2 (drop 1 b), length-drop 8 c)) in (
       header,
       read ∙ ap (λ r. Ok (header, r)) behind,
       ap (λ d. number_of (take 2 d)) last,

@@ -106,9 +106,13 @@ abbrev pub view_plaintext : DTLSPlaintext → Plaintext
 view_plaintext p = record { header = view_header p.header; messages = map view_message p.messages.items }
 
 unfoldable pub plaintext : Layout Plaintext
-plaintext = framed_record record_header (λ h. h.length) record_content (λ h messages. record { header = h; messages = messages })
+plaintext =
+    framed_record record_header (λ h. h.length) record_content
+    (λ h messages. record { header = h; messages = messages })
 
 -- A raw record with its content read: the record with the messages that its fragment holds, and the rest after the
 -- fragment.
 abbrev pub read_content : RawRecord × Bytes → Answer Plaintext
-read_content x = reading (record_content x.0.header) x.0.fragment and_then λ m. Ok (record { header = x.0.header; messages = m.0 }, x.1)
+read_content x =
+    reading (record_content x.0.header) x.0.fragment and_then λ m. Ok
+    (record { header = x.0.header; messages = m.0 }, x.1)

@@ -1,6 +1,7 @@
 pub mod Framing
 pub mod Record
 pub mod RecordText
+pub mod RecordWriter
 pub mod DtlsHello
 pub mod DtlsHandshake
 pub mod DtlsRecord

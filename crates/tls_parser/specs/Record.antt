@@ -5,7 +5,8 @@ use Rattle.tls_fields.specs.Layout.{Layout, done, refuse, number, complete, list
 use Rattle.tls_fields.specs.Meaning.{Answer}
 use Rattle.tls_fields.specs.Reading.{reading, ◌and_then◌}
 use Rattle.tls_fields.specs.declared.result.ErrorKind.TheVariants.{Switch}
-use Rattle.tls_hs.specs.Message.{Message, view_message, change_cipher_spec, alert, handshake, application_data, heartbeat}
+use Rattle.tls_hs.specs.Message.{Message, view_message, change_cipher_spec, alert, handshake, application_data}
+use Rattle.tls_hs.specs.Message.{heartbeat}
 use Rattle.tls_parser.specs.Framing.{framed_raw_record, framed_record}
 use Rattle.tls_parser.specs.declared.record.TlsRecordHeader.{TlsRecordHeader}
 use Rattle.tls_parser.specs.declared.record.TlsRawRecord.{TlsRawRecord}
@@ -74,9 +75,13 @@ abbrev pub view_plaintext : TlsPlaintext → Plaintext
 view_plaintext p = record { header = view_header p.hdr; messages = map view_message p.msg.items }
 
 unfoldable pub plaintext : Layout Plaintext
-plaintext = framed_record record_header (λ h. h.length) record_content (λ h messages. record { header = h; messages = messages })
+plaintext =
+    framed_record record_header (λ h. h.length) record_content
+    (λ h messages. record { header = h; messages = messages })
 
 -- A raw record with its content read: the record with the messages that its fragment holds, and the rest after the
 -- fragment.
 abbrev pub read_content : RawRecord × Bytes → Answer Plaintext
-read_content x = reading (record_content x.0.header) x.0.fragment and_then λ m. Ok (record { header = x.0.header; messages = m.0 }, x.1)
+read_content x =
+    reading (record_content x.0.header) x.0.fragment and_then λ m. Ok
+    (record { header = x.0.header; messages = m.0 }, x.1)

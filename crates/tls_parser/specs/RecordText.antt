@@ -8,7 +8,8 @@ use Rattle.tls_fields.specs.Text.{counted_text}
 use Rattle.tls_fields.specs.Writer.{RefusesFirst}
 use Rattle.tls_fields.specs.declared.writer.GenError.{GenError}
 use Rattle.tls_fields.specs.declared.writer.GenError.TheVariants.{NotYetImplemented}
-use Rattle.tls_hs.specs.HandshakeText.{handshake_text, FitsHandshake, InRangeHandshake, refusal_of_handshake, IsReadableHandshake, normal_handshake, IsWrittenBack}
+use Rattle.tls_hs.specs.HandshakeText.{handshake_text, FitsHandshake, InRangeHandshake, refusal_of_handshake}
+use Rattle.tls_hs.specs.HandshakeText.{IsReadableHandshake, normal_handshake, IsWrittenBack}
 use Rattle.tls_hs.specs.Message.{Message, Handshake, ChangeCipherSpec}
 use Rattle.tls_parser.specs.Framing.{max_fragment_length}
 use Rattle.tls_parser.specs.Record.{Plaintext, plaintext}
@@ -103,4 +104,5 @@ normal_plaintext p = record {
 -- and its messages are of kinds that the writer knows, of which each hello has extensions, then it can be written, and b is
 -- its text and then r.
 abbrev pub WritesBack : Plaintext → Bytes → Bytes → Type 0
-WritesBack p b r = Spells plaintext b p r [] → All IsWrittenBackMessage p.messages → FitsPlaintext p × (b ≡ plaintext_text p ++ r)
+WritesBack p b r =
+    Spells plaintext b p r [] → All IsWrittenBackMessage p.messages → FitsPlaintext p × (b ≡ plaintext_text p ++ r)

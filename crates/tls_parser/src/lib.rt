@@ -1,9 +1,10 @@
 //! A reader of TLS and DTLS records and of the messages in them (RFC 5246, RFC 6347 and RFC 8446), and a writer of TLS
 //! records.
 //!
-//! Each call that reads answers what a layout of `specs/` allows on the bytes: the value and the exact rest, or the refusal
-//! of the leftmost part that can't be read. Slices in a value are parts of the input. Each call that writes appends the text
-//! of the value, which `specs/` says too, or refuses the value and writes nothing.
+//! Each call that reads answers what a layout of `specs/` allows on the bytes: the value and the exact rest, or the
+//! refusal of the leftmost part that can't be read. Slices in a value are parts of the input. Each call that writes appends
+//! the text of the value, which `specs/` says too; or refuses the value, or runs out of memory, and doesn't call the writer;
+//! or the writer fails, and how much of the text it took is unknown.
 #![tactic(auto, using(tls_fields::proofs::OneAnswerLemmas::read_allowed))]
 
 mod content;
@@ -11,8 +12,7 @@ mod dtls;
 pub mod laws;
 mod plaintext;
 mod record;
-mod record_writer;
-mod serialize;
+mod writer;
 
 pub use dtls::{
     DTLSClientHello, DTLSHelloVerifyRequest, DTLSMessage, DTLSMessageHandshake,
@@ -28,8 +28,7 @@ pub use record::{
     MAX_RECORD_LEN, TlsEncrypted, TlsEncryptedContent, TlsRawRecord, TlsRecordHeader,
     parse_tls_encrypted, parse_tls_raw_record, parse_tls_record_header,
 };
-pub use record_writer::{gen_tls_changecipherspec, gen_tls_message, gen_tls_plaintext};
-pub use serialize::Serialize;
+pub use writer::{Serialize, gen_tls_changecipherspec, gen_tls_message, gen_tls_plaintext};
 
 // Why a value isn't written.
 pub use tls_fields::GenError;

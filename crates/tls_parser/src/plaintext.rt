@@ -8,7 +8,8 @@ ghost use Rattle.tls_fields.specs.Answers.{GivesOrMemory, MemorySufficed};
 ghost use Rattle.tls_hs.specs.Message.{view_message, application_data, heartbeat};
 ghost use Rattle.tls_parser.specs.Framing.{AsksNoMore, HasNoRecord, NeedsMore, IsIncomplete};
 ghost use Rattle.tls_parser.specs.RecordText.{WritesBack};
-ghost use Rattle.tls_parser.specs.Record.{Plaintext, view_header, raw_record, record_content, view_plaintext, plaintext};
+ghost use Rattle.tls_parser.specs.Record.{Plaintext, view_header, raw_record, record_content, view_plaintext};
+ghost use Rattle.tls_parser.specs.Record.{plaintext};
 
 use crate::content::{Alert, ChangeCipherSpec, Handshake};
 use crate::record::{TlsRawRecord, TlsRecordHeader, parse_tls_raw_record};

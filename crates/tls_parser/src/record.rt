@@ -2,7 +2,8 @@
 ghost use Rattle.std.specs.Prelude.{IfOk};
 ghost use Rattle.tls_fields.specs.Meaning.{AllowsOne};
 ghost use Rattle.tls_fields.specs.Answers.{Gives};
-ghost use Rattle.tls_parser.specs.Record.{view_header, record_header, view_raw_record, view_encrypted, raw_record, IsInFront};
+ghost use Rattle.tls_parser.specs.Record.{view_header, record_header, view_raw_record, view_encrypted, raw_record};
+ghost use Rattle.tls_parser.specs.Record.{IsInFront};
 
 use tls_base::{TlsRecordType, TlsVersion};
 use tls_fields::{ErrorKind, IResult, block, number2, refused};

@@ -10,8 +10,9 @@ use tls_hs::{
     TlsClientHelloContents, TlsClientKeyExchangeContents, TlsMessage, TlsMessageHandshake,
     TlsServerHelloContents, TlsServerHelloV13Draft18Contents, gen_tls_clienthello,
     gen_tls_clientkeyexchange, gen_tls_finished, gen_tls_hellorequest, gen_tls_serverhello,
-    gen_tls_serverhellodraft18, parse_tls_message_handshake, text,
+    gen_tls_serverhellodraft18, parse_tls_message_handshake,
 };
+use tls_hs::writer::judge::handshake_len;
 use tls_parser::Serialize;
 
 const RANDOM: [u8; 32] = [
@@ -68,7 +69,7 @@ fn written(rt: &impl Abort, alloc: Global, message: &TlsMessageHandshake, bytes:
         Ok(text) => assert_eq!(rt; text.as_slice(), bytes),
         Err(e) => panic!(rt; "refused: {e:?}"),
     }
-    assert_eq!(rt; text::handshake_len(message), Ok(bytes.len()));
+    assert_eq!(rt; handshake_len(message), Ok(bytes.len()));
 }
 
 /// The call wrote these bytes.
@@ -376,7 +377,7 @@ fn short_messages(rt: HostRuntime) -> Result<(), Fail> {
     let done = TlsMessageHandshake::ServerDone(&[]);
     not_written(&rt, alloc, &done, GenError::NotYetImplemented);
     assert_eq!(rt;
-        text::handshake_len(&done),
+        handshake_len(&done),
         Err(GenError::NotYetImplemented)
     );
     Ok(())
@@ -390,7 +391,7 @@ fn body_above_16777215(rt: HostRuntime) -> Result<(), Fail> {
     let answered = gen_tls_finished(alloc, &long, &mut out);
     bad_length(&rt, answered, &out);
     assert_eq!(rt;
-        text::handshake_len(&TlsMessageHandshake::Finished(&long[1..])),
+        handshake_len(&TlsMessageHandshake::Finished(&long[1..])),
         Ok(16777219)
     );
     Ok(())

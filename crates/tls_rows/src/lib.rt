@@ -5,6 +5,8 @@
 #![tactic(auto)]
 
 #[cfg(test)]
+mod calls_of_a_writer;
+#[cfg(test)]
 mod dtls;
 #[cfg(test)]
 mod extension_writer;

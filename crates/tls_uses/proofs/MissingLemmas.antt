@@ -14,12 +14,18 @@ pub counted : (b : Bytes) (n : ℕ) → AreBytes b → 0 < n → Allows raw_reco
 counted b n are some a = (λ _. (raw_record_lacks b are).0 (n, a), λ _. some)
 
 -- where fewer follow, others are still missing
-pub fewer : (b : Bytes) (n : ℕ) → AreBytes b → Allows raw_record b (Err (Lacks n)) → (s : Bytes) → AreBytes s → length s < n → NeedsMore 5 (b ++ s)
-fewer b n are a s more less = (raw_record_lacks (b ++ s) (AreBytes-append b s are more)).0 (n - length s, raw_record_counts_down b s are more n a less)
+pub fewer : (b : Bytes) (n : ℕ) → AreBytes b → Allows raw_record b (Err (Lacks n)) → (s : Bytes) → AreBytes s
+    → length s < n → NeedsMore 5 (b ++ s)
+fewer b n are a s more less =
+    (raw_record_lacks (b ++ s) (AreBytes-append b s are more)).0
+    (n - length s, raw_record_counts_down b s are more n a less)
 
 -- none is missing
-pub nothing : (b : Bytes) (x : Answer RawRecord) → AreBytes b → Allows raw_record b x → ((n : ℕ) → x ≡ Err (Lacks n) → ⊥) → (0 < 0) ↔ NeedsMore 5 b
+pub nothing : (b : Bytes) (x : Answer RawRecord) → AreBytes b → Allows raw_record b x
+    → ((n : ℕ) → x ≡ Err (Lacks n) → ⊥) → (0 < 0) ↔ NeedsMore 5 b
 nothing b x are a other = (
   λ less. absurd (omega (arith, less)),
-  λ needs. let k = (raw_record_lacks b are).1 needs in absurd (other k.0 (only_reading raw_record b are x a ∙ sym (only_reading raw_record b are (Err (Lacks k.0)) k.1))),
+  λ needs. let k =
+      (raw_record_lacks b are).1 needs in absurd (other k.0
+      (only_reading raw_record b are x a ∙ sym (only_reading raw_record b are (Err (Lacks k.0)) k.1))),
 )

@@ -1,5 +1,6 @@
 -- What a proxy passes on for a record.
-use Rattle.std.proofs.Common.{◌≡◌, ◌<◌, ◌≤◌, ℕ, List, [], ◌∷◌, length, Some, Ok, refl, sym, ◌∙◌, ap, subst, arith}
+use Rattle.std.proofs.Common.{◌≡◌, ◌<◌, ◌≤◌, ℕ, List, [], ◌∷◌, length, Some, Ok, refl, sym, inl, inr, ◌∙◌, ap, subst}
+use Rattle.std.proofs.Common.{arith}
 use Rattle.std.proofs.Math.Nat.{lt_of_not-le}
 use Rattle.std.proofs.lemmas.List.Elements.{All-nil, All-cons}
 use Rattle.std.specs.Global.{Vec}
@@ -12,10 +13,11 @@ use Rattle.tls_parser.specs.Handshake as handshakes
 use Rattle.tls_parser.specs.HandshakeText.{normal_id}
 use Rattle.tls_parser.specs.Message.{Message, Handshake}
 use Rattle.tls_parser.specs.Record.{RecordHeader, raw_record, record_content, Plaintext, plaintext}
-use Rattle.tls_parser.specs.RecordText.{fragment_text, plaintext_text, FitsPlaintext, IsReadable, IsReadableIn, normal_plaintext}
+use Rattle.tls_parser.specs.RecordText.{fragment_text, plaintext_text, FitsPlaintext, IsReadable, IsReadableIn}
+use Rattle.tls_parser.specs.RecordText.{normal_plaintext}
 use Rattle.tls_parser.proofs.CallerLemmas.{only_reading, IsReadHello, hello_read, hello_fits, length-plaintext_text}
-use Rattle.tls_uses.specs.Proxy.{alone, HoldsHello, with_extensions, changed, IsPassed}
-use Rattle.tls_uses.specs.declared.proxy.Passed.TheVariants.{Changed, TooLong}
+use Rattle.tls_uses.specs.Proxy.{alone, HoldsHello, HoldsAnythingElse, with_extensions, changed, IsPassed}
+use Rattle.tls_uses.specs.declared.proxy.Passed.TheVariants.{AsItCame, Changed, TooLong}
 
 abbrev plaintext_of : RecordHeader → List Message → Plaintext
 plaintext_of h ms = record { header = h; messages = ms }
@@ -30,25 +32,62 @@ module _ (ext : Bytes) (h : RecordHeader) (hello : ClientHello) where
   text_changed = refl
 
   normal_changed : normal_id hello.session_id ≡ hello.session_id → normal_plaintext unlike ≡ changed ext h hello
-  normal_changed e = ap (λ id. record (changed ext h hello) { messages = alone (record hello { session_id = id; extensions = Some ext }) }) e
+  normal_changed e =
+      ap (λ id. record (changed ext h hello) {
+        messages = alone
+            (record hello { session_id = id; extensions = Some ext });
+      }) e
 
-  readable : h.content_type ≡ 22 → length (fragment_text (alone (with_extensions ext hello))) ≤ max_fragment_length → IsReadable unlike
+  readable : h.content_type ≡ 22 → length (fragment_text (alone (with_extensions ext hello))) ≤ max_fragment_length
+      → IsReadable unlike
   readable is short =
       let m = Handshake (handshakes.ClientHello (with_extensions ext hello)) in
-      record { some = omega arith; messages = All-cons (IsReadableIn h.content_type) m [] (is, tt) (All-nil (IsReadableIn h.content_type)); fragment = short }
+      record {
+        some = omega arith;
+        messages = All-cons (IsReadableIn h.content_type) m [] (is, tt)
+            (All-nil (IsReadableIn h.content_type));
+        fragment = short;
+      }
 
-  changed_read : (out : Bytes) → AreBytes out → IsReadHello hello → h.content_type ≡ 22 → out ≡ plaintext_text unlike → length out ≤ 16645 → (IsReadable unlike → Allows plaintext out (Ok (normal_plaintext unlike, []))) → reading plaintext out ≡ Ok (changed ext h hello, [])
+  changed_read : (out : Bytes) → AreBytes out → IsReadHello hello → h.content_type ≡ 22 → out ≡ plaintext_text unlike
+      → length out ≤ 16645 → (IsReadable unlike → Allows plaintext out (Ok (normal_plaintext unlike, [])))
+      → reading plaintext out ≡ Ok (changed ext h hello, [])
   changed_read out are was is text short back =
       let allowed = back (readable is (omega (arith, short, ap length text, length-plaintext_text unlike))) in
-      sym (only_reading plaintext out are (Ok (normal_plaintext unlike, [])) allowed) ∙ ap (λ p. Ok (p, [])) (normal_changed was.normal)
+      sym (only_reading plaintext out are (Ok (normal_plaintext unlike, [])) allowed)
+      ∙ ap (λ p. Ok (p, [])) (normal_changed was.normal)
 
-  long_out : (out : Bytes) → out ≡ plaintext_text unlike → (length out ≤ 16645 → ⊥) → max_fragment_length < (changed ext h hello).header.length
+  long_out : (out : Bytes) → out ≡ plaintext_text unlike → (length out ≤ 16645 → ⊥)
+      → max_fragment_length < (changed ext h hello).header.length
   long_out out text long =
       let above : 16645 < length out = lt_of_not-le long in
       omega (arith, above, ap length text, length-plaintext_text unlike)
 
-  refused_long : IsReadHello hello → (FitsPlaintext unlike → ⊥) → max_fragment_length < (changed ext h hello).header.length
-  refused_long was unfit = lt_of_not-le (λ short. unfit (record { messages = hello_fits hello ext was short; fragment = omega (arith, short) }))
+  refused_long : IsReadHello hello → (FitsPlaintext unlike → ⊥)
+      → max_fragment_length < (changed ext h hello).header.length
+  refused_long was unfit =
+      lt_of_not-le (λ short. unfit (record {
+        messages = hello_fits hello ext was short;
+        fragment = omega
+            (arith, short);
+      }))
+
+-- A record that goes on as it came.
+pub another_type : (ext b rest f : Bytes) (h : RecordHeader)
+    → reading raw_record b ≡ Ok (record { header = h; fragment = f }, rest)
+    → (h.content_type ≡ 22 → ⊥) → IsPassed ext b rest AsItCame
+another_type ext b rest f h in_front other = (record { header = h; fragment = f }, in_front, inl other)
+
+pub anything_else : (ext b rest f left : Bytes) (h : RecordHeader) (ms : List Message)
+    → reading raw_record b ≡ Ok (record { header = h; fragment = f }, rest)
+    → reading (record_content h) f ≡ Ok (ms, left)
+    → ((hello : ClientHello) → ms ≡ alone hello → left ≡ [] → ⊥) → IsPassed ext b rest AsItCame
+anything_else ext b rest f left h ms in_front content other = (
+  record { header = h; fragment = f },
+  in_front,
+  inr
+      (record { messages = ms; left = left; read = content; other = other }),
+)
 
 empty : (b : Bytes) → length b ≡ 0 → b ≡ []
 empty [] e = refl
@@ -75,14 +114,19 @@ module _ (ext b rest f left : Bytes) (h : RecordHeader) (hello : ClientHello) (o
   text_is : (out : Bytes) → out ≡ plaintext_text (plaintext_of h new) → out ≡ plaintext_text (unlike ext h hello)
   text_is out text = text ∙ ap (λ ms. plaintext_text (plaintext_of h ms)) put
 
-  pub passes_changed : (out : Vec ℕ) → AreBytes out.items → out.items ≡ plaintext_text (plaintext_of h new) → length out.items ≤ 16645 → (IsReadable (plaintext_of h new) → Allows plaintext out.items (Ok (normal_plaintext (plaintext_of h new), []))) → IsPassed ext b rest (Changed out)
+  pub passes_changed : (out : Vec ℕ) → AreBytes out.items → out.items ≡ plaintext_text (plaintext_of h new)
+      → length out.items ≤ 16645 → (IsReadable (plaintext_of h new)
+      → Allows plaintext out.items (Ok (normal_plaintext (plaintext_of h new), []))) → IsPassed ext b rest (Changed out)
   passes_changed out are_out text short back =
       let t = text_is out.items text in
-      let r = subst (λ ms. IsReadable (plaintext_of h ms) → Allows plaintext out.items (Ok (normal_plaintext (plaintext_of h ms), []))) put back in
+      let r = subst (λ ms. IsReadable (plaintext_of h ms)
+      → Allows plaintext out.items (Ok (normal_plaintext (plaintext_of h ms), []))) put back in
       (h, hello, holds, t ∙ text_changed ext h hello, changed_read ext h hello out.items are_out was is t short r)
 
-  pub passes_long : (out : Bytes) → out ≡ plaintext_text (plaintext_of h new) → (length out ≤ 16645 → ⊥) → IsPassed ext b rest TooLong
+  pub passes_long : (out : Bytes) → out ≡ plaintext_text (plaintext_of h new) → (length out ≤ 16645 → ⊥)
+      → IsPassed ext b rest TooLong
   passes_long out text long = (h, hello, holds, long_out ext h hello out (text_is out text) long)
 
   pub passes_refused : (FitsPlaintext (plaintext_of h new) → ⊥) → IsPassed ext b rest TooLong
-  passes_refused unfit = (h, hello, holds, refused_long ext h hello was (subst (λ ms. FitsPlaintext (plaintext_of h ms) → ⊥) put unfit))
+  passes_refused unfit =
+      (h, hello, holds, refused_long ext h hello was (subst (λ ms. FitsPlaintext (plaintext_of h ms) → ⊥) put unfit))

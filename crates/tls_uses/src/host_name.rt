@@ -6,7 +6,8 @@ ghost use Rattle.tls_parser.specs.Layout.{mapped};
 ghost use Rattle.tls_parser.specs.Message.{view_message};
 ghost use Rattle.tls_parser.specs.Record.{plaintext};
 ghost use Rattle.tls_parser.specs.Extension.{view, view_server_name};
-ghost use Rattle.tls_uses.specs.HostName.{host_name_among, host_name_in, host_name_of, host_name_asked, host_name_asked_by};
+ghost use Rattle.tls_uses.specs.HostName.{host_name_among, host_name_in, host_name_of, host_name_asked};
+ghost use Rattle.tls_uses.specs.HostName.{host_name_asked_by};
 
 use std::alloc::Global;
 use tls_parser::{

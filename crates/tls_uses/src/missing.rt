@@ -5,10 +5,10 @@ ghost use Rattle.tls_parser.specs.Framing.{NeedsMore};
 
 use tls_parser::{Err, Needed, parse_tls_raw_record};
 
-/// How many more bytes to read before `buffer` can begin with a whole record. It is 0 where it does, and where the length
-/// in its header is too large, so that no further bytes could help.
+/// How many more bytes to read before `buffer` can begin with a whole record: fewer don't help. It is 0 just where the
+/// buffer begins with one, or the length in its header is too large.
 ///
-/// While the header isn't whole, this counts the missing bytes of its next field: read so many and ask again.
+/// So many may not be enough yet, since a header that isn't whole doesn't tell its record's length: read them and ask again.
 #[tactic(auto, using(crate::proofs::MissingLemmas::counted, crate::proofs::MissingLemmas::fewer, crate::proofs::MissingLemmas::nothing))]
 pub fn missing_bytes(buffer: &[u8]) -> usize
     ensures some_while_needed { (0 < result) ↔ NeedsMore 5 buffer.now }

@@ -34,7 +34,9 @@ fn fits_record(bytes: &[u8]) -> bool
 
 /// The ClientHello, where it is the only message.
 fn hello_alone<'a>(mut messages: Vec<TlsMessage<'a>>) -> Option<TlsClientHelloContents<'a>>
-    ensures { MatchOption result ((h : Hello) → map view_message messages.entry.items ≡ alone h → ⊥) (λ h. map view_message messages.entry.items ≡ alone (view_client_hello h)) }
+    ensures { MatchOption result
+        ((h : Hello) → map view_message messages.entry.items ≡ alone h → ⊥)
+        (λ h. map view_message messages.entry.items ≡ alone (view_client_hello h)) }
 {
     let message = messages.pop()?;
     if !messages.is_empty() {
@@ -47,13 +49,13 @@ fn hello_alone<'a>(mut messages: Vec<TlsMessage<'a>>) -> Option<TlsClientHelloCo
 }
 
 /// Reads a record (RFC 5246, section 6.2.1), and where it holds one ClientHello and nothing else, replaces its extensions by
-/// `ext`: a block of them, as it stands after its length, which isn't looked into. A hello that has none gets them. All else
-/// is sent on as it was, with its lengths counted anew; only what a hello has after its extensions, which no RFC allows, is
-/// dropped.
+/// `ext`: a block of them, as it stands after its length. A hello that has none gets them. What is sent on is the text of that
+/// record with its lengths counted anew, and is read as it; what a hello has after its extensions, which no RFC allows, isn't
+/// read, and so isn't sent on.
 ///
-/// Refused as [`tls_parser::parse_tls_plaintext`] refuses the record, if it is of type handshake, so a ClientHello that goes
-/// on in another record is refused as `Error` of kind `Complete`; of another type its header alone is looked at.
-/// `OutOfMemory` also where there is no memory for the new record.
+/// Refused as [`tls_parser::parse_tls_plaintext`] refuses the record, if it is of type handshake, or its header refuses it: a
+/// handshake record that can't be read never goes on as it came, and one of another type does, whatever it holds.
+/// `OutOfMemory` in a record of type handshake alone, also where there is no memory for the new record.
 #[tactic(auto, using(tls_parser::proofs::ContentLemmas::plaintext_is_raw_then_content))]
 pub fn replace_extensions<'a>(
     alloc: Global,

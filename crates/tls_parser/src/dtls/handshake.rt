@@ -1,6 +1,7 @@
 //! Handshake messages of DTLS, and fragments of them.
 ghost use Rattle.tls_fields.specs.Answers.{GivesOrMemory};
-ghost use Rattle.tls_parser.specs.DtlsHandshake.{view_body, whole_body as whole_body_layout, body as body_layout, view_handshake, handshake as handshake_layout};
+ghost use Rattle.tls_parser.specs.DtlsHandshake.{view_body, whole_body as whole_body_layout, body as body_layout};
+ghost use Rattle.tls_parser.specs.DtlsHandshake.{view_handshake, handshake as handshake_layout};
 
 use crate::dtls::hello::{
     DTLSClientHello, DTLSHelloVerifyRequest, client_hello, hello_verify_request,

@@ -2,7 +2,9 @@
 #![tactic(auto, using(tls_fields::proofs::OneAnswerLemmas::read_allowed), unfolding(crate::specs::DtlsHello::client_hello, crate::specs::DtlsHello::hello_verify_request))]
 
 ghost use Rattle.tls_fields.specs.Answers.{Gives, GivesOrMemory};
-ghost use Rattle.tls_parser.specs.DtlsHello.{view_client_hello, client_hello as client_hello_layout, view_hello_verify_request, hello_verify_request as hello_verify_request_layout};
+ghost use Rattle.tls_parser.specs.DtlsHello.{view_client_hello, client_hello as client_hello_layout};
+ghost use Rattle.tls_parser.specs.DtlsHello.{view_hello_verify_request};
+ghost use Rattle.tls_parser.specs.DtlsHello.{hello_verify_request as hello_verify_request_layout};
 
 use std::alloc::Global;
 use tls_base::{CipherTable, TlsCipherSuite, TlsCipherSuiteID, TlsCompressionID, TlsVersion};

@@ -3,7 +3,8 @@
 
 ghost use Rattle.std.specs.Prelude.{◌↔◌, IsTrue};
 ghost use Rattle.tls_fields.specs.Answers.{Gives, GivesOrMemory};
-ghost use Rattle.tls_parser.specs.DtlsRecord.{Message, view_message, change_cipher_spec, alert as alert_layout, handshake as handshake_layout, IsFragment};
+ghost use Rattle.tls_parser.specs.DtlsRecord.{Message, view_message, change_cipher_spec, alert as alert_layout};
+ghost use Rattle.tls_parser.specs.DtlsRecord.{handshake as handshake_layout, IsFragment};
 
 use crate::dtls::handshake::{DTLSMessageHandshake, DTLSMessageHandshakeBody, handshake};
 use std::alloc::Global;

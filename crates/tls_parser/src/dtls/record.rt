@@ -5,7 +5,9 @@ ghost use Rattle.tls_fields.specs.Layout.{list1};
 ghost use Rattle.tls_fields.specs.Meaning.{AllowsOne};
 ghost use Rattle.tls_fields.specs.Reading.{reading};
 ghost use Rattle.tls_fields.specs.Answers.{Gives, GivesOrMemory, MemorySufficed};
-ghost use Rattle.tls_parser.specs.DtlsRecord.{Plaintext, view_message, view_header, record_header, view_raw_record, raw_record as raw_record_layout, record_content, view_plaintext, plaintext};
+ghost use Rattle.tls_parser.specs.DtlsRecord.{Plaintext, view_message, view_header, record_header, view_raw_record};
+ghost use Rattle.tls_parser.specs.DtlsRecord.{raw_record as raw_record_layout, record_content, view_plaintext};
+ghost use Rattle.tls_parser.specs.DtlsRecord.{plaintext};
 ghost use Rattle.tls_parser.specs.Framing.{AsksNoMore, HasNoRecord, NeedsMore, IsIncomplete};
 
 use crate::dtls::content::{Alert, ChangeCipherSpec, Handshake};

@@ -9,4 +9,5 @@ on_ok (Ok x) P p = p
 on_ok (Err e) P p = tt
 
 pub returns-clause-reads_back : goal.returns-clause-reads_back
-returns-clause-reads_back g c = on_ok c.write_whole.result _ (extensions_read (map view c.args.extensions.now) c.in_ok-len.ensures.0 c.add_extensions.ensures.range)
+returns-clause-reads_back g c = on_ok c.write_whole.result _
+    (extensions_read (map view c.args.extensions.now) c.in_ok-len.ensures.0 c.add_extensions.ensures.range)

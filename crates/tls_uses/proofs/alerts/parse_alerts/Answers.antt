@@ -11,4 +11,8 @@ use Rattle.tls_uses.proofs.alerts.parse_alerts.Goals as goal
 pub returns : goal.returns
 returns c =
     let are : AreBytes c.args.i.now = search rules in
-    mapped_gives alerts_in (list1 plaintext) c.args.i.now (λ v. map view_plaintext v.items) c.in_ok-i.records (λ v. map view_alert v.items) c.loop-record.alerts c.in_ok-i.i are c.in_ok-i.ensures (c.loop-record.invariant ∙ ap (λ rs. alerts_in (map view_plaintext rs)) (take_all c.loop-record.record-index c.deref-record-items.result.now (omega arith) ∙ c.deref-record-items.ensures.value))
+    mapped_gives alerts_in (list1 plaintext) c.args.i.now (λ v. map view_plaintext v.items) c.in_ok-i.records
+    (λ v. map view_alert v.items) c.loop-record.alerts c.in_ok-i.i are c.in_ok-i.ensures
+    (c.loop-record.invariant ∙ ap (λ rs. alerts_in (map view_plaintext rs))
+    (take_all c.loop-record.record-index c.deref-record-items.result.now (omega arith)
+    ∙ c.deref-record-items.ensures.value))

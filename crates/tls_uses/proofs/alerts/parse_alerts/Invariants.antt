@@ -5,4 +5,5 @@ use Rattle.tls_uses.specs.Alerts.{alerts_in}
 use Rattle.tls_uses.proofs.alerts.parse_alerts.Given as goal
 
 abbrev pub invariant-loop-record : goal.invariant-loop-record
-invariant-loop-record l = map view_alert l.alerts.items ≡ alerts_in (map view_plaintext (take l.record-index l.record-items))
+invariant-loop-record l =
+    map view_alert l.alerts.items ≡ alerts_in (map view_plaintext (take l.record-index l.record-items))

@@ -9,4 +9,5 @@ use Rattle.tls_uses.proofs.host_name.parse_host_name.Goals as goal
 pub returns : goal.returns
 returns c =
     let are : AreBytes c.args.i.now = search rules in
-    mapped_gives host_name_asked plaintext c.args.i.now view_plaintext c.in_ok-i.record (option_map (λ name. name.now)) c.in_ok-name.name c.in_ok-i.i are c.in_ok-i.ensures.gives (search rules)
+    mapped_gives host_name_asked plaintext c.args.i.now view_plaintext c.in_ok-i.record
+    (option_map (λ name. name.now)) c.in_ok-name.name c.in_ok-i.i are c.in_ok-i.ensures.gives (search rules)

@@ -1,0 +1,233 @@
+//! The texts of handshake messages (RFC 5246, section 7.4), added part by part to a vector that has room for them.
+ghost use Rattle.std.specs.Prelude.{◌≡◌, ◌≤◌, ◌<◌, ◌+◌, ◌*◌, ◌^◌, ◌++◌, length, map, vec_len, vec_capacity};
+ghost use Rattle.std.specs.List.{All};
+ghost use Rattle.tls_fields.specs.Text.{counted_text, numbers_text};
+ghost use Rattle.tls_hs.specs.Hello.{view_client_hello};
+ghost use Rattle.tls_hs.specs.ServerHello.{view_server_hello, view_server_hello_draft18};
+ghost use Rattle.tls_hs.specs.Session.{view_client_key_exchange};
+ghost use Rattle.tls_hs.specs.Handshake.{view_handshake};
+ghost use Rattle.tls_hs.specs.HandshakeText.{client_hello_text, FitsClientHello, InRangeClientHello, server_hello_text};
+ghost use Rattle.tls_hs.specs.HandshakeText.{FitsServerHello, InRangeServerHello};
+ghost use Rattle.tls_hs.specs.HandshakeText.{server_hello_draft18_text, FitsServerHelloDraft18};
+ghost use Rattle.tls_hs.specs.HandshakeText.{InRangeServerHelloDraft18, client_key_exchange_text};
+ghost use Rattle.tls_hs.specs.HandshakeText.{FitsClientKeyExchange};
+ghost use Rattle.tls_hs.specs.HandshakeText.{body_text, handshake_text, FitsBody, FitsHandshake, InRangeHandshake};
+ghost use Rattle.tls_hs.specs.HandshakeText.{msg_type_of};
+ghost use Rattle.tls_hs.specs.Writable.{view_writable};
+
+use crate::client_hello::TlsClientHelloContents;
+use crate::handshake::TlsMessageHandshake;
+use crate::server_hello::{TlsServerHelloContents, TlsServerHelloV13Draft18Contents};
+use crate::session::TlsClientKeyExchangeContents;
+use crate::writer::{Writable, writable_of};
+use tls_base::{TlsCipherSuiteID, TlsCompressionID, TlsHandshakeType};
+use tls_fields::writer::builder::{add_bytes, add1, add2, add3, held};
+
+/// Adds bytes after 1 byte of their count.
+fn add_counted1(out: &mut Vec<u8>, b: &[u8])
+    requires fits { length b.now ≤ 255 }
+    requires room { vec_len out.old + 1 + length b.now ≤ vec_capacity out.old }
+    ensures items { out.new.items ≡ out.old.items ++ counted_text 1 b.now }
+    ensures len { vec_len out.new ≡ vec_len out.old + 1 + length b.now }
+    ensures capacity { vec_capacity out.old ≤ vec_capacity out.new }
+{
+    add1(out, b.len() as u8);
+    add_bytes(out, b);
+}
+
+/// Adds bytes after 2 bytes of their count.
+fn add_counted2(out: &mut Vec<u8>, b: &[u8])
+    requires fits { length b.now ≤ 65535 }
+    requires room { vec_len out.old + 2 + length b.now ≤ vec_capacity out.old }
+    ensures items { out.new.items ≡ out.old.items ++ counted_text 2 b.now }
+    ensures len { vec_len out.new ≡ vec_len out.old + 2 + length b.now }
+    ensures capacity { vec_capacity out.old ≤ vec_capacity out.new }
+{
+    add2(out, b.len() as u16);
+    add_bytes(out, b);
+}
+
+/// Adds cipher suites, 2 bytes each.
+fn add_each_suite(out: &mut Vec<u8>, suites: &[TlsCipherSuiteID])
+    requires { vec_len out.old + 2 * length suites.now ≤ vec_capacity out.old }
+    ensures items { out.new.items ≡ out.old.items ++ numbers_text 2 (map (λ x. x.0) suites.now) }
+    ensures range { All (λ x. x < 256 ^ 2) (map (λ x. x.0) suites.now) }
+    ensures len { vec_len out.new ≡ vec_len out.old + 2 * length suites.now }
+    ensures capacity { vec_capacity out.old ≤ vec_capacity out.new }
+{
+    for suite in suites {
+        add2(out, suite.0);
+    }
+}
+
+/// Adds compression methods, 1 byte each.
+fn add_each_method(out: &mut Vec<u8>, methods: &[TlsCompressionID])
+    requires { vec_len out.old + length methods.now ≤ vec_capacity out.old }
+    ensures items { out.new.items ≡ out.old.items ++ numbers_text 1 (map (λ x. x.0) methods.now) }
+    ensures range { All (λ x. x < 256 ^ 1) (map (λ x. x.0) methods.now) }
+    ensures len { vec_len out.new ≡ vec_len out.old + length methods.now }
+    ensures capacity { vec_capacity out.old ≤ vec_capacity out.new }
+{
+    for method in methods {
+        add1(out, method.0);
+    }
+}
+
+/// Adds cipher suites after 2 bytes of their count in bytes.
+fn add_suites(out: &mut Vec<u8>, suites: &[TlsCipherSuiteID])
+    requires fits { length suites.now ≤ 32767 }
+    requires room { vec_len out.old + 2 + 2 * length suites.now ≤ vec_capacity out.old }
+    ensures items { out.new.items ≡ out.old.items ++ counted_text 2 (numbers_text 2 (map (λ x. x.0) suites.now)) }
+    ensures range { All (λ x. x < 256 ^ 2) (map (λ x. x.0) suites.now) }
+    ensures len { vec_len out.new ≡ vec_len out.old + 2 + 2 * length suites.now }
+    ensures capacity { vec_capacity out.old ≤ vec_capacity out.new }
+{
+    add2(out, (2 * suites.len()) as u16);
+    add_each_suite(out, suites);
+}
+
+/// Adds compression methods after 1 byte of their count.
+fn add_methods(out: &mut Vec<u8>, methods: &[TlsCompressionID])
+    requires fits { length methods.now ≤ 255 }
+    requires room { vec_len out.old + 1 + length methods.now ≤ vec_capacity out.old }
+    ensures items { out.new.items ≡ out.old.items ++ counted_text 1 (numbers_text 1 (map (λ x. x.0) methods.now)) }
+    ensures range { All (λ x. x < 256 ^ 1) (map (λ x. x.0) methods.now) }
+    ensures len { vec_len out.new ≡ vec_len out.old + 1 + length methods.now }
+    ensures capacity { vec_capacity out.old ≤ vec_capacity out.new }
+{
+    add1(out, methods.len() as u8);
+    add_each_method(out, methods);
+}
+
+/// Adds the body of a ClientHello.
+#[tactic(auto, using(crate::proofs::LengthLemmas::client_hello_length))]
+fn append_client_hello(out: &mut Vec<u8>, h: &TlsClientHelloContents)
+    requires fits { FitsClientHello (view_client_hello h.now) }
+    requires room { vec_len out.old + length (client_hello_text (view_client_hello h.now)) ≤ vec_capacity out.old }
+    ensures items { out.new.items ≡ out.old.items ++ client_hello_text (view_client_hello h.now) }
+    ensures range { InRangeClientHello (view_client_hello h.now) }
+    ensures len { vec_len out.new ≡ vec_len out.old + length (client_hello_text (view_client_hello h.now)) }
+    ensures capacity { vec_capacity out.old ≤ vec_capacity out.new }
+{
+    add2(out, h.version.0);
+    add_bytes(out, h.random);
+    add_counted1(out, held(h.session_id));
+    add_suites(out, &h.ciphers);
+    add_methods(out, &h.comp);
+    add_counted2(out, held(h.ext));
+}
+
+/// Adds the body of a ServerHello.
+#[tactic(auto, using(crate::proofs::LengthLemmas::server_hello_length))]
+fn append_server_hello(out: &mut Vec<u8>, h: &TlsServerHelloContents)
+    requires fits { FitsServerHello (view_server_hello h.now) }
+    requires room { vec_len out.old + length (server_hello_text (view_server_hello h.now)) ≤ vec_capacity out.old }
+    ensures items { out.new.items ≡ out.old.items ++ server_hello_text (view_server_hello h.now) }
+    ensures range { InRangeServerHello (view_server_hello h.now) }
+    ensures len { vec_len out.new ≡ vec_len out.old + length (server_hello_text (view_server_hello h.now)) }
+    ensures capacity { vec_capacity out.old ≤ vec_capacity out.new }
+{
+    add2(out, h.version.0);
+    add_bytes(out, h.random);
+    add_counted1(out, held(h.session_id));
+    add2(out, h.cipher.0);
+    add1(out, h.compression.0);
+    add_counted2(out, held(h.ext));
+}
+
+/// Adds the body of a ServerHello of draft 18 of TLS 1.3.
+#[tactic(auto, using(crate::proofs::LengthLemmas::server_hello_draft18_length))]
+fn append_server_hello_draft18(out: &mut Vec<u8>, h: &TlsServerHelloV13Draft18Contents)
+    requires fits { FitsServerHelloDraft18 (view_server_hello_draft18 h.now) }
+    requires room { vec_len out.old + length (server_hello_draft18_text (view_server_hello_draft18 h.now)) ≤ vec_capacity out.old }
+    ensures items { out.new.items ≡ out.old.items ++ server_hello_draft18_text (view_server_hello_draft18 h.now) }
+    ensures range { InRangeServerHelloDraft18 (view_server_hello_draft18 h.now) }
+    ensures len { vec_len out.new ≡ vec_len out.old + length (server_hello_draft18_text (view_server_hello_draft18 h.now)) }
+    ensures capacity { vec_capacity out.old ≤ vec_capacity out.new }
+{
+    add2(out, h.version.0);
+    add_bytes(out, h.random);
+    add2(out, h.cipher.0);
+    add_counted2(out, held(h.ext));
+}
+
+/// Adds the body of a ClientKeyExchange.
+fn append_client_key_exchange(out: &mut Vec<u8>, k: &TlsClientKeyExchangeContents)
+    requires fits { FitsClientKeyExchange (view_client_key_exchange k.now) }
+    requires room { vec_len out.old + length (client_key_exchange_text (view_client_key_exchange k.now)) ≤ vec_capacity out.old }
+    ensures items { out.new.items ≡ out.old.items ++ client_key_exchange_text (view_client_key_exchange k.now) }
+    ensures len { vec_len out.new ≡ vec_len out.old + length (client_key_exchange_text (view_client_key_exchange k.now)) }
+    ensures capacity { vec_capacity out.old ≤ vec_capacity out.new }
+{
+    match k {
+        TlsClientKeyExchangeContents::Dh(b) => add_counted2(out, b),
+        TlsClientKeyExchangeContents::Ecdh(p) => add_counted1(out, p.point),
+        TlsClientKeyExchangeContents::Unknown(b) => add_bytes(out, b),
+    }
+}
+
+impl Writable<'_, '_> {
+    /// The number in front of the message.
+    fn msg_type(&self) -> TlsHandshakeType
+        ensures { result.0 ≡ msg_type_of (view_writable self.now) }
+    {
+        match self {
+            Writable::HelloRequest => TlsHandshakeType::HelloRequest,
+            Writable::ClientHello(_) => TlsHandshakeType::ClientHello,
+            Writable::ServerHello(_) => TlsHandshakeType::ServerHello,
+            Writable::ServerHelloV13Draft18(_) => TlsHandshakeType::ServerHello,
+            Writable::ClientKeyExchange(_) => TlsHandshakeType::ClientKeyExchange,
+            Writable::Finished(_) => TlsHandshakeType::Finished,
+        }
+    }
+
+    /// Adds its body.
+    fn append_body(&self, out: &mut Vec<u8>)
+        requires fits { FitsBody (view_writable self.now) }
+        requires room { vec_len out.old + length (body_text (view_writable self.now)) ≤ vec_capacity out.old }
+        ensures items { out.new.items ≡ out.old.items ++ body_text (view_writable self.now) }
+        ensures range { InRangeHandshake (view_writable self.now) }
+        ensures len { vec_len out.new ≡ vec_len out.old + length (body_text (view_writable self.now)) }
+        ensures capacity { vec_capacity out.old ≤ vec_capacity out.new }
+    {
+        match self {
+            Writable::HelloRequest => {}
+            Writable::ClientHello(h) => append_client_hello(out, h),
+            Writable::ServerHello(h) => append_server_hello(out, h),
+            Writable::ServerHelloV13Draft18(h) => append_server_hello_draft18(out, h),
+            Writable::ClientKeyExchange(k) => append_client_key_exchange(out, k),
+            Writable::Finished(b) => add_bytes(out, b),
+        }
+    }
+
+    /// Adds the message, with its type and the length of its body in front, which is `n`.
+    pub(crate) fn append(&self, out: &mut Vec<u8>, n: usize)
+        requires fits { FitsHandshake (view_writable self.now) }
+        requires count { n ≡ length (body_text (view_writable self.now)) }
+        requires room { vec_len out.old + 4 + n ≤ vec_capacity out.old }
+        ensures items { out.new.items ≡ out.old.items ++ handshake_text (view_writable self.now) }
+        ensures range { InRangeHandshake (view_writable self.now) }
+        ensures len { vec_len out.new ≡ vec_len out.old + 4 + n }
+        ensures capacity { vec_capacity out.old ≤ vec_capacity out.new }
+    {
+        add1(out, self.msg_type().0);
+        add3(out, n as u32);
+        self.append_body(out);
+    }
+}
+
+/// Adds a handshake message that fits to a vector that has room for it.
+pub fn append_handshake(out: &mut Vec<u8>, m: &TlsMessageHandshake)
+    requires fits { FitsHandshake (view_handshake m.now) }
+    requires room { vec_len out.old + length (handshake_text (view_handshake m.now)) ≤ vec_capacity out.old }
+    ensures items { out.new.items ≡ out.old.items ++ handshake_text (view_handshake m.now) }
+    ensures range { InRangeHandshake (view_handshake m.now) }
+    ensures len { vec_len out.new ≡ vec_len out.old + length (handshake_text (view_handshake m.now)) }
+    ensures capacity { vec_capacity out.old ≤ vec_capacity out.new }
+{
+    if let Some(message) = writable_of(m) {
+        if let Ok(n) = message.body_len() {
+            message.append(out, n);
+        }
+    }
+}
