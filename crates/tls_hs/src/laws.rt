@@ -1,5 +1,5 @@
-//! What stands of the layouts and texts alone: what is written is read back, and what is read is written back. Each function's
-//! contract is one law; its body is empty.
+//! What stands of texts alone: which messages are read back from their texts, and which bytes are the text of what is read
+//! of them. Each function's contract is one law; its body is empty.
 
 ghost use Rattle.std.specs.Prelude.{[]};
 ghost use Rattle.tls_fields.specs.Bytes.{Bytes};

@@ -2,7 +2,8 @@
 //! ClientKeyExchange and Finished.
 //!
 //! Each call writes the whole message: 1 byte of type, 3 bytes of length, big-endian, and the body. It judges the message
-//! first, without memory, builds its text in one piece of memory, and hands that to the writer, which it doesn't flush.
+//! first, without memory, builds its text in one piece of memory, and hands that to the writer, which it doesn't flush. No
+//! clause over any writer sees a flush behind the last write: that there is none is tested.
 //!
 //! - `BadLength` where a length doesn't fit its field: the call says which. The writer isn't called.
 //! - `OutOfMemory` where memory for the text runs out. The writer isn't called.

@@ -1,5 +1,5 @@
 -- What the calls answer that write messages and records: their texts are said in `RecordText`.
-use Rattle.std.specs.Prelude.{ℕ, ◌≡◌, ◌≤◌, ◌×◌, List, [], length, Option, Result, Ok}
+use Rattle.std.specs.Prelude.{ℕ, ◌≡◌, ◌≤◌, List, [], length, Option, Result, Ok}
 use Rattle.std.specs.List.{All}
 use Rattle.tls_fields.specs.Bytes.{Bytes}
 use Rattle.tls_fields.specs.Meaning.{Allows}

@@ -1,7 +1,7 @@
 //! Writing messages and records, in memory of their own or to a writer.
 //!
 //! Each call judges all that it is given first, without memory, and then builds the text in one piece of memory. One that
-//! writes hands that to the writer, which it doesn't flush.
+//! writes hands that to the writer, which it doesn't flush: of a flush behind the last write no clause tells.
 //!
 //! - `NotYetImplemented` where the writer doesn't know the kind of a message, and `BadLength` where a length doesn't fit its
 //!   field. The writer isn't called. Of several messages the first that is refused decides.

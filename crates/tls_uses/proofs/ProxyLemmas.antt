@@ -16,7 +16,7 @@ use Rattle.tls_parser.specs.Record.{RecordHeader, raw_record, record_content, Pl
 use Rattle.tls_parser.specs.RecordText.{fragment_text, plaintext_text, FitsPlaintext, IsReadable, IsReadableIn}
 use Rattle.tls_parser.specs.RecordText.{normal_plaintext}
 use Rattle.tls_parser.proofs.CallerLemmas.{only_reading, IsReadHello, hello_read, hello_fits, length-plaintext_text}
-use Rattle.tls_uses.specs.Proxy.{alone, HoldsHello, HoldsAnythingElse, with_extensions, changed, IsPassed}
+use Rattle.tls_uses.specs.Proxy.{alone, HoldsHello, HoldsAnythingElse, HasHandshakeRecord, with_extensions, changed, IsPassed}
 use Rattle.tls_uses.specs.declared.proxy.Passed.TheVariants.{AsItCame, Changed, TooLong}
 
 abbrev plaintext_of : RecordHeader → List Message → Plaintext
@@ -71,6 +71,12 @@ module _ (ext : Bytes) (h : RecordHeader) (hello : ClientHello) where
         fragment = omega
             (arith, short);
       }))
+
+-- A record of type handshake in front.
+pub has_handshake : (b rest f : Bytes) (h : RecordHeader)
+    → reading raw_record b ≡ Ok (record { header = h; fragment = f }, rest) → h.content_type ≡ 22 → HasHandshakeRecord b
+has_handshake b rest f h in_front is =
+    record { raw = record { header = h; fragment = f }; rest = rest; in_front = in_front; of_handshake = is }
 
 -- A record that goes on as it came.
 pub another_type : (ext b rest f : Bytes) (h : RecordHeader)
