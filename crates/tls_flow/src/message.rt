@@ -42,10 +42,10 @@ fn is_tls13(content: &[u8]) -> bool
 }
 
 /// Whether an extension is supported_versions and names such a version.
-fn is_pick(extension: (u16, &[u8])) -> bool
-    ensures { result ≡ picks (extension.0, extension.1.now) }
+fn is_pick(extension_type: u16, content: &[u8]) -> bool
+    ensures { result ≡ picks (extension_type, content.now) }
 {
-    extension.0 == SUPPORTED_VERSIONS && is_tls13(extension.1)
+    extension_type == SUPPORTED_VERSIONS && is_tls13(content)
 }
 
 /// Whether a ServerHello's block of extensions picks TLS 1.3, or a draft of it, by supported_versions. What stands behind
@@ -56,8 +56,8 @@ pub fn picks_tls13(block: &[u8]) -> bool
     let mut left = block;
     for _ in 0..block.len() {
         match extension(left) {
-            Ok((after, found)) => {
-                if is_pick(found) {
+            Ok((after, (extension_type, content))) => {
+                if is_pick(extension_type, content) {
                     return true;
                 }
                 left = after;
