@@ -19,8 +19,12 @@ fn said(alloc: Global, names: &[(Name, bool)]) -> Result<Vec<(TlsMessage<'static
 /// The conversation ends there.
 fn ends(rt: &impl Abort, alloc: Global, names: &[(Name, bool)], end: TlsState) -> Result<(), Fail> {
     let messages = said(alloc, names)?;
+    let mut borrowed = Vec::new(alloc);
+    for (message, to_server) in &messages {
+        borrowed.push((message, *to_server))?;
+    }
     let mut context = ParseContext::new();
-    context.run(&messages);
+    context.run(&borrowed);
     assert_eq!(rt; context.state(), end);
     Ok(())
 }

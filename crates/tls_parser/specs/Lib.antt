@@ -35,7 +35,8 @@ pub use Rattle.tls_hs.specs.Handshake
 pub use Rattle.tls_hs.specs.HandshakeText
 pub use Rattle.tls_hs.specs.Message
 pub use Rattle.tls_states.specs.Letters
-pub use Rattle.tls_states.specs.Words
+pub use Rattle.tls_words.specs.Words
 pub use Rattle.tls_states.specs.Grammar
 pub use Rattle.tls_states.specs.Conversations
 pub use Rattle.tls_states.specs.Steps
+pub use Rattle.tls_states.specs.States

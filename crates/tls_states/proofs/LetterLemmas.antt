@@ -1,23 +1,22 @@
--- Letters are the same or not, which computes.
-use Rattle.std.proofs.Common.{◌≡◌, Bool, true, false, refl}
+-- Letters are the same or not, which computes; and all of them.
+use Rattle.std.proofs.Common.{◌≡◌, List, [], ◌∷◌, ◌++◌, map, Option, None, Some, Bool, true, false, refl}
+use Rattle.std.specs.List.{list_all}
+use Rattle.std.specs.Prelude.{is_some, option_map}
+use Rattle.tls_words.proofs.LetterLemmas.{decided, is_in, passes_in}
 use Rattle.tls_states.specs.Letters.{Letter, letter}
 use Rattle.tls_states.specs.declared.letter.Kind.{Kind}
+use Rattle.tls_states.specs.declared.letter.Kind.TheVariants.{HelloRequest, ClientHello, ClientHelloWithId, ServerHello, ServerHelloV13Draft18, NewSessionTicket, Certificate, ServerKeyExchange, CertificateRequest, ServerDone, CertificateVerify, ClientKeyExchange, CertificateStatus, ChangeCipherSpec, Warning, Fatal, Other}
 use Rattle.tls_states.specs.declared.letter.Direction.{Direction}
-use Rattle.tls_states.specs.contracts.letter.Kind.{the_type as kinds}
-use Rattle.tls_states.specs.contracts.letter.Direction.{the_type as directions}
-use denote.Enum.Declared.{Declared}
-use denote.Enum.Bare.{Bare, sameb, same_true, same_false}
-
--- Values of an enum without fields.
-abbrev decided : (D : Declared) → Bare D.parts → (a b : D.D) (t : Bool) → sameb D a b ≡ t → Dec (a ≡ b)
-decided D bare a b true e = yes (same_true D bare a b e)
-decided D bare a b false e = no (same_false D a b e)
+use Rattle.tls_states.specs.declared.letter.Direction.TheVariants.{ToServer, FromServer}
+use Rattle.tls_states.specs.contracts.letter.Kind.{the_type as kinds_type}
+use Rattle.tls_states.specs.contracts.letter.Direction.{the_type as directions_type}
+use denote.Enum.Bare.{sameb}
 
 abbrev same_kind : (a b : Kind) → Dec (a ≡ b)
-same_kind a b = decided kinds tt a b (sameb kinds a b) refl
+same_kind a b = decided kinds_type tt a b (sameb kinds_type a b) refl
 
 abbrev same_direction : (a b : Direction) → Dec (a ≡ b)
-same_direction a b = decided directions tt a b (sameb directions a b) refl
+same_direction a b = decided directions_type tt a b (sameb directions_type a b) refl
 
 pub letter_is : {k j : Kind} {d e : Direction} → k ≡ j → d ≡ e → letter k d ≡ letter j e
 letter_is p q = cc
@@ -35,3 +34,26 @@ of_parts p (no q) = no (λ e. q (direction_is e))
 
 abbrev pub same_letter : (a b : Letter) → Dec (a ≡ b)
 same_letter (letter k d) (letter j e) = of_parts (same_kind k j) (same_direction d e)
+
+abbrev kinds : List Kind
+kinds =
+    HelloRequest ∷ ClientHello ∷ ClientHelloWithId ∷ ServerHello ∷ ServerHelloV13Draft18 ∷ NewSessionTicket ∷ Certificate
+    ∷ ServerKeyExchange ∷ CertificateRequest ∷ ServerDone ∷ CertificateVerify ∷ ClientKeyExchange ∷ CertificateStatus
+    ∷ ChangeCipherSpec ∷ Warning ∷ Fatal ∷ Other ∷ []
+
+abbrev pub letters : List Letter
+letters = map (λ k. letter k ToServer) kinds ++ map (λ k. letter k FromServer) kinds
+
+all_in : (k : Kind) (d : Direction) → is_in same_letter letters (letter k d) ≡ true
+all_in = elim [ HelloRequest ↦ elim [ ToServer ↦ refl | _ ↦ refl ] | _ ↦ elim [ ToServer ↦ refl | _ ↦ refl ] ]
+
+listed : (l : Letter) → is_in same_letter letters l ≡ true
+listed (letter k d) = all_in k d
+
+pub passes : (f : Letter → Bool) (l : Letter) → list_all f letters ≡ true → f l ≡ true
+passes f l t = passes_in same_letter f letters l t (listed l)
+
+-- A view of an id is there where the id is.
+pub viewed_is_some : {A B : Type 0} (f : A → B) (o : Option A) → is_some (option_map f o) ≡ is_some o
+viewed_is_some f None = refl
+viewed_is_some f (Some x) = refl

@@ -1,5 +1,4 @@
 pub mod LetterLemmas
-pub mod PatternLemmas
+pub mod RowLemmas
 pub mod FollowLemmas
 pub mod ConversationLemmas
-pub mod RowLemmas

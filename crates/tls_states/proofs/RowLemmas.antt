@@ -1,6 +1,8 @@
 -- The rows of the table.
-use Rattle.std.proofs.Common.{◌≡◌, ℕ, zero, suc, List, [], ◌∷◌, Option, Some, None, Result, Ok, Bool, true, false, not, ◌&&◌, ◌||◌, slice_get, inl, inr, refl, sym, ◌∙◌, ap, subst}
-use Rattle.tls_states.proofs.PatternLemmas.{and_both, both_and, or_either}
+use Rattle.std.proofs.Common.{◌≡◌, ℕ, Option, Some, None, Result, Ok, Bool, true, ◌&&◌, slice_get, Contains, lit<, refl, sym, ◌∙◌, ap}
+use Rattle.tls_words.proofs.PatternLemmas.{and_both}
+use Rattle.tls_words.proofs.TableLemmas.{one_place}
+use Rattle.tls_states.specs.States.{IsOncePlaced}
 use Rattle.tls_states.specs.Letters.{letter}
 use Rattle.tls_states.specs.Steps.{step, rule}
 use Rattle.tls_states.specs.Table.{next_after, IsOneRowEach}
@@ -13,50 +15,58 @@ use Rattle.tls_states.specs.declared.letter.Direction.{Direction}
 use Rattle.tls_states.specs.declared.letter.Direction.TheVariants.{ToServer, FromServer}
 use Rattle.tls_states.specs.declared.table.Row.{Row}
 use Rattle.tls_states.specs.declared.table.TheConstants.{ROWS}
+use Rattle.tls_states.specs.declared.state.TheConstants.{STATES}
 use Rattle.tls_states.specs.contracts.state.TlsState.{the_type as states}
 use Rattle.tls_states.specs.contracts.letter.Kind.{the_type as kinds}
 use Rattle.tls_states.specs.contracts.letter.Direction.{the_type as directions}
 use denote.Enum.Bare.{sameb, true_same}
 
--- No state, kind and direction stand in two rows: by a test of each row against those behind it.
+-- No state, kind and direction stand in two rows.
 abbrev is_like : Row → Row → Bool
 is_like r s = sameb states r.state s.state && (sameb kinds r.kind s.kind && sameb directions r.direction s.direction)
-
-abbrev has_like : Row → List Row → Bool
-has_like r [] = false
-has_like r (s ∷ rows) = is_like r s || has_like r rows
-
-abbrev all_unlike : List Row → Bool
-all_unlike [] = true
-all_unlike (r ∷ rows) = not (has_like r rows) && all_unlike rows
 
 alike : (r s : Row) → r.state ≡ s.state → r.kind ≡ s.kind → r.direction ≡ s.direction → is_like r s ≡ true
 alike r s e f g = and_both _ _ (true_same states r.state s.state e) (and_both _ _ (true_same kinds r.kind s.kind f) (true_same directions r.direction s.direction g))
 
-found_like : (r s : Row) (rows : List Row) (j : ℕ) → slice_get rows j ≡ Some s → is_like r s ≡ true → has_like r rows ≡ true
-found_like r s [] j there like = absurd cc
-found_like r s (x ∷ rows) zero there like = let same : x ≡ s = cc in or_either (is_like r x) (has_like r rows) (inl (subst (λ y. is_like r y ≡ true) (sym same) like))
-found_like r s (x ∷ rows) (suc j) there like = or_either (is_like r x) (has_like r rows) (inr (found_like r s rows j there like))
-
-not_both : (t : Bool) → not t ≡ true → t ≡ true → ⊥
-not_both true e f = cc
-not_both false e f = cc
-
-one_row_each : (rows : List Row) → all_unlike rows ≡ true → IsOneRowEach rows
-one_row_each [] t i j r s at_i at_j e f g = absurd cc
-one_row_each (x ∷ rows) t zero zero r s at_i at_j e f g = refl
-one_row_each (x ∷ rows) t zero (suc j) r s at_i at_j e f g =
-    let same : x ≡ r = cc in
-    let like : has_like x rows ≡ true = found_like x s rows j at_j (subst (λ y. is_like y s ≡ true) (sym same) (alike r s e f g)) in
-    absurd (not_both (has_like x rows) (both_and _ _ t).0 like)
-one_row_each (x ∷ rows) t (suc i) zero r s at_i at_j e f g =
-    let same : x ≡ s = cc in
-    let like : has_like x rows ≡ true = found_like x r rows i at_i (subst (λ y. is_like y r ≡ true) (sym same) (alike s r (sym e) (sym f) (sym g))) in
-    absurd (not_both (has_like x rows) (both_and _ _ t).0 like)
-one_row_each (x ∷ rows) t (suc i) (suc j) r s at_i at_j e f g = ap suc (one_row_each rows (both_and _ _ t).1 i j r s at_i at_j e f g)
-
 pub rows_are_one_each : IsOneRowEach ROWS
-rows_are_one_each = one_row_each ROWS refl
+rows_are_one_each i j r s at_i at_j e f g =
+    one_place is_like ROWS refl i j r s at_i at_j (alike r s e f g) (alike s r (sym e) (sym f) (sym g))
+
+-- All states, each once.
+same_place : (i j : ℕ) (q : TlsState) → slice_get STATES i ≡ Some q → slice_get STATES j ≡ Some q → i ≡ j
+same_place i j q at_i at_j = one_place (sameb states) STATES refl i j q q at_i at_j (true_same states q q refl) (true_same states q q refl)
+
+pub each_once : IsOncePlaced STATES
+each_once = same_place
+
+pub all_states : (q : TlsState) → Contains STATES q
+all_states = elim [
+  | state.None ↦ (0, lit< tt, refl)
+  | state.ClientHello ↦ (1, lit< tt, refl)
+  | state.AskResumeSession ↦ (2, lit< tt, refl)
+  | state.ResumeSession ↦ (3, lit< tt, refl)
+  | state.ServerHello ↦ (4, lit< tt, refl)
+  | state.Certificate ↦ (5, lit< tt, refl)
+  | state.CertificateSt ↦ (6, lit< tt, refl)
+  | state.ServerKeyExchange ↦ (7, lit< tt, refl)
+  | state.ServerHelloDone ↦ (8, lit< tt, refl)
+  | state.ClientKeyExchange ↦ (9, lit< tt, refl)
+  | state.ClientChangeCipherSpec ↦ (10, lit< tt, refl)
+  | state.CRCertRequest ↦ (11, lit< tt, refl)
+  | state.CRHelloDone ↦ (12, lit< tt, refl)
+  | state.CRCert ↦ (13, lit< tt, refl)
+  | state.CRClientKeyExchange ↦ (14, lit< tt, refl)
+  | state.CRCertVerify ↦ (15, lit< tt, refl)
+  | state.NoCertSKE ↦ (16, lit< tt, refl)
+  | state.NoCertHelloDone ↦ (17, lit< tt, refl)
+  | state.NoCertCKE ↦ (18, lit< tt, refl)
+  | state.PskHelloDone ↦ (19, lit< tt, refl)
+  | state.PskCKE ↦ (20, lit< tt, refl)
+  | state.SessionEncrypted ↦ (21, lit< tt, refl)
+  | state.Alert ↦ (22, lit< tt, refl)
+  | state.Finished ↦ (23, lit< tt, refl)
+  | state.Invalid ↦ (24, lit< tt, refl)
+]
 
 -- A letter does what its row says, or else what a rule does.
 answered : Option TlsState → Result TlsState StateChangeError → Result TlsState StateChangeError

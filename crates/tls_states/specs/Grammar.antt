@@ -2,59 +2,71 @@
 -- server's ChangeCipherSpec, behind which all is encrypted.
 use Rattle.std.specs.Prelude.{[], ◌∷◌, Bool, true, false, not, if◌then◌else◌, filter}
 use Rattle.tls_states.specs.Letters.{Letter, letter, Word}
-use Rattle.tls_states.specs.Words.{Words, client, server, ◌then◌, ◌or◌, any, maybe, many}
+use Rattle.tls_words.specs.Words.{Pattern, one, ◌then◌, ◌or◌, maybe, many}
+use Rattle.tls_states.specs.declared.letter.Kind.{Kind}
 use Rattle.tls_states.specs.declared.letter.Kind.TheVariants.{HelloRequest, ClientHello, ClientHelloWithId, ServerHello, ServerHelloV13Draft18, NewSessionTicket, Certificate, ServerKeyExchange, CertificateRequest, ServerDone, CertificateVerify, ClientKeyExchange, CertificateStatus, ChangeCipherSpec, Warning}
+use Rattle.tls_states.specs.declared.letter.Direction.TheVariants.{ToServer, FromServer}
+
+-- A message of the client, of the server, and of either side.
+abbrev pub client : Kind → Pattern Letter
+client k = one (letter k ToServer)
+
+abbrev pub server : Kind → Pattern Letter
+server k = one (letter k FromServer)
+
+abbrev pub any : Kind → Pattern Letter
+any k = client k or server k
 
 -- The end of the server's hello, and the client's answer without a certificate.
-abbrev pub without_client_certificate : Words
+abbrev pub without_client_certificate : Pattern Letter
 without_client_certificate = server ServerDone then client ClientKeyExchange then any ChangeCipherSpec
 
 -- The same where the server asks for a certificate: the client sends one, and may prove that it owns it.
-abbrev pub with_client_certificate : Words
+abbrev pub with_client_certificate : Pattern Letter
 with_client_certificate =
     server CertificateRequest then server ServerDone
     then client Certificate then client ClientKeyExchange then maybe (any CertificateVerify) then any ChangeCipherSpec
 
 -- The server's key exchange, before it perhaps the state of its certificate (RFC 6066, section 8).
-abbrev pub key_exchange : Words
+abbrev pub key_exchange : Pattern Letter
 key_exchange = maybe (server CertificateStatus) then server ServerKeyExchange
 
 -- What follows the server's certificate.
-abbrev pub after_certificate : Words
+abbrev pub after_certificate : Pattern Letter
 after_certificate =
     maybe key_exchange then with_client_certificate
     or key_exchange then without_client_certificate
     or without_client_certificate
 
 -- What follows the ServerHello of a new session: a certificate, or keys alone.
-abbrev pub new_session : Words
+abbrev pub new_session : Pattern Letter
 new_session = server Certificate then after_certificate or server ServerKeyExchange then without_client_certificate
 
 -- The first figure of section 7.3, where the client names no session.
-abbrev pub full_handshake : Words
+abbrev pub full_handshake : Pattern Letter
 full_handshake = client ClientHello then server ServerHello then new_session
 
 -- The second figure, where the client names a session: it may change its cipher at once, and the session is resumed, or
 -- the server goes on with its certificate as for a new one.
-abbrev pub resumed : Words
+abbrev pub resumed : Pattern Letter
 resumed = any ChangeCipherSpec
 
-abbrev pub not_resumed : Words
+abbrev pub not_resumed : Pattern Letter
 not_resumed = server Certificate then after_certificate
 
-abbrev pub resumption : Words
+abbrev pub resumption : Pattern Letter
 resumption =
     client ClientHelloWithId then many (client ChangeCipherSpec) then server ServerHello then (resumed or not_resumed)
 
 -- Draft 18 of TLS 1.3, section 2, up to the first encrypted message.
-abbrev pub draft_18 : Words
+abbrev pub draft_18 : Pattern Letter
 draft_18 = client ClientHello then server ServerHelloV13Draft18
 
 -- The tickets that the server hands out (RFC 5077, section 3.1), and its ChangeCipherSpec.
-abbrev pub servers_change : Words
+abbrev pub servers_change : Pattern Letter
 servers_change = many (server NewSessionTicket) then server ChangeCipherSpec
 
-abbrev pub handshake : Words
+abbrev pub handshake : Pattern Letter
 handshake = (full_handshake or resumption or draft_18) then servers_change
 
 -- Noise: alerts of severity 1, and HelloRequests behind the first ClientHello (section 7.4.1.1).

@@ -1,5 +1,6 @@
 -- The table of transitions.
-use Rattle.std.specs.Prelude.{◌≡◌, [], ◌∷◌, Result, Ok, Err}
+use Rattle.std.specs.Prelude.{◌≡◌, Result, Ok, Err}
+use Rattle.tls_words.specs.Words as words
 use Rattle.tls_states.specs.Letters.{Letter, letter, Word}
 use Rattle.tls_states.specs.declared.letter.Kind.{Kind}
 use Rattle.tls_states.specs.declared.letter.Kind.TheVariants as kind
@@ -68,10 +69,12 @@ abbrev pub or_invalid : Result TlsState StateChangeError → TlsState
 or_invalid (Ok q) = q
 or_invalid (Err e) = state.Invalid
 
+abbrev pub next : TlsState → Letter → TlsState
+next q l = or_invalid (step q l)
+
 -- The state after a conversation.
 abbrev pub run : TlsState → Word → TlsState
-run q [] = q
-run q (l ∷ w) = run (or_invalid (step q l)) w
+run q w = words.run next q w
 
 -- A step was taken: where it leads, and what is answered.
 abbrev pub IsUpdate : Result TlsState StateChangeError → TlsState → Result Unit StateChangeError → Type 0

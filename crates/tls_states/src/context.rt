@@ -67,17 +67,18 @@ impl ParseContext {
     /// is in [`ParseContext::state`].
     ///
     /// Of a new context it is told by the grammar of handshakes, `specs/Grammar.antt`, and without states: it is
-    /// [`TlsState::SessionEncrypted`] where the messages begin with a handshake, in which warnings, and HelloRequests
-    /// behind the ClientHello, may stand anywhere. It is [`TlsState::Invalid`] where they don't, can't become one by
-    /// further messages, and weren't broken off by a fatal alert while they could.
-    pub fn run(&mut self, messages: &[(TlsMessage<'_>, bool)])
+    /// [`TlsState::SessionEncrypted`] exactly where the messages begin with a handshake of it, in which warnings, and
+    /// HelloRequests behind the ClientHello, may stand anywhere. It is [`TlsState::Invalid`] exactly where they don't,
+    /// can't become one by further messages, and aren't the beginning of one and then a fatal alert as the last message.
+    /// A message behind that alert makes it `Invalid`.
+    pub fn run(&mut self, messages: &[(&TlsMessage<'_>, bool)])
         ensures by_steps { self.new ≡ run_of self.old (word messages.now) }
         ensures encrypted { self.old ≡ state.None → (self.new ≡ state.SessionEncrypted) ↔ HasHandshake (word messages.now) }
         ensures invalid { self.old ≡ state.None → (self.new ≡ state.Invalid) ↔ (¬ HasHandshake (word messages.now) × ¬ MayBecomeHandshake (word messages.now) × ¬ IsBrokenOff (word messages.now)) }
     {
         for i in 0..messages.len() {
             let (message, to_server) = &messages[i];
-            let _ = self.update(message, *to_server);
+            let _ = self.update(*message, *to_server);
         }
     }
 }

@@ -1,5 +1,7 @@
 //! What the rules of a conversation see of a message: its kind and its direction.
 ghost use Rattle.std.specs.Prelude.{◌≡◌, Some, slice_get};
+ghost use Rattle.tls_hs.specs.Handshake.{view_handshake};
+ghost use Rattle.tls_hs.specs.Message.{view_message};
 ghost use Rattle.tls_states.specs.Letters.{kind_by_variant, kind_of_handshake, kind_of_message, direction};
 
 use tls_base::TlsAlertSeverity;
@@ -77,7 +79,7 @@ static BY_VARIANT: [Kind; 17] = [
 /// The place of a message's variant among the variants.
 #[inline]
 fn place_of_variant(message: &TlsMessageHandshake<'_>) -> usize
-    ensures { slice_get BY_VARIANT result ≡ Some (kind_by_variant message.now) }
+    ensures { slice_get BY_VARIANT result ≡ Some (kind_by_variant (view_handshake message.now)) }
 {
     match message {
         TlsMessageHandshake::HelloRequest => 0,
@@ -104,15 +106,16 @@ impl Kind {
     /// The kind of a handshake message by its variant alone: that of a ClientHello without a session id for each.
     #[inline]
     fn by_variant(message: &TlsMessageHandshake<'_>) -> Kind
-        ensures { result ≡ kind_by_variant message.now }
+        ensures { result ≡ kind_by_variant (view_handshake message.now) }
     {
         BY_VARIANT[place_of_variant(message)]
     }
 
     /// The kind of a handshake message. The session id is looked at apart, so that the rest is a look-up of the variant.
+    #[tactic(auto, using(crate::proofs::LetterLemmas::viewed_is_some))]
     #[inline]
     fn of_handshake(message: &TlsMessageHandshake<'_>) -> Kind
-        ensures { result ≡ kind_of_handshake message.now }
+        ensures { result ≡ kind_of_handshake (view_handshake message.now) }
     {
         if let TlsMessageHandshake::ClientHello(hello) = message {
             if hello.session_id.is_some() {
@@ -125,7 +128,7 @@ impl Kind {
     /// The kind of a message.
     #[inline]
     pub(crate) fn of(message: &TlsMessage<'_>) -> Kind
-        ensures { result ≡ kind_of_message message.now }
+        ensures { result ≡ kind_of_message (view_message message.now) }
     {
         match message {
             TlsMessage::Handshake(message) => Kind::of_handshake(message),

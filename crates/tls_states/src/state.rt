@@ -1,4 +1,8 @@
 //! Where a handshake stands.
+ghost use Rattle.std.specs.Prelude.{◌≡◌, Contains, Some};
+ghost use Rattle.tls_states.specs.States.{state_name, IsOncePlaced};
+
+use std::fmt;
 
 /// Where a handshake stands, which is what it waits for next (RFC 5246, section 7.3).
 ///
@@ -31,8 +35,8 @@ pub enum TlsState {
     ServerHelloDone,
     /// After that ClientKeyExchange. It waits for a ChangeCipherSpec of either side.
     ClientKeyExchange,
-    /// After the first ChangeCipherSpec, or a ServerHello of draft 18. It waits for the server's ChangeCipherSpec, before
-    /// which NewSessionTickets may come.
+    /// After the first ChangeCipherSpec, of either side, or a ServerHello of draft 18. It waits for the server's
+    /// ChangeCipherSpec, before which NewSessionTickets may come.
     ClientChangeCipherSpec,
     /// After a CertificateRequest. It waits for the ServerHelloDone.
     CRCertRequest,
@@ -54,14 +58,89 @@ pub enum TlsState {
     PskHelloDone,
     /// After that ClientKeyExchange. It waits for a ChangeCipherSpec of either side.
     PskCKE,
-    /// Both sides encrypt. It waits for nothing, and every message keeps it.
+    /// After the ChangeCipherSpec of the server that ends a handshake; the one before it may be the server's too. It waits
+    /// for nothing, and every message keeps it.
     SessionEncrypted,
     /// No message leads here. It waits for nothing.
     Alert,
     /// After a fatal alert. It waits for nothing: every message leads to [`TlsState::Invalid`].
     Finished,
-    /// After a message that was not waited for. It waits for nothing, and every message keeps it.
+    /// After a message that was not waited for, or any message behind a fatal alert. It waits for nothing, and every
+    /// message keeps it.
     Invalid,
+}
+
+/// All states, told once more: it hands them to the macro that it is passed, behind the words that follow the macro's name.
+macro_rules! states {
+    ($then:ident $($words:tt)*) => {
+        $then! {
+            [$($words)*]
+            None, ClientHello, AskResumeSession, ResumeSession, ServerHello, Certificate, CertificateSt,
+            ServerKeyExchange, ServerHelloDone, ClientKeyExchange, ClientChangeCipherSpec, CRCertRequest,
+            CRHelloDone, CRCert, CRClientKeyExchange, CRCertVerify, NoCertSKE, NoCertHelloDone, NoCertCKE,
+            PskHelloDone, PskCKE, SessionEncrypted, Alert, Finished, Invalid
+        }
+    };
+}
+
+/// 1 for each state.
+macro_rules! one {
+    ($state:ident) => {
+        1
+    };
+}
+
+/// How many there are.
+macro_rules! count {
+    ([] $($state:ident),*) => {
+        0 $(+ one!($state))*
+    };
+}
+
+/// The states in one array.
+macro_rules! all {
+    ([] $($state:ident),*) => {
+        [$(TlsState::$state),*]
+    };
+}
+
+/// The name of a state.
+macro_rules! name {
+    ([$of:ident] $($state:ident),*) => {
+        match $of {
+            $(TlsState::$state => stringify!($state),)*
+        }
+    };
+}
+
+const COUNT: usize = states!(count);
+
+static STATES: [TlsState; COUNT] = states!(all);
+
+impl TlsState {
+    /// All states, in the order of their declaration.
+    pub fn all() -> &'static [TlsState]
+        ensures each { (q : TlsState) → Contains result.now q }
+        ensures once { IsOncePlaced result.now }
+    {
+        &STATES
+    }
+
+    /// The name of the state, which is that of its variant.
+    pub fn name(self) -> &'static str
+        ensures { result.now ≡ state_name self }
+    {
+        let state = self;
+        states!(name state)
+    }
+}
+
+impl fmt::Display for TlsState {
+    ghost output = { λ q. Some (state_name q) };
+
+    fn fmt<W: fmt::Write>(&self, f: &mut fmt::Formatter<W>) -> fmt::Result {
+        f.write_str(self.name())
+    }
 }
 
 /// Why a message leads to no state.

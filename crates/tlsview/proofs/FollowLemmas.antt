@@ -1,18 +1,14 @@
 -- The letters of messages, apart from where these lie in memory.
-use Rattle.std.proofs.Common.{◌≡◌, ℕ, ◌++◌, Option, None, Some, Ok, Bool, false, List, [], ◌∷◌, map, refl, sym, ◌∙◌, ap, subst}
+use Rattle.std.proofs.Common.{◌≡◌, ℕ, ◌++◌, Ok, Bool, false, List, [], ◌∷◌, map, refl, sym, ◌∙◌, ap, subst}
 use Rattle.std.specs.List.{list_any}
-use Rattle.std.specs.Prelude.{◌||◌, is_some, option_map, flat_map}
+use Rattle.std.specs.Prelude.{◌||◌, flat_map}
 use Rattle.tls_fields.specs.Bytes.{Bytes}
 use Rattle.tls_fields.specs.Reading.{reading}
 use Rattle.tls_parser.specs.Record.{RawRecord, record_content}
-use Rattle.tls_hs.specs.Handshake.{view_handshake}
 use Rattle.tls_hs.specs.Message.{view_message}
 use Rattle.tls_hs.specs.declared.message.TlsMessage.{TlsMessage}
-use Rattle.tls_hs.specs.declared.message.TlsMessage.TheVariants as message
-use Rattle.tls_hs.specs.declared.handshake.TlsMessageHandshake.{TlsMessageHandshake}
-use Rattle.tls_hs.specs.declared.handshake.TlsMessageHandshake.TheVariants as handshake
 use Rattle.tls_states.specs.Letters as letters
-use Rattle.tls_states.specs.ViewedLetters.{kind_of_viewed_handshake, kind_of_viewed, letter_of_viewed}
+use Rattle.tls_states.specs.Letters.{letter_of_viewed}
 use Rattle.tls_states.specs.Steps.{run}
 use Rattle.tls_states.specs.declared.state.TlsState.{TlsState}
 use Rattle.tlsview.specs.Transition.{goes_to_server, state_after, changes_cipher}
@@ -21,41 +17,9 @@ use Rattle.tlsview.specs.Shown.{IsShown}
 use Rattle.tlsview.specs.declared.direction.Direction.{Direction}
 use Rattle.tlsview.specs.declared.records.Next.TheVariants as next
 
-same_hello : {A B : Type 0} (f : A → B) (o : Option A) → is_some (option_map f o) ≡ is_some o
-same_hello f None = refl
-same_hello f (Some x) = refl
-
-same_handshake : (m : TlsMessageHandshake) → kind_of_viewed_handshake (view_handshake m) ≡ letters.kind_of_handshake m
-same_handshake handshake.HelloRequest = refl
-same_handshake (handshake.ClientHello hello) = ap letters.kind_of_hello (same_hello (λ x. x.now) hello.session_id)
-same_handshake (handshake.ServerHello hello) = refl
-same_handshake (handshake.ServerHelloV13Draft18 hello) = refl
-same_handshake (handshake.NewSessionTicket ticket) = refl
-same_handshake handshake.EndOfEarlyData = refl
-same_handshake (handshake.HelloRetryRequest request) = refl
-same_handshake (handshake.Certificate chain) = refl
-same_handshake (handshake.ServerKeyExchange parameters) = refl
-same_handshake (handshake.CertificateRequest request) = refl
-same_handshake (handshake.ServerDone body) = refl
-same_handshake (handshake.CertificateVerify signature) = refl
-same_handshake (handshake.ClientKeyExchange parameters) = refl
-same_handshake (handshake.Finished body) = refl
-same_handshake (handshake.CertificateStatus status) = refl
-same_handshake (handshake.NextProtocol protocol) = refl
-same_handshake (handshake.KeyUpdate n) = refl
-
-same_kind : (m : TlsMessage) → kind_of_viewed (view_message m) ≡ letters.kind_of_message m
-same_kind (message.Handshake m) = same_handshake m
-same_kind message.ChangeCipherSpec = refl
-same_kind (message.Alert alert) = refl
-same_kind (message.ApplicationData body) = refl
-same_kind (message.Heartbeat heartbeat) = refl
-
 same_letters : (d : Direction) (ms : List TlsMessage) → map (λ m. letter_of_viewed m (goes_to_server d)) (map view_message ms) ≡ map (λ m. letters.letter_of m (goes_to_server d)) ms
 same_letters d [] = refl
-same_letters d (m ∷ ms) =
-    ap (λ k. letters.letter k (letters.direction (goes_to_server d)) ∷ map (λ m. letter_of_viewed m (goes_to_server d)) (map view_message ms)) (same_kind m)
-    ∙ ap (λ w. letters.letter_of m (goes_to_server d) ∷ w) (same_letters d ms)
+same_letters d (m ∷ ms) = ap (λ w. letters.letter_of m (goes_to_server d) ∷ w) (same_letters d ms)
 
 pub followed : (d : Direction) (q : TlsState) (ms : List TlsMessage) → run q (map (λ m. letters.letter_of m (goes_to_server d)) ms) ≡ state_after d q (map view_message ms)
 followed d q ms = ap (run q) (sym (same_letters d ms))

@@ -1,7 +1,7 @@
 -- How the messages of records lead from a state to the next.
 use Rattle.std.specs.Prelude.{Bool, true, false, List, map}
 use Rattle.tls_hs.specs.Message as messages
-use Rattle.tls_states.specs.ViewedLetters.{letter_of_viewed}
+use Rattle.tls_states.specs.Letters.{letter_of_viewed}
 use Rattle.tls_states.specs.Steps.{run}
 use Rattle.tls_states.specs.declared.state.TlsState.{TlsState}
 use Rattle.tlsview.specs.declared.direction.Direction.{Direction}

@@ -1,0 +1,46 @@
+-- Letters are the same or not, which computes; and all of them.
+use Rattle.std.proofs.Common.{◌≡◌, List, [], ◌∷◌, ◌++◌, map, Bool, true, false, refl, ap, subst}
+use Rattle.std.specs.List.{list_all}
+use Rattle.tls_words.proofs.LetterLemmas.{decided, is_in, passes_in}
+use Rattle.tls_flow.specs.Letters.{letter}
+use Rattle.tls_flow.specs.declared.letter.Letter.{Letter}
+use Rattle.tls_flow.specs.declared.letter.Kind.{Kind}
+use Rattle.tls_flow.specs.declared.letter.Kind.TheVariants as kind
+use Rattle.tls_flow.specs.declared.letter.Direction.{Direction}
+use Rattle.tls_flow.specs.declared.letter.Direction.TheVariants.{ToServer, FromServer}
+use Rattle.tls_flow.specs.contracts.letter.Kind.{the_type as kinds_type}
+use Rattle.tls_flow.specs.contracts.letter.Direction.{the_type as directions_type}
+use denote.Enum.Bare.{sameb}
+
+abbrev same_kind : (a b : Kind) → Dec (a ≡ b)
+same_kind a b = decided kinds_type tt a b (sameb kinds_type a b) refl
+
+abbrev same_direction : (a b : Direction) → Dec (a ≡ b)
+same_direction a b = decided directions_type tt a b (sameb directions_type a b) refl
+
+pub letter_is : (a b : Letter) → a.kind ≡ b.kind → a.direction ≡ b.direction → a ≡ b
+letter_is a b p q = subst (λ x. a ≡ letter x b.direction) p (ap (λ y. letter a.kind y) q)
+
+abbrev of_parts : (a b : Letter) → Dec (a.kind ≡ b.kind) → Dec (a.direction ≡ b.direction) → Dec (a ≡ b)
+of_parts a b (yes p) (yes q) = yes (letter_is a b p q)
+of_parts a b (no p) q = no (λ e. p (ap (λ l. l.kind) e))
+of_parts a b p (no q) = no (λ e. q (ap (λ l. l.direction) e))
+
+abbrev pub same_letter : (a b : Letter) → Dec (a ≡ b)
+same_letter a b = of_parts a b (same_kind a.kind b.kind) (same_direction a.direction b.direction)
+
+abbrev kinds : List Kind
+kinds =
+    kind.HelloRequest ∷ kind.ClientHello ∷ kind.HelloVerifyRequest ∷ kind.ServerHello ∷ kind.HelloRetryRequest ∷
+    kind.ServerHello13 ∷ kind.NewSessionTicket ∷ kind.Certificate ∷ kind.ServerKeyExchange ∷ kind.CertificateRequest ∷
+    kind.ServerDone ∷ kind.CertificateVerify ∷ kind.ClientKeyExchange ∷ kind.CertificateStatus ∷ kind.ChangeCipherSpec ∷
+    kind.Encrypted ∷ kind.Warning ∷ kind.NoCertificate ∷ kind.Fatal ∷ kind.Heartbeat ∷ kind.Unknown ∷ kind.Other ∷ []
+
+abbrev pub letters : List Letter
+letters = map (λ k. letter k ToServer) kinds ++ map (λ k. letter k FromServer) kinds
+
+all_in : (k : Kind) (d : Direction) → is_in same_letter letters (letter k d) ≡ true
+all_in = elim [ kind.HelloRequest ↦ elim [ ToServer ↦ refl | _ ↦ refl ] | _ ↦ elim [ ToServer ↦ refl | _ ↦ refl ] ]
+
+pub passes : (f : Letter → Bool) (l : Letter) → list_all f letters ≡ true → f l ≡ true
+passes f l t = passes_in same_letter f letters l t (all_in l.kind l.direction)

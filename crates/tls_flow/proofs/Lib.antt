@@ -1,0 +1,6 @@
+pub mod LetterLemmas
+pub mod RowLemmas
+pub mod FollowLemmas
+pub mod ConversationLemmas
+pub mod FlowLemmas
+pub mod MessageLemmas

@@ -1,0 +1,72 @@
+-- Where a conversation ends, told by the grammar.
+use Rattle.std.specs.Prelude.{◌≡◌, ℕ, List, ◌∷◌, ◌++◌, Option, None, Some, Bool, length, min, [], ◌⊎◌, ◌-◌, ◌^◌}
+use Rattle.tls_flow.specs.Letters.{letter, Word, letters_of}
+use Rattle.tls_words.specs.Words.{HasFront, MayBecome, without}
+use Rattle.tls_flow.specs.Grammar.{full, resumed, tls13, handshake, is_noise}
+use Rattle.tls_flow.specs.declared.letter.Kind.TheVariants.{Fatal, Unknown}
+use Rattle.tls_flow.specs.declared.letter.Kind.{Kind}
+use Rattle.tls_flow.specs.declared.letter.Direction.{Direction}
+use Rattle.tls_flow.specs.declared.event.Event.{Event}
+use Rattle.tls_flow.specs.declared.flow.Stop.{Stop}
+use Rattle.tls_flow.specs.declared.state.Outcome.{Outcome}
+use Rattle.tls_flow.specs.declared.state.Outcome.TheVariants as outcome
+
+-- Some front of w, cleaned, is a handshake of that form.
+abbrev pub IsFull : Word → Type 0
+IsFull w = HasFront (without is_noise) full w
+
+abbrev pub IsResumed : Word → Type 0
+IsResumed w = HasFront (without is_noise) resumed w
+
+abbrev pub IsTls13 : Bool → Bool → Word → Type 0
+IsTls13 retried early w = HasFront (without is_noise) (tls13 retried early) w
+
+-- Some front is one of any form.
+abbrev pub HasHandshake : Word → Type 0
+HasHandshake w = HasFront (without is_noise) handshake w
+
+-- w, cleaned, is the beginning of one, perhaps empty.
+abbrev pub MayBecomeHandshake : Word → Type 0
+MayBecomeHandshake w = MayBecome (without is_noise) handshake w
+
+-- No front is a handshake, and one can still come.
+abbrev pub IsUnderWay : Word → Type 0
+IsUnderWay w = ¬ HasHandshake w × MayBecomeHandshake w
+
+-- A letter of that kind stands in w, and in front of it a handshake was under way.
+abbrev pub IsStoppedBy : Kind → Word → Type 0
+IsStoppedBy k w = (u v : Word) × (d : Direction) × (w ≡ u ++ letter k d ∷ v) × IsUnderWay u
+
+-- A fatal alert does so.
+abbrev pub IsBrokenOff : Word → Type 0
+IsBrokenOff w = IsStoppedBy Fatal w
+
+-- A message that isn't known does so.
+abbrev pub IsUnknown : Word → Type 0
+IsUnknown w = IsStoppedBy Unknown w
+
+-- None of these.
+abbrev pub IsNoHandshake : Word → Type 0
+IsNoHandshake w = ¬ HasHandshake w × ¬ MayBecomeHandshake w × ¬ IsBrokenOff w × ¬ IsUnknown w
+
+-- What an outcome says of a conversation.
+abbrev pub IsOutcome : Outcome → Word → Type 0
+IsOutcome outcome.Full w = IsFull w
+IsOutcome outcome.Resumed w = IsResumed w
+IsOutcome (outcome.Tls13 retried early) w = IsTls13 retried early w
+IsOutcome outcome.Waiting w = IsUnderWay w
+IsOutcome outcome.BrokenOff w = IsBrokenOff w
+IsOutcome outcome.Unknown w = IsUnknown w
+IsOutcome outcome.NoHandshake w = IsNoHandshake w
+
+-- Where a conversation was under way up to an event, behind which it is neither that nor a handshake: that event, and the
+-- count of those in front of it.
+abbrev pub StopsAt : Stop → List Event → Type 0
+StopsAt s events =
+    (u v : List Event) × (events ≡ u ++ s.event ∷ v) × (s.place ≡ min (length u) (2 ^ 64 - 1))
+    × IsUnderWay (letters_of u) × ¬ IsUnderWay (letters_of (u ++ s.event ∷ [])) × ¬ HasHandshake (letters_of events)
+
+-- What is answered of it.
+abbrev pub IsStop : Option Stop → List Event → Type 0
+IsStop (Some s) events = StopsAt s events
+IsStop None events = HasHandshake (letters_of events) ⊎ IsUnderWay (letters_of events)

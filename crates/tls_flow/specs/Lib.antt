@@ -1,0 +1,7 @@
+pub mod Letters
+pub mod Grammar
+pub mod Conversations
+pub mod Table
+pub mod Steps
+pub mod Messages
+pub mod Bytes

@@ -1,0 +1,36 @@
+-- A flow: where it stands, the count of its events, and what stopped it.
+use Rattle.std.specs.Prelude.{ℕ, ◌+◌, ◌-◌, ◌^◌, min, Option, None, Some}
+use Rattle.tls_flow.specs.Table.{step, outcome_at}
+use Rattle.tls_flow.specs.declared.event.Event.{Event}
+use Rattle.tls_flow.specs.declared.flow.Flow.{Flow}
+use Rattle.tls_flow.specs.declared.flow.Stop.{Stop}
+use Rattle.tls_flow.specs.declared.state.State.{State}
+use Rattle.tls_flow.specs.declared.state.State.TheVariants as state
+use Rattle.tls_flow.specs.declared.state.Outcome.{Outcome}
+use Rattle.tls_flow.specs.declared.state.Outcome.TheVariants as outcome
+
+-- Of a new conversation.
+abbrev pub silence : Flow
+silence = record { state = state.Start; events = 0; stop = None }
+
+-- The event that ends a handshake without success is kept, with the count of those in front of it.
+abbrev pub stop_at : Outcome → ℕ → Event → Option Stop
+stop_at outcome.BrokenOff n e = Some (record { event = e; place = n })
+stop_at outcome.Unknown n e = Some (record { event = e; place = n })
+stop_at outcome.NoHandshake n e = Some (record { event = e; place = n })
+stop_at _ n e = None
+
+-- One more event was counted.
+abbrev pub counted : ℕ → ℕ
+counted n = min (n + 1) (2 ^ 64 - 1)
+
+abbrev pub moved : State → ℕ → Event → Flow
+moved q n e = record { state = q; events = counted n; stop = stop_at (outcome_at q) n e }
+
+-- The flow after an event: behind an end it is counted only.
+abbrev pub follow_by : Outcome → Flow → Event → Flow
+follow_by outcome.Waiting f e = moved (step f.state e.letter) f.events e
+follow_by _ f e = record f { events = counted f.events }
+
+abbrev pub follow : Flow → Event → Flow
+follow f e = follow_by (outcome_at f.state) f e

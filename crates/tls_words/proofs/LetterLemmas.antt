@@ -1,0 +1,34 @@
+-- Letters of a finite alphabet, which can be told apart by computing, and tests that all letters pass.
+use Rattle.std.proofs.Common.{◌≡◌, List, [], ◌∷◌, Bool, true, false, ◌&&◌, ◌||◌, inl, inr, subst}
+use Rattle.std.specs.List.{list_all}
+use Rattle.tls_words.proofs.PatternLemmas.{both_and, either_or}
+use denote.Enum.Declared.{Declared}
+use denote.Enum.Bare.{Bare, sameb, same_true, same_false}
+
+-- Values of an enum without fields.
+abbrev pub decided : (D : Declared) → Bare D.parts → (a b : D.D) (t : Bool) → sameb D a b ≡ t → Dec (a ≡ b)
+decided D bare a b true e = yes (same_true D bare a b e)
+decided D bare a b false e = no (same_false D a b e)
+
+abbrev pub is_yes : {A : Type 0} → Dec A → Bool
+is_yes (yes e) = true
+is_yes (no n) = false
+
+pub yes_is : {A : Type 0} (d : Dec A) → is_yes d ≡ true → A
+yes_is (yes e) t = e
+yes_is (no n) t = cc
+
+module _ {L : Type 0} (same : (a b : L) → Dec (a ≡ b)) where
+  abbrev pub is_in : List L → L → Bool
+  is_in [] l = false
+  is_in (x ∷ xs) l = is_yes (same x l) || is_in xs l
+
+  -- What each listed letter passes, a letter among them does.
+  pub passes_in : (f : L → Bool) (xs : List L) (l : L) → list_all f xs ≡ true → is_in xs l ≡ true → f l ≡ true
+  passes_in f [] l t h = cc
+  passes_in f (x ∷ xs) l t h =
+      let k : (f x ≡ true) × (list_all f xs ≡ true) = both_and (f x) (list_all f xs) t in
+      elim (either_or (is_yes (same x l)) (is_in xs l) h) [
+        | inl e ↦ subst (λ y. f y ≡ true) (yes_is (same x l) e) k.0
+        | inr e ↦ passes_in f xs l k.1 e
+      ]

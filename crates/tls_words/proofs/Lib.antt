@@ -1,0 +1,4 @@
+pub mod PatternLemmas
+pub mod MachineLemmas
+pub mod LetterLemmas
+pub mod TableLemmas
