@@ -1,127 +1,177 @@
--- Which record stands next.
-use Rattle.std.proofs.Common.{◌≡◌, ◌↔◌, ℕ, ◌+◌, ◌-◌, ◌<◌, ◌≤◌, length, take, drop, Ok, Err, Bool, true, false, cond, ltb, nat_le, refl, sym, ◌∙◌, ap, subst, arith}
-use Rattle.std.specs.Prelude.{IsOk}
-use Rattle.std.proofs.lemmas.Bool.{ltb-true, ltb-false, leb-true, leb-false}
-use Rattle.std.proofs.lemmas.List.{length-drop}
+-- The frame that stands in front.
+use Rattle.std.proofs.Common.{◌≡◌, ◌↔◌, ◌+◌, ◌-◌, ◌<◌, ◌≤◌, ◌++◌, length, take, drop, Option, Some, None, Bool, true, false, cond, nat_le, refl, sym, ◌∙◌, ap, subst, arith}
+use Rattle.std.specs.Prelude.{IsSome}
+use Rattle.std.proofs.lemmas.Bool.{leb-true, leb-false}
+use Rattle.std.proofs.lemmas.List.{length-append, length-drop, take-append-drop, take-append-le, drop-append-le}
+use Rattle.std.proofs.Math.Seq.{drop-append_seam}
 use Rattle.tls_fields.specs.Bytes.{Bytes}
-use Rattle.tls_fields.specs.Layout.{Layout, done, block, chain, test}
-use Rattle.tls_fields.specs.Meaning.{Answer, Broken, Lacks}
-use Rattle.tls_fields.specs.Reading.{reading, split_at, ◌and_then◌}
-use Rattle.tls_fields.specs.Answers.{Returned, Gives}
-use Rattle.tls_fields.specs.declared.result.ErrorKind.TheVariants.{TooLarge}
-use Rattle.tls_fields.specs.declared.result.Err.TheVariants as failed
-use Rattle.tls_fields.specs.declared.result.Needed.TheVariants as needed
-use Rattle.tls_parser.specs.Record.{RecordHeader, RawRecord, raw_record}
-use Rattle.tls_parser.specs.Framing.{max_fragment_length, fragment_length, IsTooLarge, IsWhole, NeedsMore, IsIncomplete}
-use Rattle.tls_parser.proofs.FurtherLemmas.{raw_of}
-use Rattle.tls_parser.proofs.HeaderLemmas.{short_header, long_header}
-use Rattle.tls_stream.specs.Records.{IsRefusedAsTooLarge}
+use Rattle.tls_stream.specs.Frames.{Shape, IsTooLarge, IsWhole, NeedsMore, body_length, frame_of, front, size, FrontTaken}
 
-abbrev behind : RecordHeader → Layout RawRecord
-behind h = chain (test (nat_le h.length max_fragment_length) TooLarge) (λ _. chain (block h.length) (λ f. done (raw_of h f)))
-
-abbrev with_raw : RecordHeader → Answer Bytes → Answer RawRecord
-with_raw h a = a and_then λ f. Ok (raw_of h f.0, f.1)
-
--- What stands behind a header, by its length.
-data Behind (h : RecordHeader) (r : Bytes) : Type 0 where
-  Above : max_fragment_length < h.length → reading (behind h) r ≡ Err (Broken TooLarge) → Behind h r
-  Short : h.length ≤ max_fragment_length → length r < h.length → (n : ℕ) → reading (behind h) r ≡ Err (Lacks n) → Behind h r
-  Whole : h.length ≤ max_fragment_length → h.length ≤ length r → (x : RawRecord × Bytes) → reading (behind h) r ≡ Ok x → Behind h r
-
-small_behind : (h : RecordHeader) (r : Bytes) → h.length ≤ max_fragment_length → reading (behind h) r ≡ with_raw h (split_at h.length r) → Behind h r
-unfolding split_at
-small_behind h r small e = go (ltb (length r) h.length) refl e
-  where
-    go : (t : Bool) → ltb (length r) h.length ≡ t
-        → reading (behind h) r ≡ with_raw h (cond t (Err (Lacks (h.length - length r))) (Ok (take h.length r, drop h.length r)))
-        → Behind h r
-    go true f g = Short small (ltb-true (length r) h.length f) (h.length - length r) g
-    go false f g = Whole small (ltb-false (length r) h.length f) (raw_of h (take h.length r), drop h.length r) g
-
-behind_header : (h : RecordHeader) (r : Bytes) → Behind h r
-behind_header h r = go (nat_le h.length max_fragment_length) refl refl
-  where
-    go : (t : Bool) → nat_le h.length max_fragment_length ≡ t
-        → reading (behind h) r ≡ reading (chain (test t TooLarge) (λ _. chain (block h.length) (λ f. done (raw_of h f)))) r
-        → Behind h r
-    go true f g = small_behind h r (leb-true h.length max_fragment_length f) g
-    go false f g = Above (leb-false h.length max_fragment_length f) g
+abbrev pub in_two : Shape → Bytes → Bytes × Bytes
+in_two f b = (take (size f b) b, drop (size f b) b)
 
 -- What stands in front of some bytes.
-data Stands (b : Bytes) : Type 0 where
-  Large : IsTooLarge 5 b → reading raw_record b ≡ Err (Broken TooLarge) → Stands b
-  Part : NeedsMore 5 b → (n : ℕ) → reading raw_record b ≡ Err (Lacks n) → Stands b
-  One : IsWhole 5 b → (IsTooLarge 5 b → ⊥) → (x : RawRecord × Bytes) → reading raw_record b ≡ Ok x → Stands b
+pub data Stands (f : Shape) (b : Bytes) : Type 0 where
+  Large : IsTooLarge f b → front f b ≡ None → Stands f b
+  Part : NeedsMore f b → front f b ≡ None → Stands f b
+  One : IsWhole f b → body_length f b ≤ f.limit → front f b ≡ Some (in_two f b) → Stands f b
 
-stands_behind : (b : Bytes) (h : RecordHeader) → 5 ≤ length b → reading raw_record b ≡ reading (behind h) (drop 5 b) → h.length ≡ fragment_length 5 b → Behind h (drop 5 b) → Stands b
-stands_behind b h enough then n (Above above e) = Large (record { has_header = enough; above = subst (λ k. max_fragment_length < k) n above }) (then ∙ e)
-stands_behind b h enough then n (Short small short k e) =
-    Part (λ w. omega (arith, w.has_fragment, n, short, length-drop 5 b), λ w. omega (arith, w.above, n, small)) k (then ∙ e)
-stands_behind b h enough then n (Whole small long x e) =
-    One (record { has_header = enough; has_fragment = omega (arith, n, long, length-drop 5 b) }) (λ w. omega (arith, w.above, n, small)) x (then ∙ e)
+front_is : (f : Shape) (b : Bytes) (t s : Bool) → nat_le (size f b) (length b) ≡ t → nat_le (body_length f b) f.limit ≡ s → front f b ≡ cond t (cond s (Some (in_two f b)) None) None
+unfolding front
+front_is f b t s e g =
+    ap (λ t. cond t (cond (nat_le (body_length f b) f.limit) (Some (in_two f b)) None) None) e
+    ∙ ap (λ s. cond t (cond s (Some (in_two f b)) None) None) g
 
-stands : (b : Bytes) → Stands b
-unfolding raw_record
-stands b = go (ltb (length b) 5) refl
+not_whole : (f : Shape) (b : Bytes) (t : Bool) → length b < size f b → cond t (Some (in_two f b)) None ≡ None → Unit {0}
+not_whole f b t h e = tt
+
+pub stands : (f : Shape) (b : Bytes) → Stands f b
+stands f b = go (nat_le (size f b) (length b)) (nat_le (body_length f b) f.limit) (nat_le f.header (length b)) refl refl refl
   where
-    go : (t : Bool) → ltb (length b) 5 ≡ t → Stands b
-    go true e =
-        let few : length b < 5 = ltb-true (length b) 5 e in
-        let h = short_header b few in
-        Part (λ w. omega (arith, few, w.has_header), λ w. omega (arith, few, w.has_header)) h.0 (ap (λ a. a and_then λ x. reading (behind x.0) x.1) h.1)
-    go false e =
-        let enough : 5 ≤ length b = ltb-false (length b) 5 e in
-        let h = long_header b enough in
-        stands_behind b h.0 enough (ap (λ a. a and_then λ x. reading (behind x.0) x.1) h.1) h.2 (behind_header h.0 (drop 5 b))
+    go : (t s h : Bool) → nat_le (size f b) (length b) ≡ t → nat_le (body_length f b) f.limit ≡ s → nat_le f.header (length b) ≡ h → Stands f b
+    go true true h e g k = One (leb-true _ _ e) (leb-true _ _ g) (front_is f b true true e g)
+    go true false h e g k =
+        let enough : size f b ≤ length b = leb-true _ _ e in
+        Large (record { has_header = omega (arith, enough); above = leb-false _ _ g }) (front_is f b true false e g)
+    go false true h e g k =
+        let small : body_length f b ≤ f.limit = leb-true _ _ g in
+        let short : length b < size f b = leb-false _ _ e in
+        Part (λ w. omega (arith, w, short), λ w. omega (arith, w.above, small)) (front_is f b false true e g)
+    go false false true e g k = Large (record { has_header = leb-true _ _ k; above = leb-false _ _ g }) (front_is f b false false e g)
+    go false false false e g k =
+        let short : length b < f.header = leb-false _ _ k in
+        Part (λ w. omega (arith, w, short), λ w. omega (arith, w.has_header, short)) (front_is f b false false e g)
 
-pub read_too_large : (b : Bytes) → (reading raw_record b ≡ Err (Broken TooLarge)) ↔ IsTooLarge 5 b
-read_too_large b = go (stands b)
+-- What is there of a frame that is in front.
+pub record IsFirst (f : Shape) (b x r : Bytes) : Type 0 where
+  pub is_whole : size f b ≤ length b
+  pub is_small : body_length f b ≤ f.limit
+  pub frame_is : x ≡ take (size f b) b
+  pub rest_is : r ≡ drop (size f b) b
+
+pub first_in : (f : Shape) (b : Bytes) (x : Bytes × Bytes) → front f b ≡ Some x → IsFirst f b x.0 x.1
+first_in f b x e = go (stands f b)
   where
-    go : Stands b → (reading raw_record b ≡ Err (Broken TooLarge)) ↔ IsTooLarge 5 b
-    go (Large w e) = (λ f. w, λ w. e)
-    go (Part w n e) = (λ f. let g = sym e ∙ f in absurd cc, λ v. absurd (w.1 v))
-    go (One w not x e) = (λ f. let g = sym e ∙ f in absurd cc, λ v. absurd (not v))
+    go : Stands f b → IsFirst f b x.0 x.1
+    go (Large w g) = let h = sym g ∙ e in absurd cc
+    go (Part w g) = let h = sym g ∙ e in absurd cc
+    go (One w s g) =
+        let same : ◌≡◌ {A = Bytes × Bytes} x (in_two f b) = let h = sym e ∙ g in cc in
+        record { is_whole = w; is_small = s; frame_is = ap (λ x. x.0) same; rest_is = ap (λ x. x.1) same }
 
-pub read_incomplete : (b : Bytes) → ((n : ℕ) × (reading raw_record b ≡ Err (Lacks n))) ↔ NeedsMore 5 b
-read_incomplete b = go (stands b)
+pub whole_front : (f : Shape) (b : Bytes) → IsWhole f b → body_length f b ≤ f.limit → front f b ≡ Some (in_two f b)
+whole_front f b w s = go (stands f b)
   where
-    go : Stands b → ((n : ℕ) × (reading raw_record b ≡ Err (Lacks n))) ↔ NeedsMore 5 b
-    go (Large w e) = (λ f. let g = sym e ∙ f.1 in absurd cc, λ v. absurd (v.1 w))
-    go (Part w n e) = (λ f. w, λ v. (n, e))
-    go (One w not x e) = (λ f. let g = sym e ∙ f.1 in absurd cc, λ v. absurd (v.0 w))
+    go : Stands f b → front f b ≡ Some (in_two f b)
+    go (Large l g) = absurd (omega (arith, l.above, s))
+    go (Part n g) = absurd (n.0 w)
+    go (One w s g) = g
 
-pub read_whole : (b : Bytes) → IsOk (reading raw_record b) ↔ (IsWhole 5 b × (IsTooLarge 5 b → ⊥))
-read_whole b = go (stands b)
+pub none_large : (f : Shape) (b : Bytes) → IsTooLarge f b → front f b ≡ None
+none_large f b l = go (stands f b)
   where
-    go : Stands b → IsOk (reading raw_record b) ↔ (IsWhole 5 b × (IsTooLarge 5 b → ⊥))
-    go (Large w e) = (λ f. let g = subst IsOk e f in absurd cc, λ v. absurd (v.1 w))
-    go (Part w n e) = (λ f. let g = subst IsOk e f in absurd cc, λ v. absurd (w.0 v.0))
-    go (One w not x e) = (λ f. (w, not), λ v. subst IsOk (sym e) refl)
+    go : Stands f b → front f b ≡ None
+    go (Large l g) = g
+    go (Part n g) = g
+    go (One w s g) = absurd (omega (arith, l.above, s))
 
--- The same of what a call returned.
-pub front_too_large : {X : Type 0} (view : X → RawRecord) (b : Bytes) (r : Returned X) → Gives view raw_record b r → IsRefusedAsTooLarge r ↔ IsTooLarge 5 b
-front_too_large view b (Ok x) g = (λ h. absurd h, λ h. let e = sym ((read_too_large b).1 h) ∙ g.read in absurd cc)
-front_too_large view b (Err (failed.Incomplete needed.Unknown)) g = absurd g.answers
-front_too_large view b (Err (failed.Incomplete (needed.Size n))) g = (λ h. absurd h, λ h. let e = sym ((read_too_large b).1 h) ∙ g.read in absurd cc)
-front_too_large view b (Err (failed.Error x)) g = (λ h. (read_too_large b).0 (g.read ∙ ap (λ k. Err (Broken k)) h), λ h. let e = sym ((read_too_large b).1 h) ∙ g.read in cc)
-front_too_large view b (Err (failed.Failure x)) g = absurd g.answers
-front_too_large view b (Err failed.OutOfMemory) g = absurd g.answers
+pub none_part : (f : Shape) (b : Bytes) → (IsWhole f b → ⊥) → front f b ≡ None
+none_part f b n = go (stands f b)
+  where
+    go : Stands f b → front f b ≡ None
+    go (Large l g) = g
+    go (Part n g) = g
+    go (One w s g) = absurd (n w)
 
-pub front_incomplete : {X : Type 0} (view : X → RawRecord) (b : Bytes) (r : Returned X) → Gives view raw_record b r → IsIncomplete r ↔ NeedsMore 5 b
-front_incomplete view b (Ok x) g = (λ h. absurd h, λ h. let k = (read_incomplete b).1 h in let e = sym k.1 ∙ g.read in absurd cc)
-front_incomplete view b (Err (failed.Incomplete needed.Unknown)) g = absurd g.answers
-front_incomplete view b (Err (failed.Incomplete (needed.Size n))) g = (λ h. (read_incomplete b).0 (n, g.read), λ h. tt)
-front_incomplete view b (Err (failed.Error x)) g = (λ h. absurd h, λ h. let k = (read_incomplete b).1 h in let e = sym k.1 ∙ g.read in absurd cc)
-front_incomplete view b (Err (failed.Failure x)) g = absurd g.answers
-front_incomplete view b (Err failed.OutOfMemory) g = absurd g.answers
+-- The frame and the rest are the bytes.
+pub front_joins : (f : Shape) (b : Bytes) (x : Bytes × Bytes) → front f b ≡ Some x → x.0 ++ x.1 ≡ b
+front_joins f b x e =
+    let i = first_in f b x e in
+    ap (λ y. y ++ x.1) i.frame_is ∙ ap (λ r. take (size f b) b ++ r) i.rest_is ∙ take-append-drop (size f b) b
 
-pub front_whole : {X : Type 0} (view : X → RawRecord) (b : Bytes) (r : Returned X) → Gives view raw_record b r → IsOk r ↔ (IsWhole 5 b × (IsTooLarge 5 b → ⊥))
-front_whole view b (Ok x) g = (λ h. (read_whole b).0 (subst IsOk (sym g.read) refl), λ h. refl)
-front_whole view b (Err (failed.Incomplete needed.Unknown)) g = absurd g.answers
-front_whole view b (Err (failed.Incomplete (needed.Size n))) g = (λ h. absurd cc, λ h. let e = subst IsOk g.read ((read_whole b).1 h) in absurd cc)
-front_whole view b (Err (failed.Error x)) g = (λ h. absurd cc, λ h. let e = subst IsOk g.read ((read_whole b).1 h) in absurd cc)
-front_whole view b (Err (failed.Failure x)) g = absurd g.answers
-front_whole view b (Err failed.OutOfMemory) g = absurd g.answers
+pub front_fewer : (f : Shape) (b : Bytes) (x : Bytes × Bytes) → 0 < f.header → front f b ≡ Some x → length x.1 < length b
+front_fewer f b x takes e =
+    let i = first_in f b x e in
+    omega (arith, takes, i.is_whole, ap length i.rest_is, length-drop (size f b) b)
 
-pub ruleset front_rules = (front_too_large, front_incomplete, front_whole)
+-- Further bytes change no header that is there.
+pub same_body : (f : Shape) (b s : Bytes) → f.header ≤ length b → body_length f (b ++ s) ≡ body_length f b
+same_body f b s h = ap f.body_in (take-append-le f.header b s h)
+
+pub large_longer : (f : Shape) (b s : Bytes) → IsTooLarge f b → IsTooLarge f (b ++ s)
+large_longer f b s l = record {
+  has_header = omega (arith, l.has_header, length-append b s);
+  above = subst (λ n. f.limit < n) (sym (same_body f b s l.has_header)) l.above;
+}
+
+pub front_stays : (f : Shape) (b s : Bytes) (x : Bytes × Bytes) → front f b ≡ Some x → front f (b ++ s) ≡ Some (x.0, x.1 ++ s)
+front_stays f b s x e =
+    let i = first_in f b x e in
+    let n = size f b in
+    let enough : n ≤ length b = i.is_whole in
+    let body : body_length f (b ++ s) ≡ body_length f b = same_body f b s (omega (arith, enough)) in
+    let same : size f (b ++ s) ≡ n = ap (λ k. f.header + k) body in
+    let whole : IsWhole f (b ++ s) = omega (arith, enough, same, length-append b s) in
+    let small : body_length f (b ++ s) ≤ f.limit = omega (arith, body, i.is_small) in
+    whole_front f (b ++ s) whole small
+    ∙ ap (λ k. Some (take k (b ++ s), drop k (b ++ s))) same
+    ∙ ap (λ y. Some (y, drop n (b ++ s))) (take-append-le n b s enough ∙ sym i.frame_is)
+    ∙ ap (λ r. Some (x.0, r)) (drop-append-le n b s enough ∙ ap (λ r. r ++ s) (sym i.rest_is))
+
+-- What calls say of the front.
+pub what_is_too_large : (f : Shape) (b : Bytes) → f.header ≤ length b → (f.limit < body_length f b) ↔ IsTooLarge f b
+what_is_too_large f b h = (λ a. record { has_header = h; above = a }, λ l. l.above)
+
+pub not_large : (f : Shape) (b : Bytes) → length b < f.header → IsTooLarge f b → ⊥
+not_large f b h l = omega (arith, h, l.has_header)
+
+pub bytes_whole : (f : Shape) (b : Bytes) → f.header ≤ length b → body_length f b ≤ f.limit → body_length f b ≤ length b - f.header → frame_of (front f b) ≡ Some (take (size f b) b)
+bytes_whole f b h s w = ap frame_of (whole_front f b (omega (arith, h, w)) s)
+
+pub bytes_short : (f : Shape) (b : Bytes) → length b < f.header → frame_of (front f b) ≡ None
+bytes_short f b h = ap frame_of (none_part f b (λ w. omega (arith, w, h)))
+
+pub bytes_large : (f : Shape) (b : Bytes) → f.header ≤ length b → f.limit < body_length f b → frame_of (front f b) ≡ None
+bytes_large f b h l = ap frame_of (none_large f b (record { has_header = h; above = l }))
+
+pub bytes_part : (f : Shape) (b : Bytes) → f.header ≤ length b → length b - f.header < body_length f b → frame_of (front f b) ≡ None
+bytes_part f b h l = ap frame_of (none_part f b (λ w. omega (arith, w, h, l)))
+
+pub ruleset front_rules = (bytes_whole, bytes_short, bytes_large, bytes_part)
+
+-- Taking it off.
+pub taken_off : (f : Shape) (b y : Bytes) → Some y ≡ frame_of (front f b) → FrontTaken (front f b) b true (drop (length y) b)
+taken_off f b y is = go (front f b) refl is
+  where
+    go : (a : Option (Bytes × Bytes)) → front f b ≡ a → Some y ≡ frame_of a → FrontTaken a b true (drop (length y) b)
+    go None e s = absurd cc
+    go (Some x) e s =
+        let same : y ≡ x.0 = cc in
+        let all = front_joins f b x e in
+        let rest : drop (length y) b ≡ x.1 = ap (λ y. drop (length y) b) same ∙ ap (λ b. drop (length x.0) b) (sym all) ∙ drop-append_seam x.0 x.1 in
+        (refl, rest, sym all ∙ ap (λ r. x.0 ++ r) (sym rest))
+
+pub shorter_frame : (f : Shape) (b y : Bytes) → Some y ≡ frame_of (front f b) → length y ≤ length b
+shorter_frame f b y is = go (front f b) refl is
+  where
+    go : (a : Option (Bytes × Bytes)) → front f b ≡ a → Some y ≡ frame_of a → length y ≤ length b
+    go None e s = absurd cc
+    go (Some x) e s =
+        let same : y ≡ x.0 = cc in
+        omega (arith, ap length same, ap length (front_joins f b x e), length-append x.0 x.1)
+
+pub none_off : (f : Shape) (b : Bytes) → None ≡ frame_of (front f b) → FrontTaken (front f b) b false b
+none_off f b is = go (front f b) is
+  where
+    go : (a : Option (Bytes × Bytes)) → None ≡ frame_of a → FrontTaken a b false b
+    go None s = (refl, refl)
+    go (Some x) s = absurd cc
+
+-- Where a frame stands.
+pub some_front : (f : Shape) (b : Bytes) → IsSome (front f b) ↔ (IsWhole f b × (IsTooLarge f b → ⊥))
+some_front f b = go (stands f b)
+  where
+    go : Stands f b → IsSome (front f b) ↔ (IsWhole f b × (IsTooLarge f b → ⊥))
+    go (Large l g) = (λ s. let h = subst IsSome g s in absurd cc, λ w. absurd (w.1 l))
+    go (Part n g) = (λ s. let h = subst IsSome g s in absurd cc, λ w. absurd (n.0 w.0))
+    go (One w s g) = (λ h. (w, λ l. omega (arith, l.above, s)), λ h. subst IsSome (sym g) refl)

@@ -1,3 +1,5 @@
 pub mod FrontLemmas
-pub mod RecordLemmas
+pub mod FrameLemmas
+pub mod MessageLemmas
 pub mod PieceLemmas
+pub mod RawRecordLemmas

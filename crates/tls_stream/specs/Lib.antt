@@ -1,3 +1,4 @@
+pub mod Frames
 pub mod Records
 pub use Rattle.tls_fields.specs.Bytes
 pub use Rattle.tls_fields.specs.Meaning

@@ -1,59 +1,71 @@
-//! What stands of the records of streams. Each function's contract is one law; its body is empty.
-ghost use Rattle.std.specs.Prelude.{◌≡◌, ◌↔◌, ◌≤◌, ◌+◌, ◌++◌, ◌∷◌, ℕ, List, [], length, Ok, Err};
+//! What stands of the frames of streams. Each function's contract is one law; its body is empty.
+ghost use Rattle.std.specs.Prelude.{◌≡◌, ◌↔◌, ◌<◌, ◌++◌, ◌∷◌, List, [], ℕ, Some, None, IsSome};
 ghost use Rattle.std.specs.Borrow.{Bor};
 ghost use Rattle.std.specs.List.{concat};
-ghost use Rattle.std.specs.Result.{IsErr, IsOk};
 ghost use Rattle.tls_fields.specs.Bytes.{Bytes};
-ghost use Rattle.tls_fields.specs.Meaning.{Broken, Lacks};
 ghost use Rattle.tls_fields.specs.Reading.{reading};
-ghost use Rattle.tls_fields.specs.declared.result.ErrorKind.TheVariants.{TooLarge};
-ghost use Rattle.tls_parser.specs.Record.{RawRecord, raw_record};
-ghost use Rattle.tls_parser.specs.Framing.{IsTooLarge, IsWhole, NeedsMore};
-ghost use Rattle.tls_parser.specs.Record.{record_bytes};
-ghost use Rattle.tls_stream.specs.Records.{records, left, joined, IsSplit};
+ghost use Rattle.tls_parser.specs.Framing as framing;
+ghost use Rattle.tls_parser.specs.Record.{raw_record};
+ghost use Rattle.tls_hs.specs.Message.{handshake};
+ghost use Rattle.tls_stream.specs.Records.{front_of, message_frame, record_frame, with_rest};
+ghost use Rattle.tls_stream.specs.Frames.{IsSplit, IsTooLarge, IsWhole, NeedsMore, Shape, front, frames, left, joined};
 
-/// The records are the one that is read off the front, and then those of the rest; where none is read there are none, and
+/// The frames are the one that stands in front, and then those of the rest; where none stands there, there are none, and
 /// all is left.
-pub fn records_are_read_one_by_one()
-    ensures first { (b r : Bytes) (v : RawRecord) → reading raw_record b ≡ Ok (v, r)
-        → (records b ≡ record_bytes v b ∷ records r) × (left b ≡ left r) }
-    ensures none { (b : Bytes) → IsErr (reading raw_record b) → (records b ≡ []) × (left b ≡ b) }
+#[tactic(auto, using(crate::proofs::FrameLemmas::first_frame, crate::proofs::FrameLemmas::no_frame))]
+pub fn frames_stand_one_by_one()
+    ensures first { (f : Shape) (b y r : Bytes) → 0 < f.header → front f b ≡ Some (y, r) → (frames f b ≡ y ∷ frames f r) × (left f b ≡ left f r) }
+    ensures none { (f : Shape) (b : Bytes) → 0 < f.header → front f b ≡ None → (frames f b ≡ []) × (left f b ≡ b) }
 {}
 
-/// The records, joined, and then what is left are the bytes.
-#[tactic(auto, using(crate::proofs::RecordLemmas::records_joined))]
-pub fn records_are_cut_off_the_front()
-    ensures { (b : Bytes) → concat (records b) ++ left b ≡ b }
+/// The frames, joined, and then what is left are the bytes.
+#[tactic(auto, using(crate::proofs::FrameLemmas::frames_joined))]
+pub fn frames_are_cut_off_the_front()
+    ensures { (f : Shape) (b : Bytes) → 0 < f.header → concat (frames f b) ++ left f b ≡ b }
 {}
 
-/// No record stands in front of what is left.
-#[tactic(auto, using(crate::proofs::RecordLemmas::left_has_none))]
-pub fn no_record_is_left()
-    ensures { (b : Bytes) → IsErr (reading raw_record (left b)) }
+/// No frame stands in front of what is left.
+#[tactic(auto, using(crate::proofs::FrameLemmas::left_has_none))]
+pub fn no_frame_is_left()
+    ensures { (f : Shape) (b : Bytes) → 0 < f.header → front f (left f b) ≡ None }
 {}
 
-/// The records of bytes that come in two pieces are those of the first, and then those of what it leaves and the second.
-#[tactic(auto, using(crate::proofs::RecordLemmas::more_records, crate::proofs::RecordLemmas::more_left))]
-pub fn records_with_further_bytes()
-    ensures more { (b s : Bytes) → records (b ++ s) ≡ records b ++ records (left b ++ s) }
-    ensures rest { (b s : Bytes) → left (b ++ s) ≡ left (left b ++ s) }
+/// The frames of bytes that come in two pieces are those of the first, and then those of what it leaves and the second.
+#[tactic(auto, using(crate::proofs::FrameLemmas::more_frames, crate::proofs::FrameLemmas::more_left))]
+pub fn frames_with_further_bytes()
+    ensures more { (f : Shape) (b s : Bytes) → 0 < f.header → frames f (b ++ s) ≡ frames f b ++ frames f (left f b ++ s) }
+    ensures rest { (f : Shape) (b s : Bytes) → 0 < f.header → left f (b ++ s) ≡ left f (left f b ++ s) }
 {}
 
-/// Which record stands next: none, since the length in its header of 5 bytes is above 16640; or none yet, since bytes of
-/// it are missing; or one that is whole. Which of these it is, is said by the bytes alone.
-#[tactic(auto, using(crate::proofs::FrontLemmas::read_too_large, crate::proofs::FrontLemmas::read_incomplete, crate::proofs::FrontLemmas::read_whole))]
-pub fn what_stands_next()
-    ensures too_large { (b : Bytes) → (reading raw_record b ≡ Err (Broken TooLarge)) ↔ IsTooLarge 5 b }
-    ensures incomplete { (b : Bytes) → ((n : ℕ) × (reading raw_record b ≡ Err (Lacks n))) ↔ NeedsMore 5 b }
-    ensures whole { (b : Bytes) → IsOk (reading raw_record b) ↔ (IsWhole 5 b × (IsTooLarge 5 b → ⊥)) }
+/// A frame stands in front just where it is whole and its length isn't too large; it stays under further bytes, and so does
+/// a length that is too large.
+#[tactic(auto, using(crate::proofs::FrontLemmas::some_front, crate::proofs::FrontLemmas::front_stays, crate::proofs::FrontLemmas::large_longer))]
+pub fn what_stands_in_front()
+    ensures there { (f : Shape) (b : Bytes) → IsSome (front f b) ↔ (IsWhole f b × (IsTooLarge f b → ⊥)) }
+    ensures stays { (f : Shape) (b s y r : Bytes) → front f b ≡ Some (y, r) → front f (b ++ s) ≡ Some (y, r ++ s) }
+    ensures too_large { (f : Shape) (b s : Bytes) → IsTooLarge f b → IsTooLarge f (b ++ s) }
 {}
 
-/// Two cuttings of one stream have the same records. What is held is the same too, save where the length in the header
-/// that stands next is too large.
+/// Two cuttings of the same bytes have the same frames: records of a stream in pieces, or messages of the fragments of
+/// records. What is held is the same too, save where the length in the header that stands next is too large.
 #[tactic(auto, using(crate::proofs::PieceLemmas::same_taken, crate::proofs::PieceLemmas::same_held))]
-pub fn two_cuttings_have_the_same_records()
-    ensures taken { (p q : List (Bor (List ℕ))) (taken taken' : List Bytes) (held held' : Bytes) → joined p ≡ joined q
-        → IsSplit (joined p) taken held → IsSplit (joined q) taken' held' → taken ≡ taken' }
-    ensures held { (p q : List (Bor (List ℕ))) (taken taken' : List Bytes) (held held' : Bytes) → joined p ≡ joined q
-        → IsSplit (joined p) taken held → IsSplit (joined q) taken' held' → (IsTooLarge 5 held → ⊥) → held ≡ held' }
+pub fn two_cuttings_have_the_same_frames()
+    ensures taken { (f : Shape) (p q : List (Bor (List ℕ))) (taken taken' : List Bytes) (held held' : Bytes) → joined p ≡ joined q
+        → IsSplit f (joined p) taken held → IsSplit f (joined q) taken' held' → taken ≡ taken' }
+    ensures held { (f : Shape) (p q : List (Bor (List ℕ))) (taken taken' : List Bytes) (held held' : Bytes) → joined p ≡ joined q
+        → IsSplit f (joined p) taken held → IsSplit f (joined q) taken' held' → (IsTooLarge f held → ⊥) → held ≡ held' }
+{}
+
+/// A record as a frame: it stands in front just where [`tls_parser::parse_tls_raw_record`] reads one, and is what that takes.
+#[tactic(auto, using(crate::proofs::RawRecordLemmas::front_is_read, crate::proofs::RawRecordLemmas::large_is, crate::proofs::RawRecordLemmas::whole_is))]
+pub fn records_are_what_is_read()
+    ensures front { (b : Bytes) → front record_frame b ≡ front_of (reading raw_record b) b }
+    ensures too_large { (b : Bytes) → IsTooLarge record_frame b ↔ framing.IsTooLarge 5 b }
+    ensures whole { (b : Bytes) → IsWhole record_frame b ↔ framing.IsWhole 5 b }
+{}
+
+/// A message that is handed out is read as where it stood: the same message or the same refusal, and the rest behind it.
+#[tactic(auto, using(crate::proofs::MessageLemmas::message_is_read))]
+pub fn messages_are_read_alone()
+    ensures { (limit : ℕ) (b y r : Bytes) → front (message_frame limit) b ≡ Some (y, r) → reading handshake b ≡ with_rest r (reading handshake y) }
 {}

@@ -1,12 +1,11 @@
-//! The records of a TLS stream that comes in pieces, as a TCP connection hands them out.
-//!
-//! A [`Reassembler`] holds what is fed and not yet taken off the front, and [`split_pieces`] cuts a list of pieces at once.
-//! The records are the stream's, however it was cut.
+//! Frames off the front of a stream that comes in pieces: records, and handshake messages.
 #![tactic(auto)]
 
+mod frame;
 pub mod laws;
 mod reassembler;
 mod split;
 
-pub use reassembler::{FeedError, Reassembler};
-pub use split::split_pieces;
+pub use frame::{Frame, Messages, Records, frame_in_front, is_too_large};
+pub use reassembler::{FeedError, Frames, Joiner, Reassembler};
+pub use split::{join_messages, split_frames, split_pieces};

@@ -1,24 +1,26 @@
 //! What is held of a stream.
-ghost use Rattle.std.specs.Prelude.{◌≡◌, ◌≤◌, ◌↔◌, ◌++◌, ◌-◌, List, [], ℕ, length, drop, Ok, Err, is_ok, IsOk, OnOk, true, if◌then◌else◌};
+ghost use Rattle.std.specs.Prelude.{◌≡◌, ◌≤◌, ◌↔◌, ◌++◌, ◌-◌, ◌+◌, List, [], ℕ, length, drop, Ok, Err, is_ok, IsOk, OnOk, true, if◌then◌else◌};
 ghost use Rattle.std.specs.Option.{option_map};
 ghost use Rattle.tls_fields.specs.Answers.{Gives};
 ghost use Rattle.tls_fields.specs.Meaning.{AllowsOne};
-ghost use Rattle.tls_fields.specs.Reading.{reading};
 ghost use Rattle.tls_parser.specs.Record.{view_raw_record, raw_record};
-ghost use Rattle.tls_parser.specs.Framing.{IsIncomplete, IsTooLarge, IsWhole, NeedsMore};
-ghost use Rattle.tls_stream.specs.Records.{FrontTaken, IsRefusedAsTooLarge, front_bytes, left, records};
+ghost use Rattle.tls_stream.specs.Frames.{FrontTaken, IsTooLarge, frame_of, front, frames, left, up_to};
+ghost use Rattle.tls_stream.specs.Records.{IsRefusedAsTooLarge};
+ghost use Rattle.tls_parser.specs.Framing as framing;
+ghost use Rattle.tls_parser.specs.Framing.{IsIncomplete};
 ghost use Rattle.tls_stream.specs.declared.reassembler.FeedError.TheVariants as feed_error;
 
+use crate::frame::{Frame, Messages, Records, frame_in_front, is_too_large};
 use std::alloc::{AllocError, Global};
 use std::error::Error;
 use std::fmt;
-use std::marker::Model;
-use tls_parser::{Err as Refused, ErrorKind, IResult, TlsRawRecord, parse_tls_raw_record};
+use std::marker::{Model, PhantomData};
+use tls_parser::{IResult, MAX_RECORD_LEN, TlsRawRecord, parse_tls_raw_record};
 
 /// Why a piece isn't taken. Nothing that is held is lost by it.
 #[derive(Debug, PartialEq, Drop)]
 pub enum FeedError {
-    /// The length in the header that stands next is above what a record may have. Nothing is taken, now and from then on.
+    /// The length in the header that stands next is above the limit. Nothing is taken, now and from then on.
     TooLarge,
     /// Memory ran out for the piece. All is as it was before.
     OutOfMemory,
@@ -43,18 +45,26 @@ impl fmt::Display for FeedError {
 
 impl Error for FeedError {}
 
-/// The bytes of a stream that are fed and not yet taken off the front.
+/// The bytes of a stream of frames that are fed and not yet taken off the front; at most `LIMIT` bytes may follow a header.
 ///
-/// Its value in a contract is these bytes, in order. Each byte is moved a constant number of times on average, however
-/// the stream is cut, and no length that a peer writes reserves memory.
+/// Its value in a contract is these bytes, in order. No length that a peer writes reserves memory.
 #[derive(Drop)]
-pub struct Reassembler {
+pub struct Frames<F, const LIMIT: usize> {
     bytes: Vec<u8>,
     // What stands in front of this place is taken off.
     start: usize,
+    of: PhantomData<F>,
 }
 
-impl Model for Reassembler {
+pub(crate) const RECORD_LIMIT: usize = MAX_RECORD_LEN as usize;
+
+/// The records of a stream, as [`parse_tls_raw_record`] reads them.
+pub type Reassembler = Frames<Records, RECORD_LIMIT>;
+
+/// The handshake messages of the fragments of records, with bodies of at most so many bytes.
+pub type Joiner<const LIMIT: usize> = Frames<Messages, LIMIT>;
+
+impl<F, const LIMIT: usize> Model for Frames<F, LIMIT> {
     ghost Value = { List ℕ };
 
     ghost view = { λ r. drop r.start r.bytes.items };
@@ -62,14 +72,15 @@ impl Model for Reassembler {
     ghost invariant = { λ r. r.start ≤ length r.bytes.items };
 }
 
-impl Reassembler {
+impl<F, const LIMIT: usize> Frames<F, LIMIT> {
     /// Holds nothing, and takes no memory.
     pub fn new(alloc: Global) -> Self
         ensures { result ≡ [] }
     {
-        Reassembler {
+        Frames {
             bytes: Vec::new(alloc),
             start: 0,
+            of: PhantomData,
         }
     }
 
@@ -80,64 +91,12 @@ impl Reassembler {
         &self.bytes[self.start..]
     }
 
-    /// The record that stands next: the answer of [`parse_tls_raw_record`] on what is held.
-    ///
-    /// - `Error` of kind `TooLarge` exactly where a header of 5 bytes stands next, and its length is above
-    ///   [`tls_parser::MAX_RECORD_LEN`].
-    /// - `Incomplete` of the count that is missing exactly while the next record isn't whole, and no such length stands
-    ///   there.
-    #[tactic(auto, using(crate::proofs::FrontLemmas::front_rules))]
-    pub fn front(&self) -> IResult<&[u8], TlsRawRecord>
-        ensures gives { Gives view_raw_record raw_record self.now result }
-        ensures only_one { AllowsOne raw_record self.now }
-        ensures too_large { IsRefusedAsTooLarge result ↔ IsTooLarge 5 self.now }
-        ensures incomplete { IsIncomplete result ↔ NeedsMore 5 self.now }
-        ensures whole { IsOk result ↔ (IsWhole 5 self.now × (IsTooLarge 5 self.now → ⊥)) }
-    {
-        parse_tls_raw_record(self.held())
-    }
-
-    /// Takes the record that stands next off the front, where `front` is `Ok`: true. Else nothing changes: false.
-    #[tactic(auto, using(crate::proofs::RecordLemmas::shorter, crate::proofs::RecordLemmas::front_taken, crate::proofs::RecordLemmas::front_stays))]
-    pub fn take_front(&mut self) -> bool
-        ensures { FrontTaken (reading raw_record self.old) self.old result self.new }
-    {
-        let rest = match self.front() {
-            Ok((rest, _)) => rest.len(),
-            Err(_) => return false,
-        };
-        self.keep_last(rest);
-        true
-    }
-
-    /// The bytes of the record that stands next, its header first, where `front` is `Ok`.
-    #[tactic(auto, using(crate::proofs::RecordLemmas::shorter, crate::proofs::RecordLemmas::front_bytes_ok, crate::proofs::RecordLemmas::front_bytes_err))]
-    pub(crate) fn front_bytes(&self) -> Option<&[u8]>
-        ensures { option_map (λ b. b.now) result ≡ front_bytes (reading raw_record self.now) self.now }
-    {
-        let held = self.held();
-        match parse_tls_raw_record(held) {
-            Ok((rest, _)) => Some(&held[..held.len() - rest.len()]),
-            Err(_) => None,
-        }
-    }
-
-    /// Keeps the last `n` bytes. Those before them stay where they are until the next piece needs their place.
-    fn keep_last(&mut self, n: usize)
+    /// Takes the first `n` bytes off. They stay where they are until the next piece needs their place.
+    fn take_off(&mut self, n: usize)
         requires { n ≤ length self.old }
-        ensures { self.new ≡ drop (length self.old - n) self.old }
+        ensures { self.new ≡ drop n self.old }
     {
-        self.start = self.bytes.len() - n;
-    }
-
-    /// Whether a length that is too large stands next.
-    fn is_too_large(&self) -> bool
-        ensures { (result ≡ true) ↔ IsTooLarge 5 self.now }
-    {
-        match self.front() {
-            Err(Refused::Error(e)) => e.code == ErrorKind::TooLarge,
-            _ => false,
-        }
+        self.start += n;
     }
 
     /// Moves what is held to the beginning, where it is at most as long as what was taken off, so that each byte is moved
@@ -159,22 +118,72 @@ impl Reassembler {
         self.make_room();
         self.bytes.extend_from_slice(piece)
     }
+}
+
+impl<F: Frame, const LIMIT: usize> Frames<F, LIMIT> {
+    /// Whether the length in the header that stands next is above the limit.
+    pub fn is_too_large(&self) -> bool
+        ensures { (result ≡ true) ↔ IsTooLarge (up_to F.kind LIMIT) self.now }
+    {
+        is_too_large::<F>(LIMIT, self.held())
+    }
+
+    /// The bytes of the frame that stands next, its header first, where it is whole and its length isn't too large.
+    pub fn front_bytes(&self) -> Option<&[u8]>
+        ensures { option_map (λ b. b.now) result ≡ frame_of (front (up_to F.kind LIMIT) self.now) }
+    {
+        frame_in_front::<F>(LIMIT, self.held())
+    }
+
+    /// Takes the frame that stands next off the front: true. Where none stands there nothing changes: false. It takes no
+    /// memory.
+    #[tactic(auto, using(crate::proofs::FrontLemmas::taken_off, crate::proofs::FrontLemmas::none_off, crate::proofs::FrontLemmas::shorter_frame))]
+    pub fn take_front(&mut self) -> bool
+        ensures { FrontTaken (front (up_to F.kind LIMIT) self.old) self.old result self.new }
+    {
+        let n = match self.front_bytes() {
+            Some(bytes) => bytes.len(),
+            None => return false,
+        };
+        self.take_off(n);
+        true
+    }
 
     /// Puts the piece behind what is held.
     ///
-    /// - `TooLarge` exactly where `front` is an `Error` of kind `TooLarge`: what is held stays, no memory is taken, and
-    ///   every later call answers the same.
+    /// - `TooLarge` exactly where the length that stands next is above the limit: what is held stays, and every later call
+    ///   answers the same.
     /// - `OutOfMemory` where the piece could not be held: what is held stays.
-    #[tactic(auto, using(crate::proofs::RecordLemmas::more_fed))]
+    #[tactic(auto, using(crate::proofs::FrameLemmas::more_fed))]
     pub fn feed(&mut self, piece: &[u8]) -> Result<(), FeedError>
-        ensures too_large { (result ≡ Err feed_error.TooLarge) ↔ IsTooLarge 5 self.old }
+        ensures too_large { (result ≡ Err feed_error.TooLarge) ↔ IsTooLarge (up_to F.kind LIMIT) self.old }
         ensures held { self.new ≡ (if is_ok result then self.old ++ piece.now else self.old) }
-        ensures records { OnOk result (records self.new ≡ records self.old ++ records (left self.old ++ piece.now)) }
+        ensures frames { let f = up_to F.kind LIMIT in
+            OnOk result (frames f self.new ≡ frames f self.old ++ frames f (left f self.old ++ piece.now)) }
     {
         if self.is_too_large() {
             return Err(FeedError::TooLarge);
         }
         self.append(piece)?;
         Ok(())
+    }
+}
+
+impl Reassembler {
+    /// The record that stands next: the answer of [`parse_tls_raw_record`] on what is held.
+    ///
+    /// - `Error` of kind `TooLarge` exactly where a header of 5 bytes stands next, and its length is above
+    ///   [`tls_parser::MAX_RECORD_LEN`].
+    /// - `Incomplete` of the count that is missing exactly while the next record isn't whole, and no such length stands
+    ///   there.
+    #[tactic(auto, using(crate::proofs::RawRecordLemmas::front_rules))]
+    pub fn front(&self) -> IResult<&[u8], TlsRawRecord>
+        ensures gives { Gives view_raw_record raw_record self.now result }
+        ensures only_one { AllowsOne raw_record self.now }
+        ensures too_large { IsRefusedAsTooLarge result ↔ framing.IsTooLarge 5 self.now }
+        ensures incomplete { IsIncomplete result ↔ framing.NeedsMore 5 self.now }
+        ensures whole { IsOk result ↔ (framing.IsWhole 5 self.now × (framing.IsTooLarge 5 self.now → ⊥)) }
+    {
+        parse_tls_raw_record(self.held())
     }
 }

@@ -5,10 +5,10 @@ use Rattle.tls_fields.specs.Meaning.{Answer, Refusal, Broken, Lacks}
 use Rattle.tls_fields.specs.Reading.{reading}
 use Rattle.tls_fields.specs.declared.result.ErrorKind.TheVariants.{TooLarge}
 use Rattle.tls_parser.specs.Record.{RawRecord, raw_record}
-use Rattle.tls_parser.specs.Framing.{IsTooLarge}
 use Rattle.tls_states.specs.declared.state.TlsState.{TlsState}
-use Rattle.tls_stream.specs.Records.{FrontTaken}
-use Rattle.tls_stream.proofs.RecordLemmas.{record_takes, large_stays}
+use Rattle.tls_stream.specs.Frames.{FrontTaken, IsTooLarge, front}
+use Rattle.tls_stream.specs.Records.{front_of, record_frame}
+use Rattle.tls_stream.proofs.RawRecordLemmas.{front_is_read, large_stays, record_takes}
 use Rattle.tlsview.specs.Fault.{Fault, Refused}
 use Rattle.tlsview.specs.Out.{Content, Half, Part, content_of, content_text, content_part, record_part, records_part, half_part, half_behind, state_behind, cipher_behind}
 use Rattle.tlsview.specs.Shown.{IsShown, IsNext}
@@ -75,16 +75,16 @@ one_content d text text' b r new enc enc' q q' v c read holds rest printed follo
     }
 
 pub one_shown : (d : Direction) (text text' : List ℕ) (b new : Bytes) (enc enc' taken : Bool) (q q' : TlsState) (n : rust_next.Next) → n ≡ next.Record enc'
-    → IsNext d text q text' q' enc (reading raw_record b) n → FrontTaken (reading raw_record b) b taken new
+    → IsNext d text q text' q' enc (reading raw_record b) n → FrontTaken (front record_frame b) b taken new
     → OneShown d text text' (half_of b enc q) (half_of new enc' q')
-one_shown d text text' b new enc enc' taken q q' n same is takes = go (reading raw_record b) refl (subst (IsNext d text q text' q' enc (reading raw_record b)) same is) takes
+one_shown d text text' b new enc enc' taken q q' n same is takes = go (reading raw_record b) refl (subst (IsNext d text q text' q' enc (reading raw_record b)) same is) (subst (λ a. FrontTaken a b taken new) (front_is_read b) takes)
   where
     held : (x : RawRecord × Bytes) (k : Result Content Refusal) → content_of enc x.0 ≡ k → reading raw_record b ≡ Ok x → new ≡ x.1
         → IsShown d text q text' q' enc k (next.Record enc') → OneShown d text text' (half_of b enc q) (half_of new enc' q')
     held x (Ok c) holds read rest s = one_content d text text' b x.1 new enc enc' q q' x.0 c read holds rest s.0 s.1 s.2
     held x (Err e) holds read rest s = absurd s
 
-    go : (a : Answer RawRecord) → reading raw_record b ≡ a → IsNext d text q text' q' enc a (next.Record enc') → FrontTaken a b taken new
+    go : (a : Answer RawRecord) → reading raw_record b ≡ a → IsNext d text q text' q' enc a (next.Record enc') → FrontTaken (front_of a b) b taken new
         → OneShown d text text' (half_of b enc q) (half_of new enc' q')
     go (Ok x) read s t = held x (content_of enc x.0) refl read t.1 s
     go (Err (Lacks n)) read s t = absurd s
@@ -102,6 +102,6 @@ last_part d text text' h end same is = record {
 }
 
 -- A direction that holds a length that is too large stays so.
-pub too_large_shown : (d : Direction) (text : List ℕ) (b s : Bytes) (enc : Bool) (q : TlsState) → IsTooLarge 5 b → IsLast d text text (half_of (b ++ s) enc q) (Err (Refused (Broken TooLarge)))
+pub too_large_shown : (d : Direction) (text : List ℕ) (b s : Bytes) (enc : Bool) (q : TlsState) → IsTooLarge record_frame b → IsLast d text text (half_of (b ++ s) enc q) (Err (Refused (Broken TooLarge)))
 too_large_shown d text b s enc q large =
     last_part d text text (half_of (b ++ s) enc q) (Err (Refused (Broken TooLarge))) refl (half_then d (half_of (b ++ s) enc q) (Err (Broken TooLarge)) (large_stays b s large))

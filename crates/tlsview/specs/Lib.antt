@@ -7,3 +7,4 @@ pub mod Names
 pub mod Transition
 pub mod Out
 pub mod Shown
+pub mod Transfer

@@ -3,11 +3,12 @@ ghost use Rattle.std.specs.Prelude.{◌≡◌, ◌≢◌, ◌<◌, ◌≤◌, �
 ghost use Rattle.std.specs.Io.KnownBytes.{Appends};
 ghost use Rattle.tlsview.specs.Out.{out};
 ghost use Rattle.tlsview.specs.Exit.{status_of};
+ghost use Rattle.tlsview.specs.Transfer.{most_reads};
 
 use crate::exit::Exit;
 use crate::report::report_of;
 use crate::sink::Sink;
-use crate::tally::{MAX_READS, Tally};
+use crate::tally::Tally;
 use crate::transfer::{Failure, read_whole, write_whole};
 use std::alloc::Global;
 use std::io::{Read, Write};
@@ -32,7 +33,7 @@ pub fn run<R: Read, W: Write>(
 
     // It fails for want of memory, at a fault of the reader or after all of its calls, or at a fault of the writer.
     ensures cause { IfErr result (λ e. (e ≡ Failure.Memory)
-        ⊎ (((e ≡ Failure.Reading) × ((r.new.has_failed ≡ true) ⊎ (r.new.calls ≡ MAX_READS)))
+        ⊎ (((e ≡ Failure.Reading) × ((r.new.has_failed ≡ true) ⊎ (r.new.calls ≡ most_reads)))
         ⊎ ((e ≡ Failure.Writing) × (w.new.has_failed ≡ true)))) }
     ensures unwritten { IfErr result (λ e. e ≢ Failure.Writing → w.new.writer.now ≡ w.old.writer.now) }
     ensures partly_written { IfErr result (λ e. e ≡ Failure.Writing → IfSome (R.remaining r.old.reader.now) (λ x.
@@ -49,7 +50,7 @@ pub fn run<R: Read, W: Write>(
 /// Reads all there is, prints what it says, and answers the exit status: 0, or 1 where a record is refused, 2 at a line
 /// of another form, 3 where memory ran out, reading failed or writing failed.
 ///
-/// Reading fails at the first fault of a read, and where [`MAX_READS`] calls don't come to the reader's end. Writing
+/// Reading fails at the first fault of a read, and where [`crate::tally::MAX_READS`] calls don't come to the reader's end. Writing
 /// fails at the first fault of a write, and where a write takes nothing. There is no call of either after its fault.
 ///
 /// Of any reader and writer, whose calls alone tell whether they failed, a contract can say what was read and written.

@@ -1,0 +1,81 @@
+//! What frames are.
+ghost use Rattle.std.specs.Prelude.{◌≡◌, ◌<◌, ◌↔◌, length, true};
+ghost use Rattle.std.specs.Option.{option_map};
+ghost use Rattle.std.proofs.Common.{lit<};
+ghost use Rattle.tls_stream.specs.Frames.{IsTooLarge, Kind, frame_of, front, up_to};
+ghost use Rattle.tls_stream.specs.Records.{messages, records};
+
+/// A kind of frames: a header, and as many bytes as it says.
+pub trait Frame {
+    /// How they are laid out.
+    ghost kind: { Kind };
+
+    /// How many bytes a header has.
+    fn header_len() -> usize
+        ensures { result ≡ kind.header };
+
+    /// How many bytes follow this header.
+    fn body_len(header: &[u8]) -> usize
+        requires { length header.now ≡ kind.header }
+        ensures { result ≡ kind.body_in header.now };
+
+    /// A header has bytes, so a stream has no more frames than bytes.
+    ghost takes: { 0 < kind.header };
+}
+
+/// Records of TLS (RFC 5246, section 6.2).
+pub struct Records;
+
+impl Frame for Records {
+    ghost kind = { records };
+
+    ghost takes = { lit< tt };
+
+    fn header_len() -> usize {
+        5
+    }
+
+    fn body_len(header: &[u8]) -> usize {
+        header[3] as usize * 256 + header[4] as usize
+    }
+}
+
+/// Handshake messages (RFC 5246, section 7.4).
+pub struct Messages;
+
+impl Frame for Messages {
+    ghost kind = { messages };
+
+    ghost takes = { lit< tt };
+
+    fn header_len() -> usize {
+        4
+    }
+
+    fn body_len(header: &[u8]) -> usize {
+        (header[1] as usize * 256 + header[2] as usize) * 256 + header[3] as usize
+    }
+}
+
+/// Whether the header in front of these bytes is all there, and says more than `limit`.
+#[tactic(auto, using(crate::proofs::FrontLemmas::what_is_too_large, crate::proofs::FrontLemmas::not_large))]
+pub fn is_too_large<F: Frame>(limit: usize, bytes: &[u8]) -> bool
+    ensures { (result ≡ true) ↔ IsTooLarge (up_to F.kind limit) bytes.now }
+{
+    bytes.len() >= F::header_len() && F::body_len(&bytes[..F::header_len()]) > limit
+}
+
+/// The frame in front of these bytes, its header first, where it is whole and its header says no more than `limit`.
+#[tactic(auto, using(crate::proofs::FrontLemmas::front_rules))]
+pub fn frame_in_front<F: Frame>(limit: usize, bytes: &[u8]) -> Option<&[u8]>
+    ensures { option_map (λ b. b.now) result ≡ frame_of (front (up_to F.kind limit) bytes.now) }
+{
+    if bytes.len() < F::header_len() {
+        return None;
+    }
+    let body = F::body_len(&bytes[..F::header_len()]);
+    if body > limit || bytes.len() - F::header_len() < body {
+        return None;
+    }
+    Some(&bytes[..F::header_len() + body])
+}
