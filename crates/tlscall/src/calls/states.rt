@@ -1,0 +1,132 @@
+//! The state machine: a piece is a record, `>` of the client and `<` of the server.
+
+use crate::calls::Asked;
+use crate::input::Piece;
+use crate::told::{Told, debug, plain, table};
+use std::alloc::{AllocError, Global};
+use tls_parser::{ParseContext, TlsMessage, TlsState, parse_tls_plaintext, tls_state_transition};
+
+/// All states.
+const STATES: [TlsState; 25] = [
+    TlsState::None,
+    TlsState::ClientHello,
+    TlsState::AskResumeSession,
+    TlsState::ResumeSession,
+    TlsState::ServerHello,
+    TlsState::Certificate,
+    TlsState::CertificateSt,
+    TlsState::ServerKeyExchange,
+    TlsState::ServerHelloDone,
+    TlsState::ClientKeyExchange,
+    TlsState::ClientChangeCipherSpec,
+    TlsState::CRCertRequest,
+    TlsState::CRHelloDone,
+    TlsState::CRCert,
+    TlsState::CRClientKeyExchange,
+    TlsState::CRCertVerify,
+    TlsState::NoCertSKE,
+    TlsState::NoCertHelloDone,
+    TlsState::NoCertCKE,
+    TlsState::PskHelloDone,
+    TlsState::PskCKE,
+    TlsState::SessionEncrypted,
+    TlsState::Alert,
+    TlsState::Finished,
+    TlsState::Invalid,
+];
+
+/// A message of a conversation, and whether it goes to the server.
+type Said<'a> = (TlsMessage<'a>, bool);
+
+/// The messages of the piece's record, if it is one.
+fn said<'a>(alloc: Global, piece: &'a Piece) -> Result<Option<Vec<Said<'a>>>, AllocError> {
+    let Ok((_, record)) = parse_tls_plaintext(alloc, &piece.bytes) else {
+        return Ok(None);
+    };
+    let mut messages = Vec::new(alloc);
+    for message in record.msg {
+        messages.push((message, piece.mark == '>'))?;
+    }
+    Ok(Some(messages))
+}
+
+/// What is told where a piece is no record.
+fn no_record(alloc: Global) -> Told {
+    Ok(Some(format!(in alloc; "a piece that is no record")?))
+}
+
+/// The state in which the conversation ends.
+fn run(asked: &Asked) -> Told {
+    let alloc = asked.alloc;
+    let mut messages = Vec::new(alloc);
+    for piece in asked.pieces {
+        match said(alloc, piece)? {
+            Some(said) => messages.extend(said)?,
+            None => return no_record(alloc),
+        }
+    }
+    let mut context = ParseContext::new();
+    context.run(&messages);
+    plain(alloc, context.state())
+}
+
+/// The state at the beginning and behind each message, with its error where it isn't taken.
+fn updates(asked: &Asked) -> Told {
+    let alloc = asked.alloc;
+    let mut context = ParseContext::new();
+    let mut text = debug(alloc, &context.state())?;
+    for piece in asked.pieces {
+        let Some(messages) = said(alloc, piece)? else {
+            return no_record(alloc);
+        };
+        for (message, to_server) in &messages {
+            let answered = context.update(message, *to_server);
+            let state = context.state();
+            match answered {
+                Ok(()) => write!(text, ", {state:?}")?,
+                Err(e) => write!(text, ", {e:?} {state:?}")?,
+            }
+        }
+    }
+    Ok(Some(text))
+}
+
+/// The state of that name.
+fn state_named(alloc: Global, name: &str) -> Result<Option<TlsState>, AllocError> {
+    for state in STATES {
+        if debug(alloc, &state)?.as_str() == name {
+            return Ok(Some(state));
+        }
+    }
+    Ok(None)
+}
+
+/// `:STATE`: each piece whose message is taken there, and where it leads. The others are refused as `InvalidTransition`.
+fn transitions(asked: &Asked) -> Told {
+    let alloc = asked.alloc;
+    let Some(state) = state_named(alloc, asked.arguments)? else {
+        return Ok(Some(format!(in alloc; "no state")?));
+    };
+    let mut text = String::new(alloc);
+    for piece in asked.pieces {
+        let Some(messages) = said(alloc, piece)? else {
+            return no_record(alloc);
+        };
+        for (message, to_server) in &messages {
+            let Piece { mark, name, .. } = piece;
+            if let Ok(next) = tls_state_transition(state, message, *to_server) {
+                let comma = if text.is_empty() { "" } else { ", " };
+                write!(text, "{comma}{mark}{name} {next:?}")?;
+            }
+        }
+    }
+    Ok(Some(text))
+}
+
+pub fn states(asked: &Asked) -> Told {
+    table!(asked.name;
+        "ParseContext::run" => run(asked),
+        "ParseContext::update" => updates(asked),
+        "tls_state_transition" => transitions(asked),
+    )
+}

@@ -1,0 +1,60 @@
+//! A writer that keeps what it is given.
+ghost use Rattle.std.specs.Prelude.{Some};
+
+use crate::told::{Told, written};
+use std::alloc::{AllocError, Global};
+use std::io::{self, Write};
+use tls_parser::GenError;
+
+/// Keeps what is written, and whether it was called.
+#[derive(Drop)]
+pub struct Noted {
+    pub held: Vec<u8>,
+    pub is_called: bool,
+}
+
+impl Noted {
+    pub fn new(alloc: Global) -> Self {
+        Noted {
+            held: Vec::new(alloc),
+            is_called: false,
+        }
+    }
+
+    /// What a call is told to have written, which answered this. A refused value isn't begun.
+    pub fn told(self, alloc: Global, answered: Result<(), GenError>) -> Told {
+        match answered {
+            Ok(()) => written(alloc, Ok(self.held)),
+            Err(cause) if self.is_called => {
+                let text = format!(in alloc; "{cause:?}, and the writer was called")?;
+                Ok(Some(text))
+            }
+            Err(cause) => written(alloc, Err(cause)),
+        }
+    }
+}
+
+impl Write for Noted {
+    ghost contents = { λ noted. Some noted.held.items };
+
+    fn write(&mut self, buf: &[u8]) -> io::Result<usize> {
+        self.is_called = true;
+        self.held.extend_from_slice(buf)?;
+        Ok(buf.len())
+    }
+
+    fn flush(&mut self) -> io::Result<()> {
+        self.is_called = true;
+        Ok(())
+    }
+}
+
+/// What two calls that write the same value are told to have written, or that they differ.
+pub fn both(alloc: Global, one: Told, other: Told) -> Result<Option<String>, AllocError> {
+    let (one, other) = (one?, other?);
+    if one == other {
+        return Ok(one);
+    }
+    let text = format!(in alloc; "two writers differ: {one:?} and {other:?}")?;
+    Ok(Some(text))
+}
