@@ -58,7 +58,10 @@ impl Tally {
         } else if !is_right(told, said) {
             self.differ = self.differ.saturating_add(1);
             let At { file, line, call } = at;
-            writeln!(self.lines, "{file}:{line}: {call} {clause} {told}\n  and not {said}")?;
+            writeln!(
+                self.lines,
+                "{file}:{line}: {call} {clause} {told}\n  and not {said}"
+            )?;
         }
         Ok(())
     }
@@ -167,12 +170,7 @@ fn front_of(i: &[u8], end: usize) -> &[u8] {
 }
 
 /// What a row says of what is written: `same` bytes as are read, other bytes, or a refusal.
-fn written(
-    alloc: Global,
-    i: &[u8],
-    words: &[&str],
-    names: &[Named],
-) -> Result<String, Fault> {
+fn written(alloc: Global, i: &[u8], words: &[&str], names: &[Named]) -> Result<String, Fault> {
     match words {
         ["same"] => Ok(told_bytes(alloc, i)?),
         ["BadLength" | "NotYetImplemented"] => Ok(joined(alloc, words)?),

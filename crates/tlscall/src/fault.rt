@@ -1,8 +1,7 @@
 //! Why a run ends before its rows do.
 
 use std::alloc::{AllocError, AllocFailed};
-use std::fmt;
-use std::io;
+use std::{fmt, io};
 
 /// Why a row, or a file of them, can't be told.
 #[derive(Clone, Copy, Debug, PartialEq)]

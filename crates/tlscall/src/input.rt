@@ -69,7 +69,11 @@ impl<'t> Reading<'t> {
             if piece.mark != ' ' {
                 self.next(alloc, piece.mark)?;
             }
-            self.name = if piece.mark == ' ' { named.name } else { piece.name };
+            self.name = if piece.mark == ' ' {
+                named.name
+            } else {
+                piece.name
+            };
             self.bytes.extend_from_slice(&piece.bytes)?;
         }
         Ok(())

@@ -6,11 +6,12 @@ use std::alloc::{AllocError, Global};
 use std::io::{self, Write};
 use tls_parser::GenError;
 
-/// Keeps what is written, and whether it was called.
+/// Keeps what is written, and whether it was called, or lacked memory for what it is given.
 #[derive(Drop)]
 pub struct Noted {
-    pub held: Vec<u8>,
-    pub is_called: bool,
+    held: Vec<u8>,
+    is_called: bool,
+    lacks_memory: bool,
 }
 
 impl Noted {
@@ -18,11 +19,15 @@ impl Noted {
         Noted {
             held: Vec::new(alloc),
             is_called: false,
+            lacks_memory: false,
         }
     }
 
     /// What a call is told to have written, which answered this. A refused value isn't begun.
     pub fn told(self, alloc: Global, answered: Result<(), GenError>) -> Told {
+        if self.lacks_memory {
+            return Err(AllocError);
+        }
         match answered {
             Ok(()) => written(alloc, Ok(self.held)),
             Err(cause) if self.is_called => {
@@ -39,7 +44,10 @@ impl Write for Noted {
 
     fn write(&mut self, buf: &[u8]) -> io::Result<usize> {
         self.is_called = true;
-        self.held.extend_from_slice(buf)?;
+        if let Err(e) = self.held.extend_from_slice(buf) {
+            self.lacks_memory = true;
+            return Err(e.into());
+        }
         Ok(buf.len())
     }
 
@@ -49,12 +57,23 @@ impl Write for Noted {
     }
 }
 
-/// What two calls that write the same value are told to have written, or that they differ.
-pub fn both(alloc: Global, one: Told, other: Told) -> Result<Option<String>, AllocError> {
+/// What two calls that write the same value are told to have written, or that they differ. Either may want memory.
+pub fn both(alloc: Global, one: Told, other: Told) -> Told {
     let (one, other) = (one?, other?);
-    if one == other {
-        return Ok(one);
+    if one == other || is_want_of_memory(&one) {
+        Ok(one)
+    } else if is_want_of_memory(&other) {
+        Ok(other)
+    } else {
+        let text = format!(in alloc; "two writers differ: {one:?} and {other:?}")?;
+        Ok(Some(text))
     }
-    let text = format!(in alloc; "two writers differ: {one:?} and {other:?}")?;
-    Ok(Some(text))
+}
+
+/// It is told that memory ran out.
+fn is_want_of_memory(told: &Option<String>) -> bool {
+    match told {
+        Some(text) => text.as_str() == "OutOfMemory",
+        None => false,
+    }
 }

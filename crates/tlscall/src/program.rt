@@ -5,11 +5,11 @@ use crate::compare::Tally;
 use crate::fault::Fault;
 use crate::input::{bytes_of, input_of};
 use crate::rows::compare_rows;
-use std::env;
-use std::fs;
 use std::rt::{Env, Files};
+use std::{env, fs};
 
-const USAGE: &str = "tlscall CALL[:NUMBER..] HEXADECIMAL..\ntlscall --rows FILE..\ntlscall --answers FILE..";
+const USAGE: &str =
+    "tlscall CALL[:NUMBER..] HEXADECIMAL..\ntlscall --rows FILE..\ntlscall --answers FILE..";
 
 /// All was told, or compared and found right.
 pub const RIGHT: u8 = 0;

@@ -51,11 +51,7 @@ fn subject_of(word: &str) -> Option<(Subject, &str)> {
 }
 
 /// The row of these words, the first of which are the calls.
-pub fn row_of<'t>(
-    alloc: Global,
-    words: &[&'t str],
-    names: &[Named<'t>],
-) -> Result<Row<'t>, Fault> {
+pub fn row_of<'t>(alloc: Global, words: &[&'t str], names: &[Named<'t>]) -> Result<Row<'t>, Fault> {
     let Some((calls, words)) = words.split_first() else {
         return Err(Fault::Form("an empty row"));
     };

@@ -10,11 +10,13 @@ use tls_parser::{Err, Error, GenError, IResult, Needed, OutOfMemory};
 /// What a call answered, as text, or that there is no such call.
 pub type Told = Result<Option<String>, AllocError>;
 
-/// The answer of the call that has the name.
+/// What the call of the asked name answers. A call that reads the input stands by itself, under the name of its function; any
+/// other has its name and what is told of it.
 macro_rules! table {
-    ($name:expr; $($call:literal => $told:expr,)*) => {
-        match $name {
-            $($call => $told,)*
+    ($asked:ident; $($call:ident($($given:expr),*),)*; $($name:literal => $told:expr,)*) => {
+        match $asked.name {
+            $(stringify!($call) => told($asked.alloc, $asked.i, $call($($given),*)),)*
+            $($name => $told,)*
             _ => Ok(None),
         }
     };
@@ -26,7 +28,11 @@ pub(crate) use table;
 pub fn rest_of(i: &[u8], rest: &[u8]) -> Option<usize>
     ensures { IfSome result (IsRest i.now rest.now) }
 {
-    if i.ends_with(rest) { Some(rest.len()) } else { None }
+    if i.ends_with(rest) {
+        Some(rest.len())
+    } else {
+        None
+    }
 }
 
 /// The text of why there is no value.

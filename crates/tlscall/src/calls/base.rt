@@ -11,7 +11,8 @@ use tls_parser::{
 
 pub fn bytes(asked: &Asked) -> Told {
     let Asked { alloc, i, .. } = *asked;
-    table!(asked.name;
+    table!(asked;
+        ;
         "TlsAlertSeverity::parse" => told(alloc, i, TlsAlertSeverity::parse(i)),
         "TlsAlertDescription::parse" => told(alloc, i, TlsAlertDescription::parse(i)),
         "TlsHandshakeType::parse" => told(alloc, i, TlsHandshakeType::parse(i)),
@@ -30,7 +31,8 @@ pub fn bytes(asked: &Asked) -> Told {
 
 pub fn longer(asked: &Asked) -> Told {
     let Asked { alloc, i, .. } = *asked;
-    table!(asked.name;
+    table!(asked;
+        ;
         "TlsVersion::parse" => told(alloc, i, TlsVersion::parse(i)),
         "NamedGroup::parse" => told(alloc, i, NamedGroup::parse(i)),
         "TlsExtensionType::parse" => told(alloc, i, TlsExtensionType::parse(i)),

@@ -21,16 +21,20 @@ fn header_of(asked: &Asked) -> DTLSRecordHeader {
 
 pub fn of_dtls(asked: &Asked) -> Told {
     let Asked { alloc, i, .. } = *asked;
-    table!(asked.name;
-        "parse_dtls_record_header" => told(alloc, i, parse_dtls_record_header(i)),
-        "parse_dtls_plaintext_record" => told(alloc, i, parse_dtls_plaintext_record(alloc, i)),
-        "parse_dtls_plaintext_record.count" => told(alloc, i, parse_dtls_plaintext_record(alloc, i).map(|x| (x.0, x.1.messages.len()))),
-        "parse_dtls_plaintext_records" => told(alloc, i, parse_dtls_plaintext_records(alloc, i)),
-        "parse_dtls_record_with_header" => told(alloc, i, parse_dtls_record_with_header(alloc, i, &header_of(asked))),
-        "parse_dtls_message_handshake" => told(alloc, i, parse_dtls_message_handshake(alloc, i)),
-        "parse_dtls_message_handshake.is_fragment" => told(alloc, i, parse_dtls_message_handshake(alloc, i).map(|x| (x.0, x.1.is_fragment()))),
-        "parse_dtls_message_changecipherspec" => told(alloc, i, parse_dtls_message_changecipherspec(i)),
-        "parse_dtls_message_changecipherspec.is_fragment" => told(alloc, i, parse_dtls_message_changecipherspec(i).map(|x| (x.0, x.1.is_fragment()))),
-        "parse_dtls_message_alert" => told(alloc, i, parse_dtls_message_alert(i)),
+    table!(asked;
+        parse_dtls_record_header(i),
+        parse_dtls_plaintext_record(alloc, i),
+        parse_dtls_plaintext_records(alloc, i),
+        parse_dtls_record_with_header(alloc, i, &header_of(asked)),
+        parse_dtls_message_handshake(alloc, i),
+        parse_dtls_message_changecipherspec(i),
+        parse_dtls_message_alert(i),
+        ;
+        "parse_dtls_plaintext_record.count" =>
+            told(alloc, i, parse_dtls_plaintext_record(alloc, i).map(|x| (x.0, x.1.messages.len()))),
+        "parse_dtls_message_handshake.is_fragment" =>
+            told(alloc, i, parse_dtls_message_handshake(alloc, i).map(|x| (x.0, x.1.is_fragment()))),
+        "parse_dtls_message_changecipherspec.is_fragment" =>
+            told(alloc, i, parse_dtls_message_changecipherspec(i).map(|x| (x.0, x.1.is_fragment()))),
     )
 }

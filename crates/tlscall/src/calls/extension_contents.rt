@@ -7,25 +7,27 @@ use tls_parser::{
     parse_tls_extension_elliptic_curves_content, parse_tls_extension_encrypted_server_name,
     parse_tls_extension_heartbeat_content, parse_tls_extension_max_fragment_length_content,
     parse_tls_extension_psk_key_exchange_modes_content,
-    parse_tls_extension_renegotiation_info_content, parse_tls_extension_signature_algorithms_content,
+    parse_tls_extension_renegotiation_info_content,
+    parse_tls_extension_signature_algorithms_content,
     parse_tls_extension_signed_certificate_timestamp_content, parse_tls_extension_sni_content,
     parse_tls_extension_sni_hostname,
 };
 
 pub fn contents(asked: &Asked) -> Told {
     let Asked { alloc, i, .. } = *asked;
-    table!(asked.name;
-        "parse_tls_extension_sni_content" => told(alloc, i, parse_tls_extension_sni_content(alloc, i)),
-        "parse_tls_extension_sni_hostname" => told(alloc, i, parse_tls_extension_sni_hostname(i)),
-        "parse_tls_extension_max_fragment_length_content" => told(alloc, i, parse_tls_extension_max_fragment_length_content(i)),
-        "parse_tls_extension_elliptic_curves_content" => told(alloc, i, parse_tls_extension_elliptic_curves_content(alloc, i)),
-        "parse_tls_extension_ec_point_formats_content" => told(alloc, i, parse_tls_extension_ec_point_formats_content(i)),
-        "parse_tls_extension_signature_algorithms_content" => told(alloc, i, parse_tls_extension_signature_algorithms_content(alloc, i)),
-        "parse_tls_extension_heartbeat_content" => told(alloc, i, parse_tls_extension_heartbeat_content(i)),
-        "parse_tls_extension_alpn_content" => told(alloc, i, parse_tls_extension_alpn_content(alloc, i)),
-        "parse_tls_extension_signed_certificate_timestamp_content" => told(alloc, i, parse_tls_extension_signed_certificate_timestamp_content(i)),
-        "parse_tls_extension_psk_key_exchange_modes_content" => told(alloc, i, parse_tls_extension_psk_key_exchange_modes_content(alloc, i)),
-        "parse_tls_extension_renegotiation_info_content" => told(alloc, i, parse_tls_extension_renegotiation_info_content(i)),
-        "parse_tls_extension_encrypted_server_name" => told(alloc, i, parse_tls_extension_encrypted_server_name(i)),
+    table!(asked;
+        parse_tls_extension_sni_content(alloc, i),
+        parse_tls_extension_sni_hostname(i),
+        parse_tls_extension_max_fragment_length_content(i),
+        parse_tls_extension_elliptic_curves_content(alloc, i),
+        parse_tls_extension_ec_point_formats_content(i),
+        parse_tls_extension_signature_algorithms_content(alloc, i),
+        parse_tls_extension_heartbeat_content(i),
+        parse_tls_extension_alpn_content(alloc, i),
+        parse_tls_extension_signed_certificate_timestamp_content(i),
+        parse_tls_extension_psk_key_exchange_modes_content(alloc, i),
+        parse_tls_extension_renegotiation_info_content(i),
+        parse_tls_extension_encrypted_server_name(i),
+        ;
     )
 }

@@ -5,17 +5,18 @@ use crate::noted::Noted;
 use crate::told::{Told, copy, table, told};
 use std::alloc::Global;
 use tls_parser::{
-    IResult, TlsExtension, gen_tls_extension, gen_tls_extensions, parse_tls_client_hello_extension,
-    parse_tls_client_hello_extensions, parse_tls_extension, parse_tls_extension_cookie,
-    parse_tls_extension_early_data, parse_tls_extension_ec_point_formats,
-    parse_tls_extension_elliptic_curves, parse_tls_extension_encrypt_then_mac,
-    parse_tls_extension_extended_master_secret, parse_tls_extension_heartbeat,
-    parse_tls_extension_key_share, parse_tls_extension_max_fragment_length,
-    parse_tls_extension_pre_shared_key, parse_tls_extension_psk_key_exchange_modes,
-    parse_tls_extension_session_ticket, parse_tls_extension_signature_algorithms,
-    parse_tls_extension_sni, parse_tls_extension_status_request,
-    parse_tls_extension_supported_versions, parse_tls_extension_unknown, parse_tls_extensions,
-    parse_tls_server_hello_extension, parse_tls_server_hello_extensions,
+    IResult, TlsExtension, TlsExtensionType, gen_tls_extension, gen_tls_extensions,
+    parse_tls_client_hello_extension, parse_tls_client_hello_extensions, parse_tls_extension,
+    parse_tls_extension_cookie, parse_tls_extension_early_data,
+    parse_tls_extension_ec_point_formats, parse_tls_extension_elliptic_curves,
+    parse_tls_extension_encrypt_then_mac, parse_tls_extension_extended_master_secret,
+    parse_tls_extension_heartbeat, parse_tls_extension_key_share,
+    parse_tls_extension_max_fragment_length, parse_tls_extension_pre_shared_key,
+    parse_tls_extension_psk_key_exchange_modes, parse_tls_extension_session_ticket,
+    parse_tls_extension_signature_algorithms, parse_tls_extension_sni,
+    parse_tls_extension_status_request, parse_tls_extension_supported_versions,
+    parse_tls_extension_unknown, parse_tls_extensions, parse_tls_server_hello_extension,
+    parse_tls_server_hello_extensions,
 };
 
 /// A copy of the extension.
@@ -48,49 +49,58 @@ fn all_rewritten(alloc: Global, i: &[u8]) -> Told {
     }
 }
 
-/// The number of the kind that a value is of.
-fn kind_of(extension: &TlsExtension) -> u16 {
-    let kind: tls_parser::TlsExtensionType = extension.into();
-    kind.0
+/// The number of the kind that the extension which was read is of.
+fn kind<'a>(answered: IResult<&'a [u8], TlsExtension<'a>>) -> IResult<&'a [u8], u16> {
+    let (rest, extension) = answered?;
+    let kind: TlsExtensionType = (&extension).into();
+    Ok((rest, kind.0))
+}
+
+/// How many extensions the list has.
+fn count(alloc: Global, i: &[u8]) -> IResult<&[u8], usize> {
+    let (rest, extensions) = parse_tls_extensions(alloc, i)?;
+    Ok((rest, extensions.len()))
 }
 
 pub fn lists(asked: &Asked) -> Told {
     let Asked { alloc, i, .. } = *asked;
-    table!(asked.name;
-        "parse_tls_extension" => told(alloc, i, parse_tls_extension(alloc, i)),
+    table!(asked;
+        parse_tls_extension(alloc, i),
+        parse_tls_client_hello_extension(alloc, i),
+        parse_tls_server_hello_extension(alloc, i),
+        parse_tls_extensions(alloc, i),
+        parse_tls_client_hello_extensions(alloc, i),
+        parse_tls_server_hello_extensions(alloc, i),
+        ;
         "parse_tls_extension.clone" => told(alloc, i, copied(alloc, i)),
         "parse_tls_extension.written" => rewritten(alloc, i),
-        "parse_tls_extension.type" => told(alloc, i, parse_tls_extension(alloc, i).map(|x| (x.0, kind_of(&x.1)))),
-        "parse_tls_extension_unknown.type" => told(alloc, i, parse_tls_extension_unknown(i).map(|x| (x.0, kind_of(&x.1)))),
-        "parse_tls_client_hello_extension" => told(alloc, i, parse_tls_client_hello_extension(alloc, i)),
-        "parse_tls_server_hello_extension" => told(alloc, i, parse_tls_server_hello_extension(alloc, i)),
-        "parse_tls_extensions" => told(alloc, i, parse_tls_extensions(alloc, i)),
-        "parse_tls_extensions.count" => told(alloc, i, parse_tls_extensions(alloc, i).map(|x| (x.0, x.1.len()))),
+        "parse_tls_extension.type" => told(alloc, i, kind(parse_tls_extension(alloc, i))),
+        "parse_tls_extension_unknown.type" => told(alloc, i, kind(parse_tls_extension_unknown(i))),
+        "parse_tls_extensions.count" => told(alloc, i, count(alloc, i)),
         "parse_tls_extensions.written" => all_rewritten(alloc, i),
-        "parse_tls_client_hello_extensions" => told(alloc, i, parse_tls_client_hello_extensions(alloc, i)),
-        "parse_tls_server_hello_extensions" => told(alloc, i, parse_tls_server_hello_extensions(alloc, i)),
     )
 }
 
 pub fn tagged(asked: &Asked) -> Told {
     let Asked { alloc, i, .. } = *asked;
-    table!(asked.name;
-        "parse_tls_extension_sni" => told(alloc, i, parse_tls_extension_sni(alloc, i)),
-        "parse_tls_extension_max_fragment_length" => told(alloc, i, parse_tls_extension_max_fragment_length(i)),
-        "parse_tls_extension_status_request" => told(alloc, i, parse_tls_extension_status_request(i)),
-        "parse_tls_extension_elliptic_curves" => told(alloc, i, parse_tls_extension_elliptic_curves(alloc, i)),
-        "parse_tls_extension_ec_point_formats" => told(alloc, i, parse_tls_extension_ec_point_formats(i)),
-        "parse_tls_extension_signature_algorithms" => told(alloc, i, parse_tls_extension_signature_algorithms(alloc, i)),
-        "parse_tls_extension_heartbeat" => told(alloc, i, parse_tls_extension_heartbeat(i)),
-        "parse_tls_extension_encrypt_then_mac" => told(alloc, i, parse_tls_extension_encrypt_then_mac(i)),
-        "parse_tls_extension_extended_master_secret" => told(alloc, i, parse_tls_extension_extended_master_secret(i)),
-        "parse_tls_extension_session_ticket" => told(alloc, i, parse_tls_extension_session_ticket(i)),
-        "parse_tls_extension_key_share" => told(alloc, i, parse_tls_extension_key_share(i)),
-        "parse_tls_extension_pre_shared_key" => told(alloc, i, parse_tls_extension_pre_shared_key(i)),
-        "parse_tls_extension_early_data" => told(alloc, i, parse_tls_extension_early_data(i)),
-        "parse_tls_extension_supported_versions" => told(alloc, i, parse_tls_extension_supported_versions(alloc, i)),
-        "parse_tls_extension_cookie" => told(alloc, i, parse_tls_extension_cookie(i)),
-        "parse_tls_extension_psk_key_exchange_modes" => told(alloc, i, parse_tls_extension_psk_key_exchange_modes(alloc, i)),
-        "parse_tls_extension_unknown" => told(alloc, i, parse_tls_extension_unknown(i)),
+    table!(asked;
+        parse_tls_extension_sni(alloc, i),
+        parse_tls_extension_max_fragment_length(i),
+        parse_tls_extension_status_request(i),
+        parse_tls_extension_elliptic_curves(alloc, i),
+        parse_tls_extension_ec_point_formats(i),
+        parse_tls_extension_signature_algorithms(alloc, i),
+        parse_tls_extension_heartbeat(i),
+        parse_tls_extension_encrypt_then_mac(i),
+        parse_tls_extension_extended_master_secret(i),
+        parse_tls_extension_session_ticket(i),
+        parse_tls_extension_key_share(i),
+        parse_tls_extension_pre_shared_key(i),
+        parse_tls_extension_early_data(i),
+        parse_tls_extension_supported_versions(alloc, i),
+        parse_tls_extension_cookie(i),
+        parse_tls_extension_psk_key_exchange_modes(alloc, i),
+        parse_tls_extension_unknown(i),
+        ;
     )
 }

@@ -9,24 +9,26 @@ use tls_fields::{
 
 pub fn numbers(asked: &Asked) -> Told {
     let Asked { alloc, i, .. } = *asked;
-    table!(asked.name;
-        "number1" => told(alloc, i, number1(i)),
-        "number2" => told(alloc, i, number2(i)),
-        "number3" => told(alloc, i, number3(i)),
-        "number4" => told(alloc, i, number4(i)),
-        "number8" => told(alloc, i, number8(i)),
-        "block" => told(alloc, i, block(i, asked.number(0))),
-        "counted1" => told(alloc, i, counted1(i)),
-        "counted2" => told(alloc, i, counted2(i)),
-        "counted3" => told(alloc, i, counted3(i)),
-        "maybe2" => told(alloc, i, maybe2(i)),
-        "tag" => told(alloc, i, tag(i, asked.two_bytes(0))),
+    table!(asked;
+        number1(i),
+        number2(i),
+        number3(i),
+        number4(i),
+        number8(i),
+        block(i, asked.number(0)),
+        counted1(i),
+        counted2(i),
+        counted3(i),
+        maybe2(i),
+        tag(i, asked.two_bytes(0)),
+        ;
     )
 }
 
 pub fn lists(asked: &Asked) -> Told {
     let Asked { alloc, i, .. } = *asked;
-    table!(asked.name;
+    table!(asked;
+        ;
         "items::<Number2>" => told(alloc, i, items::<Number2>(alloc, i)),
         "items::<Counted1>" => told(alloc, i, items::<Counted1>(alloc, i)),
         "items::<Counted2>" => told(alloc, i, items::<Counted2>(alloc, i)),

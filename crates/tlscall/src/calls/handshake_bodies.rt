@@ -17,21 +17,22 @@ use tls_parser::{
 pub fn bodies(asked: &Asked) -> Told {
     let Asked { alloc, i, .. } = *asked;
     let n = asked.number(0);
-    table!(asked.name;
-        "parse_tls_handshake_msg_hello_request" => told(alloc, i, parse_tls_handshake_msg_hello_request(i)),
-        "parse_tls_handshake_msg_client_hello" => told(alloc, i, parse_tls_handshake_msg_client_hello(alloc, i)),
-        "parse_tls_handshake_msg_server_hello" => told(alloc, i, parse_tls_handshake_msg_server_hello(i)),
-        "parse_tls_handshake_msg_newsessionticket" => told(alloc, i, parse_tls_handshake_msg_newsessionticket(i, n)),
-        "parse_tls_handshake_msg_hello_retry_request" => told(alloc, i, parse_tls_handshake_msg_hello_retry_request(i)),
-        "parse_tls_handshake_msg_certificate" => told(alloc, i, parse_tls_handshake_msg_certificate(alloc, i)),
-        "parse_tls_handshake_msg_serverkeyexchange" => told(alloc, i, parse_tls_handshake_msg_serverkeyexchange(i, n)),
-        "parse_tls_handshake_msg_certificaterequest" => told(alloc, i, parse_tls_handshake_msg_certificaterequest(alloc, i)),
-        "parse_tls_handshake_msg_serverdone" => told(alloc, i, parse_tls_handshake_msg_serverdone(i, n)),
-        "parse_tls_handshake_msg_certificateverify" => told(alloc, i, parse_tls_handshake_msg_certificateverify(i, n)),
-        "parse_tls_handshake_msg_clientkeyexchange" => told(alloc, i, parse_tls_handshake_msg_clientkeyexchange(i, n)),
-        "parse_tls_handshake_msg_finished" => told(alloc, i, parse_tls_handshake_msg_finished(i, n)),
-        "parse_tls_handshake_msg_certificatestatus" => told(alloc, i, parse_tls_handshake_msg_certificatestatus(i)),
-        "parse_tls_handshake_msg_next_protocol" => told(alloc, i, parse_tls_handshake_msg_next_protocol(i)),
-        "parse_tls_handshake_msg_key_update" => told(alloc, i, parse_tls_handshake_msg_key_update(i)),
+    table!(asked;
+        parse_tls_handshake_msg_hello_request(i),
+        parse_tls_handshake_msg_client_hello(alloc, i),
+        parse_tls_handshake_msg_server_hello(i),
+        parse_tls_handshake_msg_newsessionticket(i, n),
+        parse_tls_handshake_msg_hello_retry_request(i),
+        parse_tls_handshake_msg_certificate(alloc, i),
+        parse_tls_handshake_msg_serverkeyexchange(i, n),
+        parse_tls_handshake_msg_certificaterequest(alloc, i),
+        parse_tls_handshake_msg_serverdone(i, n),
+        parse_tls_handshake_msg_certificateverify(i, n),
+        parse_tls_handshake_msg_clientkeyexchange(i, n),
+        parse_tls_handshake_msg_finished(i, n),
+        parse_tls_handshake_msg_certificatestatus(i),
+        parse_tls_handshake_msg_next_protocol(i),
+        parse_tls_handshake_msg_key_update(i),
+        ;
     )
 }

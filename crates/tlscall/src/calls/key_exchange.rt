@@ -13,18 +13,19 @@ use tls_parser::{
 pub fn key_exchanges(asked: &Asked) -> Told {
     let Asked { alloc, i, .. } = *asked;
     let curve_type = ECCurveType(asked.byte(0));
-    table!(asked.name;
+    table!(asked;
+        parse_dh_params(i),
+        parse_ec_parameters(i),
+        parse_ecdh_params(i),
+        parse_named_groups(alloc, i),
+        ;
         "ServerDHParams::parse" => told(alloc, i, ServerDHParams::parse(i)),
-        "parse_dh_params" => told(alloc, i, parse_dh_params(i)),
         "ECPoint::parse" => told(alloc, i, ECPoint::parse(i)),
         "ECCurve::parse" => told(alloc, i, ECCurve::parse(i)),
         "ExplicitPrimeContent::parse" => told(alloc, i, ExplicitPrimeContent::parse(i)),
         "ECParametersContent::parse" => told(alloc, i, ECParametersContent::parse(i, curve_type)),
         "ECParameters::parse" => told(alloc, i, ECParameters::parse(i)),
-        "parse_ec_parameters" => told(alloc, i, parse_ec_parameters(i)),
         "ServerECDHParams::parse" => told(alloc, i, ServerECDHParams::parse(i)),
-        "parse_ecdh_params" => told(alloc, i, parse_ecdh_params(i)),
-        "parse_named_groups" => told(alloc, i, parse_named_groups(alloc, i)),
     )
 }
 
@@ -32,13 +33,14 @@ pub fn key_exchanges(asked: &Asked) -> Told {
 pub fn signatures(asked: &Asked) -> Told {
     let Asked { alloc, i, .. } = *asked;
     let ext = asked.number(0) == 1;
-    table!(asked.name;
+    table!(asked;
+        parse_digitally_signed(i),
+        parse_digitally_signed_old(i),
+        parse_content_and_signature(i, |i| ECPoint::parse(i), ext),
+        parse_ct_signed_certificate_timestamp(i),
+        parse_ct_signed_certificate_timestamp_list(alloc, i),
+        ;
         "SignatureAndHashAlgorithm::parse" => told(alloc, i, SignatureAndHashAlgorithm::parse(i)),
         "TlsMessageAlert::parse" => told(alloc, i, TlsMessageAlert::parse(i)),
-        "parse_digitally_signed" => told(alloc, i, parse_digitally_signed(i)),
-        "parse_digitally_signed_old" => told(alloc, i, parse_digitally_signed_old(i)),
-        "parse_content_and_signature" => told(alloc, i, parse_content_and_signature(i, |i| ECPoint::parse(i), ext)),
-        "parse_ct_signed_certificate_timestamp" => told(alloc, i, parse_ct_signed_certificate_timestamp(i)),
-        "parse_ct_signed_certificate_timestamp_list" => told(alloc, i, parse_ct_signed_certificate_timestamp_list(alloc, i)),
     )
 }

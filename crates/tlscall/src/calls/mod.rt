@@ -19,10 +19,9 @@ mod streams;
 mod uses;
 mod writers;
 
-pub use asked::Asked;
-
 use crate::fault::Fault;
 use crate::input::Piece;
+pub use asked::Asked;
 use std::alloc::Global;
 
 /// The answer of the first of the tables that has the call.

@@ -4,15 +4,16 @@ use crate::calls::Asked;
 use crate::told::{Told, shown, table};
 use std::alloc::Global;
 use tls_parser::{
-    CertificateStatusType, CtVersion, ECCurveType, Err, Error, HashAlgorithm, NamedGroup, OutOfMemory, SNIType,
-    SignAlgorithm, SignatureAndHashAlgorithm, SignatureScheme, TlsAlertDescription,
-    TlsAlertSeverity, TlsCipherSuiteID, TlsCompressionID, TlsExtensionType, TlsHandshakeType,
-    TlsHeartbeatMessageType, TlsRecordType, TlsVersion,
+    CertificateStatusType, CtVersion, ECCurveType, Err, Error, HashAlgorithm, NamedGroup,
+    OutOfMemory, SNIType, SignAlgorithm, SignatureAndHashAlgorithm, SignatureScheme,
+    TlsAlertDescription, TlsAlertSeverity, TlsCipherSuiteID, TlsCompressionID, TlsExtensionType,
+    TlsHandshakeType, TlsHeartbeatMessageType, TlsRecordType, TlsVersion,
 };
 
 pub fn of_bytes(asked: &Asked) -> Told {
     let Asked { alloc, i, .. } = *asked;
-    table!(asked.name;
+    table!(asked;
+        ;
         "TlsAlertSeverity.to_string" => shown(alloc, TlsAlertSeverity::parse(i)),
         "TlsAlertDescription.to_string" => shown(alloc, TlsAlertDescription::parse(i)),
         "TlsHandshakeType.to_string" => shown(alloc, TlsHandshakeType::parse(i)),
@@ -29,10 +30,7 @@ pub fn of_bytes(asked: &Asked) -> Told {
 }
 
 /// The text that a call made of the value, or why it was read of no bytes.
-fn made(
-    alloc: Global,
-    made: Result<Result<String, OutOfMemory>, Err<Error<&[u8]>>>,
-) -> Told {
+fn made(alloc: Global, made: Result<Result<String, OutOfMemory>, Err<Error<&[u8]>>>) -> Told {
     match made {
         Ok(Ok(text)) => Ok(Some(text)),
         Ok(Err(_)) => Ok(Some(format!(in alloc; "OutOfMemory")?)),
@@ -42,7 +40,8 @@ fn made(
 
 pub fn of_longer(asked: &Asked) -> Told {
     let Asked { alloc, i, .. } = *asked;
-    table!(asked.name;
+    table!(asked;
+        ;
         "TlsVersion.to_string" => shown(alloc, TlsVersion::parse(i)),
         "TlsVersion.lower_hex" => made(alloc, TlsVersion::parse(i).map(|x| x.1.lower_hex(alloc))),
         "NamedGroup.to_string" => shown(alloc, NamedGroup::parse(i)),

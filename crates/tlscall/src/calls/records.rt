@@ -48,17 +48,18 @@ pub fn written_record(alloc: Global, record: &TlsPlaintext) -> Told {
 
 pub fn of_tls(asked: &Asked) -> Told {
     let Asked { alloc, i, .. } = *asked;
-    table!(asked.name;
-        "parse_tls_plaintext" => told(alloc, i, parse_tls_plaintext(alloc, i)),
+    table!(asked;
+        parse_tls_plaintext(alloc, i),
+        tls_parser(alloc, i),
+        tls_parser_many(alloc, i),
+        parse_tls_raw_record(i),
+        parse_tls_encrypted(i),
+        parse_tls_record_header(i),
+        parse_tls_record_with_header(alloc, i, &header_of(asked)),
+        ;
         "parse_tls_plaintext.clone" => told(alloc, i, copied(alloc, i)),
         "parse_tls_plaintext.count" => told(alloc, i, parse_tls_plaintext(alloc, i).map(|x| (x.0, x.1.msg.len()))),
         "parse_tls_plaintext.written" => rewritten(alloc, i),
-        "tls_parser" => told(alloc, i, tls_parser(alloc, i)),
-        "tls_parser_many" => told(alloc, i, tls_parser_many(alloc, i)),
-        "parse_tls_raw_record" => told(alloc, i, parse_tls_raw_record(i)),
-        "parse_tls_encrypted" => told(alloc, i, parse_tls_encrypted(i)),
-        "parse_tls_record_header" => told(alloc, i, parse_tls_record_header(i)),
         "TlsRecordHeader::parse" => told(alloc, i, TlsRecordHeader::parse(i)),
-        "parse_tls_record_with_header" => told(alloc, i, parse_tls_record_with_header(alloc, i, &header_of(asked))),
     )
 }

@@ -4,7 +4,9 @@ use crate::calls::Asked;
 use crate::input::Piece;
 use crate::told::{Told, debug, plain, table};
 use std::alloc::{AllocError, Global};
-use tls_parser::{ParseContext, TlsMessage, TlsState, parse_tls_plaintext, tls_state_transition};
+use tls_parser::{
+    Err, ParseContext, TlsMessage, TlsState, parse_tls_plaintext, tls_state_transition,
+};
 
 /// All states.
 const STATES: [TlsState; 25] = [
@@ -40,8 +42,10 @@ type Said<'a> = (TlsMessage<'a>, bool);
 
 /// The messages of the piece's record, if it is one.
 fn said<'a>(alloc: Global, piece: &'a Piece) -> Result<Option<Vec<Said<'a>>>, AllocError> {
-    let Ok((_, record)) = parse_tls_plaintext(alloc, &piece.bytes) else {
-        return Ok(None);
+    let record = match parse_tls_plaintext(alloc, &piece.bytes) {
+        Ok((_, record)) => record,
+        Err(Err::OutOfMemory) => return Err(AllocError),
+        Err(_) => return Ok(None),
     };
     let mut messages = Vec::new(alloc);
     for message in record.msg {
@@ -124,7 +128,8 @@ fn transitions(asked: &Asked) -> Told {
 }
 
 pub fn states(asked: &Asked) -> Told {
-    table!(asked.name;
+    table!(asked;
+        ;
         "ParseContext::run" => run(asked),
         "ParseContext::update" => updates(asked),
         "tls_state_transition" => transitions(asked),

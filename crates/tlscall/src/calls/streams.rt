@@ -2,7 +2,7 @@
 
 use crate::calls::Asked;
 use crate::hexadecimal::hexadecimal;
-use crate::told::{Told, plain, table, told};
+use crate::told::{Told, debug, plain, table, told};
 use std::alloc::{AllocError, Global};
 use tls_stream::{Reassembler, split_pieces};
 
@@ -10,7 +10,27 @@ use tls_stream::{Reassembler, split_pieces};
 fn split(alloc: Global, pieces: &[&[u8]]) -> Told {
     match split_pieces(alloc, pieces) {
         Ok((records, stream)) => plain(alloc, (records, stream.held())),
-        Err(_) => Ok(Some(format!(in alloc; "OutOfMemory")?)),
+        Err(_) => want_of_memory(alloc),
+    }
+}
+
+/// Memory ran out.
+fn want_of_memory(alloc: Global) -> Told {
+    Ok(Some(format!(in alloc; "OutOfMemory")?))
+}
+
+/// What the pieces have is as told, or memory ran out, or it is told otherwise.
+fn is_split(alloc: Global, pieces: &[&[u8]], told: &str) -> Told {
+    match split_pieces(alloc, pieces) {
+        Ok((records, stream)) => {
+            let same = debug(alloc, &(records, stream.held()))?;
+            if same.as_str() == told {
+                return Ok(None);
+            }
+            let count = pieces.len();
+            Ok(Some(format!(in alloc; "otherwise in {count} pieces: {same}")?))
+        }
+        Err(_) => want_of_memory(alloc),
     }
 }
 
@@ -25,11 +45,13 @@ fn pieces_of<'a>(asked: &Asked<'a>) -> Result<Vec<&'a [u8]>, AllocError> {
 
 /// The same of one piece, cut at every place and into pieces of several sizes, where all have the same.
 fn split_anyhow(alloc: Global, i: &[u8]) -> Told {
-    let whole = split(alloc, &[i])?;
+    let Some(whole) = split(alloc, &[i])? else {
+        return Ok(None);
+    };
     for place in 0..i.len() {
         let (front, behind) = i.split_at(place);
-        if split(alloc, &[front, behind])? != whole {
-            return Ok(Some(format!(in alloc; "otherwise where it is cut at {place}")?));
+        if let Some(other) = is_split(alloc, &[front, behind], whole.as_str())? {
+            return Ok(Some(other));
         }
     }
     for size in [1, 2, 3, 5, 1460] {
@@ -37,11 +59,11 @@ fn split_anyhow(alloc: Global, i: &[u8]) -> Told {
         for piece in i.chunks(size) {
             pieces.push(piece)?;
         }
-        if split(alloc, &pieces)? != whole {
-            return Ok(Some(format!(in alloc; "otherwise in pieces of {size}")?));
+        if let Some(other) = is_split(alloc, &pieces, whole.as_str())? {
+            return Ok(Some(other));
         }
     }
-    Ok(whole)
+    Ok(Some(whole))
 }
 
 /// What stands in front of the stream: a fragment, or why none does.
@@ -78,7 +100,8 @@ fn reassembled(asked: &Asked) -> Told {
 
 pub fn streams(asked: &Asked) -> Told {
     let Asked { alloc, i, .. } = *asked;
-    table!(asked.name;
+    table!(asked;
+        ;
         "split_pieces" => split(alloc, &pieces_of(asked)?),
         "split_pieces.anyhow" => split_anyhow(alloc, i),
         "Reassembler" => reassembled(asked),

@@ -33,12 +33,14 @@ fn length_of(passed: Passed) -> Option<usize> {
 pub fn uses(asked: &Asked) -> Told {
     let Asked { alloc, i, .. } = *asked;
     let ext = asked.piece(1);
-    table!(asked.name;
+    table!(asked;
+        parse_host_name(alloc, i),
+        parse_alerts(alloc, i),
+        replace_extensions(alloc, i, ext),
+        ;
         "missing_bytes" => plain(alloc, missing_bytes(i)),
         "next_record" => next(alloc, i),
-        "parse_host_name" => told(alloc, i, parse_host_name(alloc, i)),
-        "parse_alerts" => told(alloc, i, parse_alerts(alloc, i)),
-        "replace_extensions" => told(alloc, i, replace_extensions(alloc, i, ext)),
-        "replace_extensions.count" => told(alloc, i, replace_extensions(alloc, i, ext).map(|x| (x.0, length_of(x.1)))),
+        "replace_extensions.count" =>
+            told(alloc, i, replace_extensions(alloc, i, ext).map(|x| (x.0, length_of(x.1)))),
     )
 }

@@ -1,13 +1,14 @@
 //! What is written. The value that a call writes is read of the input first.
 
 use crate::calls::Asked;
+use crate::calls::handshakes::written_message;
 use crate::calls::records::written_record;
 use crate::noted::{Noted, both};
 use crate::told::{Told, table, told, written};
-use std::alloc::Global;
+use std::alloc::{AllocError, Global};
 use tls_hs::parts;
 use tls_parser::{
-    ECPoint, Serialize, TlsClientKeyExchangeContents, TlsMessage, TlsMessageHandshake,
+    ECPoint, Err, Serialize, TlsClientKeyExchangeContents, TlsMessage, TlsMessageHandshake,
     TlsPlaintext, TlsRecordHeader, TlsRecordType, TlsVersion, gen_tls_changecipherspec,
     gen_tls_clienthello, gen_tls_clientkeyexchange, gen_tls_finished, gen_tls_hellorequest,
     gen_tls_message, gen_tls_serverhello, gen_tls_serverhellodraft18,
@@ -22,7 +23,7 @@ fn client_hello(alloc: Global, i: &[u8]) -> Told {
             let answered = gen_tls_clienthello(alloc, &hello, &mut out);
             let one = out.told(alloc, answered);
             let message = TlsMessageHandshake::ClientHello(hello);
-            both(alloc, one, written(alloc, message.serialize(alloc)))
+            both(alloc, one, written_message(alloc, &message))
         }
         refused => told(alloc, i, refused),
     }
@@ -35,7 +36,7 @@ fn server_hello(alloc: Global, i: &[u8]) -> Told {
             let answered = gen_tls_serverhello(alloc, &hello, &mut out);
             let one = out.told(alloc, answered);
             let message = TlsMessageHandshake::ServerHello(hello);
-            both(alloc, one, written(alloc, message.serialize(alloc)))
+            both(alloc, one, written_message(alloc, &message))
         }
         refused => told(alloc, i, refused),
     }
@@ -48,7 +49,7 @@ fn draft_18(alloc: Global, i: &[u8]) -> Told {
             let answered = gen_tls_serverhellodraft18(alloc, &hello, &mut out);
             let one = out.told(alloc, answered);
             let message = TlsMessageHandshake::ServerHelloV13Draft18(hello);
-            both(alloc, one, written(alloc, message.serialize(alloc)))
+            both(alloc, one, written_message(alloc, &message))
         }
         other => told(alloc, i, other),
     }
@@ -59,7 +60,7 @@ fn client_keys(alloc: Global, contents: TlsClientKeyExchangeContents) -> Told {
     let answered = gen_tls_clientkeyexchange(alloc, &contents, &mut out);
     let one = out.told(alloc, answered);
     let message = TlsMessageHandshake::ClientKeyExchange(contents);
-    both(alloc, one, written(alloc, message.serialize(alloc)))
+    both(alloc, one, written_message(alloc, &message))
 }
 
 fn finished(alloc: Global, i: &[u8]) -> Told {
@@ -67,7 +68,7 @@ fn finished(alloc: Global, i: &[u8]) -> Told {
     let answered = gen_tls_finished(alloc, i, &mut out);
     let one = out.told(alloc, answered);
     let message = TlsMessageHandshake::Finished(i);
-    both(alloc, one, written(alloc, message.serialize(alloc)))
+    both(alloc, one, written_message(alloc, &message))
 }
 
 fn hello_request(alloc: Global) -> Told {
@@ -75,14 +76,15 @@ fn hello_request(alloc: Global) -> Told {
     let answered = gen_tls_hellorequest(alloc, &mut out);
     let one = out.told(alloc, answered);
     let message = TlsMessageHandshake::HelloRequest;
-    both(alloc, one, written(alloc, message.serialize(alloc)))
+    both(alloc, one, written_message(alloc, &message))
 }
 
 /// A handshake message, of its fields.
 pub fn messages(asked: &Asked) -> Told {
     let Asked { alloc, i, .. } = *asked;
     let point = ECPoint { point: i };
-    table!(asked.name;
+    table!(asked;
+        ;
         "gen_tls_hellorequest" => hello_request(alloc),
         "gen_tls_clienthello" => client_hello(alloc, i),
         "gen_tls_serverhello" => server_hello(alloc, i),
@@ -114,10 +116,14 @@ fn messages_of(alloc: Global, i: &[u8]) -> Told {
 /// A record of `:TYPE:LENGTH` and TLS 1.2, with the messages of all records of the input.
 fn record_of(alloc: Global, asked: &Asked) -> Told {
     let mut msg: Vec<TlsMessage> = Vec::new(alloc);
-    if let Ok((_, records)) = tls_parser_many(alloc, asked.i) {
-        for record in records {
-            msg.extend(record.msg)?;
+    match tls_parser_many(alloc, asked.i) {
+        Ok((_, records)) => {
+            for record in records {
+                msg.extend(record.msg)?;
+            }
         }
+        Err(Err::OutOfMemory) => return Err(AllocError),
+        Err(_) => {}
     }
     let hdr = TlsRecordHeader {
         record_type: TlsRecordType(asked.byte(0)),
@@ -131,13 +137,18 @@ fn change(alloc: Global) -> Told {
     let mut out = Noted::new(alloc);
     let answered = gen_tls_changecipherspec(alloc, &mut out);
     let one = out.told(alloc, answered);
-    both(alloc, one, written(alloc, TlsMessage::ChangeCipherSpec.serialize(alloc)))
+    both(
+        alloc,
+        one,
+        written(alloc, TlsMessage::ChangeCipherSpec.serialize(alloc)),
+    )
 }
 
 /// Messages of records, and records.
 pub fn records(asked: &Asked) -> Told {
     let Asked { alloc, i, .. } = *asked;
-    table!(asked.name;
+    table!(asked;
+        ;
         "gen_tls_changecipherspec" => change(alloc),
         "gen_tls_message" => messages_of(alloc, i),
         "gen_tls_plaintext" => record_of(alloc, asked),
