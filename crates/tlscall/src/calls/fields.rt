@@ -1,0 +1,40 @@
+//! Fields and lists.
+
+use crate::calls::Asked;
+use crate::told::{Told, table, told};
+use tls_fields::{
+    Counted1, Counted2, Number2, block, counted1, counted2, counted3, items, items1, maybe2,
+    number1, number2, number3, number4, number8, numbers as numbers_of, pairs, tag,
+};
+
+pub fn numbers(asked: &Asked) -> Told {
+    let Asked { alloc, i, .. } = *asked;
+    table!(asked;
+        number1(i),
+        number2(i),
+        number3(i),
+        number4(i),
+        number8(i),
+        block(i, asked.number(0)),
+        counted1(i),
+        counted2(i),
+        counted3(i),
+        maybe2(i),
+        tag(i, asked.two_bytes(0)),
+        ;
+    )
+}
+
+pub fn lists(asked: &Asked) -> Told {
+    let Asked { alloc, i, .. } = *asked;
+    table!(asked;
+        ;
+        "items::<Number2>" => told(alloc, i, items::<Number2>(alloc, i)),
+        "items::<Counted1>" => told(alloc, i, items::<Counted1>(alloc, i)),
+        "items::<Counted2>" => told(alloc, i, items::<Counted2>(alloc, i)),
+        "items1::<Number2>" => told(alloc, i, items1::<Number2>(alloc, i)),
+        "numbers::<u8>" => told(alloc, i, numbers_of::<u8>(alloc, i, asked.number(0))),
+        "numbers::<u16>" => told(alloc, i, numbers_of::<u16>(alloc, i, asked.number(0))),
+        "pairs::<u16>" => told(alloc, i, pairs::<u16>(alloc, i)),
+    )
+}

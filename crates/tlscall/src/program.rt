@@ -1,0 +1,98 @@
+//! What the program does with its arguments.
+
+use crate::calls::answer;
+use crate::compare::Tally;
+use crate::fault::Fault;
+use crate::input::{bytes_of, input_of};
+use crate::rows::compare_rows;
+use std::rt::{Env, Files};
+use std::{env, fs};
+
+const USAGE: &str =
+    "tlscall CALL[:NUMBER..] HEXADECIMAL..\ntlscall --rows FILE..\ntlscall --answers FILE..";
+
+/// All was told, or compared and found right.
+pub const RIGHT: u8 = 0;
+/// An answer differs.
+pub const DIFFERS: u8 = 1;
+/// The arguments or a row aren't of the form.
+pub const MISFORMED: u8 = 2;
+/// Memory ran out, or a file can't be read.
+pub const FAILED: u8 = 3;
+
+/// Tells a fault, and answers the exit status.
+fn tell(rt: &impl Print, place: &str, fault: Fault) -> Result<u8, Fault> {
+    match fault {
+        Fault::Form(cause) => {
+            println!(rt; "{place}{cause}")?;
+            Ok(MISFORMED)
+        }
+        fault => Err(fault),
+    }
+}
+
+/// Compares the rows of the files, and counts them, or tells each answer.
+fn compare_files(
+    rt: &(impl AllocGlobal + Files + Print),
+    files: &[String],
+    is_told: bool,
+) -> Result<u8, Fault> {
+    let alloc = rt.alloc();
+    let mut tally = Tally::new(alloc, is_told);
+    for file in files {
+        let text = fs::read_to_string(rt, file.as_str())?;
+        if let Err(e) = compare_rows(alloc, file.as_str(), text.as_str(), &mut tally) {
+            let line = e.line;
+            print!(rt; "{}", tally.lines)?;
+            let place = format!(in alloc; "{file}:{line}: ")?;
+            return tell(rt, place.as_str(), e.fault);
+        }
+    }
+    let Tally {
+        rows,
+        answers,
+        differ,
+        lines,
+        ..
+    } = &tally;
+    print!(rt; "{lines}")?;
+    println!(rt; "{rows} rows, {answers} answers: {differ} differ")?;
+    Ok(if *differ == 0 { RIGHT } else { DIFFERS })
+}
+
+/// Tells what the call answers on the input that the words say.
+fn tell_answer(rt: &(impl AllocGlobal + Print), call: &str, words: &[String]) -> Result<u8, Fault> {
+    let alloc = rt.alloc();
+    let mut given: Vec<&str> = Vec::new(alloc);
+    for word in words {
+        given.push(word.as_str())?;
+    }
+    let told = match input_of(alloc, &given, &[]) {
+        Ok(input) => answer(alloc, call, "", &input, bytes_of(&input)),
+        Err(fault) => Err(fault),
+    };
+    match told {
+        Ok(text) => {
+            println!(rt; "{text}")?;
+            Ok(RIGHT)
+        }
+        Err(fault) => tell(rt, "", fault),
+    }
+}
+
+/// Does what the arguments say, and answers the exit status.
+pub fn run(rt: &(impl AllocGlobal + Env + Files + Print)) -> Result<u8, Fault> {
+    let mut words: Vec<String> = Vec::new(rt.alloc());
+    for word in env::args(rt)? {
+        words.push(word)?;
+    }
+    let Some((_, words)) = words.split_first() else {
+        return tell(rt, "", Fault::Form(USAGE));
+    };
+    match words.split_first() {
+        Some((first, files)) if first.as_str() == "--rows" => compare_files(rt, files, false),
+        Some((first, files)) if first.as_str() == "--answers" => compare_files(rt, files, true),
+        Some((call, given)) => tell_answer(rt, call.as_str(), given),
+        None => tell(rt, "", Fault::Form(USAGE)),
+    }
+}
