@@ -1,6 +1,5 @@
 pub mod LengthLemmas
 pub mod ClientHelloTextLemmas
 pub mod ServerHelloTextLemmas
-pub mod ByTypeLemmas
 pub mod MsgTypeLemmas
 pub mod HandshakeTextLemmas

@@ -7,7 +7,7 @@
 //!   field. The writer isn't called. Of several messages the first that is refused decides.
 //! - `OutOfMemory` where memory for the text runs out. The writer isn't called.
 //! - `Io` where a write fails, also where it is interrupted, or takes nothing. How much went out is unknown.
-ghost use Rattle.std.specs.Prelude.{◌≡◌, [], Ok, IfOk, ⊤};
+ghost use Rattle.std.specs.Prelude.{◌≡◌, IfOk, ⊤};
 ghost use Rattle.std.specs.Result.{result_map_both};
 ghost use Rattle.tls_fields.specs.Bytes.{Bytes};
 ghost use Rattle.tls_fields.specs.Writer.{Builds, Writes};

@@ -1,5 +1,5 @@
 -- What a proxy passes on for a record.
-use Rattle.std.proofs.Common.{◌≡◌, ◌<◌, ◌≤◌, ℕ, List, [], ◌∷◌, length, Some, Ok, refl, sym, inl, inr, ◌∙◌, ap, subst}
+use Rattle.std.proofs.Common.{◌≡◌, ◌<◌, ◌≤◌, ℕ, List, [], ◌∷◌, length, Some, Ok, refl, sym, ◌∙◌, ap, subst}
 use Rattle.std.proofs.Common.{arith}
 use Rattle.std.proofs.Math.Nat.{lt_of_not-le}
 use Rattle.std.proofs.lemmas.List.Elements.{All-nil, All-cons}
@@ -16,8 +16,8 @@ use Rattle.tls_parser.specs.Record.{RecordHeader, raw_record, record_content, Pl
 use Rattle.tls_parser.specs.RecordText.{fragment_text, plaintext_text, FitsPlaintext, IsReadable, IsReadableIn}
 use Rattle.tls_parser.specs.RecordText.{normal_plaintext}
 use Rattle.tls_parser.proofs.CallerLemmas.{only_reading, IsReadHello, hello_read, hello_fits, length-plaintext_text}
-use Rattle.tls_uses.specs.Proxy.{alone, HoldsHello, HoldsAnythingElse, HasHandshakeRecord, with_extensions, changed, IsPassed}
-use Rattle.tls_uses.specs.declared.proxy.Passed.TheVariants.{AsItCame, Changed, TooLong}
+use Rattle.tls_uses.specs.Proxy.{alone, HoldsHello, with_extensions, changed, IsPassed}
+use Rattle.tls_uses.specs.declared.proxy.Passed.TheVariants.{Changed, TooLong}
 
 abbrev plaintext_of : RecordHeader → List Message → Plaintext
 plaintext_of h ms = record { header = h; messages = ms }
@@ -71,29 +71,6 @@ module _ (ext : Bytes) (h : RecordHeader) (hello : ClientHello) where
         fragment = omega
             (arith, short);
       }))
-
--- A record of type handshake in front.
-pub has_handshake : (b rest f : Bytes) (h : RecordHeader)
-    → reading raw_record b ≡ Ok (record { header = h; fragment = f }, rest) → h.content_type ≡ 22 → HasHandshakeRecord b
-has_handshake b rest f h in_front is =
-    record { raw = record { header = h; fragment = f }; rest = rest; in_front = in_front; of_handshake = is }
-
--- A record that goes on as it came.
-pub another_type : (ext b rest f : Bytes) (h : RecordHeader)
-    → reading raw_record b ≡ Ok (record { header = h; fragment = f }, rest)
-    → (h.content_type ≡ 22 → ⊥) → IsPassed ext b rest AsItCame
-another_type ext b rest f h in_front other = (record { header = h; fragment = f }, in_front, inl other)
-
-pub anything_else : (ext b rest f left : Bytes) (h : RecordHeader) (ms : List Message)
-    → reading raw_record b ≡ Ok (record { header = h; fragment = f }, rest)
-    → reading (record_content h) f ≡ Ok (ms, left)
-    → ((hello : ClientHello) → ms ≡ alone hello → left ≡ [] → ⊥) → IsPassed ext b rest AsItCame
-anything_else ext b rest f left h ms in_front content other = (
-  record { header = h; fragment = f },
-  in_front,
-  inr
-      (record { messages = ms; left = left; read = content; other = other }),
-)
 
 empty : (b : Bytes) → length b ≡ 0 → b ≡ []
 empty [] e = refl

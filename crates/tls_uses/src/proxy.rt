@@ -56,7 +56,7 @@ fn hello_alone<'a>(mut messages: Vec<TlsMessage<'a>>) -> Option<TlsClientHelloCo
 /// Refused as [`tls_parser::parse_tls_plaintext`] refuses the record, if it is of type handshake, or its header refuses it: a
 /// handshake record that can't be read never goes on as it came, and one of another type does, whatever it holds.
 /// `OutOfMemory` in a record of type handshake alone, also where there is no memory for the new record.
-#[tactic(auto, using(tls_parser::proofs::ContentLemmas::plaintext_is_raw_then_content, crate::proofs::ProxyLemmas::has_handshake))]
+#[tactic(auto, using(tls_parser::proofs::ContentLemmas::plaintext_is_raw_then_content))]
 pub fn replace_extensions<'a>(
     alloc: Global,
     i: &'a [u8],
