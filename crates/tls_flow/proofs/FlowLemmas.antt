@@ -26,7 +26,7 @@ followed outcome.Unknown f e h = sym (end_stays f.state e.letter (ap is_waiting 
 followed outcome.NoHandshake f e h = sym (end_stays f.state e.letter (ap is_waiting h))
 
 -- The state is that of the letters.
-state_of : (f : Flow) (es : List Event) → (run follow f es).state ≡ run step f.state (letters_of es)
+pub state_of : (f : Flow) (es : List Event) → (run follow f es).state ≡ run step f.state (letters_of es)
 state_of f [] = refl
 state_of f (e ∷ es) = state_of (follow f e) es ∙ ap (λ q. run step q (letters_of es)) (followed (outcome_at f.state) f e refl)
 
