@@ -62,8 +62,7 @@ module _ (w : Word) (l : Letter) where
   awaited_to : awaits (end_of w) l ≡ true → IsAwaited l w
   awaited_to t =
       let a : (is_waiting (outcome_at (end_of w)) ≡ true) × ((not (is_noise l) && is_alive (outcome_at (step (end_of w) l))) ≡ true) = both_and _ _ t in
-      let b : (not (is_noise l) ≡ true) × (is_alive (outcome_at (step (end_of w) l)) ≡ true) = both_and _ _ a.1 in
-      (
+      let b : (not (is_noise l) ≡ true) × (is_alive (outcome_at (step (end_of w) l)) ≡ true) = both_and _ _ a.1 in (
         (waiting_where w).0 (waiting_is (outcome_at (end_of w)) a.0),
         not_true (is_noise l) b.0,
         alive_to (w ++ l ∷ []) (ap (λ q. is_alive (outcome_at q)) next_end ∙ b.1),
@@ -77,7 +76,8 @@ module _ (w : Word) (l : Letter) where
       ] in
       and_both _ _ (ap is_waiting ((waiting_where w).1 h.0)) (and_both _ _ (false_not (is_noise l) h.1) (ap (λ q. is_alive (outcome_at q)) (sym next_end) ∙ alive))
 
-pub awaited_of_flow : (xs : List Letter) (f : Flow) (es : List Event) → xs ≡ awaited_in ROWS f.state → f ≡ run follow silence es → (l : Letter) → Contains xs l ↔ IsAwaited l (letters_of es)
+pub awaited_of_flow : (xs : List Letter) (f : Flow) (es : List Event) → xs ≡ awaited_in ROWS f.state
+    → f ≡ run follow silence es → (l : Letter) → Contains xs l ↔ IsAwaited l (letters_of es)
 awaited_of_flow xs f es rows comes l =
     let at : f.state ≡ end_of (letters_of es) = ap (λ g. g.state) comes ∙ state_of silence es in
     let ys : xs ≡ awaited_in ROWS (end_of (letters_of es)) = rows ∙ ap (awaited_in ROWS) at in
