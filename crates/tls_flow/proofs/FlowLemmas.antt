@@ -16,7 +16,8 @@ use Rattle.tls_flow.specs.declared.state.Outcome.TheVariants as outcome
 use Rattle.tls_flow.proofs.ConversationLemmas.{is_waiting, is_done, waiting_is, end_stays, run_stays, true_or_false, end_of, done_from, done_to, waiting_where, told_whole}
 
 -- One event, by the outcome so far.
-followed : (o : Outcome) (f : Flow) (e : Event) → outcome_at f.state ≡ o → (follow_by o f e).state ≡ step f.state e.letter
+followed : (o : Outcome) (f : Flow) (e : Event) → outcome_at f.state ≡ o
+    → (follow_by o f e).state ≡ step f.state e.letter
 followed outcome.Waiting f e h = refl
 followed outcome.Full f e h = sym (end_stays f.state e.letter (ap is_waiting h))
 followed outcome.Resumed f e h = sym (end_stays f.state e.letter (ap is_waiting h))
@@ -26,7 +27,7 @@ followed outcome.Unknown f e h = sym (end_stays f.state e.letter (ap is_waiting 
 followed outcome.NoHandshake f e h = sym (end_stays f.state e.letter (ap is_waiting h))
 
 -- The state is that of the letters.
-state_of : (f : Flow) (es : List Event) → (run follow f es).state ≡ run step f.state (letters_of es)
+pub state_of : (f : Flow) (es : List Event) → (run follow f es).state ≡ run step f.state (letters_of es)
 state_of f [] = refl
 state_of f (e ∷ es) = state_of (follow f e) es ∙ ap (λ q. run step q (letters_of es)) (followed (outcome_at f.state) f e refl)
 
@@ -57,7 +58,8 @@ stop_stays f (e ∷ es) h =
 abbrev is_failed : Outcome → Bool
 is_failed o = not (is_waiting o || is_done o)
 
-stop_is : (o : Outcome) (n : ℕ) (e : Event) → is_failed o ≡ true → stop_at o n e ≡ Some (record { event = e; place = n })
+stop_is : (o : Outcome) (n : ℕ) (e : Event) → is_failed o ≡ true
+    → stop_at o n e ≡ Some (record { event = e; place = n })
 stop_is = elim [
   | outcome.BrokenOff ↦ λ n e h. refl
   | outcome.Unknown ↦ λ n e h. refl
@@ -85,7 +87,8 @@ failed_not = elim [
 ]
 
 -- A waiting flow after one event.
-move_is : (f : Flow) (e : Event) → is_waiting (outcome_at f.state) ≡ true → follow f e ≡ moved (step f.state e.letter) f.events e
+move_is : (f : Flow) (e : Event) → is_waiting (outcome_at f.state) ≡ true
+    → follow f e ≡ moved (step f.state e.letter) f.events e
 move_is f e h = ap (λ o. follow_by o f e) (waiting_is (outcome_at f.state) h)
 
 -- What stopped a flow that waited: nothing, or an event behind a front with which it still waited.
@@ -99,7 +102,8 @@ Stopped f es =
 abbrev NotStopped : Flow → List Event → Type 0
 NotStopped f es = ((run follow f es).stop ≡ None) × (is_failed (outcome_at (run follow f es).state) ≡ false)
 
-failed_at_once : (f : Flow) (e : Event) (es : List Event) → is_waiting (outcome_at f.state) ≡ true → is_failed (outcome_at (step f.state e.letter)) ≡ true → Stopped f (e ∷ es)
+failed_at_once : (f : Flow) (e : Event) (es : List Event) → is_waiting (outcome_at f.state) ≡ true
+    → is_failed (outcome_at (step f.state e.letter)) ≡ true → Stopped f (e ∷ es)
 failed_at_once f e es h t =
     let m : follow f e ≡ moved (step f.state e.letter) f.events e = move_is f e h in
     let q : (follow f e).state ≡ step f.state e.letter = ap (λ x. x.state) m in
@@ -108,7 +112,8 @@ failed_at_once f e es h t =
     ([], es, e, refl, stop_stays (follow f e) es w ∙ s, h, t, ap (λ x. is_failed (outcome_at x)) (state_of (follow f e) es ∙ run_stays (follow f e).state (letters_of es) w ∙ q) ∙ t)
 
 -- The flow goes on behind an event that doesn't fail.
-goes_on : (f : Flow) (e : Event) (es : List Event) → is_waiting (outcome_at f.state) ≡ true → is_failed (outcome_at (step f.state e.letter)) ≡ false
+goes_on : (f : Flow) (e : Event) (es : List Event) → is_waiting (outcome_at f.state) ≡ true
+    → is_failed (outcome_at (step f.state e.letter)) ≡ false
     → (is_waiting (outcome_at (follow f e).state) ≡ true → (follow f e).stop ≡ None → NotStopped (follow f e) es ⊎ Stopped (follow f e) es)
     → NotStopped f (e ∷ es) ⊎ Stopped f (e ∷ es)
 goes_on f e es h t rest =
@@ -123,7 +128,8 @@ goes_on f e es h t rest =
       | inr w ↦ inl (stop_stays (follow f e) es w ∙ none, ap (λ x. is_failed (outcome_at x)) (state_of (follow f e) es ∙ run_stays (follow f e).state (letters_of es) w ∙ q) ∙ t)
     ]
 
-stop_among : (f : Flow) (es : List Event) → is_waiting (outcome_at f.state) ≡ true → f.stop ≡ None → NotStopped f es ⊎ Stopped f es
+stop_among : (f : Flow) (es : List Event) → is_waiting (outcome_at f.state) ≡ true → f.stop ≡ None
+    → NotStopped f es ⊎ Stopped f es
 stop_among f [] h n = inl (n, not_failed (outcome_at f.state) h)
 stop_among f (e ∷ es) h n = elim (true_or_false (is_failed (outcome_at (step f.state e.letter)))) [
   | inl t ↦ inr (failed_at_once f e es h t)
@@ -143,7 +149,8 @@ counted_within n m = omega arith
 counted_by : (o : Outcome) (f : Flow) (e : Event) → (follow_by o f e).events ≡ counted f.events
 counted_by = elim [ outcome.Waiting ↦ λ f e. refl | _ ↦ λ f e. refl ]
 
-events_of : (f : Flow) (es : List Event) → f.events ≤ 2 ^ 64 - 1 → (run follow f es).events ≡ min (f.events + length es) (2 ^ 64 - 1)
+events_of : (f : Flow) (es : List Event) → f.events ≤ 2 ^ 64 - 1
+    → (run follow f es).events ≡ min (f.events + length es) (2 ^ 64 - 1)
 events_of f [] h = count_none f.events (2 ^ 64 - 1) h
 events_of f (e ∷ es) h =
     let c : (follow f e).events ≡ counted f.events = counted_by (outcome_at f.state) f e in
@@ -160,7 +167,8 @@ module _ (es : List Event) where
   ends_at : (run follow silence es).state ≡ end_of (letters_of es)
   ends_at = state_of silence es
 
-  not_stopped : is_failed (outcome_at (end_of (letters_of es))) ≡ false → HasHandshake (letters_of es) ⊎ IsUnderWay (letters_of es)
+  not_stopped : is_failed (outcome_at (end_of (letters_of es))) ≡ false
+      → HasHandshake (letters_of es) ⊎ IsUnderWay (letters_of es)
   not_stopped t = elim (true_or_false (is_done (outcome_at (end_of (letters_of es))))) [
     | inl d ↦ inl (done_to (letters_of es) d)
     | inr d ↦ inr ((waiting_where (letters_of es)).0 (waits_if (outcome_at (end_of (letters_of es))) t d))
@@ -169,7 +177,9 @@ module _ (es : List Event) where
       waits_if : (o : Outcome) → is_failed o ≡ false → is_done o ≡ false → o ≡ outcome.Waiting
       waits_if = elim [ outcome.Waiting ↦ λ a b. refl | outcome.BrokenOff ↦ λ a b. cc | outcome.Unknown ↦ λ a b. cc | outcome.NoHandshake ↦ λ a b. cc | _ ↦ λ a b. cc ]
 
-  failed_under_way : (u : List Event) (e : Event) → is_failed (outcome_at (step (run follow silence u).state e.letter)) ≡ true → ¬ IsUnderWay (letters_of (u ++ e ∷ []))
+  failed_under_way : (u : List Event) (e : Event)
+      → is_failed (outcome_at (step (run follow silence u).state e.letter)) ≡ true
+      → ¬ IsUnderWay (letters_of (u ++ e ∷ []))
   failed_under_way u e t h =
       let at : end_of (letters_of (u ++ e ∷ [])) ≡ step (run follow silence u).state e.letter
       = ap end_of (letters_append u (e ∷ [])) ∙ run_on step state.Start (letters_of u) (e.letter ∷ []) ∙ ap (λ q. step q e.letter) (sym (state_of silence u)) in
@@ -188,16 +198,17 @@ module _ (es : List Event) where
   stopped_whole = elim (stop_among silence es refl refl) [
     | inl k ↦ subst (λ s. IsStop s es) (sym k.0) (not_stopped (ap (λ q. is_failed (outcome_at q)) (sym ends_at) ∙ k.1))
     | inr k ↦ subst (λ s. IsStop s es) (sym k.4) (
-        k.0,
-        k.1,
-        k.3,
-        events_of silence k.0 (lit≤ tt) ∙ ap (λ n. min n (2 ^ 64 - 1)) (zero-add (length k.0)),
-        (waiting_where (letters_of k.0)).0 (ap outcome_at (sym (state_of silence k.0)) ∙ waiting_is (outcome_at (run follow silence k.0).state) k.5),
-        failed_under_way k.0 k.2 k.6,
-        failed_not_done k.7,
-      )
+      k.0,
+      k.1,
+      k.3,
+      events_of silence k.0 (lit≤ tt) ∙ ap (λ n. min n (2 ^ 64 - 1)) (zero-add (length k.0)),
+      (waiting_where (letters_of k.0)).0 (ap outcome_at (sym (state_of silence k.0)) ∙ waiting_is (outcome_at (run follow silence k.0).state) k.5),
+      failed_under_way k.0 k.2 k.6,
+      failed_not_done k.7,
+    )
   ]
 
-pub stopped_of_flow : (es : List Event) (from end : Flow) → end ≡ run follow from es → from ≡ silence → IsStop end.stop es
+pub stopped_of_flow : (es : List Event) (from end : Flow) → end ≡ run follow from es → from ≡ silence
+    → IsStop end.stop es
 stopped_of_flow es from end ends starts =
     subst (λ f. IsStop f.stop es) (sym (ends ∙ ap (λ f. run follow f es) starts)) (stopped_whole es)

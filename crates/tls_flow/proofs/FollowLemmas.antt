@@ -127,7 +127,8 @@ form_passes = elim [
   | _ ↦ none_passes
 ]
 
-pub follows : (o : Outcome) (q : State) (l : Letter) → waits (pattern_of o) (step q l) ≡ cond (is_noise l) (waits (pattern_of o) q) (behind same_letter (waits (pattern_of o) q) l)
+pub follows : (o : Outcome) (q : State) (l : Letter)
+    → waits (pattern_of o) (step q l) ≡ cond (is_noise l) (waits (pattern_of o) q) (behind same_letter (waits (pattern_of o) q) l)
 follows o q l =
     yes_is (same_pattern (waits (pattern_of o) (step q l)) (waits_next (waits (pattern_of o) q) l))
     (passes (next_test (pattern_of o) q (waits (pattern_of o) q)) l (form_passes o q))

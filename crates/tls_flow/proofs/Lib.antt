@@ -4,3 +4,4 @@ pub mod FollowLemmas
 pub mod ConversationLemmas
 pub mod FlowLemmas
 pub mod MessageLemmas
+pub mod AwaitLemmas

@@ -1,11 +1,12 @@
 -- Where a conversation ends, told by the grammar.
-use Rattle.std.specs.Prelude.{◌≡◌, ℕ, List, ◌∷◌, ◌++◌, Option, None, Some, Bool, length, min, [], ◌⊎◌, ◌-◌, ◌^◌}
+use Rattle.std.specs.Prelude.{◌≡◌, ℕ, List, ◌∷◌, ◌++◌, Option, None, Some, Bool, false, length, min, [], ◌⊎◌, ◌-◌, ◌^◌}
 use Rattle.tls_flow.specs.Letters.{letter, Word, letters_of}
 use Rattle.tls_words.specs.Words.{HasFront, MayBecome, without}
 use Rattle.tls_flow.specs.Grammar.{full, resumed, tls13, handshake, is_noise}
 use Rattle.tls_flow.specs.declared.letter.Kind.TheVariants.{Fatal, Unknown}
 use Rattle.tls_flow.specs.declared.letter.Kind.{Kind}
 use Rattle.tls_flow.specs.declared.letter.Direction.{Direction}
+use Rattle.tls_flow.specs.declared.letter.Letter.{Letter}
 use Rattle.tls_flow.specs.declared.event.Event.{Event}
 use Rattle.tls_flow.specs.declared.flow.Stop.{Stop}
 use Rattle.tls_flow.specs.declared.state.Outcome.{Outcome}
@@ -58,6 +59,10 @@ IsOutcome outcome.Waiting w = IsUnderWay w
 IsOutcome outcome.BrokenOff w = IsBrokenOff w
 IsOutcome outcome.Unknown w = IsUnknown w
 IsOutcome outcome.NoHandshake w = IsNoHandshake w
+
+-- Behind w, which is under way, l is no noise, and a handshake comes by it or can still come.
+abbrev pub IsAwaited : Letter → Word → Type 0
+IsAwaited l w = IsUnderWay w × (is_noise l ≡ false) × (HasHandshake (w ++ l ∷ []) ⊎ MayBecomeHandshake (w ++ l ∷ []))
 
 -- Where a conversation was under way up to an event, behind which it is neither that nor a handshake: that event, and the
 -- count of those in front of it.

@@ -1,10 +1,12 @@
 //! A conversation that is followed.
-ghost use Rattle.std.specs.Prelude.{◌≡◌, ◌↔◌};
-ghost use Rattle.tls_flow.specs.Conversations.{IsOutcome, IsStop};
+ghost use Rattle.std.specs.Prelude.{◌≡◌, ◌↔◌, List, Contains};
+ghost use Rattle.tls_flow.specs.Conversations.{IsOutcome, IsStop, IsAwaited};
 ghost use Rattle.tls_flow.specs.Letters.{letters_of};
 ghost use Rattle.tls_flow.specs.Steps.{silence, follow};
 ghost use Rattle.tls_flow.specs.Table.{outcome_at, awaited_in};
 ghost use Rattle.tls_words.specs.Words.{run as run_of};
+ghost use Rattle.tls_flow.specs.declared.event.Event.{Event};
+ghost use Rattle.tls_flow.specs.declared.letter.Letter.{Letter};
 ghost use Rattle.tls_flow.specs.declared.flow.Flow.{Flow};
 ghost use Rattle.tls_flow.specs.declared.state.Outcome.{Outcome};
 ghost use Rattle.tls_flow.specs.declared.table.TheConstants.{ROWS};
@@ -72,9 +74,12 @@ impl Flow {
         self.events
     }
 
-    /// The letters that it waits for. Besides these, noise may come. None where the outcome isn't [`Outcome::Waiting`].
+    /// The letters that it waits for: those with which a handshake comes or can still come. Besides these, noise may come.
+    /// None where the outcome isn't [`Outcome::Waiting`].
     pub fn awaited(&self) -> &'static [Letter]
-        ensures { result.now ≡ awaited_in ROWS self.now.state }
+        ensures rows { result.now ≡ awaited_in ROWS self.now.state }
+        ensures told { (events : List Event) → self.now ≡ run_of follow silence events → (l : Letter)
+            → Contains result.now l ↔ IsAwaited l (letters_of events) }
     {
         awaited(self.state)
     }

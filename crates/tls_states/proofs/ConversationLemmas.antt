@@ -67,7 +67,8 @@ module _ (w : Word) where
   alive_from h = sym (alive_at (run state.None w)) ∙ word_from_after is_noise turn same_letter next waits Fits next_fits next_waits state.None false refl clean clean_is handshake refl w h
 
 -- The last letter's step.
-run_last : (u : Word) (l : Letter) (w : Word) → w ≡ u ++ l ∷ [] → run state.None w ≡ or_invalid (step (run state.None u) l)
+run_last : (u : Word) (l : Letter) (w : Word) → w ≡ u ++ l ∷ []
+    → run state.None w ≡ or_invalid (step (run state.None u) l)
 run_last u l w e = ap (run state.None) e ∙ run_on next state.None u (l ∷ [])
 
 invalid_to : (w : Word) → run state.None w ≡ state.Invalid → ¬ HasHandshake w × ¬ MayBecomeHandshake w × ¬ IsBrokenOff w
@@ -84,7 +85,8 @@ finished_to w e = elim (last_letter w) [
   | inr x ↦ by_last x.0 x.1 x.2 (sym (run_last x.0 x.1 w x.2) ∙ e)
 ]
   where
-    by_last : (u : Word) (l : Letter) → w ≡ u ++ l ∷ [] → or_invalid (step (run state.None u) l) ≡ state.Finished → HasHandshake w ⊎ IsBrokenOff w
+    by_last : (u : Word) (l : Letter) → w ≡ u ++ l ∷ [] → or_invalid (step (run state.None u) l) ≡ state.Finished
+        → HasHandshake w ⊎ IsBrokenOff w
     by_last u l f s = elim (alive_or_not (run state.None u)) [
       | inl t ↦ elim (alive_to u t) [
         | inl h ↦ inl (h.0, h.1 ++ l ∷ [], f ∙ ap (λ x. x ++ l ∷ []) h.2 ∙ append_assoc h.0 h.1 (l ∷ []), h.3)
@@ -95,7 +97,8 @@ finished_to w e = elim (last_letter w) [
       | inr (inr (inr a)) ↦ let k : state.Invalid ≡ state.Finished = subst (λ q. or_invalid (step q l) ≡ state.Finished) a s in cc
     ]
 
-invalid_from : (w : Word) → ¬ HasHandshake w × ¬ MayBecomeHandshake w × ¬ IsBrokenOff w → run state.None w ≡ state.Invalid
+invalid_from : (w : Word) → ¬ HasHandshake w × ¬ MayBecomeHandshake w × ¬ IsBrokenOff w
+    → run state.None w ≡ state.Invalid
 invalid_from w h = elim (alive_or_not (run state.None w)) [
   | inl t ↦ absurd (elim (alive_to w t) [ inl x ↦ h.0 x | inr x ↦ h.1 x ])
   | inr (inl e) ↦ absurd (no_alert w e)

@@ -72,7 +72,8 @@ is_noise before l = is_warning l || (before && is_hello_request l)
 abbrev pub turn : Bool → Letter → Bool
 turn before l = before || is_client_hello l
 
-clean_after_hello : (w : Word) → without_after is_noise turn true w ≡ filter (λ x. not (is_hello_request x)) (filter (λ x. not (is_warning x)) w)
+clean_after_hello : (w : Word)
+    → without_after is_noise turn true w ≡ filter (λ x. not (is_hello_request x)) (filter (λ x. not (is_warning x)) w)
 clean_after_hello [] = refl
 clean_after_hello (letter Warning d ∷ w) = clean_after_hello w
 clean_after_hello (letter HelloRequest d ∷ w) = clean_after_hello w
@@ -145,5 +146,6 @@ fatal_letter : (l : Letter) → is_fatal l ≡ true → (d : Direction) × (l �
 fatal_letter (letter Fatal d) h = (d, refl)
 fatal_letter _ h = cc
 
-pub finished_by_fatal : (q : TlsState) (before : Bool) (l : Letter) → Fits q before → next q l ≡ state.Finished → (d : Direction) × (l ≡ letter Fatal d)
+pub finished_by_fatal : (q : TlsState) (before : Bool) (l : Letter) → Fits q before → next q l ≡ state.Finished
+    → (d : Direction) × (l ≡ letter Fatal d)
 finished_by_fatal q before l h e = fatal_letter l (only_fatal q before l h (ap is_finished e))

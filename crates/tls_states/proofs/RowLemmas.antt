@@ -73,20 +73,24 @@ answered : Option TlsState → Result TlsState StateChangeError → Result TlsSt
 answered (Some q) r = Ok q
 answered None r = r
 
-step_by_table : (q : TlsState) (k : Kind) (d : Direction) → answered (next_after ROWS q k d) (rule q k) ≡ step q (letter k d)
+step_by_table : (q : TlsState) (k : Kind) (d : Direction)
+    → answered (next_after ROWS q k d) (rule q k) ≡ step q (letter k d)
 unfolding answered
 step_by_table = elim [
   | state.None ↦ elim [ kind.HelloRequest ↦ elim [ ToServer ↦ refl | FromServer ↦ refl ] | _ ↦ elim [ ToServer ↦ refl | FromServer ↦ refl ] ]
   | _ ↦ elim [ kind.HelloRequest ↦ elim [ ToServer ↦ refl | FromServer ↦ refl ] | _ ↦ elim [ ToServer ↦ refl | FromServer ↦ refl ] ]
 ]
 
-stepped : (q : TlsState) (k : Kind) (d : Direction) (next : Option TlsState) (r : Result TlsState StateChangeError) → next ≡ next_after ROWS q k d → r ≡ answered next (rule q k) → r ≡ step q (letter k d)
+stepped : (q : TlsState) (k : Kind) (d : Direction) (next : Option TlsState) (r : Result TlsState StateChangeError)
+    → next ≡ next_after ROWS q k d → r ≡ answered next (rule q k) → r ≡ step q (letter k d)
 stepped q k d next r n is = is ∙ ap (λ x. answered x (rule q k)) n ∙ step_by_table q k d
 
-pub stepped_by_row : (q : TlsState) (k : Kind) (d : Direction) (next : TlsState) → Some next ≡ next_after ROWS q k d → Ok next ≡ step q (letter k d)
+pub stepped_by_row : (q : TlsState) (k : Kind) (d : Direction) (next : TlsState) → Some next ≡ next_after ROWS q k d
+    → Ok next ≡ step q (letter k d)
 unfolding answered
 stepped_by_row q k d next n = stepped q k d (Some next) (Ok next) n refl
 
-pub stepped_by_rule : (q : TlsState) (k : Kind) (d : Direction) (r : Result TlsState StateChangeError) → None ≡ next_after ROWS q k d → r ≡ rule q k → r ≡ step q (letter k d)
+pub stepped_by_rule : (q : TlsState) (k : Kind) (d : Direction) (r : Result TlsState StateChangeError)
+    → None ≡ next_after ROWS q k d → r ≡ rule q k → r ≡ step q (letter k d)
 unfolding answered
 stepped_by_rule q k d r n is = stepped q k d None r n is

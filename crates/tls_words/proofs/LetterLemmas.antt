@@ -1,7 +1,7 @@
 -- Letters of a finite alphabet, which can be told apart by computing, and tests that all letters pass.
-use Rattle.std.proofs.Common.{◌≡◌, List, [], ◌∷◌, Bool, true, false, ◌&&◌, ◌||◌, inl, inr, subst}
+use Rattle.std.proofs.Common.{◌≡◌, ℕ, zero, suc, ◌<◌, length, List, [], ◌∷◌, Bool, true, false, ◌&&◌, ◌||◌, Contains, slice_index_or, arith, inl, inr, refl, subst}
 use Rattle.std.specs.List.{list_all}
-use Rattle.tls_words.proofs.PatternLemmas.{both_and, either_or}
+use Rattle.tls_words.proofs.PatternLemmas.{both_and, either_or, or_either}
 use denote.Enum.Declared.{Declared}
 use denote.Enum.Bare.{Bare, sameb, same_true, same_false}
 
@@ -22,6 +22,26 @@ module _ {L : Type 0} (same : (a b : L) → Dec (a ≡ b)) where
   abbrev pub is_in : List L → L → Bool
   is_in [] l = false
   is_in (x ∷ xs) l = is_yes (same x l) || is_in xs l
+
+  -- The same by a place in the list.
+  pub in_contains : (xs : List L) (l : L) → is_in xs l ≡ true → Contains xs l
+  in_contains [] l h = cc
+  in_contains (x ∷ xs) l h = elim (either_or (is_yes (same x l)) (is_in xs l) h) [
+    | inl e ↦ (0, omega arith, yes_is (same x l) e)
+    | inr e ↦ let k : Contains xs l = in_contains xs l e in (suc k.0, omega (arith, k.1), k.2)
+  ]
+
+  same_is_yes : (x l : L) (d : Dec (x ≡ l)) → x ≡ l → is_yes d ≡ true
+  same_is_yes x l (yes e) h = refl
+  same_is_yes x l (no n) h = absurd (n h)
+
+  at_place : (xs : List L) (l : L) (k : ℕ) → k < length xs → slice_index_or xs k l ≡ l → is_in xs l ≡ true
+  at_place [] l k b e = absurd (omega (arith, b))
+  at_place (x ∷ xs) l zero b e = or_either (is_yes (same x l)) (is_in xs l) (inl (same_is_yes x l (same x l) e))
+  at_place (x ∷ xs) l (suc k) b e = or_either (is_yes (same x l)) (is_in xs l) (inr (at_place xs l k (omega (arith, b)) e))
+
+  pub contains_in : (xs : List L) (l : L) → Contains xs l → is_in xs l ≡ true
+  contains_in xs l h = at_place xs l h.0 h.1 h.2
 
   -- What each listed letter passes, a letter among them does.
   pub passes_in : (f : L → Bool) (xs : List L) (l : L) → list_all f xs ≡ true → is_in xs l ≡ true → f l ≡ true

@@ -16,7 +16,8 @@ module _ {R : Type 0} (is_like : R → R → Bool) where
   all_unlike [] = true
   all_unlike (r ∷ rows) = not (has_like r rows) && all_unlike rows
 
-  found_like : (r s : R) (rows : List R) (j : ℕ) → slice_get rows j ≡ Some s → is_like r s ≡ true → has_like r rows ≡ true
+  found_like : (r s : R) (rows : List R) (j : ℕ) → slice_get rows j ≡ Some s → is_like r s ≡ true
+      → has_like r rows ≡ true
   found_like r s [] j there like = absurd cc
   found_like r s (x ∷ rows) zero there like = let same : x ≡ s = cc in or_either (is_like r x) (has_like r rows) (inl (subst (λ y. is_like r y ≡ true) (sym same) like))
   found_like r s (x ∷ rows) (suc j) there like = or_either (is_like r x) (has_like r rows) (inr (found_like r s rows j there like))
