@@ -105,7 +105,8 @@ fn state_named(alloc: Global, name: &str) -> Result<Option<TlsState>, AllocError
     Ok(None)
 }
 
-/// `:STATE`: each piece whose message is taken there, and where it leads. The others are refused as `InvalidTransition`.
+/// `:STATE`: each piece whose message is taken there, and where it leads. The others are refused as
+/// `InvalidTransition`.
 fn transitions(asked: &Asked) -> Told {
     let alloc = asked.alloc;
     let Some(state) = state_named(alloc, asked.arguments)? else {
