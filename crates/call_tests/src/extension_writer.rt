@@ -1,4 +1,5 @@
-//! The writer of extensions: lengths that no extension has, which refusal comes first, and writers that take little or fail.
+//! The writer of extensions: lengths that no extension has, which refusal comes first, and writers that take little
+//! or fail.
 use crate::narrow::{AtCall, Narrow};
 use std::alloc::Global;
 use std::process::Abort;

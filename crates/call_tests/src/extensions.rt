@@ -23,7 +23,8 @@ fn by_each_side<'a>(
     )
 }
 
-/// The extension, whose content has no bytes, is of a kind that the side knows: read, or refused for 1 or 2 missing bytes.
+/// The extension, whose content has no bytes, is of a kind that the side knows: read, or refused for 1 or 2 missing
+/// bytes.
 fn is_of_a_kind(answered: IResult<&[u8], TlsExtension>) -> bool {
     match answer(answered) {
         Ok((TlsExtension::Grease(_, _), _)) => false,

@@ -7,8 +7,7 @@ use crate::support::{Refused, lists, refuses};
 use std::alloc::{AllocError, Global};
 use std::test::Fail;
 use tls_fields::{
-    Err, Error, ErrorKind, IResult, Item, Needed, Number2, OutOfMemory, Room, items, items1,
-    number1, place,
+    Err, Error, ErrorKind, IResult, Item, Needed, OutOfMemory, Room, items, items1, number1, place,
 };
 
 /// A number of 1 byte that is at most 9.
@@ -66,15 +65,10 @@ fn lists_of_any_length(rt: HostRuntime) {
         &digits,
         &[10, 1],
     );
-    let numbers = items::<Number2>(rt.alloc(), &[1, 2, 3, 4, 5]);
-    lists(&rt, numbers, &[0x0102, 0x0304], &[5]);
 }
 
 #[test]
 fn lists_of_one_or_more(rt: HostRuntime) {
-    let complete = Refused::Error(ErrorKind::Complete);
-    refuses(&rt, items1::<Number2>(rt.alloc(), &[1]), complete);
-    refuses(&rt, items1::<Number2>(rt.alloc(), &[]), complete);
     let verify = Refused::Error(ErrorKind::Verify);
     refuses(&rt, items1::<Digit>(rt.alloc(), &[10]), verify);
     lists(
@@ -82,12 +76,6 @@ fn lists_of_one_or_more(rt: HostRuntime) {
         items1::<Digit>(rt.alloc(), &[9, 10]),
         &[Digit(9)],
         &[10],
-    );
-    lists(
-        &rt,
-        items1::<Number2>(rt.alloc(), &[0, 1, 0, 2, 0]),
-        &[1, 2],
-        &[0],
     );
 }
 

@@ -6,9 +6,8 @@ use std::test::Fail;
 use tls_base::{TlsCipherSuiteID, TlsCompressionID, TlsVersion};
 use tls_fields::GenError;
 use tls_hs::{
-    TlsClientHelloContents, TlsMessage, TlsMessageHandshake, TlsServerHelloContents,
-    TlsServerHelloV13Draft18Contents, gen_tls_clienthello, gen_tls_finished, gen_tls_hellorequest,
-    parse_tls_message_handshake,
+    TlsClientHelloContents, TlsMessageHandshake, TlsServerHelloContents, gen_tls_clienthello,
+    gen_tls_finished, gen_tls_hellorequest,
 };
 use tls_hs::writer::judge::handshake_len;
 use tls_parser::Serialize;
@@ -42,36 +41,9 @@ fn server_hello(version: TlsVersion) -> TlsServerHelloContents<'static> {
     }
 }
 
-/// One of draft 18 with cipher c030.
-fn draft18_hello() -> TlsServerHelloV13Draft18Contents<'static> {
-    TlsServerHelloV13Draft18Contents {
-        version: TlsVersion::Tls13Draft18,
-        random: &RANDOM,
-        cipher: TlsCipherSuiteID(0xc030),
-        ext: None,
-    }
-}
-
-/// The call found a length that doesn't fit, and wrote nothing.
-fn bad_length(rt: &impl Abort, answered: Result<(), GenError>, out: &[u8]) {
-    assert_eq!(rt; answered, Err(GenError::BadLength));
-    assert!(rt; out.is_empty());
-}
-
 /// The message isn't written, for this cause.
 fn not_written(rt: &impl Abort, alloc: Global, message: &TlsMessageHandshake, cause: GenError) {
     assert_eq!(rt; message.serialize(alloc).err(), Some(cause));
-}
-
-/// The bytes are read as this message, whole.
-fn read_back(rt: &impl Abort, alloc: Global, bytes: &[u8], message: TlsMessageHandshake) {
-    match parse_tls_message_handshake(alloc, bytes) {
-        Ok((rest, read)) => {
-            assert!(rt; rest.is_empty());
-            assert!(rt; read == TlsMessage::Handshake(message));
-        }
-        Err(_) => panic!(rt; "refused"),
-    }
 }
 
 #[test]
@@ -169,44 +141,6 @@ fn lengths_of_a_client_hello(rt: HostRuntime) -> Result<(), Fail> {
 }
 
 #[test]
-fn server_hellos_of_other_versions(rt: HostRuntime) -> Result<(), Fail> {
-    let alloc = rt.alloc();
-    let ssl30 = TlsMessageHandshake::ServerHello(server_hello(TlsVersion::Ssl30));
-    let bytes = ssl30.serialize(alloc)?;
-    read_back(&rt, alloc, &bytes, ssl30);
-    let tls13 = TlsMessageHandshake::ServerHello(server_hello(TlsVersion::Tls13));
-    let bytes = tls13.serialize(alloc)?;
-    assert!(rt;
-        matches!(&parse_tls_message_handshake(alloc, &bytes), Err(tls_fields::Err::Error(e)) if e.code == tls_fields::ErrorKind::Tag)
-    );
-    let draft18 = TlsMessageHandshake::ServerHello(server_hello(TlsVersion::Tls13Draft18));
-    let bytes = draft18.serialize(alloc)?;
-    let mut other = draft18_hello();
-    other.cipher = TlsCipherSuiteID(0x00c0);
-    read_back(
-        &rt,
-        alloc,
-        &bytes,
-        TlsMessageHandshake::ServerHelloV13Draft18(other),
-    );
-    Ok(())
-}
-
-#[test]
-fn body_above_16777215(rt: HostRuntime) -> Result<(), Fail> {
-    let alloc = rt.alloc();
-    let long = vec![in alloc; 0; 16777216]?;
-    let mut out = Vec::new(alloc);
-    let answered = gen_tls_finished(alloc, &long, &mut out);
-    bad_length(&rt, answered, &out);
-    assert_eq!(rt;
-        handshake_len(&TlsMessageHandshake::Finished(&long[1..])),
-        Ok(16777219)
-    );
-    Ok(())
-}
-
-#[test]
 fn writers_that_stop(rt: HostRuntime) -> Result<(), Fail> {
     let alloc = rt.alloc();
     let bytes = TlsMessageHandshake::ClientHello(client_hello(alloc)?).serialize(alloc)?;
@@ -241,4 +175,12 @@ fn one_behind_the_other(rt: HostRuntime) {
         out.as_slice(),
         [0, 0, 0, 0, 0x14, 0, 0, 2, 7, 8].as_slice()
     );
+}
+
+#[test]
+fn length_of_the_longest_message(rt: HostRuntime) -> Result<(), Fail> {
+    let long = vec![in rt.alloc(); 0; 16777215]?;
+    let message = TlsMessageHandshake::Finished(&long);
+    assert_eq!(rt; handshake_len(&message), Ok(16777219));
+    Ok(())
 }

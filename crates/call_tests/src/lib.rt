@@ -1,5 +1,5 @@
-//! Tests of what no row of `crates/tlscall/data` can say: values that no bytes are read as, writers that take little or fail, texts of
-//! errors, tables of cipher suites, and closures.
+//! Tests of what no row of `crates/tlscall/data` can say: values that no bytes are read as, writers that take little
+//! or fail, texts of errors, tables of cipher suites, and closures.
 //!
 //! It has no code of its own. Each file tests a part of the libraries through its public calls.
 #![tactic(auto)]

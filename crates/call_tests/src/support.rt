@@ -1,5 +1,4 @@
-//! What a call answered, compared with what its layout gives. (The tests of records have the same helpers: tests can lend
-//! none to another crate.)
+//! What a call answered, compared with what its layout gives.
 
 use std::fmt::Debug;
 use std::process::Abort;
@@ -87,18 +86,6 @@ pub fn only_second(rt: &impl Abort, suites: Result<Vec<Option<&TlsCipherSuite>>,
             assert!(rt; suites[0].is_none());
             assert!(rt; suites[1].is_some_and(|suite| suite.id.0 == 1));
         }
-        Err(_) => panic!(rt; "out of memory"),
-    }
-}
-
-/// The copy is there, and the same.
-pub fn copied<T: PartialEq + Debug + Drop>(
-    rt: &impl Abort,
-    copy: Result<T, OutOfMemory>,
-    original: &T,
-) {
-    match copy {
-        Ok(copy) => assert!(rt; copy == *original),
         Err(_) => panic!(rt; "out of memory"),
     }
 }

@@ -1,5 +1,5 @@
 //! Rows, compared with what is answered.
-ghost use Rattle.std.specs.Prelude.{◌≡◌, ◌↔◌, true};
+ghost use Rattle.std.specs.Prelude.{◌≡◌, ◌≢◌, ◌↔◌, ◌<◌, ◌≤◌, true, false, OnOk};
 
 use crate::calls::answer;
 use crate::cut::{Expected, answer_at, parts_of, size_of, with_length};
@@ -50,7 +50,10 @@ impl Tally {
     }
 
     /// Counts an answer, and adds a line where it isn't what the row says.
-    fn compare(&mut self, at: At, clause: &str, told: &str, said: &str) -> Result<(), Fault> {
+    fn compare(&mut self, at: At, clause: &str, told: &str, said: &str) -> Result<(), Fault>
+        ensures counted { OnOk result (self.old.is_told ≡ false → told.now ≢ said.now → 0 < self.new.differ) }
+        ensures kept { self.old.differ ≤ self.new.differ }
+    {
         self.answers = self.answers.saturating_add(1);
         if self.is_told {
             let At { file, line, call } = at;
@@ -76,8 +79,12 @@ impl Tally {
         names: &[Named],
     ) -> Result<(), Fault> {
         self.rows = self.rows.saturating_add(1);
-        for call in row.calls.split(',') {
-            let at = At { file, line, call };
+        for call in &row.calls {
+            let at = At {
+                file,
+                line,
+                call: *call,
+            };
             for clause in &row.clauses {
                 self.compare_clause(alloc, at, row, clause, names)?;
             }

@@ -1,12 +1,12 @@
-//! Makes any call of the libraries on bytes that are given in hexadecimal, and tells its answer; or compares files of rows, each
-//! of which says what calls answer on its bytes, with what they answer.
+//! Makes any call of the libraries on bytes that are given in hexadecimal, and tells its answer; or compares files of
+//! rows, each of which says what calls answer on its bytes, with what they answer.
 //!
 //!     tlscall CALL[:NUMBER..] HEXADECIMAL..
 //!     tlscall --rows FILE..
 //!     tlscall --answers FILE..
 //!
-//! `docs/ROWS.md` has the form of rows and of answers. The exit status is 0, or 1 where a row differs, 2 where the arguments or a row
-//! aren't of the form, 3 where memory ran out or a file can't be read.
+//! `docs/ROWS.md` has the form of rows and of answers. The exit status is 0, or 1 where a row differs, 2 where the
+//! arguments or a row aren't of the form, 3 where memory ran out or a file can't be read.
 #![tactic(auto)]
 
 mod calls;

@@ -27,10 +27,10 @@ pub struct Clause<'t> {
     pub words: Vec<&'t str>,
 }
 
-/// A row. The calls are names with commas between them.
+/// A row.
 #[derive(Drop)]
 pub struct Row<'t> {
-    pub calls: &'t str,
+    pub calls: Vec<&'t str>,
     pub input: Input<'t>,
     pub clauses: Vec<Clause<'t>>,
 }
@@ -50,11 +50,30 @@ fn subject_of(word: &str) -> Option<(Subject, &str)> {
     }
 }
 
+/// The calls, and the words behind them. A comma stands between two calls, and behind a word whose next is a call too.
+fn calls_of<'t, 'w>(
+    alloc: Global,
+    words: &'w [&'t str],
+) -> Result<(Vec<&'t str>, &'w [&'t str]), AllocError> {
+    let mut calls: Vec<&'t str> = Vec::new(alloc);
+    let mut rest = words;
+    for word in words {
+        rest = rest.get(1..).unwrap_or(&[]);
+        for call in word.split(',') {
+            if !call.is_empty() {
+                calls.push(call)?;
+            }
+        }
+        if !word.ends_with(',') {
+            break;
+        }
+    }
+    Ok((calls, rest))
+}
+
 /// The row of these words, the first of which are the calls.
 pub fn row_of<'t>(alloc: Global, words: &[&'t str], names: &[Named<'t>]) -> Result<Row<'t>, Fault> {
-    let Some((calls, words)) = words.split_first() else {
-        return Err(Fault::Form("an empty row"));
-    };
+    let (calls, words) = calls_of(alloc, words)?;
     let mut given = Vec::new(alloc);
     let mut clauses: Vec<Clause<'t>> = Vec::new(alloc);
     for word in words {

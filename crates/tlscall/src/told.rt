@@ -10,8 +10,8 @@ use tls_parser::{Err, Error, GenError, IResult, Needed, OutOfMemory};
 /// What a call answered, as text, or that there is no such call.
 pub type Told = Result<Option<String>, AllocError>;
 
-/// What the call of the asked name answers. A call that reads the input stands by itself, under the name of its function; any
-/// other has its name and what is told of it.
+/// What the call of the asked name answers. A call that reads the input stands by itself, under the name of its
+/// function; any other has its name and what is told of it.
 macro_rules! table {
     ($asked:ident; $($call:ident($($given:expr),*),)*; $($name:literal => $told:expr,)*) => {
         match $asked.name {

@@ -3,9 +3,10 @@
 use crate::calls::Asked;
 use crate::told::{Told, table, told};
 use tls_parser::{
-    DTLSRecordHeader, TlsRecordType, TlsVersion, parse_dtls_message_alert,
-    parse_dtls_message_changecipherspec, parse_dtls_message_handshake, parse_dtls_plaintext_record,
-    parse_dtls_plaintext_records, parse_dtls_record_header, parse_dtls_record_with_header,
+    DTLSMessage, DTLSPlaintext, DTLSRecordHeader, IResult, TlsRecordType, TlsVersion,
+    parse_dtls_message_alert, parse_dtls_message_changecipherspec, parse_dtls_message_handshake,
+    parse_dtls_plaintext_record, parse_dtls_plaintext_records, parse_dtls_record_header,
+    parse_dtls_record_with_header,
 };
 
 /// `:TYPE:EPOCH:SEQUENCE_NUMBER:LENGTH`, of DTLS 1.2.
@@ -19,6 +20,18 @@ fn header_of(asked: &Asked) -> DTLSRecordHeader {
     }
 }
 
+/// How many messages the record has.
+fn count<'a>(answered: IResult<&'a [u8], DTLSPlaintext<'a>>) -> IResult<&'a [u8], usize> {
+    let (rest, record) = answered?;
+    Ok((rest, record.messages.len()))
+}
+
+/// The message is a fragment.
+fn is_fragment<'a>(answered: IResult<&'a [u8], DTLSMessage<'a>>) -> IResult<&'a [u8], bool> {
+    let (rest, message) = answered?;
+    Ok((rest, message.is_fragment()))
+}
+
 pub fn of_dtls(asked: &Asked) -> Told {
     let Asked { alloc, i, .. } = *asked;
     table!(asked;
@@ -30,11 +43,9 @@ pub fn of_dtls(asked: &Asked) -> Told {
         parse_dtls_message_changecipherspec(i),
         parse_dtls_message_alert(i),
         ;
-        "parse_dtls_plaintext_record.count" =>
-            told(alloc, i, parse_dtls_plaintext_record(alloc, i).map(|x| (x.0, x.1.messages.len()))),
-        "parse_dtls_message_handshake.is_fragment" =>
-            told(alloc, i, parse_dtls_message_handshake(alloc, i).map(|x| (x.0, x.1.is_fragment()))),
+        "parse_dtls_plaintext_record.count" => told(alloc, i, count(parse_dtls_plaintext_record(alloc, i))),
+        "parse_dtls_message_handshake.is_fragment" => told(alloc, i, is_fragment(parse_dtls_message_handshake(alloc, i))),
         "parse_dtls_message_changecipherspec.is_fragment" =>
-            told(alloc, i, parse_dtls_message_changecipherspec(i).map(|x| (x.0, x.1.is_fragment()))),
+            told(alloc, i, is_fragment(parse_dtls_message_changecipherspec(i))),
     )
 }

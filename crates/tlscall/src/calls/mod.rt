@@ -1,7 +1,8 @@
 //! The calls, by their names: a table for each family, and the first that has the name answers.
 //!
-//! A call is added by a line in one of the tables. What it is given is in [`Asked`]; what it answers is told by one of the
-//! functions of [`crate::told`]. A name with a point behind it, as `parse_tls_plaintext.written`, is another use of a call.
+//! A call is added by a line in one of the tables. What it is given is in [`Asked`]; what it answers is told by one
+//! of the functions of [`crate::told`]. A name with a point behind it, as `parse_tls_plaintext.written`, is another
+//! use of a call.
 
 mod asked;
 mod base;

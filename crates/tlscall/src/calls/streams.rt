@@ -77,8 +77,8 @@ fn front(alloc: Global, stream: &Reassembler) -> Told {
     }
 }
 
-/// What each mark asks: `+` feeds its piece, `-` takes off the record in front, `?` asks for the fragment in front, and `=` for what
-/// is held.
+/// What each mark asks: `+` feeds its piece, `-` takes off the record in front, `?` asks for the fragment in front,
+/// and `=` for what is held.
 fn reassembled(asked: &Asked) -> Told {
     let alloc = asked.alloc;
     let mut stream = Reassembler::new(alloc);

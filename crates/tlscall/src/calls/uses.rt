@@ -3,6 +3,7 @@
 use crate::calls::Asked;
 use crate::told::{Told, plain, table, told};
 use std::alloc::Global;
+use tls_parser::IResult;
 use tls_uses::{
     Next, Passed, missing_bytes, next_record, parse_alerts, parse_host_name, replace_extensions,
 };
@@ -22,10 +23,11 @@ fn next(alloc: Global, i: &[u8]) -> Told {
 }
 
 /// How many bytes the record is written as.
-fn length_of(passed: Passed) -> Option<usize> {
+fn length<'a>(answered: IResult<&'a [u8], Passed>) -> IResult<&'a [u8], Option<usize>> {
+    let (rest, passed) = answered?;
     match passed {
-        Passed::Changed(written) => Some(written.len()),
-        _ => None,
+        Passed::Changed(written) => Ok((rest, Some(written.len()))),
+        _ => Ok((rest, None)),
     }
 }
 
@@ -40,7 +42,6 @@ pub fn uses(asked: &Asked) -> Told {
         ;
         "missing_bytes" => plain(alloc, missing_bytes(i)),
         "next_record" => next(alloc, i),
-        "replace_extensions.count" =>
-            told(alloc, i, replace_extensions(alloc, i, ext).map(|x| (x.0, length_of(x.1)))),
+        "replace_extensions.count" => told(alloc, i, length(replace_extensions(alloc, i, ext))),
     )
 }
