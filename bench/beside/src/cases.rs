@@ -153,6 +153,10 @@ fn states(all: &mut Cases) {
             let name = format!("{what}, {} messages, {call}", sides.len());
             all.add("states", name, sided(o, bytes, sides), sided(rust::rust_transitions, bytes, sides));
         }
+        // Peers' handshakes have nothing beside them in Rust: they stand beside our `update`.
+        let name = format!("{what}, {} events, beside `update`", sides.len());
+        let updates = sided(ours::ours_updates, bytes, sides);
+        all.add("flows", name, sided(ours::ours_flows, bytes, sides), updates);
     }
 }
 

@@ -40,5 +40,12 @@ unsafe extern "C" {
         count: usize,
         times: usize,
     ) -> u64;
+    pub safe fn ours_flows(
+        bytes: *const u8,
+        len: usize,
+        sides: *const u8,
+        count: usize,
+        times: usize,
+    ) -> u64;
     pub safe fn ours_stream(bytes: *const u8, len: usize, piece: usize) -> u64;
 }
