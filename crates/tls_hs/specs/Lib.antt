@@ -4,6 +4,8 @@ pub mod Certificate
 pub mod Session
 pub mod Handshake
 pub mod Message
+pub mod InPlace
+pub mod Messages
 pub mod HandshakeText
 pub mod Writable
 pub use Rattle.tls_fields.specs.Bytes
