@@ -1,9 +1,13 @@
 -- A list in place: the items that bytes hold, and what is left behind them.
-use Rattle.std.specs.Prelude.{◌≡◌, ◌==◌, if◌then◌else◌, List, [], ◌∷◌, length, Option, Some, None, Result, Ok, Err}
+use Rattle.std.specs.Prelude.{◌≡◌, ◌==◌, if◌then◌else◌, ℕ, List, [], ◌∷◌, length, Option, Some, None, Result, Ok, Err, ⊤}
+use Rattle.std.specs.Borrow.{Bor}
 use Rattle.tls_fields.specs.Bytes.{Bytes}
 use Rattle.tls_fields.specs.Layout.{Layout}
 use Rattle.tls_fields.specs.Meaning.{Refusal, Answer}
 use Rattle.tls_fields.specs.Reading.{reading, items_at, ◌and_then◌}
+use Rattle.tls_fields.specs.Answers.{IsRefusal, refusal_of}
+use Rattle.tls_fields.specs.declared.result.Error.{Error}
+use Rattle.tls_fields.specs.declared.result.Err.{Err as Failed}
 
 -- The list that `reading (list l)` gives on b, and what it leaves.
 abbrev pub items_in : {A : Type 0} → Layout A → Bytes → List A
@@ -44,3 +48,17 @@ refused_by (Err e) = Some e
 -- Why the items of b end: what refuses the next one, none where no bytes are left.
 abbrev pub refusal_in : {A : Type 0} → Layout A → Bytes → Option Refusal
 refusal_in l b = if length (left_in l b) == 0 then None else refused_by (reading l (left_in l b))
+
+-- What a call returned that reads on demand and leaves no rest: a value, or a refusal.
+abbrev pub told : {X Y : Type 0} → (X → Y) → Result X (Failed (Error (Bor (List ℕ)))) → Result Y Refusal
+told view (Ok x) = Ok (view x)
+told view (Err e) = Err (refusal_of e)
+
+abbrev pub IsTold : {X : Type 0} → Result X (Failed (Error (Bor (List ℕ)))) → Type 0
+IsTold (Ok x) = ⊤
+IsTold (Err e) = IsRefusal e
+
+-- The call tells a: the value, or the refusal.
+pub record Tells {X Y : Type 0} (view : X → Y) (a : Result Y Refusal) (result : Result X (Failed (Error (Bor (List ℕ))))) : Type 0 where
+  pub answers : IsTold result
+  pub is : told view result ≡ a

@@ -3,10 +3,10 @@
 //! A list in place is the bytes that it stands in. What it holds is what the layout `list` reads there, so a structure that
 //! has such a list has the same layout as one that holds a `Vec`. Nothing is judged before the walk comes to it: a walk
 //! ends in front of the first item that isn't read, or at the end of the bytes, and [`Items::refusal`] says which.
-ghost use Rattle.std.specs.Prelude.{◌≡◌, ◌*◌, ◌<◌, ◌≤◌, ℕ, length, slice_get};
+ghost use Rattle.std.specs.Prelude.{◌≡◌, ◌*◌, ◌<◌, ◌≤◌, ℕ, length, slice_get, IfSome};
 ghost use Rattle.std.specs.Option.{option_map};
 ghost use Rattle.tls_fields.specs.Layout.{Layout, number, pairs_of, times};
-ghost use Rattle.tls_fields.specs.Answers.{Gives, refusal_of};
+ghost use Rattle.tls_fields.specs.Answers.{Gives, IsRefusal, refusal_of};
 ghost use Rattle.tls_fields.specs.Items.{items_in, left_in, refusal_in};
 
 use crate::number::Number;
@@ -101,7 +101,8 @@ impl<'a, T: InPlace<'a>> Items<'a, T> {
     /// `None` too where the next one would take no byte, which no item of TLS does.
     #[inline(always)]
     pub fn refusal(self) -> Option<Err<Error<&'a [u8]>>>
-        ensures { option_map refusal_of result ≡ refusal_in T.layout self.entry.bytes.now }
+        ensures why { option_map refusal_of result ≡ refusal_in T.layout self.entry.bytes.now }
+        ensures refuses { IfSome result IsRefusal }
     {
         let rest = self.rest();
         if rest.is_empty() {
