@@ -81,7 +81,7 @@ names_of_protocols e = None
 abbrev pub protocol_names : Bytes → Result (Option (List Bytes)) Refusal
 protocol_names b =
     in_content content.application_layer_protocol_negotiation names_of_protocols
-        (content_of extension_number.application_layer_protocol_negotiation b)
+    (content_of extension_number.application_layer_protocol_negotiation b)
 
 abbrev pub listed_versions : Extension → Option (List ℕ)
 listed_versions (ext.supported_versions versions) = Some versions

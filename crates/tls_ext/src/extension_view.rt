@@ -13,7 +13,7 @@ use tls_base::TlsExtensionType;
 use tls_fields::{Err, Error, IResult, InPlace, Items, counted2};
 
 /// An extension whose content isn't read.
-#[derive(Clone, Copy)]
+#[derive(Clone, Copy, Debug, PartialEq)]
 pub struct RawExtension<'a> {
     /// What its content is.
     pub extension_type: TlsExtensionType,

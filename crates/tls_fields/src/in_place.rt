@@ -53,9 +53,12 @@ impl<'a, T: Number> InPlace<'a> for T {
 }
 
 /// The items that bytes hold, up to the first that isn't read; each is read as the walk comes to it.
-#[derive_where(Clone, Copy)]
+///
+/// Two are equal where their bytes are.
+#[derive_where(Clone, Copy, Debug, PartialEq)]
 pub struct Items<'a, T> {
     bytes: &'a [u8],
+    #[derive_where(skip)]
     item: PhantomData<T>,
 }
 
