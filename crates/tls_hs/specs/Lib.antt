@@ -5,6 +5,7 @@ pub mod Session
 pub mod Handshake
 pub mod Message
 pub mod InPlace
+pub mod Places
 pub mod Messages
 pub mod HandshakeText
 pub mod Writable

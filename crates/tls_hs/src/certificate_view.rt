@@ -42,7 +42,7 @@ pub fn certificates(i: &[u8]) -> IResult<&[u8], Items<RawCertificate>>
 
 /// The body of a CertificateRequest up to TLS 1.2 (RFC 5246, section 7.4.4), as [`crate::TlsCertificateRequestContents`], but
 /// with its lists in place.
-#[derive(Clone, Copy)]
+#[derive(Clone, Copy, Debug, PartialEq)]
 pub struct CertificateRequestView<'a> {
     /// The types of certificates that the server takes.
     pub cert_types: &'a [u8],

@@ -12,7 +12,7 @@ use tls_fields::{
 };
 
 /// The body of a ClientHello (RFC 5246, section 7.4.1.2), as [`crate::TlsClientHelloContents`], but with its lists in place.
-#[derive(Clone, Copy)]
+#[derive(Clone, Copy, Debug, PartialEq)]
 pub struct ClientHelloView<'a> {
     /// The version that the client offers up to TLS 1.2. In TLS 1.3 it is 0x0303, and what the client offers stands in
     /// the extension supported_versions (RFC 8446, section 4.2.1).

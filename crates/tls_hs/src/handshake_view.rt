@@ -3,6 +3,8 @@ ghost use Rattle.std.specs.Prelude.{length};
 ghost use Rattle.tls_fields.specs.Answers.{Gives};
 ghost use Rattle.tls_fields.specs.Framed.{Framed};
 ghost use Rattle.tls_hs.specs.Handshake.{handshake_body, body_from_certificate, body_from_finished};
+ghost use Rattle.tls_hs.specs.Message as message;
+ghost use Rattle.tls_hs.specs.Message.{Message};
 ghost use Rattle.tls_hs.specs.InPlace.{view_handshake_in_place, view_raw_handshake, raw_handshake};
 
 use crate::bodies::{
@@ -18,10 +20,10 @@ use crate::certificate_view::{CertificateRequestView, certificates};
 use crate::client_hello_view::ClientHelloView;
 use crate::handshake::TlsMessageHandshake;
 use tls_base::TlsHandshakeType;
-use tls_fields::{ErrorKind, IResult, InPlace, Items, counted3, refused};
+use tls_fields::{ErrorKind, IResult, InPlace, Items, block, counted3, number3, refused};
 
 /// A handshake message (RFC 5246, section 7.4), as [`crate::TlsMessageHandshake`], but with its lists in place.
-#[derive(Drop)]
+#[derive(Debug, PartialEq, Drop)]
 pub enum HandshakeView<'a> {
     /// What a client offers (RFC 5246, section 7.4.1.2).
     ClientHello(ClientHelloView<'a>),
@@ -34,7 +36,7 @@ pub enum HandshakeView<'a> {
 }
 
 /// A handshake message whose body isn't read.
-#[derive(Clone, Copy)]
+#[derive(Clone, Copy, Debug, PartialEq)]
 pub struct RawHandshake<'a> {
     /// What its body is.
     pub msg_type: TlsHandshakeType,
@@ -57,6 +59,27 @@ impl<'a> InPlace<'a> for RawHandshake<'a> {
         let (i, msg_type) = TlsHandshakeType::parse(i)?;
         let (i, body) = counted3(i)?;
         Ok((i, RawHandshake { msg_type, body }))
+    }
+}
+
+/// A whole message, which is judged with its body: as [`crate::parse_tls_message_handshake`], memory aside.
+impl<'a> InPlace<'a> for HandshakeView<'a> {
+    type Read = Self;
+
+    ghost Value = { Message };
+
+    ghost view = { λ h. message.Handshake (view_handshake_in_place h) };
+
+    ghost layout = { message.handshake };
+
+    #[tactic(auto, using(tls_fields::proofs::OneAnswerLemmas::read_allowed), unfolding(crate::specs::Message::handshake))]
+    #[inline(always)]
+    fn read(i: &'a [u8]) -> IResult<&'a [u8], Self> {
+        let (i, msg_type) = TlsHandshakeType::parse(i)?;
+        let (i, n) = number3(i)?;
+        let (i, window) = block(i, n as usize)?;
+        let (_, message) = body_in_place(window, msg_type, n as usize)?;
+        Ok((i, message))
     }
 }
 

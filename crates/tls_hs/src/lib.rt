@@ -10,6 +10,7 @@ mod certificate;
 mod certificate_request;
 mod certificate_view;
 mod client_hello;
+mod client_hello_places;
 mod client_hello_trait;
 mod client_hello_view;
 mod handshake;
@@ -45,6 +46,7 @@ pub use certificate_request::{
 };
 pub use certificate_view::{CertificateRequestView, certificates};
 pub use client_hello::{TlsClientHelloContents, parse_tls_handshake_client_hello};
+pub use client_hello_places::ClientHelloPlaces;
 pub use client_hello_trait::ClientHello;
 pub use client_hello_view::ClientHelloView;
 pub use handshake::TlsMessageHandshake;

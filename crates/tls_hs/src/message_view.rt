@@ -12,7 +12,7 @@ use tls_base::{TlsHeartbeatMessageType, TlsMessageAlert, TlsRecordType};
 use tls_fields::{ErrorKind, IResult, InPlace, Items, block, number1, number2, refused};
 
 /// How a ChangeCipherSpec is read in place (RFC 5246, section 7.1).
-#[derive(Clone, Copy)]
+#[derive(Clone, Copy, Debug, PartialEq)]
 pub struct ChangeCipherSpec;
 
 impl<'a> InPlace<'a> for ChangeCipherSpec {
@@ -57,7 +57,7 @@ impl<'a> InPlace<'a> for Alert {
 }
 
 /// A message of a record, as [`crate::TlsMessage`], but of a handshake message the body isn't read.
-#[derive(Drop)]
+#[derive(Debug, PartialEq, Drop)]
 pub enum RawMessage<'a> {
     /// A handshake message (RFC 5246, section 7.4): [`RawHandshake::parse_body`] reads its body.
     Handshake(RawHandshake<'a>),
@@ -75,7 +75,7 @@ pub enum RawMessage<'a> {
 ///
 /// No body of a handshake message is judged by the walk: it goes on behind one that [`RawHandshake::parse_body`] refuses, as the
 /// calls that make lists don't.
-#[derive(Clone, Copy)]
+#[derive(Clone, Copy, Debug, PartialEq)]
 pub struct Messages<'a> {
     record_type: TlsRecordType,
     len: u16,
