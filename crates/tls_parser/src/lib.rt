@@ -115,6 +115,6 @@ pub use tls_ext::{
 };
 pub use tls_fields::{Counted1, Counted2, InPlace, Items, Place};
 pub use tls_hs::{
-    Alert, CertificateRequestView, ChangeCipherSpec, ClientHelloView, HandshakeView, Messages,
-    RawHandshake, RawMessage, certificates, heartbeat,
+    Alert, CertificateRequestView, ChangeCipherSpec, ClientHelloPlaces, ClientHelloView,
+    HandshakeView, Messages, RawHandshake, RawMessage, certificates, heartbeat,
 };

@@ -10,8 +10,8 @@ use tls_parser::{
 
 /// A record of a ServerHelloDone, and of a fragment of a Certificate: the first 2 of 9 bytes (RFC 6347, section 4.2.3).
 static RECORD: [u8; 39] = [
-    22, 0xfe, 0xfd, 0, 0, 0, 0, 0, 0, 0, 5, 0, 26, 14, 0, 0, 0, 0, 3, 0, 0, 0, 0, 0, 0, 11, 0, 0, 9, 0,
-    4, 0, 0, 0, 0, 0, 2, 0, 0,
+    22, 0xfe, 0xfd, 0, 0, 0, 0, 0, 0, 0, 5, 0, 26, 14, 0, 0, 0, 0, 3, 0, 0, 0, 0, 0, 0, 11, 0, 0,
+    9, 0, 4, 0, 0, 0, 0, 0, 2, 0, 0,
 ];
 
 /// A record of one alert.

@@ -4,9 +4,8 @@ use crate::support::same_refusal;
 use std::alloc::Global;
 use std::process::Abort;
 use tls_parser::{
-    ClientHelloView, Err, ErrorKind, Items, TlsExtensionType, TlsVersion, application_protocols,
-    best_version, extension_types, extensions, first_content, key_shares,
-    parse_tls_handshake_client_hello, server_name, server_name_of_record,
+    ClientHelloView, Place, TlsExtensionType, TlsVersion, best_version, extension_types,
+    parse_tls_handshake_client_hello, server_name,
 };
 
 /// A ClientHello (RFC 8446, section 4.1.2): two suites, one of them of GREASE; server_name a.example, supported_versions with
@@ -73,4 +72,16 @@ fn what_ends_a_walk_is_told(rt: HostRuntime) {
     let cut = ext_of(&HELLO).map(|block| &block[..10]);
     assert!(rt; server_name(cut).is_err());
     assert!(rt; best_version(TlsVersion::Tls12, None) == Ok(Some(TlsVersion::Tls12)));
+}
+
+#[test]
+fn parts_stand_at_their_places(rt: HostRuntime) {
+    let mut all = false;
+    if let Ok((_, (hello, places))) = ClientHelloView::parse_with_places(&HELLO) {
+        let at = |p: Place| &HELLO[p.offset..p.offset + p.length];
+        let lists = at(places.ciphers) == hello.ciphers.bytes()
+            && at(places.comp) == hello.comp.bytes();
+        all = lists && at(places.random) == hello.random && places.ext.map(at) == hello.ext;
+    }
+    assert!(rt; all);
 }
