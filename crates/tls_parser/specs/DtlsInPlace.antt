@@ -9,7 +9,7 @@ use Rattle.tls_fields.specs.Items.{items_in, value_of, decode_while}
 use Rattle.tls_base.specs.Alert as base_alert
 use Rattle.tls_parser.specs.DtlsHello as dtls_hello
 use Rattle.tls_parser.specs.DtlsHandshake as dtls_handshake
-use Rattle.tls_parser.specs.DtlsHandshake.{Body, Handshake, body, view_body}
+use Rattle.tls_parser.specs.DtlsHandshake.{Body, body, view_body}
 use Rattle.tls_parser.specs.DtlsRecord as dtls_record
 use Rattle.tls_parser.specs.DtlsRecord.{Message, Plaintext, view_header}
 use Rattle.tls_parser.specs.declared.dtls.hello_view.DTLSClientHelloView.{DTLSClientHelloView}

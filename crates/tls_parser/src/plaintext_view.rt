@@ -32,7 +32,7 @@ pub struct PlaintextView<'a> {
 /// A refusal of what is whole: no further bytes can come.
 #[inline(always)]
 pub(crate) fn completed<'a>(i: &'a [u8], e: Err<Error<&'a [u8]>>) -> Err<Error<&'a [u8]>>
-    ensures { IsRefusal e → IsRefusal result × (refusal_of result ≡ as_complete (refusal_of e)) }
+    ensures { IsRefusal e.entry → IsRefusal result × (refusal_of result ≡ as_complete (refusal_of e.entry)) }
 {
     match e {
         Err::Incomplete(_) => Err::Error(Error {

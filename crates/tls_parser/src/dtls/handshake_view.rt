@@ -1,5 +1,5 @@
 //! Handshake messages of DTLS in place, and fragments of them (RFC 6347, section 4.2.2).
-ghost use Rattle.std.specs.Prelude.{length};
+ghost use Rattle.std.specs.Prelude.{◌≡◌};
 ghost use Rattle.tls_fields.specs.Answers.{Gives};
 ghost use Rattle.tls_parser.specs.DtlsHandshake.{body as body_layout, whole_body as whole_body_layout};
 ghost use Rattle.tls_parser.specs.DtlsRecord as dtls_record;
