@@ -1,6 +1,6 @@
 //! What is measured: for each case a call on our side and one on Rust's, made so many times on the same bytes.
 
-use crate::{inputs, ours, rust};
+use crate::{inputs, ours, rust, view};
 use std::hint::black_box;
 
 /// Makes a call so many times; the number of its answers.
@@ -108,6 +108,26 @@ fn extensions(all: &mut Cases) {
     all.extensions("20 short ones", inputs::extensions_short());
 }
 
+/// Reading in place, beside Rust's lists and beside those of its calls that allocate least.
+fn in_place(all: &mut Cases) {
+    let hello: [Repeated; 3] = [ours::ours_view_hello, view::rust_view_hello, view::best_view_hello];
+    let name: [Repeated; 3] = [ours::ours_view_name, view::rust_view_name, view::best_view_name];
+    let walk: [Repeated; 3] = [ours::ours_view_walk, view::rust_view_walk, view::best_view_walk];
+    let types: [Repeated; 3] = [ours::ours_view_types, view::rust_view_types, view::best_view_types];
+    let jobs = [
+        ("fields of a hello", hello, inputs::hello_517()),
+        ("fields of a hello, post-quantum", hello, inputs::hello_post_quantum()),
+        ("record to the host's name", name, inputs::hello_517()),
+        ("record to the host's name, post-quantum", name, inputs::hello_post_quantum()),
+        ("16,640 ChangeCipherSpecs", walk, inputs::record(20, &[1; 16640])),
+        ("types of extensions, TLS 1.3", types, inputs::extensions_tls13(&[(0x4a4a, 1), (29, 32)], 0)),
+    ];
+    for (what, [o, lists, best], bytes) in jobs {
+        all.parse("in place", &format!("{what}, beside lists"), o, lists, bytes.clone());
+        all.parse("in place", &format!("{what}, beside the best"), o, best, bytes);
+    }
+}
+
 fn dtls(all: &mut Cases) {
     let (o, r): (Repeated, Repeated) = (ours::ours_dtls_record, rust::rust_dtls_record);
     all.parse("DTLS", "ClientHello", o, r, inputs::dtls_hello());
@@ -166,6 +186,7 @@ pub fn all() -> Vec<Case> {
     records(&mut all);
     messages(&mut all);
     extensions(&mut all);
+    in_place(&mut all);
     dtls(&mut all);
     keys(&mut all);
     writer(&mut all);

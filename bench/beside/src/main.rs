@@ -15,6 +15,7 @@ mod memory;
 mod number;
 mod ours;
 mod rust;
+mod view;
 
 use cases::{Case, Stream};
 use std::hint::black_box;

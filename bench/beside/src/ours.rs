@@ -15,6 +15,10 @@ unsafe extern "C" {
     pub safe fn ours_ecdh(bytes: *const u8, len: usize, times: usize) -> u64;
     pub safe fn ours_signed(bytes: *const u8, len: usize, times: usize) -> u64;
     pub safe fn ours_timestamps(bytes: *const u8, len: usize, times: usize) -> u64;
+    pub safe fn ours_view_hello(bytes: *const u8, len: usize, times: usize) -> u64;
+    pub safe fn ours_view_name(bytes: *const u8, len: usize, times: usize) -> u64;
+    pub safe fn ours_view_walk(bytes: *const u8, len: usize, times: usize) -> u64;
+    pub safe fn ours_view_types(bytes: *const u8, len: usize, times: usize) -> u64;
     pub safe fn ours_serialize(bytes: *const u8, len: usize, times: usize) -> u64;
     pub safe fn ours_gen(bytes: *const u8, len: usize, times: usize) -> u64;
     pub safe fn ours_gen_extensions(bytes: *const u8, len: usize, times: usize) -> u64;

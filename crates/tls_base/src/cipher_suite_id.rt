@@ -61,7 +61,9 @@ impl Deref for TlsCipherSuiteID {
 }
 
 impl Number for TlsCipherSuiteID {
-    ghost width = { 2 };
+    ghost WIDTH = { 2 };
+
+    const WIDTH: usize = 2;
 
     ghost value = { λ v. v.0 };
 

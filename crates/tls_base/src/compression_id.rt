@@ -56,7 +56,9 @@ impl Deref for TlsCompressionID {
 }
 
 impl Number for TlsCompressionID {
-    ghost width = { 1 };
+    ghost WIDTH = { 1 };
+
+    const WIDTH: usize = 1;
 
     ghost value = { λ v. v.0 };
 

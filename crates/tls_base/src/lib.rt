@@ -31,6 +31,7 @@ mod signature_scheme;
 mod sni_type;
 mod status_type;
 mod timestamp;
+mod timestamp_view;
 mod version;
 
 pub use alert::TlsMessageAlert;
@@ -69,5 +70,6 @@ pub use timestamp::{
     CtExtensions, CtLogID, SignedCertificateTimestamp, parse_ct_signed_certificate_timestamp,
     parse_ct_signed_certificate_timestamp_list,
 };
+pub use timestamp_view::certificate_timestamps;
 pub use tls_fields::{Err, Error, ErrorKind, IResult, Needed, OutOfMemory};
 pub use version::TlsVersion;

@@ -156,7 +156,9 @@ impl NamedGroup {
 }
 
 impl Number for NamedGroup {
-    ghost width = { 2 };
+    ghost WIDTH = { 2 };
+
+    const WIDTH: usize = 2;
 
     ghost value = { λ v. v.0 };
 

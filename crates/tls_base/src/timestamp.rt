@@ -6,7 +6,7 @@ ghost use Rattle.tls_base.specs.Timestamp.{SignedCertificateTimestamp as Timesta
 use crate::ct_version::CtVersion;
 use crate::signature::{DigitallySigned, parse_digitally_signed};
 use std::alloc::Global;
-use tls_fields::{Err, IResult, Item, Needed, Room, block, counted2, items, number2, number8};
+use tls_fields::{Err, IResult, InPlace, Needed, Room, block, counted2, items, number2, number8};
 
 /// Which log signed: the hash of its key (RFC 6962, section 3.2).
 #[derive(Clone, Debug, PartialEq, Drop)]
@@ -79,7 +79,7 @@ pub fn parse_ct_signed_certificate_timestamp(i: &[u8]) -> IResult<&[u8], SignedC
     Ok((i, timestamp))
 }
 
-impl<'a> Item<'a> for SignedCertificateTimestamp<'a> {
+impl<'a> InPlace<'a> for SignedCertificateTimestamp<'a> {
     type Read = Self;
 
     ghost Value = { Timestamp };
@@ -88,7 +88,7 @@ impl<'a> Item<'a> for SignedCertificateTimestamp<'a> {
 
     ghost layout = { serialized_timestamp };
 
-    fn read(_alloc: Global, i: &'a [u8]) -> IResult<&'a [u8], Self> {
+    fn read(i: &'a [u8]) -> IResult<&'a [u8], Self> {
         parse_ct_signed_certificate_timestamp(i)
     }
 }

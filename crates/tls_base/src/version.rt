@@ -89,7 +89,9 @@ impl TlsVersion {
 }
 
 impl Number for TlsVersion {
-    ghost width = { 2 };
+    ghost WIDTH = { 2 };
+
+    const WIDTH: usize = 2;
 
     ghost value = { λ v. v.0 };
 

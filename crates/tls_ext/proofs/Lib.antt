@@ -1,3 +1,4 @@
 pub mod TableLemmas
 pub mod WindowLemmas
 pub mod ExtensionTextLemmas
+pub mod VersionLemmas

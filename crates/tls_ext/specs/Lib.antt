@@ -2,6 +2,7 @@ pub mod Extension
 pub mod Content
 pub mod Tagged
 pub mod Dispatch
+pub mod InPlace
 pub mod Kinds
 pub mod ExtensionText
 pub use Rattle.tls_fields.specs.Bytes

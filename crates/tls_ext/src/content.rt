@@ -15,7 +15,7 @@ use crate::extension::{OidFilter, TlsExtension};
 use std::alloc::Global;
 use tls_base::{CertificateStatusType, NamedGroup, SNIType, TlsCipherSuiteID, TlsVersion};
 use tls_fields::{
-    Counted1, ErrorKind, IResult, Item, Number2, Room, block, counted1, counted2, hops2, items,
+    Counted1, ErrorKind, IResult, InPlace, Number2, Room, block, counted1, counted2, hops2, items,
     maybe2, number1, number2, number4, pairs, refused, rest,
 };
 
@@ -131,10 +131,11 @@ pub fn parse_tls_extension_sni_hostname(i: &[u8]) -> IResult<&[u8], (SNIType, &[
     Ok((i, (name_type, name)))
 }
 
-/// One name of a list of names.
-struct ServerName;
+/// How a name of a server is read: its type and its bytes (RFC 6066, section 3).
+#[derive(Clone, Copy)]
+pub struct ServerName;
 
-impl<'a> Item<'a> for ServerName {
+impl<'a> InPlace<'a> for ServerName {
     type Read = (SNIType, &'a [u8]);
 
     ghost Value = { ServerNameEntry };
@@ -143,7 +144,8 @@ impl<'a> Item<'a> for ServerName {
 
     ghost layout = { server_name };
 
-    fn read(_alloc: Global, i: &'a [u8]) -> IResult<&'a [u8], (SNIType, &'a [u8])> {
+    #[inline(always)]
+    fn read(i: &'a [u8]) -> IResult<&'a [u8], (SNIType, &'a [u8])> {
         parse_tls_extension_sni_hostname(i)
     }
 }
@@ -349,7 +351,7 @@ pub fn parse_tls_extension_psk_key_exchange_modes_content(
     Ok((i, TlsExtension::PskExchangeModes(modes)))
 }
 
-impl<'a> Item<'a> for OidFilter<'a> {
+impl<'a> InPlace<'a> for OidFilter<'a> {
     type Read = Self;
 
     ghost Value = { OIDFilter };
@@ -359,7 +361,8 @@ impl<'a> Item<'a> for OidFilter<'a> {
     ghost layout = { oid_filter };
 
     #[tactic(auto, using(tls_fields::proofs::OneAnswerLemmas::read_allowed), unfolding(crate::specs::Content::oid_filter))]
-    fn read(_alloc: Global, i: &'a [u8]) -> IResult<&'a [u8], Self> {
+    #[inline(always)]
+    fn read(i: &'a [u8]) -> IResult<&'a [u8], Self> {
         let (i, cert_ext_oid) = counted1(i)?;
         let (i, cert_ext_val) = counted2(i)?;
         let filter = OidFilter {

@@ -5,15 +5,18 @@
 #![tactic(auto, using(tls_fields::proofs::OneAnswerLemmas::read_allowed))]
 
 mod content;
+mod content_view;
 mod dispatch;
 mod extension;
+mod extension_view;
+mod hello_extensions;
 mod kind;
 pub mod laws;
 mod tagged;
 mod writer;
 
 pub use content::{
-    parse_tls_extension_alpn_content, parse_tls_extension_ec_point_formats_content,
+    ServerName, parse_tls_extension_alpn_content, parse_tls_extension_ec_point_formats_content,
     parse_tls_extension_elliptic_curves_content, parse_tls_extension_encrypted_server_name,
     parse_tls_extension_heartbeat_content, parse_tls_extension_max_fragment_length_content,
     parse_tls_extension_psk_key_exchange_modes_content,
@@ -22,11 +25,17 @@ pub use content::{
     parse_tls_extension_signed_certificate_timestamp_content, parse_tls_extension_sni_content,
     parse_tls_extension_sni_hostname,
 };
+pub use content_view::{
+    ec_point_formats, key_shares, oid_filters, protocol_names, psk_key_exchange_modes,
+    server_names, signature_algorithms, supported_groups, supported_versions,
+};
 pub use dispatch::{
     parse_tls_client_hello_extension, parse_tls_client_hello_extensions, parse_tls_extension,
     parse_tls_extensions, parse_tls_server_hello_extension, parse_tls_server_hello_extensions,
 };
 pub use extension::{KeyShareEntry, OidFilter, TlsExtension};
+pub use extension_view::{ExtensionType, RawExtension, extension_types, extensions, first_content};
+pub use hello_extensions::{application_protocols, best_version, server_name};
 pub use tagged::{
     parse_tls_extension_cookie, parse_tls_extension_early_data,
     parse_tls_extension_ec_point_formats, parse_tls_extension_elliptic_curves,

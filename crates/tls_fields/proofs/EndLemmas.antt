@@ -5,7 +5,7 @@ use Rattle.tls_fields.specs.Layout.{Layout, done, refuse, number, ignored, block
 use Rattle.tls_fields.specs.Meaning.{Spelling, SpellsItems, SpellsOption, Spells, EndsWith}
 use Rattle.tls_fields.proofs.NumberLemmas.{AreBytes-back}
 
-ends_after : (b m r : Bytes) → EndsWith b m → EndsWith m r → EndsWith b r
+pub ends_after : (b m r : Bytes) → EndsWith b m → EndsWith m r → EndsWith b r
 ends_after b m r (f, e) (g, h) = (f ++ g, e ∙ ap (λ x. f ++ x) h ∙ sym (append_assoc f g r))
 
 -- what some spelling leaves is an end of the bytes

@@ -6,7 +6,11 @@ pub mod StableLemmas
 pub mod GivesLemmas
 pub mod TableLemmas
 pub mod TimesLemmas
+pub mod ItemsLemmas
 pub mod ListLemmas
+pub mod NumbersLemmas
 pub mod LeavesLemmas
+pub mod FramedLemmas
+pub mod PlaceLemmas
 pub mod TextLemmas
 pub mod WriterLemmas

@@ -1,6 +1,5 @@
 -- A list, read item by item.
-use Rattle.std.proofs.Common.{◌≡◌, ℕ, zero, suc, ◌<◌, ◌≤◌, List, [], ◌∷◌, ◌++◌, map, length, Ok, Err, Bool, true, false, cond, ltb, refl, sym, ◌∙◌, ap, arith, append_assoc, append-nil}
-use Rattle.std.proofs.lemmas.Bool.{ltb-true}
+use Rattle.std.proofs.Common.{◌≡◌, ℕ, ◌<◌, ◌≤◌, List, [], ◌∷◌, ◌++◌, map, length, Ok, Err, cond, refl, sym, ◌∙◌, ap, append_assoc, append-nil}
 use Rattle.std.proofs.lemmas.List.{map-append, map-id}
 use Rattle.tls_fields.specs.Bytes.{Bytes, AreBytes}
 use Rattle.tls_fields.specs.Layout.{Layout, list, behind}
@@ -12,32 +11,7 @@ use Rattle.tls_fields.specs.declared.result.Error.{Error}
 use Rattle.tls_fields.specs.declared.result.Err.{Err as Failed}
 use Rattle.tls_fields.specs.declared.result.Err.TheVariants as failed
 use Rattle.tls_fields.proofs.OneAnswerLemmas.{ltb_yes, ltb_no, read_allowed}
-
--- how many are asked for at most does not matter, where it is enough
-with_same : {A : Type 0} (a : Answer A) (f g : Bytes → List A × Bytes) (b : Bytes) → ((m : Bytes) → length m < length b → f m ≡ g m) → with_items a f b ≡ with_items a g b
-with_same {A} (Ok x) f g b h = go (ltb (length x.1) (length b)) refl
-  where
-    go : (t : Bool) → ltb (length x.1) (length b) ≡ t → ◌≡◌ {A = List A × Bytes} (cond t (x.0 ∷ (f x.1).0, (f x.1).1) ([], b)) (cond t (x.0 ∷ (g x.1).0, (g x.1).1) ([], b))
-    go true e = ap (λ y. (x.0 ∷ y.0, y.1)) (h x.1 (ltb-true (length x.1) (length b) e))
-    go false e = refl
-with_same (Err e) f g b h = refl
-
-none_with : {A : Type 0} (a : Answer A) (f : Bytes → List A × Bytes) (b : Bytes) → length b ≤ 0 → with_items a f b ≡ ([], b)
-none_with (Ok x) f b h = ap (λ t. cond t (x.0 ∷ (f x.1).0, (f x.1).1) ([], b)) (ltb_no (length x.1) (length b) (omega arith))
-none_with (Err e) f b h = refl
-
-items_same : {A : Type 0} (f : Bytes → Answer A) (n k : ℕ) (b : Bytes) → length b ≤ n → length b ≤ k → items_at f n b ≡ items_at f k b
-unfolding items_at
-items_same f zero zero b h g = refl
-items_same f zero (suc k) b h g = sym (none_with (f b) (items_at f k) b h)
-items_same f (suc n) zero b h g = none_with (f b) (items_at f n) b g
-items_same f (suc n) (suc k) b h g = with_same (f b) (items_at f n) (items_at f k) b (λ m short. items_same f n k m (omega arith) (omega arith))
-
--- the items of b, which are those with one more step
-items_step : {A : Type 0} (f : Bytes → Answer A) (b : Bytes) → items_at f (length b) b ≡ with_items (f b) (λ m. items_at f (length m) m) b
-unfolding items_at
-items_step f [] = sym (none_with (f []) (λ m. items_at f (length m) m) [] (omega arith))
-items_step f (x ∷ b) = with_same (f (x ∷ b)) (items_at f (length b)) (λ m. items_at f (length m) m) (x ∷ b) (λ m short. items_same f (length b) (length m) m (omega arith) (omega arith))
+use Rattle.tls_fields.proofs.ItemsLemmas.{none_with, items_step}
 
 -- what is read from b, behind these, is xs and what is read from m
 pub record ListRead {A : Type 0} (l : Layout A) (first : List A) (b : Bytes) (xs : List A) (m : Bytes) : Type 0 where

@@ -5,6 +5,7 @@ ghost use Rattle.tls_fields.specs.Layout.{Layout, counted, number};
 ghost use Rattle.tls_fields.specs.Answers.{GivesOrMemory};
 
 use crate::bytes::{counted1, counted2};
+use crate::in_place::InPlace;
 use crate::number::number2;
 use crate::result::IResult;
 use crate::room::{Room, hops1, hops2};
@@ -30,7 +31,7 @@ pub trait Item<'a>: Room {
 /// Numbers of 2 bytes.
 pub struct Number2;
 
-impl<'a> Item<'a> for Number2 {
+impl<'a> InPlace<'a> for Number2 {
     type Read = u16;
 
     ghost Value = { ℕ };
@@ -39,7 +40,7 @@ impl<'a> Item<'a> for Number2 {
 
     ghost layout = { number 2 };
 
-    fn read(_alloc: Global, i: &'a [u8]) -> IResult<&'a [u8], u16> {
+    fn read(i: &'a [u8]) -> IResult<&'a [u8], u16> {
         number2(i)
     }
 }
@@ -55,7 +56,7 @@ impl Room for Number2 {
 /// Bytes behind 1 byte of their count.
 pub struct Counted1;
 
-impl<'a> Item<'a> for Counted1 {
+impl<'a> InPlace<'a> for Counted1 {
     type Read = &'a [u8];
 
     ghost Value = { Bytes };
@@ -64,7 +65,7 @@ impl<'a> Item<'a> for Counted1 {
 
     ghost layout = { counted 1 };
 
-    fn read(_alloc: Global, i: &'a [u8]) -> IResult<&'a [u8], &'a [u8]> {
+    fn read(i: &'a [u8]) -> IResult<&'a [u8], &'a [u8]> {
         counted1(i)
     }
 }
@@ -80,7 +81,7 @@ impl Room for Counted1 {
 /// Bytes behind 2 bytes of their count.
 pub struct Counted2;
 
-impl<'a> Item<'a> for Counted2 {
+impl<'a> InPlace<'a> for Counted2 {
     type Read = &'a [u8];
 
     ghost Value = { Bytes };
@@ -89,7 +90,7 @@ impl<'a> Item<'a> for Counted2 {
 
     ghost layout = { counted 2 };
 
-    fn read(_alloc: Global, i: &'a [u8]) -> IResult<&'a [u8], &'a [u8]> {
+    fn read(i: &'a [u8]) -> IResult<&'a [u8], &'a [u8]> {
         counted2(i)
     }
 }
@@ -99,5 +100,19 @@ impl Room for Counted2 {
         ensures { result ≤ length i.now }
     {
         hops2(i, 0)
+    }
+}
+
+impl<'a, T: InPlace<'a> + Room> Item<'a> for T {
+    type Read = <T as InPlace<'a>>::Read;
+
+    ghost Value = { T.InPlace.Value };
+
+    ghost view = { T.InPlace.view };
+
+    ghost layout = { T.InPlace.layout };
+
+    fn read(_alloc: Global, i: &'a [u8]) -> IResult<&'a [u8], <T as InPlace<'a>>::Read> {
+        <T as InPlace<'a>>::read(i)
     }
 }

@@ -81,8 +81,8 @@ pub fn items1<'a, T: Item<'a>>(alloc: Global, i: &'a [u8]) -> IResult<&'a [u8], 
 /// It refuses for memory alone: `OutOfMemory` where the list could not be held.
 #[inline(always)]
 pub fn numbers<T: Number>(alloc: Global, i: &[u8], count: usize) -> IResult<&[u8], Vec<T>>
-    requires { T.width * count ≤ length i.now }
-    ensures { GivesOrMemory (λ v. map T.value v.items) (times count (number T.width)) i.now result }
+    requires { T.WIDTH * count ≤ length i.now }
+    ensures { GivesOrMemory (λ v. map T.value v.items) (times count (number T.WIDTH)) i.now result }
 {
     let mut numbers = Vec::with_capacity(alloc, count)?;
     let mut rest = i;
@@ -98,8 +98,8 @@ pub fn numbers<T: Number>(alloc: Global, i: &[u8], count: usize) -> IResult<&[u8
 ///
 /// `Error` of kind `LengthValue` where the count of bytes is odd. `OutOfMemory` where the list could not be held.
 pub fn pairs<T: Number>(alloc: Global, i: &[u8]) -> IResult<&[u8], Vec<T>>
-    requires { T.width ≡ 2 }
-    ensures { GivesOrMemory (λ v. map T.value v.items) (pairs_of (number T.width)) i.now result }
+    requires { T.WIDTH ≡ 2 }
+    ensures { GivesOrMemory (λ v. map T.value v.items) (pairs_of (number T.WIDTH)) i.now result }
 {
     if i.len() % 2 != 0 {
         return refused(i, ErrorKind::LengthValue);

@@ -12,16 +12,18 @@ use crate::result::{Err, IResult, Needed};
 /// Where its bytes are there, it is read without a test, so that the bytes of many are turned round at once.
 pub trait Number: Drop {
     /// How many bytes it has.
-    ghost width: { ℕ };
+    ghost WIDTH: { ℕ };
+
+    const WIDTH: usize;
 
     /// The number.
     ghost value: { Self → ℕ };
 
     /// Reads one from the front of `i`, big-endian.
     fn read_present(i: &[u8]) -> (&[u8], Self)
-        requires { width ≤ length i.now }
-        ensures read { Gives value (number width) i.now (Ok result) }
-        ensures behind { width + length result.0.now ≡ length i.now };
+        requires { WIDTH ≤ length i.now }
+        ensures read { Gives value (number WIDTH) i.now (Ok result) }
+        ensures behind { WIDTH + length result.0.now ≡ length i.now };
 }
 
 /// A number of 1 byte (`uint8`; RFC 8446, section 3.3).
@@ -49,7 +51,9 @@ pub fn number2(i: &[u8]) -> IResult<&[u8], u16>
 }
 
 impl Number for u8 {
-    ghost width = { 1 };
+    ghost WIDTH = { 1 };
+
+    const WIDTH: usize = 1;
 
     ghost value = { λ n. n };
 
@@ -61,7 +65,9 @@ impl Number for u8 {
 }
 
 impl Number for u16 {
-    ghost width = { 2 };
+    ghost WIDTH = { 2 };
+
+    const WIDTH: usize = 2;
 
     ghost value = { λ n. n };
 

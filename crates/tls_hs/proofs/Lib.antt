@@ -3,3 +3,4 @@ pub mod ClientHelloTextLemmas
 pub mod ServerHelloTextLemmas
 pub mod MsgTypeLemmas
 pub mod HandshakeTextLemmas
+pub mod PlacesLemmas

@@ -4,6 +4,9 @@ pub mod Certificate
 pub mod Session
 pub mod Handshake
 pub mod Message
+pub mod InPlace
+pub mod Places
+pub mod Messages
 pub mod HandshakeText
 pub mod HandshakeWriter
 pub mod Writable

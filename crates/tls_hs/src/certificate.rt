@@ -1,34 +1,17 @@
 //! Certificates and their status.
 ghost use Rattle.std.specs.Prelude.{◌≡◌, IfOk};
-ghost use Rattle.tls_fields.specs.Bytes.{Bytes};
-ghost use Rattle.tls_fields.specs.Layout.{counted};
 ghost use Rattle.tls_fields.specs.Answers.{Gives, GivesOrMemory};
 ghost use Rattle.tls_hs.specs.Certificate.{view_certificate, certificate as certificate_layout};
 ghost use Rattle.tls_hs.specs.Certificate.{view_certificate_status, certificate_status};
 
 use std::alloc::Global;
-use tls_fields::{IResult, Item, OutOfMemory, Room, counted3, items, number1};
+use tls_fields::{IResult, OutOfMemory, Room, counted3, items, number1};
 
 /// A certificate, as it stands after its length (RFC 5246, section 7.4.2).
 #[derive(Clone, Debug, PartialEq, Drop)]
 pub struct RawCertificate<'a> {
     /// The certificate, in DER.
     pub bytes: &'a [u8],
-}
-
-impl<'a> Item<'a> for RawCertificate<'a> {
-    type Read = Self;
-
-    ghost Value = { Bytes };
-
-    ghost view = { λ c. c.bytes.now };
-
-    ghost layout = { counted 3 };
-
-    fn read(_alloc: Global, i: &'a [u8]) -> IResult<&'a [u8], Self> {
-        let (i, bytes) = counted3(i)?;
-        Ok((i, RawCertificate { bytes }))
-    }
 }
 
 impl<'a> Room for RawCertificate<'a> {}

@@ -8,12 +8,17 @@ mod bodies;
 mod body_by_type;
 mod certificate;
 mod certificate_request;
+mod certificate_view;
 mod client_hello;
+mod client_hello_places;
 mod client_hello_trait;
+mod client_hello_view;
 mod handshake;
+mod handshake_view;
 mod hello_fields;
 pub mod laws;
 mod message;
+mod message_view;
 pub mod parts;
 mod server_hello;
 mod session;
@@ -36,14 +41,19 @@ pub use certificate::{
 pub use certificate_request::{
     TlsCertificateRequestContents, parse_tls_handshake_certificaterequest,
 };
+pub use certificate_view::{CertificateRequestView, certificates};
 pub use client_hello::{TlsClientHelloContents, parse_tls_handshake_client_hello};
+pub use client_hello_places::ClientHelloPlaces;
 pub use client_hello_trait::ClientHello;
+pub use client_hello_view::ClientHelloView;
 pub use handshake::TlsMessageHandshake;
+pub use handshake_view::{HandshakeView, RawHandshake};
 pub use message::{
     TlsMessage, TlsMessageApplicationData, TlsMessageHeartbeat, parse_tls_message_alert,
     parse_tls_message_applicationdata, parse_tls_message_changecipherspec,
     parse_tls_message_handshake, parse_tls_message_heartbeat,
 };
+pub use message_view::{Alert, ChangeCipherSpec, Messages, RawMessage, heartbeat};
 pub use server_hello::{
     TlsHelloRetryRequestContents, TlsServerHelloContents, TlsServerHelloV13Draft18Contents,
     parse_tls_handshake_server_hello,

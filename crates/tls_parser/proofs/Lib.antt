@@ -10,3 +10,5 @@ pub mod NoMoreLemmas
 pub mod RawRecordLemmas
 pub mod RecordTextLemmas
 pub mod CallerLemmas
+pub mod InPlaceLemmas
+pub mod DtlsInPlaceLemmas

@@ -1,10 +1,12 @@
 pub mod Framing
 pub mod Record
+pub mod InPlace
 pub mod RecordText
 pub mod RecordWriter
 pub mod DtlsHello
 pub mod DtlsHandshake
 pub mod DtlsRecord
+pub mod DtlsInPlace
 pub use Rattle.tls_fields.specs.Bytes
 pub use Rattle.tls_fields.specs.Layout
 pub use Rattle.tls_fields.specs.Meaning

@@ -11,18 +11,25 @@ mod content;
 mod dtls;
 pub mod laws;
 mod plaintext;
+mod plaintext_view;
 mod record;
 mod writer;
 
 pub use dtls::{
-    DTLSClientHello, DTLSHelloVerifyRequest, DTLSMessage, DTLSMessageHandshake,
-    DTLSMessageHandshakeBody, DTLSPlaintext, DTLSRawRecord, DTLSRecordHeader,
+    DTLSBodyView, DTLSClientHello, DTLSClientHelloView, DTLSHandshakeView, DTLSHelloVerifyRequest,
+    DTLSMessage, DTLSMessageHandshake, DTLSMessageHandshakeBody, DTLSMessages, DTLSPlaintext,
+    DTLSPlaintextView, DTLSRawHandshake, DTLSRawMessage, DTLSRawRecord, DTLSRecordHeader,
     parse_dtls_message_alert, parse_dtls_message_changecipherspec, parse_dtls_message_handshake,
-    parse_dtls_plaintext_record, parse_dtls_plaintext_records, parse_dtls_record_header,
-    parse_dtls_record_with_header,
+    parse_dtls_plaintext_record, parse_dtls_plaintext_record_in_place,
+    parse_dtls_plaintext_records, parse_dtls_record_header, parse_dtls_record_with_header,
+    parse_dtls_record_with_header_in_place,
 };
 pub use plaintext::{
     TlsPlaintext, parse_tls_plaintext, parse_tls_record_with_header, tls_parser, tls_parser_many,
+};
+pub use plaintext_view::{
+    PlaintextView, first_body, parse_tls_plaintext_in_place, parse_tls_record_with_header_in_place,
+    server_name_of_record,
 };
 pub use record::{
     MAX_RECORD_LEN, TlsEncrypted, TlsEncryptedContent, TlsRawRecord, TlsRecordHeader,
@@ -96,3 +103,17 @@ pub use tls_hs::{
 
 // Following a handshake.
 pub use tls_states::{ParseContext, StateChangeError, TlsState, tls_state_transition};
+
+// Reading in place.
+pub use tls_base::certificate_timestamps;
+pub use tls_ext::{
+    ExtensionType, RawExtension, ServerName, application_protocols, best_version, ec_point_formats,
+    extension_types, extensions, first_content, key_shares, oid_filters, protocol_names,
+    psk_key_exchange_modes, server_name, server_names, signature_algorithms, supported_groups,
+    supported_versions,
+};
+pub use tls_fields::{Counted1, Counted2, InPlace, Items, Place};
+pub use tls_hs::{
+    Alert, CertificateRequestView, ChangeCipherSpec, ClientHelloPlaces, ClientHelloView,
+    HandshakeView, Messages, RawHandshake, RawMessage, certificates, heartbeat,
+};

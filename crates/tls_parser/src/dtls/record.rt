@@ -75,7 +75,7 @@ pub fn parse_dtls_record_header(i: &[u8]) -> IResult<&[u8], DTLSRecordHeader>
 
 /// Reads a DTLS record and leaves its fragment as it stands.
 #[tactic(auto, using(tls_fields::proofs::OneAnswerLemmas::read_allowed), unfolding(crate::specs::DtlsRecord::raw_record))]
-fn raw_record(i: &[u8]) -> IResult<&[u8], DTLSRawRecord>
+pub(crate) fn raw_record(i: &[u8]) -> IResult<&[u8], DTLSRawRecord>
     ensures { Gives view_raw_record raw_record_layout i.now result }
 {
     let (i, header) = parse_dtls_record_header(i)?;

@@ -1,0 +1,18 @@
+//! Timestamps of certificates in place (RFC 6962, section 3.3).
+ghost use Rattle.tls_fields.specs.Answers.{Gives};
+ghost use Rattle.tls_fields.specs.Items.{items_in};
+ghost use Rattle.tls_base.specs.Timestamp.{serialized_timestamp, timestamp_list};
+
+use crate::timestamp::SignedCertificateTimestamp;
+use tls_fields::{IResult, Items, counted2};
+
+/// Reads timestamps in place (RFC 6962, section 3.3): as [`crate::parse_ct_signed_certificate_timestamp_list`], memory aside.
+///
+/// The length of the list is judged; each timestamp is read as the walk comes to it.
+#[inline(always)]
+pub fn certificate_timestamps(i: &[u8]) -> IResult<&[u8], Items<SignedCertificateTimestamp>>
+    ensures { Gives (λ v. items_in serialized_timestamp v.bytes.now) timestamp_list i.now result }
+{
+    let (i, window) = counted2(i)?;
+    Ok((i, Items::new(window)))
+}

@@ -1,0 +1,45 @@
+-- The messages of a record in place.
+use Rattle.std.specs.Prelude.{ℕ, List, [], ◌∷◌, map, Result, Ok, ◌==◌, if◌then◌else◌}
+use Rattle.tls_fields.specs.Bytes.{Bytes}
+use Rattle.tls_fields.specs.Meaning.{Refusal}
+use Rattle.tls_fields.specs.Reading.{reading}
+use Rattle.tls_fields.specs.Items.{items_in, list_read}
+use Rattle.tls_fields.specs.Framed.{Framed}
+use Rattle.tls_base.specs.Alert as alerts
+use Rattle.tls_hs.specs.InPlace.{raw_handshake, view_raw_handshake, handshake_of}
+use Rattle.tls_hs.specs.Message as message
+use Rattle.tls_hs.specs.Message.{Message}
+use Rattle.tls_hs.specs.declared.message_view.RawMessage.{RawMessage}
+use Rattle.tls_hs.specs.declared.message_view.RawMessage.TheVariants as raw
+use Rattle.tls_hs.specs.declared.message_view.Messages.{Messages}
+
+-- A message, of which a handshake's body isn't read.
+pub data Raw : Type 0 where
+  Handshake : Framed → Raw
+  Whole : Message → Raw
+
+abbrev pub view_raw : RawMessage → Raw
+view_raw (raw.Handshake h) = Handshake (view_raw_handshake h)
+view_raw raw.ChangeCipherSpec = Whole message.ChangeCipherSpec
+view_raw (raw.Alert a) = Whole (message.Alert (alerts.view_alert a))
+view_raw (raw.ApplicationData d) = Whole (message.ApplicationData d.now)
+view_raw (raw.Heartbeat h) = Whole (message.Heartbeat (message.view_heartbeat h))
+
+-- The message that it is.
+abbrev pub message_of : Raw → Result Message Refusal
+message_of (Handshake h) = handshake_of h
+message_of (Whole m) = Ok m
+
+-- The messages in the fragment of a record of that type and that length.
+abbrev pub messages_of_type : ℕ → ℕ → Bytes → List Raw
+messages_of_type content_type length b =
+    if content_type == 20 then map Whole (items_in message.change_cipher_spec b)
+    else if content_type == 21 then map Whole (items_in message.alert b)
+    else if content_type == 22 then map Handshake (items_in raw_handshake b)
+    else if content_type == 23 then Whole (message.ApplicationData b) ∷ []
+    else if content_type == 24 then map Whole (list_read (reading (message.heartbeat length) b))
+    else []
+
+-- The messages that a walk has yet to come to.
+abbrev pub raw_messages : Messages → List Raw
+raw_messages m = messages_of_type m.record_type.0 m.len m.bytes.now

@@ -1,0 +1,181 @@
+//! Handshake messages in place (RFC 5246, section 7.4): raw, with the body as it stands, and with the body read.
+ghost use Rattle.std.specs.Prelude.{length};
+ghost use Rattle.tls_fields.specs.Answers.{Gives};
+ghost use Rattle.tls_fields.specs.Framed.{Framed};
+ghost use Rattle.tls_hs.specs.Handshake.{handshake_body, body_from_certificate, body_from_finished};
+ghost use Rattle.tls_hs.specs.Message as message;
+ghost use Rattle.tls_hs.specs.Message.{Message};
+ghost use Rattle.tls_hs.specs.InPlace.{view_handshake_in_place, view_raw_handshake, raw_handshake};
+
+use crate::bodies::{
+    parse_tls_handshake_msg_certificatestatus, parse_tls_handshake_msg_certificateverify,
+    parse_tls_handshake_msg_clientkeyexchange, parse_tls_handshake_msg_finished,
+    parse_tls_handshake_msg_hello_request, parse_tls_handshake_msg_hello_retry_request,
+    parse_tls_handshake_msg_key_update, parse_tls_handshake_msg_newsessionticket,
+    parse_tls_handshake_msg_next_protocol, parse_tls_handshake_msg_server_hello,
+    parse_tls_handshake_msg_serverdone, parse_tls_handshake_msg_serverkeyexchange,
+};
+use crate::certificate::RawCertificate;
+use crate::certificate_view::{CertificateRequestView, certificates};
+use crate::client_hello_view::ClientHelloView;
+use crate::handshake::TlsMessageHandshake;
+use tls_base::TlsHandshakeType;
+use tls_fields::{ErrorKind, IResult, InPlace, Items, block, counted3, number3, refused};
+
+/// A handshake message (RFC 5246, section 7.4), as [`crate::TlsMessageHandshake`], but with its lists in place.
+#[derive(Debug, PartialEq, Drop)]
+pub enum HandshakeView<'a> {
+    /// What a client offers (RFC 5246, section 7.4.1.2).
+    ClientHello(ClientHelloView<'a>),
+    /// The sender's certificates, in their form up to TLS 1.2 (RFC 5246, section 7.4.2).
+    Certificate(Items<'a, RawCertificate<'a>>),
+    /// The server asks for a certificate, in its form up to TLS 1.2 (RFC 5246, section 7.4.4).
+    CertificateRequest(CertificateRequestView<'a>),
+    /// A message that has no list, as the calls that make lists answer it.
+    Other(TlsMessageHandshake<'a>),
+}
+
+/// A handshake message whose body isn't read.
+#[derive(Clone, Copy, Debug, PartialEq)]
+pub struct RawHandshake<'a> {
+    /// What its body is.
+    pub msg_type: TlsHandshakeType,
+    /// The body, without its length.
+    pub body: &'a [u8],
+}
+
+impl<'a> InPlace<'a> for RawHandshake<'a> {
+    type Read = Self;
+
+    ghost Value = { Framed };
+
+    ghost view = { view_raw_handshake };
+
+    ghost layout = { raw_handshake };
+
+    #[tactic(auto, using(tls_fields::proofs::OneAnswerLemmas::read_allowed), unfolding(tls_fields::specs::Framed::framed))]
+    #[inline(always)]
+    fn read(i: &'a [u8]) -> IResult<&'a [u8], Self> {
+        let (i, msg_type) = TlsHandshakeType::parse(i)?;
+        let (i, body) = counted3(i)?;
+        Ok((i, RawHandshake { msg_type, body }))
+    }
+}
+
+/// A whole message, which is judged with its body: as [`crate::parse_tls_message_handshake`], memory aside.
+impl<'a> InPlace<'a> for HandshakeView<'a> {
+    type Read = Self;
+
+    ghost Value = { Message };
+
+    ghost view = { λ h. message.Handshake (view_handshake_in_place h) };
+
+    ghost layout = { message.handshake };
+
+    #[tactic(auto, using(tls_fields::proofs::OneAnswerLemmas::read_allowed), unfolding(crate::specs::Message::handshake))]
+    #[inline(always)]
+    fn read(i: &'a [u8]) -> IResult<&'a [u8], Self> {
+        let (i, msg_type) = TlsHandshakeType::parse(i)?;
+        let (i, n) = number3(i)?;
+        let (i, window) = block(i, n as usize)?;
+        let (_, message) = body_in_place(window, msg_type, n as usize)?;
+        Ok((i, message))
+    }
+}
+
+impl<'a> RawHandshake<'a> {
+    /// Reads the body within its bytes alone: it answers what [`crate::parse_tls_message_handshake`] does of a message that is
+    /// whole, memory aside. The rest is what the body leaves of its bytes.
+    #[inline(always)]
+    pub fn parse_body(self) -> IResult<&'a [u8], HandshakeView<'a>>
+        ensures { Gives view_handshake_in_place (handshake_body self.entry.msg_type.0 (length self.entry.body.now)) self.entry.body.now result }
+    {
+        body_in_place(self.body, self.msg_type, self.body.len())
+    }
+}
+
+/// Reads a body that has no list.
+macro_rules! other {
+    ($read:expr) => {{
+        let (i, message) = $read?;
+        Ok((i, HandshakeView::Other(message)))
+    }};
+}
+
+/// Reads the body of a message of the type `msg_type`, of `len` bytes, where the type is Finished (20) or above.
+///
+/// `Error` of kind `Switch` where no body has this type; else what the body's own call refuses.
+#[tactic(auto, using(tls_fields::proofs::OneAnswerLemmas::read_allowed), unfolding(crate::specs::Handshake::body_from_finished))]
+fn from_finished(i: &[u8], msg_type: TlsHandshakeType, len: usize) -> IResult<&[u8], HandshakeView>
+    ensures { Gives view_handshake_in_place (body_from_finished msg_type.0 len) i.now result }
+{
+    match msg_type {
+        TlsHandshakeType::Finished => other!(parse_tls_handshake_msg_finished(i, len)),
+        TlsHandshakeType::CertificateStatus => {
+            other!(parse_tls_handshake_msg_certificatestatus(i))
+        }
+        TlsHandshakeType::KeyUpdate => other!(parse_tls_handshake_msg_key_update(i)),
+        TlsHandshakeType::NextProtocol => other!(parse_tls_handshake_msg_next_protocol(i)),
+        _ => refused(i, ErrorKind::Switch),
+    }
+}
+
+/// Reads the same where the type is Certificate (11) or above.
+#[tactic(auto, using(tls_fields::proofs::OneAnswerLemmas::read_allowed), unfolding(crate::specs::Handshake::body_from_certificate, crate::specs::Handshake::certificate_body, crate::specs::Handshake::certificate_request_body))]
+fn from_certificate(
+    i: &[u8],
+    msg_type: TlsHandshakeType,
+    len: usize,
+) -> IResult<&[u8], HandshakeView>
+    ensures { Gives view_handshake_in_place (body_from_certificate msg_type.0 len) i.now result }
+{
+    match msg_type {
+        TlsHandshakeType::Certificate => {
+            let (i, chain) = certificates(i)?;
+            Ok((i, HandshakeView::Certificate(chain)))
+        }
+        TlsHandshakeType::ServerKeyExchange => {
+            other!(parse_tls_handshake_msg_serverkeyexchange(i, len))
+        }
+        TlsHandshakeType::CertificateRequest => {
+            let (i, request) = CertificateRequestView::parse(i)?;
+            Ok((i, HandshakeView::CertificateRequest(request)))
+        }
+        TlsHandshakeType::ServerDone => other!(parse_tls_handshake_msg_serverdone(i, len)),
+        TlsHandshakeType::CertificateVerify => {
+            other!(parse_tls_handshake_msg_certificateverify(i, len))
+        }
+        TlsHandshakeType::ClientKeyExchange => {
+            other!(parse_tls_handshake_msg_clientkeyexchange(i, len))
+        }
+        _ => from_finished(i, msg_type, len),
+    }
+}
+
+/// Reads the body of a message of the type `msg_type`, of `len` bytes, from the front of `i`.
+///
+/// `Error` of kind `Switch` where no body has this type; else what the body's own call refuses.
+#[tactic(auto, using(tls_fields::proofs::OneAnswerLemmas::read_allowed), unfolding(crate::specs::Handshake::handshake_body, crate::specs::Handshake::client_hello_body))]
+#[inline(always)]
+fn body_in_place(i: &[u8], msg_type: TlsHandshakeType, len: usize) -> IResult<&[u8], HandshakeView>
+    ensures { Gives view_handshake_in_place (handshake_body msg_type.0 len) i.now result }
+{
+    match msg_type {
+        TlsHandshakeType::HelloRequest => other!(parse_tls_handshake_msg_hello_request(i)),
+        TlsHandshakeType::ClientHello => {
+            let (i, hello) = ClientHelloView::parse(i)?;
+            Ok((i, HandshakeView::ClientHello(hello)))
+        }
+        TlsHandshakeType::ServerHello => other!(parse_tls_handshake_msg_server_hello(i)),
+        TlsHandshakeType::NewSessionTicket => {
+            other!(parse_tls_handshake_msg_newsessionticket(i, len))
+        }
+        TlsHandshakeType::EndOfEarlyData => {
+            Ok((i, HandshakeView::Other(TlsMessageHandshake::EndOfEarlyData)))
+        }
+        TlsHandshakeType::HelloRetryRequest => {
+            other!(parse_tls_handshake_msg_hello_retry_request(i))
+        }
+        _ => from_certificate(i, msg_type, len),
+    }
+}
