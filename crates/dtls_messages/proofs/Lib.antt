@@ -1,0 +1,7 @@
+pub mod FragmentLemmas
+pub mod HeldLemmas
+pub mod PartLemmas
+pub mod HeardLemmas
+pub mod ToldLemmas
+pub mod SentLemmas
+pub mod OutLemmas

@@ -1,0 +1,116 @@
+-- What is told of the datagrams of one direction (RFC 6347, sections 4.1 and 4.2).
+use Rattle.std.specs.Prelude.{◌≡◌, ℕ, zero, suc, cond, nat_le, nat_lt, Result, Ok, Err, ◌==◌, List, [], ◌∷◌, ◌++◌, length, map}
+use Rattle.std.specs.Borrow.{Bor}
+use Rattle.tls_fields.specs.Bytes.{Bytes}
+use Rattle.tls_fields.specs.Layout.{Layout, done, number, block, list1, ◌>>=◌, ◌>>◌, test}
+use Rattle.tls_fields.specs.Meaning.{Answer, Broken, Lacks, Refusal}
+use Rattle.tls_fields.specs.Reading.{reading}
+use Rattle.tls_fields.specs.declared.result.ErrorKind.{ErrorKind}
+use Rattle.tls_fields.specs.declared.result.ErrorKind.TheVariants.{Complete, Switch, TooLarge}
+use Rattle.tls_parser.specs.DtlsRecord.{RawRecord, RecordHeader, record_content, record_header}
+use Rattle.tls_parser.specs.DtlsRecord as dtls_record
+use Rattle.tls_parser.specs.Framing.{max_fragment_length}
+use Rattle.dtls_messages.specs.Fragments.{Fragment, fragment}
+use Rattle.dtls_messages.specs.Messages.{Alert, ChangeCipherSpec, Encrypted, EncryptedRecord, Event, Failed, Heard, Kept, Limits, Stands, after, events}
+
+-- The most bytes that a record may have behind its header: where it is encrypted, which epochs above 0 are, 2^14 + 2048
+-- (RFC 5246, section 6.2.3), else what a reader of records takes.
+abbrev pub limit : RecordHeader → ℕ
+limit h = cond (nat_lt 0 h.epoch) 18432 max_fragment_length
+
+-- What stands behind that header.
+unfoldable pub content : RecordHeader → Layout Bytes
+content h = do
+  test (nat_le h.length (limit h)) TooLarge
+  block h.length
+
+-- A record whose content isn't read.
+unfoldable pub datagram_record : Layout RawRecord
+datagram_record = do
+  h ← record_header
+  bytes ← content h
+  done (record { header = h; fragment = bytes })
+
+-- What a refusal is told as: a datagram is whole, so what is missing doesn't come.
+abbrev pub kind_of : Refusal → ErrorKind
+kind_of (Broken k) = k
+kind_of (Lacks n) = Complete
+
+-- Bytes that are left behind what was read are a fault.
+abbrev pub left_over : Bytes → List Event
+left_over [] = []
+left_over (b ∷ bs) = Failed Complete ∷ []
+
+abbrev pub event_of : dtls_record.Message → Event
+event_of dtls_record.ChangeCipherSpec = ChangeCipherSpec
+event_of (dtls_record.Alert a) = Alert a
+event_of m = Failed Switch
+
+-- What was heard, and what is told.
+abbrev pub Step : Type 0
+Step = Heard × List Event
+
+abbrev pub then_step : Step → (Heard → Step) → Step
+then_step s f = ((f s.0).0, s.1 ++ (f s.0).1)
+
+-- The fragments in a record of type 22.
+abbrev pub fragments_step : Answer (List Fragment) → Limits → Heard → Step
+fragments_step (Ok x) l h = (after l h x.0, events l h x.0 ++ left_over x.1)
+fragments_step (Err e) l h = (h, Failed (kind_of e) ∷ [])
+
+abbrev pub fragment_record_step : Bytes → Limits → Heard → Step
+fragment_record_step b l h = fragments_step (reading (list1 fragment) b) l h
+
+-- The messages in a record of another type.
+abbrev pub content_step : Answer (List dtls_record.Message) → Heard → Step
+content_step (Ok x) h = (h, map event_of x.0 ++ left_over x.1)
+content_step (Err e) h = (h, Failed (kind_of e) ∷ [])
+
+-- A record of an epoch above 0, whose fragment isn't read.
+abbrev pub encrypted : RawRecord → EncryptedRecord
+encrypted r = record {
+  content_type = r.header.content_type;
+  version = r.header.version;
+  epoch = r.header.epoch;
+  sequence_number = r.header.sequence_number;
+  fragment = r.fragment;
+}
+
+-- One record: it is encrypted where its epoch is above 0, and isn't read then.
+abbrev pub record_step : Limits → Heard → RawRecord → Step
+record_step l h r =
+    cond (nat_lt 0 r.header.epoch) (h, Encrypted (encrypted r) ∷ []) (
+    cond (r.header.content_type == 22) (fragment_record_step r.fragment l h)
+    (content_step (reading (record_content r.header) r.fragment) h))
+
+-- Where no record can be read, what is left is a fault.
+abbrev pub unread : Bytes → Refusal → List Event
+unread [] e = []
+unread (b ∷ bs) e = Failed (kind_of e) ∷ []
+
+abbrev pub next_record : Answer RawRecord → Limits → Heard → Bytes → (Heard → Bytes → Step) → Step
+next_record (Err e) l h b more = (h, unread b e)
+next_record (Ok x) l h b more = then_step (record_step l h x.0) (λ h. more h x.1)
+
+-- At most n records of a datagram, one after the other.
+unfoldable pub records_step : ℕ → Limits → Heard → Bytes → Step
+records_step zero l h b = (h, [])
+records_step (suc n) l h b = next_record (reading datagram_record b) l h b (records_step n l)
+
+-- A datagram. A record takes bytes, so there are no more of them than bytes.
+abbrev pub datagram : Limits → Heard → Bytes → Step
+datagram l h b = records_step (length b) l h b
+
+-- What is heard and told of datagrams that come one after the other.
+unfoldable pub datagrams : Limits → Heard → List Bytes → Step
+datagrams l h [] = (h, [])
+datagrams l h (d ∷ ds) = then_step (datagram l h d) (λ h. datagrams l h ds)
+
+-- The bytes of each.
+abbrev pub views : List (Bor (List ℕ)) → List Bytes
+views ds = map (λ d. d.now) ds
+
+-- What was told and heard is this step.
+pub record IsStep (l : Limits) (s : Step) (es : List Event) (es' : List Event) (k' : Kept) : Type 0 where
+  pub events : es' ≡ es ++ s.1
+  pub stands : Stands l s.0 k'

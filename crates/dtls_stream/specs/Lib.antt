@@ -1,0 +1,11 @@
+pub mod Datagrams
+pub use Rattle.tls_fields.specs.Bytes
+pub use Rattle.tls_fields.specs.Layout
+pub use Rattle.tls_fields.specs.Meaning
+pub use Rattle.tls_fields.specs.Reading
+pub use Rattle.tls_base.specs.Alert
+pub use Rattle.tls_parser.specs.Framing
+pub use Rattle.tls_parser.specs.DtlsRecord
+pub use Rattle.dtls_messages.specs.Fragments
+pub use Rattle.dtls_messages.specs.Messages
+pub use Rattle.dtls_messages.specs.Sent

@@ -1,0 +1,54 @@
+//! Datagrams of one direction.
+ghost use Rattle.std.specs.Prelude.{◌≡◌, OnOk, IfOk};
+ghost use Rattle.dtls_messages.specs.Messages.{Heard, Limits as Allowed, Stands, nothing, view_events, view_limits};
+ghost use Rattle.dtls_stream.specs.Datagrams.{IsStep, datagram as datagram_step, datagrams as datagrams_step, views};
+
+use crate::records::{hear_record, read_record, tell_unread};
+use dtls_messages::{Event, Limits, Messages};
+use std::alloc::Global;
+use tls_parser::OutOfMemory;
+
+/// Takes a datagram of one direction, and puts what it says behind the events. `messages` holds what came of that direction.
+///
+/// A record that isn't read is told as a fault. Where its length is too large, or the datagram ends within it, nothing behind it in
+/// this datagram is read.
+///
+/// `OutOfMemory` where what comes could not be held, or not be told; what was told before stands.
+pub fn read_datagram<'a>(
+    alloc: Global,
+    messages: &mut Messages,
+    datagram: &'a [u8],
+    events: &mut Vec<Event<'a>>,
+) -> Result<(), OutOfMemory>
+    ensures { (l : Allowed) (h : Heard) → Stands l h messages.old → OnOk result (IsStep l (datagram_step l h datagram.now) (view_events events.old.items) (view_events events.new.items) messages.new) }
+{
+    let mut left = datagram;
+    'records: for taken in 0..datagram.len() {
+        match read_record(left) {
+            Ok((rest, raw)) => {
+                hear_record(alloc, raw, messages, events)?;
+                left = rest;
+            }
+            Err(error) => return tell_unread(left, error, events),
+        }
+    }
+    Ok(())
+}
+
+/// What these datagrams of one direction say, which come one after the other.
+///
+/// `OutOfMemory` where what comes could not be held, or not be told.
+pub fn read_datagrams<'a>(
+    alloc: Global,
+    limits: Limits,
+    datagrams: &[&'a [u8]],
+) -> Result<Vec<Event<'a>>, OutOfMemory>
+    ensures { IfOk result (λ es. view_events es.items ≡ (datagrams_step (view_limits limits) nothing (views datagrams.now)).1) }
+{
+    let mut messages = Messages::new(alloc, limits);
+    let mut events = Vec::new(alloc);
+    for datagram in datagrams {
+        read_datagram(alloc, &mut messages, datagram, &mut events)?;
+    }
+    Ok(events)
+}

@@ -1,0 +1,180 @@
+//! Records of a datagram, and what is told of each.
+ghost use Rattle.std.specs.Prelude.{◌≡◌, ◌++◌, OnOk, map};
+ghost use Rattle.tls_fields.specs.Answers.{Gives, refusal_of};
+ghost use Rattle.tls_fields.specs.Reading.{reading};
+ghost use Rattle.tls_parser.specs.DtlsRecord.{record_content, view_header, view_message as view_content, view_raw_record};
+ghost use Rattle.dtls_messages.specs.Messages.{Heard, Limits as Allowed, Stands, view_event, view_events};
+ghost use Rattle.dtls_stream.specs.Datagrams.{IsStep, content as content_layout, content_step, datagram_record, event_of, fragment_record_step, kind_of as kind_told, left_over, limit, record_step, unread};
+
+use dtls_messages::{EncryptedRecord, Event, Fragment, Messages, read_all};
+use std::alloc::Global;
+use tls_fields::{block, items1, refused};
+use tls_parser::{
+    DTLSMessage, DTLSRawRecord, DTLSRecordHeader, Err as Refused, Error, ErrorKind, IResult, MAX_RECORD_LEN,
+    OutOfMemory, TlsMessageAlert, TlsRecordType, parse_dtls_record_header,
+    parse_dtls_record_with_header,
+};
+
+/// The most bytes that an encrypted record may have behind its header (RFC 5246, section 6.2.3).
+const MAX_ENCRYPTED_LEN: u16 = 18_432;
+
+/// The most bytes that a record with this header may have behind it.
+fn limit_of(header: &DTLSRecordHeader) -> u16
+    ensures { result ≡ limit (view_header header.now) }
+{
+    if header.epoch > 0 {
+        MAX_ENCRYPTED_LEN
+    } else {
+        MAX_RECORD_LEN
+    }
+}
+
+/// The content of a record with this header, as it stands.
+#[tactic(auto, using(tls_fields::proofs::OneAnswerLemmas::read_allowed), unfolding(crate::specs::Datagrams::content))]
+fn content<'a>(i: &'a [u8], header: &DTLSRecordHeader) -> IResult<&'a [u8], &'a [u8]>
+    ensures { Gives (λ b. b.now) (content_layout (view_header header.now)) i.now result }
+{
+    if header.length > limit_of(header) {
+        return refused(i, ErrorKind::TooLarge);
+    }
+    block(i, header.length as usize)
+}
+
+/// Reads a record, and leaves its content as it stands.
+#[tactic(auto, using(tls_fields::proofs::OneAnswerLemmas::read_allowed), unfolding(crate::specs::Datagrams::datagram_record))]
+pub(crate) fn read_record(i: &[u8]) -> IResult<&[u8], DTLSRawRecord>
+    ensures { Gives view_raw_record datagram_record i.now result }
+{
+    let (i, header) = parse_dtls_record_header(i)?;
+    let (i, fragment) = content(i, &header)?;
+    Ok((i, DTLSRawRecord { header, fragment }))
+}
+
+/// What a message is told as.
+fn told_as<'a>(message: &DTLSMessage<'a>) -> Event<'a>
+    ensures { view_event result ≡ event_of (view_content message.now) }
+{
+    match message {
+        DTLSMessage::ChangeCipherSpec => Event::ChangeCipherSpec,
+        DTLSMessage::Alert(alert) => Event::Alert(TlsMessageAlert {
+            severity: alert.severity,
+            code: alert.code,
+        }),
+        _ => Event::Fault(ErrorKind::Switch),
+    }
+}
+
+/// What a refusal is told as: a datagram is whole, so what is missing doesn't come.
+fn kind_of(error: Refused<Error<&[u8]>>) -> ErrorKind
+    ensures { result ≡ kind_told (refusal_of error.entry) }
+{
+    match error {
+        Refused::Error(error) => error.code,
+        _ => ErrorKind::Complete,
+    }
+}
+
+/// Tells of bytes that are left behind what was read.
+fn tell_left_over(rest: &[u8], events: &mut Vec<Event>) -> Result<(), OutOfMemory>
+    ensures { OnOk result (view_events events.new.items ≡ view_events events.old.items ++ left_over rest.now) }
+{
+    if !rest.is_empty() {
+        events.push(Event::Fault(ErrorKind::Complete))?;
+    }
+    Ok(())
+}
+
+/// Tells of a datagram's end in which no record can be read.
+pub(crate) fn tell_unread(
+    left: &[u8],
+    error: Refused<Error<&[u8]>>,
+    events: &mut Vec<Event>,
+) -> Result<(), OutOfMemory>
+    ensures { OnOk result (view_events events.new.items ≡ view_events events.old.items ++ unread left.now (refusal_of error.entry)) }
+{
+    if !left.is_empty() {
+        events.push(Event::Fault(kind_of(error)))?;
+    }
+    Ok(())
+}
+
+/// Tells of messages.
+fn tell_messages<'a>(
+    messages: &[DTLSMessage<'a>],
+    events: &mut Vec<Event<'a>>,
+) -> Result<(), OutOfMemory>
+    ensures { OnOk result (view_events events.new.items ≡ view_events events.old.items ++ map (λ m. event_of (view_content m)) messages.now) }
+{
+    for message in messages {
+        events.push(told_as(message))?;
+    }
+    Ok(())
+}
+
+/// Tells of a record of another type than handshake.
+fn tell_content<'a>(
+    alloc: Global,
+    raw: &DTLSRawRecord<'a>,
+    events: &mut Vec<Event<'a>>,
+) -> Result<(), OutOfMemory>
+    ensures { (h : Heard) → OnOk result (view_events events.new.items ≡ view_events events.old.items ++ (content_step (reading (record_content (view_header raw.now.header)) raw.now.fragment.now) h).1) }
+{
+    match parse_dtls_record_with_header(alloc, raw.fragment, &raw.header) {
+        Ok((rest, messages)) => {
+            tell_messages(&messages, events)?;
+            tell_left_over(rest, events)
+        }
+        Err(Refused::OutOfMemory) => Err(OutOfMemory),
+        Err(error) => {
+            events.push(Event::Fault(kind_of(error)))?;
+            Ok(())
+        }
+    }
+}
+
+/// Takes the fragments of a record.
+fn read_handshake(
+    alloc: Global,
+    bytes: &[u8],
+    messages: &mut Messages,
+    events: &mut Vec<Event>,
+) -> Result<(), OutOfMemory>
+    ensures { (l : Allowed) (h : Heard) → Stands l h messages.old → OnOk result (IsStep l (fragment_record_step bytes.now l h) (view_events events.old.items) (view_events events.new.items) messages.new) }
+{
+    match items1::<Fragment>(alloc, bytes) {
+        Ok((rest, fragments)) => {
+            read_all(messages, &fragments, events)?;
+            tell_left_over(rest, events)
+        }
+        Err(Refused::OutOfMemory) => Err(OutOfMemory),
+        Err(error) => {
+            events.push(Event::Fault(kind_of(error)))?;
+            Ok(())
+        }
+    }
+}
+
+/// Takes a record.
+pub(crate) fn hear_record<'a>(
+    alloc: Global,
+    raw: DTLSRawRecord<'a>,
+    messages: &mut Messages,
+    events: &mut Vec<Event<'a>>,
+) -> Result<(), OutOfMemory>
+    ensures { (l : Allowed) (h : Heard) → Stands l h messages.old → OnOk result (IsStep l (record_step l h (view_raw_record raw.entry)) (view_events events.old.items) (view_events events.new.items) messages.new) }
+{
+    if raw.header.epoch > 0 {
+        events.push(Event::Encrypted(EncryptedRecord {
+            content_type: raw.header.content_type,
+            version: raw.header.version,
+            epoch: raw.header.epoch,
+            sequence_number: raw.header.sequence_number,
+            fragment: raw.fragment,
+        }))?;
+        return Ok(());
+    }
+    if raw.header.content_type.0 == TlsRecordType::Handshake.0 {
+        return read_handshake(alloc, raw.fragment, messages, events);
+    }
+    tell_content(alloc, &raw, events)
+}
