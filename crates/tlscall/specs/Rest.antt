@@ -1,7 +1,7 @@
 -- What is left of an input.
-use Rattle.std.specs.Prelude.{ℕ, ◌≡◌, ◌++◌, length}
+use Rattle.std.specs.Prelude.{ℕ, ◌≡◌, ◌-◌, drop, length}
 use Rattle.tls_fields.specs.Bytes.{Bytes}
 
--- The rest is an end of the input, and has so many bytes.
+-- The rest has so many bytes, and is the end of the input.
 pub IsRest : Bytes → Bytes → ℕ → Type 0
-IsRest i rest n = ((front : Bytes) × (i ≡ front ++ rest)) × (n ≡ length rest)
+IsRest i rest n = (n ≡ length rest) × (drop (length i - n) i ≡ rest)

@@ -28,11 +28,8 @@ pub(crate) use table;
 pub fn rest_of(i: &[u8], rest: &[u8]) -> Option<usize>
     ensures { IfSome result (IsRest i.now rest.now) }
 {
-    if i.ends_with(rest) {
-        Some(rest.len())
-    } else {
-        None
-    }
+    let (_, end) = i.split_at(i.len().checked_sub(rest.len())?);
+    if end == rest { Some(rest.len()) } else { None }
 }
 
 /// The text of why there is no value.
