@@ -7,7 +7,7 @@ use Rattle.tls_words.proofs.LetterLemmas.{is_in, in_contains, contains_in}
 use Rattle.tls_words.proofs.MachineLemmas.{run_on}
 use Rattle.tls_flow.specs.Letters.{Word, letters_of}
 use Rattle.tls_flow.specs.Grammar.{is_noise}
-use Rattle.tls_flow.specs.Table.{step, outcome_at, awaited_in}
+use Rattle.tls_flow.specs.Table.{step, outcome_at, is_waiting, awaited_in}
 use Rattle.tls_flow.specs.Steps.{silence, follow}
 use Rattle.tls_flow.specs.Conversations.{HasHandshake, MayBecomeHandshake, IsUnderWay, IsAwaited}
 use Rattle.tls_flow.specs.declared.event.Event.{Event}
@@ -19,7 +19,7 @@ use Rattle.tls_flow.specs.declared.state.Outcome.{Outcome}
 use Rattle.tls_flow.specs.declared.state.Outcome.TheVariants as outcome
 use Rattle.tls_flow.specs.declared.table.TheConstants.{ROWS}
 use Rattle.tls_flow.proofs.LetterLemmas.{same_letter, letters, passes}
-use Rattle.tls_flow.proofs.ConversationLemmas.{is_waiting, is_done, is_alive, waiting_is, end_of, waiting_where, alive_to, alive_from, done_from}
+use Rattle.tls_flow.proofs.ConversationLemmas.{is_done, is_alive, waiting_is, end_of, waiting_where, alive_to, alive_from, done_from}
 use Rattle.tls_flow.proofs.FlowLemmas.{state_of}
 
 abbrev same_bool : Bool → Bool → Bool

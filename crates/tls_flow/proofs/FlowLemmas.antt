@@ -3,7 +3,7 @@ use Rattle.std.proofs.Common.{◌≡◌, ◌↔◌, ◌⊎◌, inl, inr, ℕ, su
 use Rattle.tls_words.specs.Words.{run}
 use Rattle.tls_words.proofs.MachineLemmas.{run_on}
 use Rattle.tls_flow.specs.Letters.{letter, Word, letters_of}
-use Rattle.tls_flow.specs.Table.{step, outcome_at}
+use Rattle.tls_flow.specs.Table.{step, outcome_at, is_waiting}
 use Rattle.tls_flow.specs.Steps.{silence, follow, follow_by, stop_at, counted, moved}
 use Rattle.tls_flow.specs.Conversations.{IsUnderWay, HasHandshake, IsOutcome, StopsAt, IsStop}
 use Rattle.tls_flow.specs.declared.event.Event.{Event}
@@ -13,23 +13,17 @@ use Rattle.tls_flow.specs.declared.state.State.{State}
 use Rattle.tls_flow.specs.declared.state.State.TheVariants as state
 use Rattle.tls_flow.specs.declared.state.Outcome.{Outcome}
 use Rattle.tls_flow.specs.declared.state.Outcome.TheVariants as outcome
-use Rattle.tls_flow.proofs.ConversationLemmas.{is_waiting, is_done, waiting_is, end_stays, run_stays, true_or_false, end_of, done_from, done_to, waiting_where, told_whole}
+use Rattle.tls_flow.proofs.ConversationLemmas.{is_done, waiting_is, end_stays, run_stays, true_or_false, end_of, done_from, done_to, waiting_where, told_whole}
 
--- One event, by the outcome so far.
-followed : (o : Outcome) (f : Flow) (e : Event) → outcome_at f.state ≡ o
-    → (follow_by o f e).state ≡ step f.state e.letter
-followed outcome.Waiting f e h = refl
-followed outcome.Full f e h = sym (end_stays f.state e.letter (ap is_waiting h))
-followed outcome.Resumed f e h = sym (end_stays f.state e.letter (ap is_waiting h))
-followed (outcome.Tls13 r d) f e h = sym (end_stays f.state e.letter (ap is_waiting h))
-followed outcome.BrokenOff f e h = sym (end_stays f.state e.letter (ap is_waiting h))
-followed outcome.Unknown f e h = sym (end_stays f.state e.letter (ap is_waiting h))
-followed outcome.NoHandshake f e h = sym (end_stays f.state e.letter (ap is_waiting h))
+-- One event, by whether the flow waits.
+followed : (t : Bool) (f : Flow) (e : Event) → is_waiting (outcome_at f.state) ≡ t → (follow_by t f e).state ≡ step f.state e.letter
+followed true f e h = refl
+followed false f e h = sym (end_stays f.state e.letter h)
 
 -- The state is that of the letters.
 pub state_of : (f : Flow) (es : List Event) → (run follow f es).state ≡ run step f.state (letters_of es)
 state_of f [] = refl
-state_of f (e ∷ es) = state_of (follow f e) es ∙ ap (λ q. run step q (letters_of es)) (followed (outcome_at f.state) f e refl)
+state_of f (e ∷ es) = state_of (follow f e) es ∙ ap (λ q. run step q (letters_of es)) (followed (is_waiting (outcome_at f.state)) f e refl)
 
 pub told_of_flow : (es : List Event) (from end : Flow) → end ≡ run follow from es → from ≡ silence
     → (o : Outcome) → (outcome_at end.state ≡ o) ↔ IsOutcome o (letters_of es)
@@ -38,21 +32,16 @@ told_of_flow es from end ends starts o =
     subst (λ q. (outcome_at q ≡ o) ↔ IsOutcome o (letters_of es)) (sym at) (told_whole (letters_of es) o)
 
 -- Behind an end the stop stays.
-kept_by : (o : Outcome) (f : Flow) (e : Event) → is_waiting o ≡ false → (follow_by o f e).stop ≡ f.stop
-kept_by outcome.Waiting f e h = cc
-kept_by outcome.Full f e h = refl
-kept_by outcome.Resumed f e h = refl
-kept_by (outcome.Tls13 r d) f e h = refl
-kept_by outcome.BrokenOff f e h = refl
-kept_by outcome.Unknown f e h = refl
-kept_by outcome.NoHandshake f e h = refl
+kept_by : (t : Bool) (f : Flow) (e : Event) → t ≡ false → (follow_by t f e).stop ≡ f.stop
+kept_by true f e h = cc
+kept_by false f e h = refl
 
 stop_stays : (f : Flow) (es : List Event) → is_waiting (outcome_at f.state) ≡ false → (run follow f es).stop ≡ f.stop
 stop_stays f [] h = refl
 stop_stays f (e ∷ es) h =
     let still : is_waiting (outcome_at (follow f e).state) ≡ false
-    = ap (λ q. is_waiting (outcome_at q)) (followed (outcome_at f.state) f e refl ∙ end_stays f.state e.letter h) ∙ h in
-    stop_stays (follow f e) es still ∙ kept_by (outcome_at f.state) f e h
+    = ap (λ q. is_waiting (outcome_at q)) (followed (is_waiting (outcome_at f.state)) f e refl ∙ end_stays f.state e.letter h) ∙ h in
+    stop_stays (follow f e) es still ∙ kept_by (is_waiting (outcome_at f.state)) f e h
 
 -- An outcome that is neither waiting nor done.
 abbrev is_failed : Outcome → Bool
@@ -89,7 +78,7 @@ failed_not = elim [
 -- A waiting flow after one event.
 move_is : (f : Flow) (e : Event) → is_waiting (outcome_at f.state) ≡ true
     → follow f e ≡ moved (step f.state e.letter) f.events e
-move_is f e h = ap (λ o. follow_by o f e) (waiting_is (outcome_at f.state) h)
+move_is f e h = ap (λ t. follow_by t f e) h
 
 -- What stopped a flow that waited: nothing, or an event behind a front with which it still waited.
 abbrev Stopped : Flow → List Event → Type 0
@@ -146,14 +135,15 @@ count_none n m h = omega arith
 counted_within : (n m : ℕ) → min (n + 1) m ≤ m
 counted_within n m = omega arith
 
-counted_by : (o : Outcome) (f : Flow) (e : Event) → (follow_by o f e).events ≡ counted f.events
-counted_by = elim [ outcome.Waiting ↦ λ f e. refl | _ ↦ λ f e. refl ]
+counted_by : (t : Bool) (f : Flow) (e : Event) → (follow_by t f e).events ≡ counted f.events
+counted_by true f e = refl
+counted_by false f e = refl
 
 events_of : (f : Flow) (es : List Event) → f.events ≤ 2 ^ 64 - 1
     → (run follow f es).events ≡ min (f.events + length es) (2 ^ 64 - 1)
 events_of f [] h = count_none f.events (2 ^ 64 - 1) h
 events_of f (e ∷ es) h =
-    let c : (follow f e).events ≡ counted f.events = counted_by (outcome_at f.state) f e in
+    let c : (follow f e).events ≡ counted f.events = counted_by (is_waiting (outcome_at f.state)) f e in
     events_of (follow f e) es (subst (λ n. n ≤ 2 ^ 64 - 1) (sym c) (counted_within f.events (2 ^ 64 - 1)))
     ∙ ap (λ n. min (n + length es) (2 ^ 64 - 1)) c
     ∙ count_more f.events (length es) (2 ^ 64 - 1)

@@ -1,6 +1,6 @@
 -- A flow: where it stands, the count of its events, and what stopped it.
-use Rattle.std.specs.Prelude.{ℕ, ◌+◌, ◌-◌, ◌^◌, min, Option, None, Some}
-use Rattle.tls_flow.specs.Table.{step, outcome_at}
+use Rattle.std.specs.Prelude.{ℕ, ◌+◌, ◌-◌, ◌^◌, min, Option, None, Some, Bool, true, false}
+use Rattle.tls_flow.specs.Table.{step, outcome_at, is_waiting}
 use Rattle.tls_flow.specs.declared.event.Event.{Event}
 use Rattle.tls_flow.specs.declared.flow.Flow.{Flow}
 use Rattle.tls_flow.specs.declared.flow.Stop.{Stop}
@@ -28,9 +28,9 @@ abbrev pub moved : State → ℕ → Event → Flow
 moved q n e = record { state = q; events = counted n; stop = stop_at (outcome_at q) n e }
 
 -- The flow after an event: behind an end it is counted only.
-abbrev pub follow_by : Outcome → Flow → Event → Flow
-follow_by outcome.Waiting f e = moved (step f.state e.letter) f.events e
-follow_by _ f e = record f { events = counted f.events }
+abbrev pub follow_by : Bool → Flow → Event → Flow
+follow_by true f e = moved (step f.state e.letter) f.events e
+follow_by false f e = record f { events = counted f.events }
 
 abbrev pub follow : Flow → Event → Flow
-follow f e = follow_by (outcome_at f.state) f e
+follow f e = follow_by (is_waiting (outcome_at f.state)) f e

@@ -52,6 +52,10 @@ outcome_at state.Unknown = outcome.Unknown
 outcome_at state.NoHandshake = outcome.NoHandshake
 outcome_at _ = outcome.Waiting
 
+abbrev pub is_waiting : Outcome → Bool
+is_waiting outcome.Waiting = true
+is_waiting _ = false
+
 -- What a message does where the table has no row for it: an end stays, noise keeps the state, a fatal alert breaks off, and
 -- what isn't known is told as such.
 abbrev pub unended_rule : State → Kind → Bool → State

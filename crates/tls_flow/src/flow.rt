@@ -14,7 +14,7 @@ ghost use Rattle.tls_flow.specs.declared.table.TheConstants.{ROWS};
 use crate::event::Event;
 use crate::letter::Letter;
 use crate::state::{Outcome, State};
-use crate::step::next_state;
+use crate::step::{is_waiting, next_state};
 use crate::table::awaited;
 
 /// The event that ended a handshake without success, as [`Outcome`] says.
@@ -89,7 +89,7 @@ impl Flow {
     pub fn update(&mut self, event: Event)
         ensures { self.new ≡ follow self.old event }
     {
-        if self.state.outcome() == Outcome::Waiting {
+        if is_waiting(self.state) {
             self.state = next_state(self.state, event.letter);
             self.stop = match self.state {
                 State::BrokenOff | State::Unknown | State::NoHandshake => Some(Stop {

@@ -1,7 +1,7 @@
 //! The step from a state to the next.
 ghost use Rattle.std.specs.Prelude.{◌≡◌};
 ghost use Rattle.tls_flow.specs.Grammar.{is_noise_of};
-ghost use Rattle.tls_flow.specs.Table.{outcome_at, rule, step};
+ghost use Rattle.tls_flow.specs.Table.{is_waiting as is_waiting_at, outcome_at, rule, step};
 
 use crate::letter::{Direction, Kind, Letter};
 use crate::state::{Outcome, State};
@@ -38,6 +38,25 @@ impl State {
             _ => Outcome::Waiting,
         }
     }
+}
+
+/// Whether a handshake is under way at a state, or nothing was said.
+#[inline]
+pub(crate) fn is_waiting(state: State) -> bool
+    ensures { result ≡ is_waiting_at (outcome_at state) }
+{
+    !matches!(
+        state,
+        State::Full
+            | State::Resumed
+            | State::Tls13
+            | State::EarlyTls13
+            | State::RetriedTls13
+            | State::EarlyRetriedTls13
+            | State::BrokenOff
+            | State::Unknown
+            | State::NoHandshake
+    )
 }
 
 /// Whether a message is noise: a warning, a heartbeat, or a HelloRequest of the server.
