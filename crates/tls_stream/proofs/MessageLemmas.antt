@@ -56,7 +56,7 @@ read_handshake b h =
     number_then 1 (λ t. chain (number 3) (λ n. chain (window n (handshakes.handshake_body t n)) (λ m. done (Handshake m)))) b (omega (arith, h))
     ∙ number_then 3 (λ n. chain (window n (handshakes.handshake_body (kind b) n)) (λ m. done (Handshake m))) (drop 1 b) (omega (arith, h, length-drop 1 b))
     ∙ ap (message_in (kind b) (long b))
-        (split_here (long b) (behind b) (omega (arith, h, length-drop 1 b, length-drop 3 (drop 1 b))))
+    (split_here (long b) (behind b) (omega (arith, h, length-drop 1 b, length-drop 3 (drop 1 b))))
 
 length_is : (limit : ℕ) (b : Bytes) → 4 ≤ length b → body_length (message_frame limit) b ≡ long b
 length_is limit (a ∷ b ∷ c ∷ d ∷ r) h = omega arith
@@ -84,18 +84,18 @@ message_is_read limit b y r e =
         let behind_y : behind y ≡ w = ap (λ d. drop 3 d) past ∙ drop-take 3 n (drop 1 b) in
         let body_y : take (long y) (behind y) ≡ w = ap (λ k. take k (behind y)) long_y ∙ ap (λ d. take n d) behind_y ∙ take-take n n (behind b) (le_refl n) in
         let none_y : drop (long y) (behind y) ≡ [] =
-            ap (λ k. drop k (behind y)) long_y ∙ ap (λ d. drop n d) behind_y ∙ ap (λ k. drop k w) (sym (length-take-le n (behind b) deep)) ∙ drop-length w in
+        ap (λ k. drop k (behind y)) long_y ∙ ap (λ d. drop n d) behind_y ∙ ap (λ k. drop k w) (sym (length-take-le n (behind b) deep)) ∙ drop-length w in
         let four : behind b ≡ drop 4 b = drop-drop 3 1 b in
         let rest_b : drop n (behind b) ≡ r = ap (λ d. drop n d) four ∙ drop-drop n 4 b ∙ ap (λ k. drop k b) (omega arith) ∙ sym r_is in
         let all_y : 4 + long y ≤ length y = omega (arith, long_y, ap length y_is, length-take-le (4 + n) b enough) in
         let of_b : reading handshake b ≡ after r (reading (handshakes.handshake_body (kind b) n) w) =
-            read_handshake b (omega (arith, is, enough))
-            ∙ ap (λ k. after (drop k (behind b)) (reading (handshakes.handshake_body (kind b) k) (take k (behind b)))) is
-            ∙ ap (λ s. after s (reading (handshakes.handshake_body (kind b) n) w)) rest_b in
+        read_handshake b (omega (arith, is, enough))
+        ∙ ap (λ k. after (drop k (behind b)) (reading (handshakes.handshake_body (kind b) k) (take k (behind b)))) is
+        ∙ ap (λ s. after s (reading (handshakes.handshake_body (kind b) n) w)) rest_b in
         let of_y : reading handshake y ≡ after [] (reading (handshakes.handshake_body (kind b) n) w) =
-            read_handshake y all_y
-            ∙ ap (λ s. after s (reading (handshakes.handshake_body (kind y) (long y)) (take (long y) (behind y)))) none_y
-            ∙ ap (λ v. after [] (reading (handshakes.handshake_body (kind y) (long y)) v)) body_y
-            ∙ ap (λ k. after [] (reading (handshakes.handshake_body (kind y) k) w)) long_y
-            ∙ ap (λ k. after [] (reading (handshakes.handshake_body (number_of k) n) w)) first in
+        read_handshake y all_y
+        ∙ ap (λ s. after s (reading (handshakes.handshake_body (kind y) (long y)) (take (long y) (behind y)))) none_y
+        ∙ ap (λ v. after [] (reading (handshakes.handshake_body (kind y) (long y)) v)) body_y
+        ∙ ap (λ k. after [] (reading (handshakes.handshake_body (kind y) k) w)) long_y
+        ∙ ap (λ k. after [] (reading (handshakes.handshake_body (number_of k) n) w)) first in
         of_b ∙ rest_after r (reading (handshakes.handshake_body (kind b) n) w) ∙ ap (with_rest r) (sym of_y)

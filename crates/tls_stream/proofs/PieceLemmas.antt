@@ -11,7 +11,7 @@ use Rattle.tls_stream.proofs.FrontLemmas.{large_longer}
 use Rattle.tls_stream.proofs.FrameLemmas.{first_taken, more_frames, more_left, none_behind_large}
 
 -- one more piece
-joined_next : (pieces : List (Bor (List ℕ))) (i : ℕ) (d : Bor (List ℕ)) → i < length pieces → joined (take (i + 1) pieces) ≡ joined (take i pieces) ++ (get_or pieces i d).now
+pub joined_next : (pieces : List (Bor (List ℕ))) (i : ℕ) (d : Bor (List ℕ)) → i < length pieces → joined (take (i + 1) pieces) ≡ joined (take i pieces) ++ (get_or pieces i d).now
 joined_next pieces i d h =
     let one : i + 1 ≡ suc i = omega arith in
     ap (λ k. joined (take k pieces)) one

@@ -129,7 +129,7 @@ one_front b x w not len i =
     let small : body_length record_frame b ≤ 16640 = not_above b w not in
     let f = record_bytes x.0 b in
     let rest : drop (5 + x.0.header.length) b ≡ x.1 =
-        ap (λ k. drop k b) (sym (length-take-le (5 + x.0.header.length) b i.is_whole)) ∙ ap (λ y. drop (length f) y) i.then_rest ∙ drop-append_seam f x.1 in
+    ap (λ k. drop k b) (sym (length-take-le (5 + x.0.header.length) b i.is_whole)) ∙ ap (λ y. drop (length f) y) i.then_rest ∙ drop-append_seam f x.1 in
     whole_front record_frame b ((whole_is b).1 w) small
     ∙ ap (λ k. Some (take k b, drop k b)) same
     ∙ ap (λ r. Some (f, r)) rest

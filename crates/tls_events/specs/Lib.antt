@@ -1,0 +1,10 @@
+pub mod Held
+pub mod Item
+pub mod Messages
+pub mod Events
+pub mod Taken
+pub use Rattle.tls_fields.specs.Bytes
+pub use Rattle.tls_base.specs.Alert
+pub use Rattle.tls_parser.specs.Framing
+pub use Rattle.tls_stream.specs.Frames
+pub use Rattle.tls_stream.specs.Records
