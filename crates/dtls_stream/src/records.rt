@@ -13,9 +13,9 @@ use dtls_messages::{EncryptedRecord, Event, Fragment, Messages, read_all};
 use std::alloc::Global;
 use tls_fields::{block, items1, refused};
 use tls_parser::{
-    DTLSMessage, DTLSMessageHandshake, DTLSMessageHandshakeBody, DTLSRawRecord, DTLSRecordHeader, Err as Refused, Error, ErrorKind, IResult, MAX_RECORD_LEN,
-    OutOfMemory, TlsMessageAlert, TlsRecordType, parse_dtls_record_header,
-    parse_dtls_record_with_header,
+    DTLSMessage, DTLSMessageHandshake, DTLSMessageHandshakeBody, DTLSRawRecord, DTLSRecordHeader,
+    Err as Refused, Error, ErrorKind, IResult, MAX_RECORD_LEN, OutOfMemory, TlsMessageAlert,
+    TlsRecordType, parse_dtls_record_header, parse_dtls_record_with_header,
 };
 
 /// The most bytes that an encrypted record may have behind its header (RFC 5246, section 6.2.3).
@@ -136,7 +136,8 @@ fn tell_content<'a>(
     raw: &DTLSRawRecord<'a>,
     events: &mut Vec<Event<'a>>,
 ) -> Result<(), OutOfMemory>
-    ensures { (h : Heard) → OnOk result (view_events events.new.items ≡ view_events events.old.items ++ (content_step (reading (record_content (view_header raw.now.header)) raw.now.fragment.now) h).1) }
+    ensures { (h : Heard)
+        → OnOk result (view_events events.new.items ≡ view_events events.old.items ++ (content_step (reading (record_content (view_header raw.now.header)) raw.now.fragment.now) h).1) }
 {
     match parse_dtls_record_with_header(alloc, raw.fragment, &raw.header) {
         Ok((rest, messages)) => {
@@ -158,7 +159,8 @@ fn read_handshake(
     messages: &mut Messages,
     events: &mut Vec<Event>,
 ) -> Result<(), OutOfMemory>
-    ensures { (l : Allowed) (h : Heard) → Stands l h messages.old → OnOk result (IsStep l (fragment_record_step bytes.now l h) (view_events events.old.items) (view_events events.new.items) messages.new) }
+    ensures { (l : Allowed) (h : Heard) → Stands l h messages.old
+        → OnOk result (IsStep l (fragment_record_step bytes.now l h) (view_events events.old.items) (view_events events.new.items) messages.new) }
 {
     match items1::<Fragment>(alloc, bytes) {
         Ok((rest, fragments)) => {
@@ -180,7 +182,8 @@ pub(crate) fn hear_record<'a>(
     messages: &mut Messages,
     events: &mut Vec<Event<'a>>,
 ) -> Result<(), OutOfMemory>
-    ensures { (l : Allowed) (h : Heard) → Stands l h messages.old → OnOk result (IsStep l (record_step l h (view_raw_record raw.entry)) (view_events events.old.items) (view_events events.new.items) messages.new) }
+    ensures { (l : Allowed) (h : Heard) → Stands l h messages.old
+        → OnOk result (IsStep l (record_step l h (view_raw_record raw.entry)) (view_events events.old.items) (view_events events.new.items) messages.new) }
 {
     if raw.header.epoch > 0 {
         events.push(Event::Encrypted(EncryptedRecord {
