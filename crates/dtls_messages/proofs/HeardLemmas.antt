@@ -1,11 +1,10 @@
 -- What is held is what was heard.
-use Rattle.std.proofs.Common.{◌≡◌, ℕ, zero, suc, ◌+◌, ◌-◌, ◌<◌, ◌≤◌, Bool, true, false, cond, nat_eq, nat_lt, nat_le, Some, None, Option, Result, Ok, Err, List, [], ◌∷◌, ◌++◌, length, refl, sym, ◌∙◌, ap, subst, arith, get_or, ◌⊎◌, inl, inr}
-use Rattle.std.specs.Prelude.{◌==◌, OnOk, IsOk}
+use Rattle.std.proofs.Common.{◌≡◌, ℕ, ◌+◌, ◌<◌, ◌≤◌, Bool, true, false, cond, nat_eq, nat_lt, nat_le, Some, None, Option, Result, Ok, Err, List, [], ◌∷◌, ◌++◌, refl, sym, ◌∙◌, ap, subst, arith}
+use Rattle.std.specs.Prelude.{◌==◌, OnOk}
 use Rattle.std.proofs.Common.{append-nil}
 use Rattle.std.proofs.lemmas.Bool.{le-ltb, lt-leb, eq-eqb, eqb-true, eqb-false}
-use Rattle.tls_fields.specs.Bytes.{Bytes}
-use Rattle.dtls_messages.specs.Fragments.{Fragment, Held, IsAdded, IsOfSame, agrees, byte, byte_at, first_at, inside, judged, or_else}
-use Rattle.dtls_messages.specs.Messages.{Heard, IsChangedAt, IsHeld, IsOrMemory, IsPart, IsSlotAdded, Kept, Limits, Stands, agreed, of_message, slot, slot_judged, verdict, view_limits, with_taken}
+use Rattle.dtls_messages.specs.Fragments.{Fragment, Held, agrees, byte_at, first_at, or_else}
+use Rattle.dtls_messages.specs.Messages.{Heard, IsChangedAt, IsOrMemory, IsPart, IsSlotAdded, Kept, Limits, Stands, agreed, of_message, slot, slot_judged, verdict, view_limits, with_taken}
 use Rattle.dtls_messages.specs.declared.fragments.FragmentError.{FragmentError}
 use Rattle.dtls_messages.specs.declared.fragments.FragmentError.TheVariants.{Old, TooFarAhead, TooLarge, OtherMessage}
 use Rattle.dtls_messages.proofs.FragmentLemmas.{or_none}

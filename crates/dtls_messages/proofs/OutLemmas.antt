@@ -1,13 +1,13 @@
 -- What is handed out of a direction, after any fragments.
-use Rattle.std.proofs.Common.{◌≡◌, ℕ, zero, suc, ◌+◌, ◌-◌, ◌<◌, ◌≤◌, Bool, true, false, cond, nat_eq, nat_lt, nat_le, Some, None, Option, Result, Ok, Err, List, [], ◌∷◌, ◌++◌, length, take, drop, map, refl, sym, ◌∙◌, ap, subst, arith, get_or, ◌⊎◌, inl, inr, append_assoc, append-nil, length-append}
+use Rattle.std.proofs.Common.{◌≡◌, ℕ, zero, suc, ◌+◌, ◌<◌, ◌≤◌, Bool, true, false, cond, nat_lt, nat_le, Some, None, Option, Result, Ok, Err, List, [], ◌∷◌, ◌++◌, length, take, drop, map, refl, sym, ◌∙◌, ap, subst, arith, append_assoc, append-nil, length-append}
 use Rattle.std.specs.Prelude.{IsSome, ◌==◌}
-use Rattle.std.proofs.lemmas.Bool.{le-leb, lt-ltb, le-ltb, eq-eqb, ltb-true, ltb-false, leb-true, leb-false}
-use Rattle.dtls_messages.specs.Fragments.{Cover, Fragment, agrees, byte_at, first_at, inside, or_else}
+use Rattle.std.proofs.lemmas.Bool.{le-leb, lt-ltb, eq-eqb, ltb-true, ltb-false, leb-false}
+use Rattle.dtls_messages.specs.Fragments.{Cover, Fragment, byte_at, first_at, inside, or_else}
 use Rattle.dtls_messages.specs.Messages.{Event, Alert, ChangeCipherSpec, Encrypted, Failed, Handshake, Heard, Limits, Message, Refused, after, agreed, events, heard, heard_by, message_of, messages, of_message, told, told_by, verdict, whole_from, with_taken}
 use Rattle.dtls_messages.specs.Sent.{AreOf, AreSmall, IsCovered, IsHandedOut, IsOf, Sent, numbered, sent}
 use Rattle.dtls_messages.specs.declared.fragments.FragmentError.{FragmentError}
 use Rattle.dtls_messages.specs.declared.fragments.FragmentError.TheVariants.{Old, TooFarAhead, TooLarge, Outside, OtherLength, OtherType}
-use Rattle.dtls_messages.proofs.HeardLemmas.{first_at_more, of_message_first, of_message_more, of_message_other, verdict_near}
+use Rattle.dtls_messages.proofs.HeardLemmas.{of_message_more, of_message_other, verdict_near}
 use Rattle.dtls_messages.proofs.SentLemmas.{AreAll, IsRun, all_of_message, covered_message, run_of}
 
 -- The messages among events that are joined, or that are messages alone.

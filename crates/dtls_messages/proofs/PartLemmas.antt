@@ -1,11 +1,11 @@
 -- What is held of a message is what its fragments give.
-use Rattle.std.proofs.Common.{◌≡◌, ℕ, zero, suc, ◌+◌, ◌-◌, ◌<◌, ◌≤◌, Bool, true, false, cond, Some, None, Option, List, [], ◌∷◌, ◌++◌, length, refl, sym, ◌∙◌, ap, subst, arith, get_or}
+use Rattle.std.proofs.Common.{◌≡◌, ℕ, zero, suc, ◌+◌, ◌<◌, true, Some, None, Option, List, [], ◌∷◌, length, refl, sym, ◌∙◌, ap, subst, arith}
 use Rattle.std.specs.Prelude.{IsSome, IfSome, is_some, slice_index}
 use Rattle.std.specs.Borrow.{Bor}
 use Rattle.std.specs.Option.{option_map}
 use Rattle.tls_fields.specs.Bytes.{Bytes}
-use Rattle.dtls_messages.specs.Fragments.{Fragment, Held, IsBody, IsComplete, byte, first_at}
-use Rattle.dtls_messages.specs.Messages.{Heard, IsHeld, IsPart, Kept, Limits, Message, Stands, bytes_from, message_of, of_message, slot, with_byte}
+use Rattle.dtls_messages.specs.Fragments.{Fragment, Held, IsBody, IsComplete, first_at}
+use Rattle.dtls_messages.specs.Messages.{Heard, IsPart, Kept, Limits, Stands, bytes_from, message_of, of_message, slot, with_byte}
 
 -- Bytes that are there at each place.
 pub bytes_some : (fs : List Fragment) (i n : ℕ) (b : Bytes) → length b ≡ n → ((k : ℕ) → k < n → first_at fs (i + k) ≡ Some (slice_index b k)) → bytes_from fs i n ≡ Some b

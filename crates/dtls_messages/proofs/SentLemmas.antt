@@ -1,19 +1,16 @@
 -- What is handed out of messages that a peer sends.
-use Rattle.std.proofs.Common.{◌≡◌, ℕ, zero, suc, ◌+◌, ◌-◌, ◌<◌, ◌≤◌, Bool, true, false, cond, nat_eq, nat_lt, nat_le, Some, None, Option, Result, Ok, Err, List, [], ◌∷◌, ◌++◌, length, take, drop, map, refl, sym, ◌∙◌, ap, subst, arith, get_or, ◌⊎◌, inl, inr, append_assoc, append-nil, length-append}
+use Rattle.std.proofs.Common.{◌≡◌, ℕ, zero, suc, ◌+◌, ◌-◌, ◌<◌, ◌≤◌, Bool, true, false, cond, nat_eq, nat_lt, nat_le, Some, None, Option, List, [], ◌∷◌, length, take, drop, refl, sym, ◌∙◌, ap, subst, arith, get_or}
 use Rattle.std.specs.Prelude.{IsSome, slice_index, ◌==◌}
 use Rattle.std.specs.Option.{option_map}
-use Rattle.std.proofs.lemmas.Bool.{le-leb, eq-eqb, ltb-true, ltb-false, leb-true, leb-false, eqb-true, eqb-false}
+use Rattle.std.proofs.lemmas.Bool.{ltb-true, ltb-false, leb-true, leb-false, eqb-true, eqb-false}
 use Rattle.std.proofs.lemmas.List.{get_or-take, get_or-drop}
-use Rattle.std.proofs.lemmas.Grind.{same_number_lists}
 use Rattle.std.proofs.Math.Seq.{drop-cons}
 use Rattle.tls_fields.specs.Bytes.{Bytes}
-use Rattle.dtls_messages.specs.Fragments.{Cover, Fragment, agrees, byte_at, first_at, inside, or_else}
-use Rattle.dtls_messages.specs.Messages.{Event, Handshake, Heard, Limits, Message, Refused, after, agreed, bytes_from, events, followed, heard, heard_by, message_of, messages, of_message, told, told_by, verdict, whole_from, with_taken}
-use Rattle.dtls_messages.specs.Sent.{AreOf, AreSmall, IsCovered, IsHandedOut, IsOf, Sent, numbered, sent}
-use Rattle.dtls_messages.specs.declared.fragments.FragmentError.{FragmentError}
-use Rattle.dtls_messages.specs.declared.fragments.FragmentError.TheVariants.{Old, TooFarAhead, TooLarge, Outside, OtherLength, OtherType}
+use Rattle.dtls_messages.specs.Fragments.{Cover, Fragment, byte_at, first_at, or_else}
+use Rattle.dtls_messages.specs.Messages.{Message, bytes_from, followed, message_of, of_message, whole_from}
+use Rattle.dtls_messages.specs.Sent.{AreOf, IsCovered, IsOf, Sent, numbered, sent}
 use Rattle.dtls_messages.proofs.FragmentLemmas.{given_in, given_below, given_above}
-use Rattle.dtls_messages.proofs.HeardLemmas.{of_message_first, of_message_more, of_message_same, of_message_other, verdict_near}
+use Rattle.dtls_messages.proofs.HeardLemmas.{of_message_first}
 use Rattle.dtls_messages.proofs.PartLemmas.{bytes_some, bytes_all}
 
 -- Each is a fragment of this message.

@@ -1,13 +1,12 @@
 -- What is told of fragments.
-use Rattle.std.proofs.Common.{◌≡◌, ℕ, zero, suc, ◌+◌, ◌-◌, ◌<◌, ◌≤◌, Bool, true, false, cond, Some, None, Option, Result, Ok, Err, List, [], ◌∷◌, ◌++◌, length, take, map, refl, sym, ◌∙◌, ap, subst, arith, get_or, ◌⊎◌, inl, inr, append_assoc, append-nil}
+use Rattle.std.proofs.Common.{◌≡◌, ℕ, zero, suc, ◌+◌, ◌-◌, ◌<◌, ◌≤◌, Some, None, Option, Result, Ok, Err, List, [], ◌∷◌, ◌++◌, length, take, map, refl, sym, ◌∙◌, ap, subst, arith, get_or, inl, inr, append_assoc, append-nil}
 use Rattle.std.specs.Prelude.{OnOk, is_some, if◌then◌else◌}
 use Rattle.std.specs.Option.{option_map}
 use Rattle.std.proofs.lemmas.List.{map-append, take_all}
 use Rattle.std.proofs.Math.Seq.{take-suc}
 use Rattle.dtls_messages.specs.Fragments.{Fragment, Held, view_fragment, view_fragments}
-use Rattle.dtls_messages.specs.Messages.{AreHandedOut, AreHeard, Event, Handshake, Heard, IsHeard, IsOrMemory, IsPart, Kept, Limits, Message, Refused, Stands, after, events, followed, heard, heard_by, message_of, of_message, slot, told, told_by, verdict, view_event, view_events, view_message, whole_from, with_taken}
+use Rattle.dtls_messages.specs.Messages.{AreHandedOut, AreHeard, Event, Handshake, Heard, IsHeard, IsOrMemory, IsPart, Kept, Limits, Message, Refused, Stands, after, events, followed, heard, heard_by, message_of, of_message, told, told_by, verdict, view_event, view_events, view_message, whole_from, with_taken}
 use Rattle.dtls_messages.specs.declared.event.Event.{Event as Lent}
-use Rattle.dtls_messages.specs.declared.event.Event.TheVariants as event
 use Rattle.dtls_messages.specs.declared.event.Message.{Message as Owned}
 use Rattle.dtls_messages.specs.declared.fragments.Fragment.{Fragment as Given}
 use Rattle.dtls_messages.specs.declared.fragments.FragmentError.{FragmentError}

@@ -1,5 +1,5 @@
 -- Fragments of a handshake message of DTLS (RFC 6347, sections 4.2.2 and 4.2.3), in any order, with repeats and overlaps.
-use Rattle.std.specs.Prelude.{◌≡◌, ℕ, zero, suc, ◌+◌, ◌-◌, ◌<◌, ◌≤◌, Bool, true, false, cond, nat_le, nat_lt, Option, Some, None, IsSome, Result, Ok, Err, ◌==◌, List, [], ◌∷◌, length, take, drop, map, slice_index}
+use Rattle.std.specs.Prelude.{◌≡◌, ℕ, ◌+◌, ◌-◌, ◌<◌, ◌≤◌, Bool, true, false, cond, nat_le, nat_lt, Option, Some, None, IsSome, Result, Ok, Err, ◌==◌, List, [], ◌∷◌, length, take, drop, map, slice_index}
 use Rattle.std.proofs.Common.{get_or}
 use Rattle.tls_fields.specs.Bytes.{Bytes}
 use Rattle.tls_fields.specs.Layout.{Layout, done, number, block, ◌>>=◌}

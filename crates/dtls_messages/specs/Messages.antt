@@ -1,12 +1,12 @@
 -- The messages of one direction, from fragments of several that are mixed (RFC 6347, sections 4.2.2 to 4.2.4).
-use Rattle.std.specs.Prelude.{◌≡◌, ℕ, zero, suc, ◌+◌, ◌<◌, ◌≤◌, ◌⊎◌, ⊤, cond, nat_le, nat_lt, Option, Some, None, Result, Ok, Err, ◌==◌, List, [], ◌∷◌, ◌++◌, length, take, map}
+use Rattle.std.specs.Prelude.{◌≡◌, ℕ, zero, suc, ◌+◌, ◌<◌, ◌≤◌, ◌⊎◌, ⊤, cond, nat_le, nat_lt, Option, Some, None, Result, Ok, Err, ◌==◌, List, [], ◌∷◌, ◌++◌, length, map}
 use Rattle.std.specs.Option.{option_map}
 use Rattle.std.proofs.Common.{get_or}
 use Rattle.tls_fields.specs.Bytes.{Bytes}
 use Rattle.tls_fields.specs.declared.result.ErrorKind.{ErrorKind}
 use Rattle.tls_base.specs.Alert as alerts
 use Rattle.dtls_messages.specs.declared.event.EncryptedRecord.{EncryptedRecord as Sealed}
-use Rattle.dtls_messages.specs.Fragments.{Cover, Fragment, Held, IsAdded, IsOf, IsOfSame, Whole, agrees, byte, byte_at, first_at, inside, judged}
+use Rattle.dtls_messages.specs.Fragments.{Fragment, Held, IsAdded, IsOfSame, agrees, byte, first_at, inside, judged}
 use Rattle.dtls_messages.specs.declared.event.Event.{Event as Lent}
 use Rattle.dtls_messages.specs.declared.event.Event.TheVariants as event
 use Rattle.dtls_messages.specs.declared.event.Message.{Message as Owned}

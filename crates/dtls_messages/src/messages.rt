@@ -113,7 +113,8 @@ impl Messages {
     /// Takes a fragment, or tells why it isn't taken; then nothing changes.
     pub fn add(&mut self, fragment: &Fragment) -> Result<(), FragmentError>
         ensures answer { (l : Allowed) (h : Heard) → Stands l h self.old → IsOrMemory result (verdict l h (view_fragment fragment.now)) }
-        ensures taken { (l : Allowed) (h : Heard) → Stands l h self.old → OnOk result (Stands l (record h { taken = with_taken h (view_fragment fragment.now) }) self.new) }
+        ensures taken { (l : Allowed) (h : Heard) → Stands l h self.old
+            → OnOk result (Stands l (record h { taken = with_taken h (view_fragment fragment.now) }) self.new) }
         ensures refused { IsErr result → self.new ≡ self.old }
     {
         let seq = fragment.message_seq as u32;
@@ -134,7 +135,8 @@ impl Messages {
     pub fn take_front(&mut self) -> Option<Message>
         ensures places { length self.new.slots + (if is_some result then 1 else 0) ≡ length self.old.slots }
         ensures message { (l : Allowed) (h : Heard) → Stands l h self.old → option_map view_message result ≡ message_of (of_message h.next h.taken) }
-        ensures stands { (l : Allowed) (h : Heard) → Stands l h self.old → Stands l (record h { next = (if is_some result then h.next + 1 else h.next) }) self.new }
+        ensures stands { (l : Allowed) (h : Heard) → Stands l h self.old
+            → Stands l (record h { next = (if is_some result then h.next + 1 else h.next) }) self.new }
     {
         let Some(Some(part)) = self.slots.first() else {
             return None;

@@ -11,7 +11,8 @@ use tls_base::OutOfMemory;
 
 /// Hands out the messages that stand next and are there whole.
 fn hand_out(messages: &mut Messages, events: &mut Vec<Event>) -> Result<(), OutOfMemory>
-    ensures { (l : Allowed) (h : Heard) → Stands l h messages.old → OnOk result (AreHandedOut l h (view_events events.old.items) (view_events events.new.items) messages.new) }
+    ensures { (l : Allowed) (h : Heard) → Stands l h messages.old
+        → OnOk result (AreHandedOut l h (view_events events.old.items) (view_events events.new.items) messages.new) }
 {
     while let Some(message) = messages.take_front() {
         events.push(Event::Handshake(message))?;
@@ -25,7 +26,8 @@ fn hear(
     fragment: &Fragment,
     events: &mut Vec<Event>,
 ) -> Result<(), OutOfMemory>
-    ensures { (l : Allowed) (h : Heard) → Stands l h messages.old → OnOk result (IsHeard l h (view_fragment fragment.now) (view_events events.old.items) (view_events events.new.items) messages.new) }
+    ensures { (l : Allowed) (h : Heard) → Stands l h messages.old
+        → OnOk result (IsHeard l h (view_fragment fragment.now) (view_events events.old.items) (view_events events.new.items) messages.new) }
 {
     match messages.add(fragment) {
         Ok(()) => hand_out(messages, events),
@@ -45,7 +47,8 @@ pub fn read_all(
     fragments: &[Fragment],
     events: &mut Vec<Event>,
 ) -> Result<(), OutOfMemory>
-    ensures { (l : Allowed) (h : Heard) → Stands l h messages.old → OnOk result (AreHeard l h (view_fragments fragments.now) (view_events events.old.items) (view_events events.new.items) messages.new) }
+    ensures { (l : Allowed) (h : Heard) → Stands l h messages.old
+        → OnOk result (AreHeard l h (view_fragments fragments.now) (view_events events.old.items) (view_events events.new.items) messages.new) }
 {
     for fragment in fragments {
         hear(messages, fragment, events)?;

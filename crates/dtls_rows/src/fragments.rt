@@ -1,18 +1,18 @@
 //! Fragments of several messages, in any order.
+ghost use Rattle.std.specs.Prelude.{◌<◌};
 
 use dtls_messages::{DEFAULT_LIMITS, Event, Fragment, FragmentError, Limits, read_fragments};
 use std::process::Abort;
 use tls_base::TlsHandshakeType;
 
-ghost use Rattle.std.specs.Prelude.{◌<◌};
-
 /// The bodies of three messages, of which one has no bytes.
 const LONG: [u8; 90] = [
-    0, 1, 2, 3, 4, 5, 6, 7, 8, 9, 10, 11, 12, 13, 14, 15, 16, 17, 18, 19, 20, 21, 22, 23, 24, 25, 26,
-    27, 28, 29, 30, 31, 32, 33, 34, 35, 36, 37, 38, 39, 40, 41, 42, 43, 44, 45, 46, 47, 48, 49, 50,
-    51, 52, 53, 54, 55, 56, 57, 58, 59, 60, 61, 62, 63, 64, 65, 66, 67, 68, 69, 70, 71, 72, 73, 74,
-    75, 76, 77, 78, 79, 80, 81, 82, 83, 84, 85, 86, 87, 88, 89,
+    0, 1, 2, 3, 4, 5, 6, 7, 8, 9, 10, 11, 12, 13, 14, 15, 16, 17, 18, 19, 20, 21, 22, 23, 24, 25,
+    26, 27, 28, 29, 30, 31, 32, 33, 34, 35, 36, 37, 38, 39, 40, 41, 42, 43, 44, 45, 46, 47, 48, 49,
+    50, 51, 52, 53, 54, 55, 56, 57, 58, 59, 60, 61, 62, 63, 64, 65, 66, 67, 68, 69, 70, 71, 72, 73,
+    74, 75, 76, 77, 78, 79, 80, 81, 82, 83, 84, 85, 86, 87, 88, 89,
 ];
+
 const SHORT: [u8; 23] = [
     255, 254, 253, 252, 251, 250, 249, 248, 247, 246, 245, 244, 243, 242, 241, 240, 239, 238, 237,
     236, 235, 234, 233,
@@ -21,7 +21,11 @@ const SHORT: [u8; 23] = [
 fn part(message_seq: u16, body: &[u8], at: usize, size: usize) -> Fragment {
     let from = if at < body.len() { at } else { body.len() };
     let (_, behind) = body.split_at(from);
-    let to = if size < behind.len() { size } else { behind.len() };
+    let to = if size < behind.len() {
+        size
+    } else {
+        behind.len()
+    };
     let (bytes, _) = behind.split_at(to);
     Fragment {
         msg_type: TlsHandshakeType::Certificate,
@@ -47,9 +51,11 @@ fn hands_out(rt: &impl Abort, events: &[Event], bodies: &[&[u8]]) {
     assert_eq!(rt; handed, bodies.len());
 }
 
-/// Fragments of three messages of `size` bytes, mixed by a sequence of numbers, each sent twice, and every second one reaching
-/// over the next.
-fn mixed(rt: &(impl Abort + AllocGlobal), size: usize, seed: u32, without: usize) {
+/// Fragments of three messages, of `size` bytes, mixed by a sequence of numbers. Each is sent twice, the second time reaching over the
+/// next one where it can; of the last message one is left out, if there is one of that number.
+fn mixed(rt: &(impl Abort + AllocGlobal), size: usize, seed: u32, without: usize)
+    requires { 0 < size }
+{
     let alloc = rt.alloc();
     let mut sent = Vec::new(alloc);
     for turn in 0..2 {
@@ -87,12 +93,16 @@ fn of_each_size(rt: HostRuntime) {
         for seed in 0..10 {
             mixed(&rt, size, seed, 100);
         }
+        mixed(&rt, size, 11, 1);
     }
 }
 
 #[test]
 fn refused(rt: HostRuntime) {
-    let limits = Limits { message: 23, ahead: 2 };
+    let limits = Limits {
+        message: 23,
+        ahead: 2,
+    };
     let mut other = part(0, &SHORT, 0, 5);
     other.msg_type = TlsHandshakeType::ServerHello;
     let mut longer = part(0, &SHORT, 0, 5);
@@ -115,7 +125,8 @@ fn refused(rt: HostRuntime) {
             part(0, &SHORT, 0, 23),
             part(0, &SHORT, 0, 23),
         ],
-    ).expect(&rt, "memory");
+    )
+    .expect(&rt, "memory");
     let expected = [
         Event::Refused(0, FragmentError::OtherType),
         Event::Refused(0, FragmentError::OtherLength),

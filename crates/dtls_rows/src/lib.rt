@@ -6,4 +6,6 @@
 #[cfg(test)]
 mod fragments;
 #[cfg(test)]
+mod memory;
+#[cfg(test)]
 mod recorded;

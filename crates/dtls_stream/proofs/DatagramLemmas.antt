@@ -86,7 +86,7 @@ pub other_step : (l : Limits) (h : Heard) (r : RawRecord) (es es' : List Event) 
 other_step l h r es es' k low kind told st =
     clear_step l h r es es' k low
     (subst (λ b. IsStep l (cond b (fragment_record_step r.fragment l h) (content_step (reading (record_content r.header) r.fragment) h)) es es' k) (sym (eqb-ne r.header.content_type 22 kind))
-      (record { events = told; stands = subst (λ g. Stands l g k) (sym (content_same h (reading (record_content r.header) r.fragment))) st }))
+    (record { events = told; stands = subst (λ g. Stands l g k) (sym (content_same h (reading (record_content r.header) r.fragment))) st }))
 
 pub on_ok : {P Q E : Type 0} (r : Result Unit E) → OnOk r P → (P → Q) → OnOk r Q
 on_ok (Ok t) p f = f p
@@ -125,7 +125,7 @@ pub reading_next : (l : Limits) (s : Step) (n m : ℕ) (left rest : Bytes) (r : 
 reading_next l s n m left rest r es es' es'' k k' is ok was hears =
     let one = hears l was.heard was.stands in
     let steps : records_step n l was.heard left ≡ then_step (record_step l was.heard r) (λ h. records_step m l h rest) =
-        ap (λ n. records_step n l was.heard left) is ∙ step_ok m l was.heard left rest r ok in
+    ap (λ n. records_step n l was.heard left) is ∙ step_ok m l was.heard left rest r ok in
     record {
       heard = (record_step l was.heard r).0;
       stands = one.stands;
@@ -177,7 +177,7 @@ datagrams_next l all ds i d es es' k k' low was hears =
     let b : Bytes = (get_or ds i d).now in
     let rest : List Bytes = views (drop (i + 1) ds) in
     let steps : datagrams l was.heard (views (drop i ds)) ≡ then_step (datagram l was.heard b) (λ h. datagrams l h rest) =
-        ap (λ x. datagrams l was.heard (views x)) (drop_more ds i d low) ∙ more_datagrams l was.heard b rest in
+    ap (λ x. datagrams l was.heard (views x)) (drop_more ds i d low) ∙ more_datagrams l was.heard b rest in
     record {
       heard = (datagram l was.heard b).0;
       stands = one.stands;

@@ -1,5 +1,5 @@
 -- What is told of the datagrams of one direction (RFC 6347, sections 4.1 and 4.2).
-use Rattle.std.specs.Prelude.{◌≡◌, ℕ, zero, suc, cond, nat_le, nat_lt, Result, Ok, Err, ◌==◌, List, [], ◌∷◌, ◌++◌, length, map}
+use Rattle.std.specs.Prelude.{◌≡◌, ℕ, zero, suc, cond, nat_le, nat_lt, Option, Some, None, Result, Ok, Err, ◌==◌, List, [], ◌∷◌, ◌++◌, length, map}
 use Rattle.std.specs.Borrow.{Bor}
 use Rattle.tls_fields.specs.Bytes.{Bytes}
 use Rattle.tls_fields.specs.Layout.{Layout, done, number, block, list1, ◌>>=◌, ◌>>◌, test}
@@ -9,9 +9,24 @@ use Rattle.tls_fields.specs.declared.result.ErrorKind.{ErrorKind}
 use Rattle.tls_fields.specs.declared.result.ErrorKind.TheVariants.{Complete, Switch, TooLarge}
 use Rattle.tls_parser.specs.DtlsRecord.{RawRecord, RecordHeader, record_content, record_header}
 use Rattle.tls_parser.specs.DtlsRecord as dtls_record
+use Rattle.tls_parser.specs.DtlsHandshake as handshakes
 use Rattle.tls_parser.specs.Framing.{max_fragment_length}
 use Rattle.dtls_messages.specs.Fragments.{Fragment, fragment}
 use Rattle.dtls_messages.specs.Messages.{Alert, ChangeCipherSpec, Encrypted, EncryptedRecord, Event, Failed, Heard, Kept, Limits, Stands, after, events}
+
+abbrev pub fragment_by : handshakes.Handshake → handshakes.Body → Option Fragment
+fragment_by m (handshakes.Fragment b) = Some (record {
+  msg_type = m.msg_type;
+  length = m.length;
+  message_seq = m.message_seq;
+  fragment_offset = m.fragment_offset;
+  body = b;
+})
+fragment_by m b = None
+
+-- The fragment that a handshake message is, where its body is one.
+abbrev pub fragment_in : handshakes.Handshake → Option Fragment
+fragment_in m = fragment_by m m.body
 
 -- The most bytes that a record may have behind its header: where it is encrypted, which epochs above 0 are, 2^14 + 2048
 -- (RFC 5246, section 6.2.3), else what a reader of records takes.

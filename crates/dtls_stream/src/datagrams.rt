@@ -20,7 +20,8 @@ pub fn read_datagram<'a>(
     datagram: &'a [u8],
     events: &mut Vec<Event<'a>>,
 ) -> Result<(), OutOfMemory>
-    ensures { (l : Allowed) (h : Heard) → Stands l h messages.old → OnOk result (IsStep l (datagram_step l h datagram.now) (view_events events.old.items) (view_events events.new.items) messages.new) }
+    ensures { (l : Allowed) (h : Heard) → Stands l h messages.old
+        → OnOk result (IsStep l (datagram_step l h datagram.now) (view_events events.old.items) (view_events events.new.items) messages.new) }
 {
     let mut left = datagram;
     'records: for taken in 0..datagram.len() {

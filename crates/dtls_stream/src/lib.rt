@@ -8,8 +8,8 @@ mod datagrams;
 mod records;
 
 pub use datagrams::{read_datagram, read_datagrams};
-
 pub use dtls_messages::{
     DEFAULT_LIMITS, EncryptedRecord, Event, Fragment, FragmentError, Fragments, Limits, Message,
     Messages, parse_dtls_fragment, read_all, read_fragments,
 };
+pub use records::fragment_of;

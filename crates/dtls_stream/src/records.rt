@@ -3,20 +3,39 @@ ghost use Rattle.std.specs.Prelude.{◌≡◌, ◌++◌, OnOk, map};
 ghost use Rattle.tls_fields.specs.Answers.{Gives, refusal_of};
 ghost use Rattle.tls_fields.specs.Reading.{reading};
 ghost use Rattle.tls_parser.specs.DtlsRecord.{record_content, view_header, view_message as view_content, view_raw_record};
+ghost use Rattle.std.specs.Option.{option_map};
+ghost use Rattle.tls_parser.specs.DtlsHandshake.{view_handshake};
+ghost use Rattle.dtls_messages.specs.Fragments.{view_fragment};
 ghost use Rattle.dtls_messages.specs.Messages.{Heard, Limits as Allowed, Stands, view_event, view_events};
-ghost use Rattle.dtls_stream.specs.Datagrams.{IsStep, content as content_layout, content_step, datagram_record, event_of, fragment_record_step, kind_of as kind_told, left_over, limit, record_step, unread};
+ghost use Rattle.dtls_stream.specs.Datagrams.{IsStep, content as content_layout, content_step, datagram_record, event_of, fragment_in, fragment_record_step, kind_of as kind_told, left_over, limit, record_step, unread};
 
 use dtls_messages::{EncryptedRecord, Event, Fragment, Messages, read_all};
 use std::alloc::Global;
 use tls_fields::{block, items1, refused};
 use tls_parser::{
-    DTLSMessage, DTLSRawRecord, DTLSRecordHeader, Err as Refused, Error, ErrorKind, IResult, MAX_RECORD_LEN,
-    OutOfMemory, TlsMessageAlert, TlsRecordType, parse_dtls_record_header,
-    parse_dtls_record_with_header,
+    DTLSMessage, DTLSMessageHandshake, DTLSMessageHandshakeBody, DTLSRawRecord, DTLSRecordHeader,
+    Err as Refused, Error, ErrorKind, IResult, MAX_RECORD_LEN, OutOfMemory, TlsMessageAlert,
+    TlsRecordType, parse_dtls_record_header, parse_dtls_record_with_header,
 };
 
 /// The most bytes that an encrypted record may have behind its header (RFC 5246, section 6.2.3).
 const MAX_ENCRYPTED_LEN: u16 = 18_432;
+
+/// The fragment that this message is, where its body is one: a whole body was read, and its bytes aren't known.
+pub fn fragment_of<'a>(message: &DTLSMessageHandshake<'a>) -> Option<Fragment<'a>>
+    ensures { option_map view_fragment result ≡ fragment_in (view_handshake message.now) }
+{
+    match message.body {
+        DTLSMessageHandshakeBody::Fragment(body) => Some(Fragment {
+            msg_type: message.msg_type,
+            length: message.length,
+            message_seq: message.message_seq,
+            fragment_offset: message.fragment_offset,
+            body,
+        }),
+        _ => None,
+    }
+}
 
 /// The most bytes that a record with this header may have behind it.
 fn limit_of(header: &DTLSRecordHeader) -> u16
@@ -117,7 +136,8 @@ fn tell_content<'a>(
     raw: &DTLSRawRecord<'a>,
     events: &mut Vec<Event<'a>>,
 ) -> Result<(), OutOfMemory>
-    ensures { (h : Heard) → OnOk result (view_events events.new.items ≡ view_events events.old.items ++ (content_step (reading (record_content (view_header raw.now.header)) raw.now.fragment.now) h).1) }
+    ensures { (h : Heard)
+        → OnOk result (view_events events.new.items ≡ view_events events.old.items ++ (content_step (reading (record_content (view_header raw.now.header)) raw.now.fragment.now) h).1) }
 {
     match parse_dtls_record_with_header(alloc, raw.fragment, &raw.header) {
         Ok((rest, messages)) => {
@@ -139,7 +159,8 @@ fn read_handshake(
     messages: &mut Messages,
     events: &mut Vec<Event>,
 ) -> Result<(), OutOfMemory>
-    ensures { (l : Allowed) (h : Heard) → Stands l h messages.old → OnOk result (IsStep l (fragment_record_step bytes.now l h) (view_events events.old.items) (view_events events.new.items) messages.new) }
+    ensures { (l : Allowed) (h : Heard) → Stands l h messages.old
+        → OnOk result (IsStep l (fragment_record_step bytes.now l h) (view_events events.old.items) (view_events events.new.items) messages.new) }
 {
     match items1::<Fragment>(alloc, bytes) {
         Ok((rest, fragments)) => {
@@ -161,7 +182,8 @@ pub(crate) fn hear_record<'a>(
     messages: &mut Messages,
     events: &mut Vec<Event<'a>>,
 ) -> Result<(), OutOfMemory>
-    ensures { (l : Allowed) (h : Heard) → Stands l h messages.old → OnOk result (IsStep l (record_step l h (view_raw_record raw.entry)) (view_events events.old.items) (view_events events.new.items) messages.new) }
+    ensures { (l : Allowed) (h : Heard) → Stands l h messages.old
+        → OnOk result (IsStep l (record_step l h (view_raw_record raw.entry)) (view_events events.old.items) (view_events events.new.items) messages.new) }
 {
     if raw.header.epoch > 0 {
         events.push(Event::Encrypted(EncryptedRecord {

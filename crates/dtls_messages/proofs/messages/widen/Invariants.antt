@@ -1,4 +1,4 @@
-use Rattle.std.proofs.Common.{◌≡◌, ◌-◌, ◌≤◌, ◌⊎◌, ℕ, None, length, take, get_or, max}
+use Rattle.std.proofs.Common.{◌≡◌, ◌-◌, ◌≤◌, ℕ, None, length, take, get_or, max}
 use Rattle.dtls_messages.proofs.messages.widen.Given as goal
 
 abbrev pub invariant-loop-slots : goal.invariant-loop-slots

@@ -19,8 +19,8 @@ pub returns-in-Err : goal.returns-in-Err
 returns-in-Err c a h st =
     on_ok c.tell_unread.result c.tell_unread.ensures
     (reading_fails a (datagram a h c.args.datagram.now) (length c.args.datagram.now - c.records.taken) (length c.args.datagram.now - (c.records.taken + 1)) c.records.left.now
-      (refusal_of c.in-Err.error) (view_events c.args.events.now.items) (view_events c.records.events.items) (view_events c.tell_unread.new.events.items) c.records.messages
-      (omega arith) c.in-Err.ensures.read (c.records.invariant a h st))
+    (refusal_of c.in-Err.error) (view_events c.args.events.now.items) (view_events c.records.events.items) (view_events c.tell_unread.new.events.items) c.records.messages
+    (omega arith) c.in-Err.ensures.read (c.records.invariant a h st))
 
 pub returns : goal.returns
 returns c a h st =

@@ -10,5 +10,5 @@ pub returns-in_ok-tell_messages-in-Ok : goal.returns-in_ok-tell_messages-in-Ok
 returns-in_ok-tell_messages-in-Ok c h =
     on_ok c.tell_left_over.result c.tell_left_over.ensures
     (content_ok h (view_events c.args.events.now.items) (view_events c.tell_messages.new.events.items) (view_events c.tell_left_over.new.events.items)
-      (reading (record_content (view_header c.args.raw.now.header)) c.args.raw.now.fragment.now) c.in-Ok.messages.items c.in-Ok.rest.now (c.in-Ok.ensures.gives.read tt)
-      (c.in_ok-tell_messages-in-Ok.ensures ∙ ap (λ ms. view_events c.args.events.now.items ++ map (λ m. event_of (view_message m)) ms) c.deref.ensures.value))
+    (reading (record_content (view_header c.args.raw.now.header)) c.args.raw.now.fragment.now) c.in-Ok.messages.items c.in-Ok.rest.now (c.in-Ok.ensures.gives.read tt)
+    (c.in_ok-tell_messages-in-Ok.ensures ∙ ap (λ ms. view_events c.args.events.now.items ++ map (λ m. event_of (view_message m)) ms) c.deref.ensures.value))

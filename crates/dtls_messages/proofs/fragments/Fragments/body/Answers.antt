@@ -1,6 +1,6 @@
-use Rattle.std.proofs.Common.{arith, sym, subst, false, true, ◌≡◌}
+use Rattle.std.proofs.Common.{arith, sym, subst}
 use Rattle.dtls_messages.specs.contracts.fragments.Fragments.{the_view}
-use Rattle.dtls_messages.specs.Fragments.{Held, IsComplete}
+use Rattle.dtls_messages.specs.Fragments.{IsComplete}
 use Rattle.dtls_messages.proofs.HeldLemmas.{complete_full}
 use Rattle.dtls_messages.proofs.fragments.Fragments.body.Goals as goal
 

@@ -1,4 +1,4 @@
-use Rattle.std.proofs.Common.{◌≡◌, ◌+◌, ◌-◌, ◌<◌, ◌≤◌, arith, ap}
+use Rattle.std.proofs.Common.{arith, ap}
 use Rattle.dtls_messages.specs.Fragments.{view_fragment}
 use Rattle.dtls_messages.proofs.HeardLemmas.{answered, taken_ok}
 use Rattle.dtls_messages.proofs.messages.Messages.add.Goals as goal
