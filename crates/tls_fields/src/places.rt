@@ -22,7 +22,10 @@ impl Place {
         ensures size { result.length ≡ length part.now }
     {
         Place {
-            offset: whole.len().saturating_sub(rest.len()).saturating_sub(part.len()),
+            offset: whole
+                .len()
+                .saturating_sub(rest.len())
+                .saturating_sub(part.len()),
             length: part.len(),
         }
     }

@@ -1,5 +1,5 @@
 -- Records of DTLS in place: what is judged of them, and what they say.
-use Rattle.std.proofs.Common.{◌≡◌, ℕ, List, [], ◌∷◌, map, Bool, Result, Ok, Err, nat_lt, ◌||◌, refl, sym, ◌∙◌, ap}
+use Rattle.std.proofs.Common.{◌≡◌, ℕ, List, [], ◌∷◌, map, Bool, Result, Ok, Err, nat_lt, ◌||◌, refl, sym, subst, ◌∙◌, ap}
 use Rattle.std.specs.Borrow.{Bor}
 use Rattle.tls_fields.specs.Bytes.{Bytes}
 use Rattle.tls_fields.specs.Layout.{Layout, done, number, block, window, list1, ◌>>=◌}
@@ -15,7 +15,7 @@ use Rattle.tls_hs.specs.Message as tls_message
 use Rattle.tls_parser.specs.DtlsHandshake as dtls_handshake
 use Rattle.tls_parser.specs.DtlsHandshake.{Body, body}
 use Rattle.tls_parser.specs.DtlsRecord.{Message, RecordHeader, RawRecord, Plaintext, change_cipher_spec, alert, handshake, raw_record, record_content, plaintext, read_content}
-use Rattle.tls_parser.specs.DtlsInPlace.{RawHandshake, raw_handshake, handshake_of, is_part, with_body, with_read_body, Handshake, Whole, message_of}
+use Rattle.tls_parser.specs.DtlsInPlace.{RawHandshake, raw_handshake, handshake_of, is_part, with_body, with_read_body, Handshake, Whole, message_of, messages_of_type}
 use Rattle.tls_parser.specs.InPlace.{first_judged}
 use Rattle.tls_parser.proofs.ContentLemmas.{dtls_plaintext_is_raw_then_content}
 use Rattle.tls_parser.proofs.InPlaceLemmas.{list_told}
@@ -113,3 +113,19 @@ content_read b f r h xs e g = dtls_plaintext_is_raw_then_content b ∙ ap (λ a.
 pub content_refused : (b f r : Bytes) (h : RecordHeader) (k : Refusal) → reading raw_record b ≡ Ok (record { header = h; fragment = f }, r)
     → Err k ≡ value_of (reading (record_content h) f) → reading plaintext b ≡ Err k
 content_refused b f r h k e g = dtls_plaintext_is_raw_then_content b ∙ ap (λ a. a and_then read_content) e ∙ content_says_not h r (reading (record_content h) f) k (sym g)
+
+-- the fragment of a record, by its type
+abbrev Judges : RecordHeader → ℕ → Bytes → Result Unit (Failed (Error (Bor (List ℕ)))) → Type 0
+Judges h t b r = Tells (λ u. decode_while message_of (messages_of_type t b)) (value_of (reading (record_content (record { content_type = t; version = h.version; epoch = h.epoch; sequence_number = h.sequence_number; length = h.length })) b)) r
+
+pub judges_change_cipher_specs : (h : RecordHeader) (b : Bytes) (r : Result Unit (Failed (Error (Bor (List ℕ))))) → h.content_type ≡ 20 → Tells (λ u. tt) (first_judged change_cipher_spec b) r → Judges h h.content_type b r
+unfolding record_content
+judges_change_cipher_specs h b r e x = subst (λ k. Judges h k b r) (sym e) (change_cipher_specs b r x)
+
+pub judges_alerts : (h : RecordHeader) (b : Bytes) (r : Result Unit (Failed (Error (Bor (List ℕ))))) → h.content_type ≡ 21 → Tells (λ u. tt) (first_judged alert b) r → Judges h h.content_type b r
+unfolding record_content
+judges_alerts h b r e x = subst (λ k. Judges h k b r) (sym e) (some_alerts b r x)
+
+pub judges_handshakes : (h : RecordHeader) (b : Bytes) (r : Result Unit (Failed (Error (Bor (List ℕ))))) → h.content_type ≡ 22 → Tells (λ u. tt) (first_judged handshake b) r → Judges h h.content_type b r
+unfolding record_content
+judges_handshakes h b r e x = subst (λ k. Judges h k b r) (sym e) (handshakes b r x)

@@ -19,7 +19,7 @@ use Rattle.tls_hs.specs.Handshake.{handshake_body}
 use Rattle.tls_hs.specs.Message as message
 use Rattle.tls_hs.specs.Message.{Message, change_cipher_spec, alert, handshake, application_data, heartbeat}
 use Rattle.tls_hs.specs.InPlace.{raw_handshake, handshake_of}
-use Rattle.tls_hs.specs.Messages.{Whole, Handshake, message_of}
+use Rattle.tls_hs.specs.Messages.{Whole, Handshake, message_of, messages_of_type}
 use Rattle.tls_parser.specs.InPlace.{judged, first_judged, as_complete}
 use Rattle.tls_parser.specs.Record.{RecordHeader, RawRecord, Plaintext, raw_record, record_content, plaintext, read_content}
 use Rattle.tls_parser.proofs.ContentLemmas.{plaintext_is_raw_then_content}
@@ -27,12 +27,12 @@ use Rattle.tls_parser.proofs.ContentLemmas.{plaintext_is_raw_then_content}
 pub first_is_read : {A : Type 0} (l : Layout A) (b : Bytes) (v : A) (r : Bytes) → reading l b ≡ Ok (v, r) → first_judged l b ≡ Ok tt
 first_is_read l b v r e = ap (λ a. judged (completed a)) e
 
-refused_whole : {A : Type 0} (e : Refusal) → judged {A = A} (completed (Err e)) ≡ Err (as_complete e)
-refused_whole (Broken k) = refl
-refused_whole (Lacks n) = refl
+refused_whole : (A : Type 0) (e : Refusal) → judged {A = A} (completed {A = A} (Err e)) ≡ Err (as_complete e)
+refused_whole A (Broken k) = refl
+refused_whole A (Lacks n) = refl
 
 pub first_is_refused : {A : Type 0} (l : Layout A) (b : Bytes) (e : Refusal) → reading l b ≡ Err e → first_judged l b ≡ Err (as_complete e)
-first_is_refused {A} l b e f = ap (λ a. judged (completed a)) f ∙ refused_whole {A} e
+first_is_refused {A} l b e f = ap (λ a. judged (completed a)) f ∙ refused_whole A e
 
 -- that value, where it is judged so
 abbrev pub with_value : {A : Type 0} → Result Unit Refusal → A → Result A Refusal
@@ -123,3 +123,23 @@ content_read b f r h xs e g = plaintext_is_raw_then_content b ∙ ap (λ a. a an
 pub content_refused : (b f r : Bytes) (h : RecordHeader) (k : Refusal) → reading raw_record b ≡ Ok (record { header = h; fragment = f }, r)
     → Err k ≡ value_of (reading (record_content h) f) → reading plaintext b ≡ Err k
 content_refused b f r h k e g = plaintext_is_raw_then_content b ∙ ap (λ a. a and_then read_content) e ∙ content_says_not h r (reading (record_content h) f) k (sym g)
+
+-- the fragment of a record, by its type
+abbrev Judges : ℕ → ℕ → ℕ → Bytes → Result Unit (Failed (Error (Bor (List ℕ)))) → Type 0
+Judges t v n b r = Tells (λ u. decode_while message_of (messages_of_type t n b)) (value_of (reading (record_content (record { content_type = t; version = v; length = n })) b)) r
+
+pub judges_change_cipher_specs : (t v n : ℕ) (b : Bytes) (r : Result Unit (Failed (Error (Bor (List ℕ))))) → t ≡ 20 → Tells (λ u. tt) (first_judged change_cipher_spec b) r → Judges t v n b r
+unfolding record_content
+judges_change_cipher_specs t v n b r e x = subst (λ k. Judges k v n b r) (sym e) (change_cipher_specs b r x)
+
+pub judges_alerts : (t v n : ℕ) (b : Bytes) (r : Result Unit (Failed (Error (Bor (List ℕ))))) → t ≡ 21 → Tells (λ u. tt) (first_judged alert b) r → Judges t v n b r
+unfolding record_content
+judges_alerts t v n b r e x = subst (λ k. Judges k v n b r) (sym e) (some_alerts b r x)
+
+pub judges_handshakes : (t v n : ℕ) (b : Bytes) (r : Result Unit (Failed (Error (Bor (List ℕ))))) → t ≡ 22 → Tells (λ u. tt) (first_judged handshake b) r → Judges t v n b r
+unfolding record_content
+judges_handshakes t v n b r e x = subst (λ k. Judges k v n b r) (sym e) (handshakes b r x)
+
+pub judges_heartbeat : (t v n : ℕ) (b : Bytes) (r : Result Unit (Failed (Error (Bor (List ℕ))))) → t ≡ 24 → Tells (λ u. tt) (first_judged (heartbeat n) b) r → Judges t v n b r
+unfolding record_content
+judges_heartbeat t v n b r e x = subst (λ k. Judges k v n b r) (sym e) (one_heartbeat n b r x)

@@ -143,7 +143,7 @@ pub struct DTLSPlaintextView<'a> {
 }
 
 /// Judges the fragment `i` of a record with the header `hdr` as [`crate::parse_dtls_record_with_header`] does: by its first message.
-#[tactic(auto, using(crate::proofs::DtlsInPlaceLemmas::change_cipher_specs, crate::proofs::DtlsInPlaceLemmas::some_alerts, crate::proofs::DtlsInPlaceLemmas::handshakes), unfolding(crate::specs::DtlsRecord::record_content))]
+#[tactic(auto, using(crate::proofs::DtlsInPlaceLemmas::judges_change_cipher_specs, crate::proofs::DtlsInPlaceLemmas::judges_alerts, crate::proofs::DtlsInPlaceLemmas::judges_handshakes), unfolding(crate::specs::DtlsRecord::record_content))]
 fn fragment_judged<'a>(i: &'a [u8], hdr: &DTLSRecordHeader) -> Result<(), Err<Error<&'a [u8]>>>
     ensures { Tells (λ u. decode_while message_of (messages_of_type hdr.now.content_type.0 i.now)) (value_of (reading (record_content (view_header hdr.now)) i.now)) result }
 {
@@ -177,7 +177,7 @@ pub fn parse_dtls_record_with_header_in_place<'a>(
 /// does, memory aside, and refuses what that refuses.
 ///
 /// The header, its length and the first message are judged, and nothing else.
-#[tactic(auto, using(tls_fields::proofs::OneAnswerLemmas::read_allowed, crate::proofs::DtlsInPlaceLemmas::content_read, crate::proofs::DtlsInPlaceLemmas::content_refused))]
+#[tactic(auto, using(tls_fields::proofs::OneAnswerLemmas::read_allowed, crate::proofs::ContentLemmas::dtls_plaintext_is_raw_then_content, crate::proofs::DtlsInPlaceLemmas::content_read, crate::proofs::DtlsInPlaceLemmas::content_refused))]
 #[inline(always)]
 pub fn parse_dtls_plaintext_record_in_place(i: &[u8]) -> IResult<&[u8], DTLSPlaintextView>
     ensures { Gives view_plaintext_in_place plaintext i.now result }
