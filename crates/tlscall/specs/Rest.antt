@@ -3,5 +3,5 @@ use Rattle.std.specs.Prelude.{ℕ, ◌≡◌, ◌-◌, drop, length}
 use Rattle.tls_fields.specs.Bytes.{Bytes}
 
 -- The rest has so many bytes, and is the end of the input.
-pub IsRest : Bytes → Bytes → ℕ → Type 0
+abbrev pub IsRest : Bytes → Bytes → ℕ → Type 0
 IsRest i rest n = (n ≡ length rest) × (drop (length i - n) i ≡ rest)
