@@ -75,9 +75,6 @@ impl Direction {
     }
 
     /// Puts the piece behind what is held. `OutOfMemory` where it could not be held: all is as it was.
-    ///
-    /// No length that stands in the stream takes memory: there is never more than for twice the bytes that were fed and
-    /// aren't handed out.
     pub fn feed(&mut self, piece: &[u8]) -> Result<(), OutOfMemory>
         ensures { self.new ≡ (if is_ok result then fed self.old piece.now else self.old) }
     {
@@ -199,8 +196,8 @@ impl Direction {
         }
     }
 
-    /// Joins fragments until an event stands in front: true, or further bytes are needed: false. It takes no memory, and
-    /// the events stay the same, those that are still to come too.
+    /// Joins fragments until an event stands in front: true, or further bytes are needed: false. The events stay the same,
+    /// those that are still to come too.
     ///
     /// An `Err` is the fault that ends the direction: it is the next event and the last, whatever is fed. What is held
     /// stays, and every later call answers the same.

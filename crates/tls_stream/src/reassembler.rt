@@ -135,8 +135,7 @@ impl<F: Frame, const LIMIT: usize> Frames<F, LIMIT> {
         frame_in_front::<F>(LIMIT, self.held())
     }
 
-    /// Takes the frame that stands next off the front: true. Where none stands there nothing changes: false. It takes no
-    /// memory.
+    /// Takes the frame that stands next off the front: true. Where none stands there nothing changes: false.
     #[tactic(auto, using(crate::proofs::FrontLemmas::taken_off, crate::proofs::FrontLemmas::none_off, crate::proofs::FrontLemmas::shorter_frame))]
     pub fn take_front(&mut self) -> bool
         ensures { FrontTaken (front (up_to F.kind LIMIT) self.old) self.old result self.new }
