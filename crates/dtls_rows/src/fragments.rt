@@ -54,7 +54,8 @@ fn hands_out(rt: &impl Abort, events: &[Event], bodies: &[&[u8]]) {
 /// Fragments of three messages, of `size` bytes, mixed by a sequence of numbers. Each is sent twice, the second time reaching over the
 /// next one where it can; of the last message one is left out, if there is one of that number.
 fn mixed(rt: &(impl Abort + AllocGlobal), size: usize, seed: u32, without: usize)
-    requires { 0 < size }
+    requires some { 0 < size }
+    requires few { size < 100 }
 {
     let alloc = rt.alloc();
     let mut sent = Vec::new(alloc);
