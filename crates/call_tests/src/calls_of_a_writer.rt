@@ -50,7 +50,10 @@ impl Write for Counting {
 /// The call wrote `len` bytes by one write.
 fn wrote(rt: &impl Abort, answered: Result<(), GenError>, writer: Counting, len: usize) {
     assert_eq!(rt; answered, Ok(()));
-    assert_eq!(rt; (writer.writes, writer.flushes, writer.held.len()), (1, 0, len));
+    assert_eq!(rt;
+        (writer.writes, writer.flushes, writer.held.len()),
+        (1, 0, len)
+    );
 }
 
 /// The call refused a length, and didn't call the writer.

@@ -5,11 +5,11 @@ use std::process::Abort;
 use std::test::Fail;
 use tls_base::{TlsCipherSuiteID, TlsCompressionID, TlsVersion};
 use tls_fields::GenError;
+use tls_hs::writer::judge::handshake_len;
 use tls_hs::{
     TlsClientHelloContents, TlsMessageHandshake, TlsServerHelloContents, gen_tls_clienthello,
     gen_tls_finished, gen_tls_hellorequest,
 };
-use tls_hs::writer::judge::handshake_len;
 use tls_parser::Serialize;
 
 const RANDOM: [u8; 32] = [

@@ -1,37 +1,69 @@
-//! What the fragments of records hold: messages of the record's type.
+//! What the fragments of records hold, of TLS and of DTLS: messages of the record's type.
 ghost use Rattle.std.specs.Prelude.{◌≤◌, length};
-ghost use Rattle.tls_hs.specs.Message.{Message, view_message, alert, change_cipher_spec, handshake};
+ghost use Rattle.tls_fields.specs.Layout.{Layout};
+ghost use Rattle.tls_fields.specs.Answers.{Gives, GivesOrMemory};
 
 use std::alloc::Global;
+use std::marker::PhantomData;
 use tls_fields::{IResult, Item, Room};
-use tls_hs::{
-    TlsMessage, parse_tls_message_alert, parse_tls_message_changecipherspec,
-    parse_tls_message_handshake,
-};
+
+/// Whose messages they are, those of TLS or of DTLS, and how each kind is read.
+pub(crate) trait Protocol<'a> {
+    /// A message.
+    type Message: Drop;
+
+    /// What it says, apart from where it lies in memory.
+    ghost Value: { Type 0 };
+
+    ghost view: { Self.Message → Value };
+
+    ghost cipher_change: { Layout Value };
+
+    ghost alert_message: { Layout Value };
+
+    ghost handshake_message: { Layout Value };
+
+    /// Reads a ChangeCipherSpec.
+    fn read_change_cipher_spec(i: &'a [u8]) -> IResult<&'a [u8], Self::Message>
+        ensures { Gives view cipher_change i.now result };
+
+    /// Reads an alert.
+    fn read_alert(i: &'a [u8]) -> IResult<&'a [u8], Self::Message>
+        ensures { Gives view alert_message i.now result };
+
+    /// Reads a handshake message.
+    fn read_handshake(alloc: Global, i: &'a [u8]) -> IResult<&'a [u8], Self::Message>
+        ensures { GivesOrMemory view handshake_message i.now result };
+}
 
 /// Messages of records of type 20.
-pub(crate) struct ChangeCipherSpec;
+pub(crate) struct ChangeCipherSpec<P> {
+    protocol: PhantomData<P>,
+}
 
-impl Room for ChangeCipherSpec {}
+impl<P> Room for ChangeCipherSpec<P> {}
 
-impl<'a> Item<'a> for ChangeCipherSpec {
-    type Read = TlsMessage<'a>;
+impl<'a, P: Protocol<'a>> Item<'a> for ChangeCipherSpec<P> {
+    type Read = P::Message;
 
-    ghost Value = { Message };
+    ghost Value = { P.Value };
 
-    ghost view = { view_message };
+    ghost view = { P.view };
 
-    ghost layout = { change_cipher_spec };
+    ghost layout = { P.cipher_change };
 
-    fn read(_alloc: Global, i: &'a [u8]) -> IResult<&'a [u8], TlsMessage<'a>> {
-        parse_tls_message_changecipherspec(i)
+    #[inline(always)]
+    fn read(_alloc: Global, i: &'a [u8]) -> IResult<&'a [u8], P::Message> {
+        P::read_change_cipher_spec(i)
     }
 }
 
 /// Messages of records of type 21.
-pub(crate) struct Alert;
+pub(crate) struct Alert<P> {
+    protocol: PhantomData<P>,
+}
 
-impl Room for Alert {
+impl<P> Room for Alert<P> {
     fn room(i: &[u8]) -> usize
         ensures { result ≤ length i.now }
     {
@@ -39,35 +71,39 @@ impl Room for Alert {
     }
 }
 
-impl<'a> Item<'a> for Alert {
-    type Read = TlsMessage<'a>;
+impl<'a, P: Protocol<'a>> Item<'a> for Alert<P> {
+    type Read = P::Message;
 
-    ghost Value = { Message };
+    ghost Value = { P.Value };
 
-    ghost view = { view_message };
+    ghost view = { P.view };
 
-    ghost layout = { alert };
+    ghost layout = { P.alert_message };
 
-    fn read(_alloc: Global, i: &'a [u8]) -> IResult<&'a [u8], TlsMessage<'a>> {
-        parse_tls_message_alert(i)
+    #[inline(always)]
+    fn read(_alloc: Global, i: &'a [u8]) -> IResult<&'a [u8], P::Message> {
+        P::read_alert(i)
     }
 }
 
 /// Messages of records of type 22.
-pub(crate) struct Handshake;
+pub(crate) struct Handshake<P> {
+    protocol: PhantomData<P>,
+}
 
-impl Room for Handshake {}
+impl<P> Room for Handshake<P> {}
 
-impl<'a> Item<'a> for Handshake {
-    type Read = TlsMessage<'a>;
+impl<'a, P: Protocol<'a>> Item<'a> for Handshake<P> {
+    type Read = P::Message;
 
-    ghost Value = { Message };
+    ghost Value = { P.Value };
 
-    ghost view = { view_message };
+    ghost view = { P.view };
 
-    ghost layout = { handshake };
+    ghost layout = { P.handshake_message };
 
-    fn read(alloc: Global, i: &'a [u8]) -> IResult<&'a [u8], TlsMessage<'a>> {
-        parse_tls_message_handshake(alloc, i)
+    #[inline(always)]
+    fn read(alloc: Global, i: &'a [u8]) -> IResult<&'a [u8], P::Message> {
+        P::read_handshake(alloc, i)
     }
 }

@@ -1,6 +1,5 @@
 //! Records of DTLS and the messages in them (RFC 6347).
 
-mod content;
 mod handshake;
 mod handshake_view;
 mod hello;

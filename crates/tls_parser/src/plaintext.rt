@@ -4,19 +4,22 @@ ghost use Rattle.std.specs.Result.{IsErr};
 ghost use Rattle.tls_fields.specs.Layout.{complete, list1, mapped};
 ghost use Rattle.tls_fields.specs.Meaning.{AllowsOne};
 ghost use Rattle.tls_fields.specs.Reading.{reading};
-ghost use Rattle.tls_fields.specs.Answers.{GivesOrMemory, MemorySufficed};
-ghost use Rattle.tls_hs.specs.Message.{view_message, application_data, heartbeat};
+ghost use Rattle.tls_fields.specs.Answers.{Gives, GivesOrMemory, MemorySufficed};
+ghost use Rattle.tls_hs.specs.Message.{Message, view_message, change_cipher_spec, alert, handshake, application_data, heartbeat};
 ghost use Rattle.tls_parser.specs.Framing.{AsksNoMore, HasNoRecord, NeedsMore, IsIncomplete};
 ghost use Rattle.tls_parser.specs.RecordText.{WritesBack};
 ghost use Rattle.tls_parser.specs.Record.{Plaintext, view_header, raw_record, record_content, view_plaintext};
 ghost use Rattle.tls_parser.specs.Record.{plaintext};
 
-use crate::content::{Alert, ChangeCipherSpec, Handshake};
+use crate::content::{Alert, ChangeCipherSpec, Handshake, Protocol};
 use crate::record::{TlsRawRecord, TlsRecordHeader, parse_tls_raw_record};
 use std::alloc::Global;
 use tls_base::TlsRecordType;
 use tls_fields::{Err, ErrorKind, IResult, Item, OutOfMemory, Room, hops2, items1, refused};
-use tls_hs::{TlsMessage, parse_tls_message_applicationdata, parse_tls_message_heartbeat};
+use tls_hs::{
+    TlsMessage, parse_tls_message_alert, parse_tls_message_applicationdata,
+    parse_tls_message_changecipherspec, parse_tls_message_handshake, parse_tls_message_heartbeat,
+};
 
 /// A record that isn't encrypted (RFC 5246, section 6.2.1), with its messages, of which there is at least one.
 #[derive(Debug, PartialEq, Drop)]
@@ -39,6 +42,35 @@ impl<'a> TlsPlaintext<'a> {
             msg.push_reserved(message.try_clone(alloc)?);
         }
         Ok(TlsPlaintext { hdr: self.hdr, msg })
+    }
+}
+
+/// The messages of TLS.
+struct Tls;
+
+impl<'a> Protocol<'a> for Tls {
+    type Message = TlsMessage<'a>;
+
+    ghost Value = { Message };
+
+    ghost view = { view_message };
+
+    ghost cipher_change = { change_cipher_spec };
+
+    ghost alert_message = { alert };
+
+    ghost handshake_message = { handshake };
+
+    fn read_change_cipher_spec(i: &'a [u8]) -> IResult<&'a [u8], TlsMessage<'a>> {
+        parse_tls_message_changecipherspec(i)
+    }
+
+    fn read_alert(i: &'a [u8]) -> IResult<&'a [u8], TlsMessage<'a>> {
+        parse_tls_message_alert(i)
+    }
+
+    fn read_handshake(alloc: Global, i: &'a [u8]) -> IResult<&'a [u8], TlsMessage<'a>> {
+        parse_tls_message_handshake(alloc, i)
     }
 }
 
@@ -83,9 +115,9 @@ pub fn parse_tls_record_with_header<'a>(
     ensures never_incomplete { AsksNoMore result }
 {
     match hdr.record_type {
-        TlsRecordType::ChangeCipherSpec => items1::<ChangeCipherSpec>(alloc, i),
-        TlsRecordType::Alert => items1::<Alert>(alloc, i),
-        TlsRecordType::Handshake => items1::<Handshake>(alloc, i),
+        TlsRecordType::ChangeCipherSpec => items1::<ChangeCipherSpec<Tls>>(alloc, i),
+        TlsRecordType::Alert => items1::<Alert<Tls>>(alloc, i),
+        TlsRecordType::Handshake => items1::<Handshake<Tls>>(alloc, i),
         TlsRecordType::ApplicationData => application_data_alone(alloc, i),
         TlsRecordType::Heartbeat => heartbeat_alone(alloc, i, hdr.len),
         _ => refused(i, ErrorKind::Switch),

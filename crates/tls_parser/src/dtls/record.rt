@@ -7,15 +7,48 @@ ghost use Rattle.tls_fields.specs.Reading.{reading};
 ghost use Rattle.tls_fields.specs.Answers.{Gives, GivesOrMemory, MemorySufficed};
 ghost use Rattle.tls_parser.specs.DtlsRecord.{Plaintext, view_message, view_header, record_header, view_raw_record};
 ghost use Rattle.tls_parser.specs.DtlsRecord.{raw_record as raw_record_layout, record_content, view_plaintext};
-ghost use Rattle.tls_parser.specs.DtlsRecord.{plaintext};
+ghost use Rattle.tls_parser.specs.DtlsRecord.{plaintext, Message, change_cipher_spec, alert, handshake};
 ghost use Rattle.tls_parser.specs.Framing.{AsksNoMore, HasNoRecord, NeedsMore, IsIncomplete};
 
-use crate::dtls::content::{Alert, ChangeCipherSpec, Handshake};
-use crate::dtls::message::DTLSMessage;
+use crate::content::{Alert, ChangeCipherSpec, Handshake, Protocol};
+use crate::dtls::message::{
+    DTLSMessage, parse_dtls_message_alert, parse_dtls_message_changecipherspec,
+    parse_dtls_message_handshake,
+};
 use crate::record::MAX_RECORD_LEN;
 use std::alloc::Global;
 use tls_base::{TlsRecordType, TlsVersion};
 use tls_fields::{ErrorKind, IResult, Item, Room, block, hops2, items1, number2, number8, refused};
+
+/// The messages of DTLS.
+struct Dtls;
+
+impl<'a> Protocol<'a> for Dtls {
+    type Message = DTLSMessage<'a>;
+
+    ghost Value = { Message };
+
+    ghost view = { view_message };
+
+    ghost cipher_change = { change_cipher_spec };
+
+    ghost alert_message = { alert };
+
+    ghost handshake_message = { handshake };
+
+    fn read_change_cipher_spec(i: &'a [u8]) -> IResult<&'a [u8], DTLSMessage<'a>> {
+        parse_dtls_message_changecipherspec(i)
+    }
+
+    fn read_alert(i: &'a [u8]) -> IResult<&'a [u8], DTLSMessage<'a>> {
+        parse_dtls_message_alert(i)
+    }
+
+    #[inline(always)]
+    fn read_handshake(alloc: Global, i: &'a [u8]) -> IResult<&'a [u8], DTLSMessage<'a>> {
+        parse_dtls_message_handshake(alloc, i)
+    }
+}
 
 /// The header of a DTLS record (RFC 6347, section 4.1), 13 bytes.
 #[derive(Debug, PartialEq, Drop)]
@@ -104,9 +137,9 @@ pub fn parse_dtls_record_with_header<'a>(
     ensures never_incomplete { AsksNoMore result }
 {
     match hdr.content_type {
-        TlsRecordType::ChangeCipherSpec => items1::<ChangeCipherSpec>(alloc, i),
-        TlsRecordType::Alert => items1::<Alert>(alloc, i),
-        TlsRecordType::Handshake => items1::<Handshake>(alloc, i),
+        TlsRecordType::ChangeCipherSpec => items1::<ChangeCipherSpec<Dtls>>(alloc, i),
+        TlsRecordType::Alert => items1::<Alert<Dtls>>(alloc, i),
+        TlsRecordType::Handshake => items1::<Handshake<Dtls>>(alloc, i),
         _ => refused(i, ErrorKind::Switch),
     }
 }

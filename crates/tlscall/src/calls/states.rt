@@ -73,7 +73,10 @@ fn updates(asked: &Asked) -> Told {
 /// `:STATE`: each piece whose message is taken there, and where it leads. The others are refused as `InvalidTransition`.
 fn transitions(asked: &Asked) -> Told {
     let alloc = asked.alloc;
-    let named = TlsState::all().iter().copied().find(|state| state.name() == asked.arguments);
+    let named = TlsState::all()
+        .iter()
+        .copied()
+        .find(|state| state.name() == asked.arguments);
     let Some(state) = named else {
         return Ok(Some(format!(in alloc; "no state")?));
     };
