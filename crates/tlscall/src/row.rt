@@ -1,4 +1,5 @@
 //! A row: the calls, what they are given, and what is said of their answers.
+ghost use Rattle.std.specs.Prelude.{◌≤◌, length};
 
 use crate::fault::Fault;
 use crate::input::{Input, Named, input_of};
@@ -50,30 +51,36 @@ fn subject_of(word: &str) -> Option<(Subject, &str)> {
     }
 }
 
-/// The calls, and the words behind them. A comma stands between two calls, and behind a word whose next is a call too.
-fn calls_of<'t, 'w>(
-    alloc: Global,
-    words: &'w [&'t str],
-) -> Result<(Vec<&'t str>, &'w [&'t str]), AllocError> {
+/// How many of the words hold the calls: a comma stands between two calls, and behind a word whose next is a call too.
+fn call_words(words: &[&str]) -> usize
+    ensures { result ≤ length words.now }
+{
+    for (k, word) in words.iter().enumerate() {
+        if !word.ends_with(',') {
+            return k + 1;
+        }
+    }
+    words.len()
+}
+
+/// The calls in these words.
+fn calls_of<'t>(alloc: Global, words: &[&'t str]) -> Result<Vec<&'t str>, AllocError> {
     let mut calls: Vec<&'t str> = Vec::new(alloc);
-    let mut rest = words;
     for word in words {
-        rest = rest.get(1..).unwrap_or(&[]);
+        let word: &'t str = *word;
         for call in word.split(',') {
             if !call.is_empty() {
                 calls.push(call)?;
             }
         }
-        if !word.ends_with(',') {
-            break;
-        }
     }
-    Ok((calls, rest))
+    Ok(calls)
 }
 
 /// The row of these words, the first of which are the calls.
 pub fn row_of<'t>(alloc: Global, words: &[&'t str], names: &[Named<'t>]) -> Result<Row<'t>, Fault> {
-    let (calls, words) = calls_of(alloc, words)?;
+    let (front, words) = words.split_at(call_words(words));
+    let calls = calls_of(alloc, front)?;
     let mut given = Vec::new(alloc);
     let mut clauses: Vec<Clause<'t>> = Vec::new(alloc);
     for word in words {

@@ -2,6 +2,7 @@
 
 use crate::calls::Asked;
 use crate::told::{Told, table, told};
+use std::alloc::Global;
 use tls_fields::{
     Counted1, Counted2, Number2, block, counted1, counted2, counted3, items, items1, maybe2,
     number1, number2, number3, number4, number8, numbers as numbers_of, pairs, tag,
@@ -25,6 +26,29 @@ pub fn numbers(asked: &Asked) -> Told {
     )
 }
 
+/// What is told where a call that reads so many numbers may not be made, since not all of them are there.
+fn not_all_there(alloc: Global) -> Told {
+    Ok(Some(format!(in alloc; "not all numbers are there")?))
+}
+
+/// So many numbers of 1 byte.
+fn bytes(asked: &Asked, count: usize) -> Told {
+    let Asked { alloc, i, .. } = *asked;
+    if count > i.len() {
+        return not_all_there(alloc);
+    }
+    told(alloc, i, numbers_of::<u8>(alloc, i, count))
+}
+
+/// So many numbers of 2 bytes.
+fn pairs_of_bytes(asked: &Asked, count: usize) -> Told {
+    let Asked { alloc, i, .. } = *asked;
+    if count > i.len() / 2 {
+        return not_all_there(alloc);
+    }
+    told(alloc, i, numbers_of::<u16>(alloc, i, count))
+}
+
 pub fn lists(asked: &Asked) -> Told {
     let Asked { alloc, i, .. } = *asked;
     table!(asked;
@@ -33,8 +57,8 @@ pub fn lists(asked: &Asked) -> Told {
         "items::<Counted1>" => told(alloc, i, items::<Counted1>(alloc, i)),
         "items::<Counted2>" => told(alloc, i, items::<Counted2>(alloc, i)),
         "items1::<Number2>" => told(alloc, i, items1::<Number2>(alloc, i)),
-        "numbers::<u8>" => told(alloc, i, numbers_of::<u8>(alloc, i, asked.number(0))),
-        "numbers::<u16>" => told(alloc, i, numbers_of::<u16>(alloc, i, asked.number(0))),
+        "numbers::<u8>" => bytes(asked, asked.number(0)),
+        "numbers::<u16>" => pairs_of_bytes(asked, asked.number(0)),
         "pairs::<u16>" => told(alloc, i, pairs::<u16>(alloc, i)),
     )
 }
