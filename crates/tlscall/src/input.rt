@@ -1,6 +1,7 @@
 //! What a row gives to a call: bytes in hexadecimal, which marks set apart as pieces.
 
 use crate::fault::Fault;
+use hex::FromHexError;
 use std::alloc::{AllocError, Global};
 
 /// Bytes behind a mark. The bytes in front of the first mark stand behind a blank.
@@ -117,6 +118,7 @@ impl<'t> Reading<'t> {
         };
         match hex::decode(alloc, digits) {
             Ok(bytes) => self.bytes.extend_from_slice(&bytes)?,
+            Err(FromHexError::OutOfMemory) => return Err(Fault::Memory),
             Err(_) => return Err(Fault::Form("no hexadecimal")),
         }
         if times == 1 {

@@ -43,8 +43,7 @@ fn compare_files(
         let text = fs::read_to_string(rt, file.as_str())?;
         if let Err(e) = compare_rows(alloc, file.as_str(), text.as_str(), &mut tally) {
             let line = e.line;
-            print!(rt; "{}", tally.lines)?;
-            let place = format!(in alloc; "{file}:{line}: ")?;
+            let place = format!(in alloc; "{}{file}:{line}: ", tally.lines)?;
             return tell(rt, place.as_str(), e.fault);
         }
     }
@@ -55,8 +54,8 @@ fn compare_files(
         lines,
         ..
     } = &tally;
-    print!(rt; "{lines}")?;
-    println!(rt; "{rows} rows, {answers} answers: {differ} differ")?;
+    let told = format!(in alloc; "{lines}{rows} rows, {answers} answers: {differ} differ")?;
+    println!(rt; "{told}")?;
     Ok(if *differ == 0 { RIGHT } else { DIFFERS })
 }
 

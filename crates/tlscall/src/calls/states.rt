@@ -36,7 +36,11 @@ fn run(asked: &Asked) -> Told {
     let mut messages = Vec::new(alloc);
     for piece in asked.pieces {
         match said(alloc, piece)? {
-            Some(said) => messages.extend(said)?,
+            Some(said) => {
+                for message in said {
+                    messages.push(message)?;
+                }
+            }
             None => return no_record(alloc),
         }
     }

@@ -45,8 +45,9 @@ fn pieces_of<'a>(asked: &Asked<'a>) -> Result<Vec<&'a [u8]>, AllocError> {
 
 /// The same of one piece, cut at every place and into pieces of several sizes, where all have the same.
 fn split_anyhow(alloc: Global, i: &[u8]) -> Told {
-    let Some(whole) = split(alloc, &[i])? else {
-        return Ok(None);
+    let whole = match split_pieces(alloc, &[i]) {
+        Ok((records, stream)) => debug(alloc, &(records, stream.held()))?,
+        Err(_) => return want_of_memory(alloc),
     };
     for place in 0..i.len() {
         let (front, behind) = i.split_at(place);

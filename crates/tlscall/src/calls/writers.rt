@@ -119,7 +119,9 @@ fn record_of(alloc: Global, asked: &Asked) -> Told {
     match tls_parser_many(alloc, asked.i) {
         Ok((_, records)) => {
             for record in records {
-                msg.extend(record.msg)?;
+                for message in record.msg {
+                    msg.push(message)?;
+                }
             }
         }
         Err(Err::OutOfMemory) => return Err(AllocError),
