@@ -190,7 +190,6 @@ impl<'a, R: Reader> Item<'a> for ExtensionFor<R> {
 
     ghost layout = { extension_layout R.side };
 
-    #[inline(always)]
     fn read(alloc: Global, i: &'a [u8]) -> IResult<&'a [u8], TlsExtension<'a>> {
         extension(alloc, i, R::side())
     }
