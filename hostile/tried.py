@@ -9,6 +9,8 @@ from pathlib import Path
 
 TOP = Path(__file__).resolve().parent.parent
 HOST = "tlsview"
+# What the programs stand on beside that.
+MORE = "tls_events tls_flow"
 
 
 def tree(room, name, keeps=False):
@@ -16,8 +18,9 @@ def tree(room, name, keeps=False):
     tests stay where it keeps them."""
     crates = room / "crates"
     crates.mkdir()
-    for file in ("HANDLES", "crates.txt"):
-        (room / file).write_bytes((TOP / file).read_bytes())
+    (room / "HANDLES").write_bytes((TOP / "HANDLES").read_bytes())
+    listed = (TOP / "crates.txt").read_text()
+    (room / "crates.txt").write_text(listed.replace(f"{HOST}:", f"{HOST}: {MORE}"))
     pack = subprocess.run(
         ["tar", "cf", "-", "--exclude=out", "--exclude=must-fail", "."],
         cwd=TOP / "crates",

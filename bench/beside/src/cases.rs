@@ -14,6 +14,8 @@ pub struct Case {
 }
 
 type Repeated = extern "C" fn(*const u8, usize, usize) -> u64;
+/// A call on a stream, with the size of its pieces, or on datagrams, with theirs.
+pub type InPieces = extern "C" fn(*const u8, usize, usize) -> u64;
 type Sided = extern "C" fn(*const u8, usize, *const u8, usize, usize) -> u64;
 
 fn repeated(call: Repeated, bytes: &'static [u8]) -> Calls {
@@ -23,6 +25,14 @@ fn repeated(call: Repeated, bytes: &'static [u8]) -> Calls {
 fn sided(call: Sided, bytes: &'static [u8], sides: &'static [u8]) -> Calls {
     Box::new(move |times| {
         black_box(call)(bytes.as_ptr(), bytes.len(), sides.as_ptr(), sides.len(), times)
+    })
+}
+
+/// A call on all of the bytes, so many times a round.
+fn in_pieces(call: InPieces, bytes: &'static [u8], piece: usize, each: usize) -> Calls {
+    Box::new(move |times| {
+        let call = black_box(call);
+        (0..times * each).fold(0, |n: u64, _| n.wrapping_add(call(bytes.as_ptr(), bytes.len(), piece)))
     })
 }
 
@@ -180,6 +190,41 @@ fn states(all: &mut Cases) {
     }
 }
 
+/// The size of the pieces that a stream comes in: a packet's.
+const PIECE: usize = 1460;
+
+/// Streams of handshake messages: what they are, the bytes of a message and those of a record.
+const MESSAGES: [(&str, usize, usize); 5] = [
+    ("messages of 100 bytes, 160 in a record", 100, 16000),
+    ("messages of 1,000 bytes, a record each", 1000, 1000),
+    ("messages of 3,000 bytes, over three records each", 3000, 1000),
+    ("messages of 16,000 bytes, a record each", 16000, 16000),
+    ("messages of 100,000 bytes, over seven records each", 100000, 16384),
+];
+
+/// Messages that are joined have nothing beside them in Rust: they stand beside our records alone, and those of DTLS beside the same
+/// in order, or beside ten of a tenth.
+fn joined(all: &mut Cases) {
+    for (what, message, payload) in MESSAGES {
+        let bytes = leak(inputs::messages(1 << 18, message, payload));
+        let records = in_pieces(ours::ours_records, bytes, PIECE, 1);
+        let messages = in_pieces(ours::ours_messages, bytes, PIECE, 1);
+        all.add("joined", format!("{what}, beside its records"), messages, records);
+    }
+    let datagrams = |length, is_reversed, each| {
+        let bytes = leak(inputs::datagrams(length, is_reversed));
+        in_pieces(ours::ours_datagrams, bytes, inputs::DATAGRAM, each)
+    };
+    let pairs = [
+        ("100,000 bytes reversed, beside in order", datagrams(100_000, true, 1), datagrams(100_000, false, 1)),
+        ("1,000,000 bytes in order, beside ten of 100,000", datagrams(1_000_000, false, 1), datagrams(100_000, false, 10)),
+        ("1,000,000 bytes reversed, beside ten of 100,000", datagrams(1_000_000, true, 1), datagrams(100_000, true, 10)),
+    ];
+    for (what, o, other) in pairs {
+        all.add("fragments", what, o, other);
+    }
+}
+
 /// All cases that are called in batches.
 pub fn all() -> Vec<Case> {
     let mut all = Cases(Vec::new());
@@ -191,14 +236,19 @@ pub fn all() -> Vec<Case> {
     keys(&mut all);
     writer(&mut all);
     states(&mut all);
+    joined(&mut all);
     all.0
 }
 
-/// Of a stream: its records' payload and the size of its pieces; the number of the whole.
+/// A stream, the size of its pieces, and the calls that cut it: ours and what stands beside it.
 pub struct Stream {
     pub name: String,
     pub bytes: Vec<u8>,
     pub piece: usize,
+    pub ours: InPieces,
+    pub beside: InPieces,
+    /// One that takes off each record by moving what is behind it.
+    pub each: Option<InPieces>,
 }
 
 /// Streams of so many bytes.
@@ -206,11 +256,19 @@ pub fn streams(total: usize) -> Vec<Stream> {
     let mut all = Vec::new();
     for payload in [5, 500, 16000] {
         let bytes = inputs::stream(total, payload);
-        for piece in [1460, bytes.len()] {
+        for piece in [PIECE, bytes.len()] {
             let cut = if piece == bytes.len() { "one piece".into() } else { format!("pieces of {piece}") };
             let name = format!("payloads of {payload}, {cut}");
-            all.push(Stream { name, bytes: bytes.clone(), piece });
+            let bytes = bytes.clone();
+            let (ours, beside) = (ours::ours_stream, rust::rust_stream);
+            all.push(Stream { name, bytes, piece, ours, beside, each: Some(rust::rust_stream_each) });
         }
+    }
+    for (what, message, payload) in MESSAGES {
+        let bytes = inputs::messages(total, message, payload);
+        let name = format!("{what}, pieces of {PIECE}, beside our records");
+        let (ours, beside) = (ours::ours_messages, ours::ours_records);
+        all.push(Stream { name, bytes, piece: PIECE, ours, beside, each: None });
     }
     all
 }

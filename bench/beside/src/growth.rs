@@ -50,7 +50,17 @@ extern "C" fn stream_of_bytes(bytes: *const u8, len: usize, times: usize) -> u64
     (0..times).map(|_| ours::ours_stream(bytes, len / 2, 1)).sum()
 }
 
-fn all() -> [Growing; 9] {
+/// The same of datagrams, whose size is known.
+extern "C" fn of_datagrams(bytes: *const u8, len: usize, times: usize) -> u64 {
+    (0..times).map(|_| ours::ours_datagrams(bytes, len / 2, inputs::DATAGRAM)).sum()
+}
+
+/// The same of a stream of messages in pieces.
+extern "C" fn of_messages(bytes: *const u8, len: usize, times: usize) -> u64 {
+    (0..times).map(|_| ours::ours_messages(bytes, len / 2, 1460)).sum()
+}
+
+fn all() -> [Growing; 14] {
     let one = |name, call, input, most| Growing { name, call, input, most };
     [
         one("`tls_parser_many`, records of no application data", ours::ours_many, |n| repeat(&[23, 3, 3, 0, 0], n), MOST),
@@ -62,6 +72,11 @@ fn all() -> [Growing; 9] {
         one("`parse_ct_signed_certificate_timestamp_list`", ours::ours_timestamps, timestamps, 65535),
         one("`parse_tls_plaintext`, HelloRequests", ours::ours_plaintext, |n| inputs::record(22, &vec![0; n - 5]), 16645),
         one("`feed` and `take_front`, a byte a call", stream_of_bytes, |n| repeat(&[23, 3, 3, 0, 0], n), MOST),
+        one("`Direction`, a message over records of a byte", of_messages, |n| inputs::messages(n / 6, n / 6, 1), 6 * 131_072),
+        one("`read_datagram`, a message in fragments of 1,200 in order", of_datagrams, |n| inputs::datagrams(n, false), 100_000),
+        one("the same, reversed", of_datagrams, |n| inputs::datagrams(n, true), 100_000),
+        one("`read_datagram`, a longer message in order", of_datagrams, |n| inputs::datagrams(n, false), 1_000_000),
+        one("the same, reversed", of_datagrams, |n| inputs::datagrams(n, true), 1_000_000),
     ]
 }
 

@@ -175,6 +175,11 @@ pub fn server_hello_record() -> Vec<u8> {
     record(22, &server_hello(&extensions_server()))
 }
 
+/// A ServerHello of TLS 1.2, by its extensions too.
+fn server_hello_tls12() -> Vec<u8> {
+    server_hello(&[extension(0xff01, &[0]), extension(11, &[1, 0]), extension(35, &[])].concat())
+}
+
 fn certificate(sizes: &[usize]) -> Vec<u8> {
     let list: Vec<u8> = sizes.iter().flat_map(|size| counted(3, &filler(*size))).collect();
     handshake(11, &counted(3, &list))
@@ -256,7 +261,7 @@ fn dtls_record(kind: u8, fragment: &[u8]) -> Vec<u8> {
 fn dtls_handshake(kind: u8, length: usize, offset: usize, fragment: &[u8]) -> Vec<u8> {
     let mut out = vec![kind];
     out.extend(&(length as u32).to_be_bytes()[1..]);
-    out.extend([0, 1]);
+    out.extend([0, 0]);
     out.extend(&(offset as u32).to_be_bytes()[1..]);
     out.extend(counted(3, fragment));
     out
@@ -307,7 +312,7 @@ pub fn dtls_records() -> Vec<u8> {
 pub fn conversation(with_client_certificate: bool) -> (Vec<u8>, Vec<u8>) {
     let mut messages = vec![
         (hello_tls12(), 1),
-        (server_hello_record(), 0),
+        (record(22, &server_hello_tls12()), 0),
         (certificate_record(&[1100, 1300]), 0),
         (record(22, &server_key_exchange()), 0),
     ];
@@ -326,6 +331,33 @@ pub fn conversation(with_client_certificate: bool) -> (Vec<u8>, Vec<u8>) {
     messages.push((record(20, &[1]), 0));
     let sides = messages.iter().map(|(_, side)| *side).collect();
     (messages.into_iter().flat_map(|(bytes, _)| bytes).collect(), sides)
+}
+
+/// A stream of handshake messages of `message` bytes each, their headers counted, which are joined and cut into records of at most
+/// `payload` bytes; at least `total` bytes of them.
+pub fn messages(total: usize, message: usize, payload: usize) -> Vec<u8> {
+    let joined = handshake(11, &filler(message - 4)).repeat(total.div_ceil(message));
+    joined.chunks(payload).flat_map(|part| record(22, part)).collect()
+}
+
+/// How many bytes a datagram of one fragment has, of a body of 1,200 bytes.
+pub const DATAGRAM: usize = 13 + 12 + 1200;
+
+/// Datagrams with the fragments of one message, whose body has so many bytes. All are of `DATAGRAM` bytes but the last.
+pub fn datagrams(length: usize, is_reversed: bool) -> Vec<u8> {
+    let body = filler(length);
+    let one = |place: (usize, usize)| {
+        let (begin, end) = place;
+        dtls_record(22, &dtls_handshake(11, length, begin, &body[begin..end]))
+    };
+    let count = length.div_ceil(1200);
+    if is_reversed {
+        let from_end = |k: usize| (length.saturating_sub(1200 * (k + 1)), length - 1200 * k);
+        (0..count).map(from_end).flat_map(one).collect()
+    } else {
+        let from_front = |k: usize| (1200 * k, length.min(1200 * (k + 1)));
+        (0..count).map(from_front).flat_map(one).collect()
+    }
 }
 
 /// A stream of at least `total` bytes, of records of application data of `payload` bytes each.

@@ -17,11 +17,8 @@ mod ours;
 mod rust;
 mod view;
 
-use cases::{Case, Stream};
+use cases::{Case, InPieces, Stream};
 use std::hint::black_box;
-
-/// A call on a stream, with the size of its pieces.
-type OfStream = extern "C" fn(*const u8, usize, usize) -> u64;
 
 /// Batches of a case on each side.
 const BATCHES: usize = 60;
@@ -140,10 +137,10 @@ fn is_same(wanted: &[String]) -> bool {
             is_same = false;
         }
     }
-    for Stream { name, bytes, piece } in cases::streams(1 << 16) {
-        let calls: [OfStream; 3] = [ours::ours_stream, rust::rust_stream, rust::rust_stream_each];
-        let numbers = calls.map(|call| call(bytes.as_ptr(), bytes.len(), piece));
-        if numbers[0] != numbers[1] || numbers[0] != numbers[2] || numbers[0] == 0 {
+    for Stream { name, bytes, piece, ours, beside, each } in cases::streams(1 << 16) {
+        let told = |call: InPieces| call(bytes.as_ptr(), bytes.len(), piece);
+        let number = told(ours);
+        if number == 0 || told(beside) != number || each.is_some_and(|call| told(call) != number) {
             println!("The records of a stream differ: {name}");
             is_same = false;
         }
@@ -173,39 +170,39 @@ fn instructions(wanted: &[String]) {
 
 /// The streams of so many MiB: bytes a second.
 fn streams(wanted: &[String], total: usize) {
-    println!("| stream | MB/s, ours | MB/s, Rust | ratio of times | quartiles | MB/s, Rust that drains each record |");
+    println!("| stream | MB/s, ours | MB/s, beside | ratio of times | quartiles | MB/s, Rust that drains each record |");
     println!("|---|---|---|---|---|---|");
-    for Stream { name, bytes, piece } in cases::streams(total) {
+    for Stream { name, bytes, piece, ours, beside, each } in cases::streams(total) {
         if !is_wanted(wanted, "streams", &name) {
             continue;
         }
-        let timed = |call: OfStream| {
+        let timed = |call: InPieces| {
             let begin = processor_time();
             black_box(call(bytes.as_ptr(), bytes.len(), piece));
             processor_time() - begin
         };
-        let (mut ratios, mut all_ours, mut all_rust) = (Vec::new(), Vec::new(), Vec::new());
+        let (mut ratios, mut all_ours, mut all_beside) = (Vec::new(), Vec::new(), Vec::new());
         for round in 0..STREAM_ROUNDS {
-            let (ours, rust) = if round % 2 == 0 {
-                let ours = timed(ours::ours_stream);
-                (ours, timed(rust::rust_stream))
+            let (one, other) = if round % 2 == 0 {
+                let one = timed(ours);
+                (one, timed(beside))
             } else {
-                let rust = timed(rust::rust_stream);
-                (timed(ours::ours_stream), rust)
+                let other = timed(beside);
+                (timed(ours), other)
             };
-            ratios.push(ours / rust);
-            all_ours.push(ours);
-            all_rust.push(rust);
+            ratios.push(one / other);
+            all_ours.push(one);
+            all_beside.push(other);
         }
         let speed = |list: Vec<f64>| bytes.len() as f64 / quartiles(list)[1] / 1e6;
-        let (ours, rust) = (speed(all_ours), speed(all_rust));
-        let each = if piece == bytes.len() {
-            "not run: its time grows with the square".to_string()
-        } else {
-            format!("{:.0}", bytes.len() as f64 / timed(rust::rust_stream_each) / 1e6)
+        let (ours, beside) = (speed(all_ours), speed(all_beside));
+        let each = match each {
+            Some(_) if piece == bytes.len() => "not run: its time grows with the square".to_string(),
+            Some(call) => format!("{:.0}", bytes.len() as f64 / timed(call) / 1e6),
+            None => String::new(),
         };
         let [low, middle, high] = quartiles(ratios);
-        println!("| {name} | {ours:.0} | {rust:.0} | {middle:.2} | {low:.2} to {high:.2} | {each} |");
+        println!("| {name} | {ours:.0} | {beside:.0} | {middle:.2} | {low:.2} to {high:.2} | {each} |");
     }
 }
 
@@ -222,15 +219,18 @@ fn counted(wanted: &[String], total: usize) {
             .map(|side| count(side, 2).requests - count(side, 1).requests);
         println!("| {} | {} | {ours} | {rust} |", case.group, case.name);
     }
-    println!("\n| stream | peak KB, ours | peak KB, Rust | requests, ours | requests, Rust |\n|---|---|---|---|---|");
-    for Stream { name, bytes, piece } in cases::streams(total) {
-        let call = |call: OfStream| {
+    println!("\n| stream | peak KB, ours | peak KB, beside | requests, ours | requests, beside |\n|---|---|---|---|---|");
+    for Stream { name, bytes, piece, ours, beside, .. } in cases::streams(total) {
+        if !is_wanted(wanted, "streams", &name) {
+            continue;
+        }
+        let call = |call: InPieces| {
             count(&|_| call(bytes.as_ptr(), bytes.len(), piece), 1)
         };
-        let (ours, rust) = (call(ours::ours_stream), call(rust::rust_stream));
+        let (ours, beside) = (call(ours), call(beside));
         println!(
             "| {name} | {} | {} | {} | {} |",
-            ours.peak / 1000, rust.peak / 1000, ours.requests, rust.requests
+            ours.peak / 1000, beside.peak / 1000, ours.requests, beside.requests
         );
     }
 }

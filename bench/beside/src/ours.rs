@@ -52,4 +52,7 @@ unsafe extern "C" {
         times: usize,
     ) -> u64;
     pub safe fn ours_stream(bytes: *const u8, len: usize, piece: usize) -> u64;
+    pub safe fn ours_records(bytes: *const u8, len: usize, piece: usize) -> u64;
+    pub safe fn ours_messages(bytes: *const u8, len: usize, piece: usize) -> u64;
+    pub safe fn ours_datagrams(bytes: *const u8, len: usize, size: usize) -> u64;
 }

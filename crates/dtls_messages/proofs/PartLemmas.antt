@@ -1,5 +1,5 @@
 -- What is held of a message is what its fragments give.
-use Rattle.std.proofs.Common.{◌≡◌, ℕ, zero, suc, ◌+◌, ◌<◌, true, Some, None, Option, List, [], ◌∷◌, length, refl, sym, ◌∙◌, ap, subst, arith}
+use Rattle.std.proofs.Common.{◌≡◌, ◌↔◌, ℕ, zero, suc, ◌+◌, ◌<◌, true, Some, None, Option, List, [], ◌∷◌, length, refl, sym, ◌∙◌, ap, subst, arith}
 use Rattle.std.specs.Prelude.{IsSome, IfSome, is_some, slice_index}
 use Rattle.std.specs.Borrow.{Bor}
 use Rattle.std.specs.Option.{option_map}
@@ -70,6 +70,13 @@ front_some l h k p b st e body = sym (part_message (of_message h.next h.taken) p
 
 pub front_none : (l : Limits) (h : Heard) (k : Kept) (p : Held) → Stands l h k → slot k 0 ≡ Some p → (IsComplete p → ⊥) → None ≡ message_of (of_message h.next h.taken)
 front_none l h k p st e not = sym (part_none (of_message h.next h.taken) p (front_part l h k (Some p) st e) not)
+
+-- Whether it is whole.
+pub front_whole : (l : Limits) (h : Heard) (k : Kept) (p : Held) (o : Option (Bor (List ℕ))) → Stands l h k → slot k 0 ≡ Some p →
+    (IsSome o ↔ IsComplete p) → IfSome o (λ b. IsBody p b.now) → is_some o ≡ is_some (message_of (of_message h.next h.taken))
+front_whole l h k p None st e whole body =
+    ap is_some (front_none l h k p st e (λ all. let some = whole.1 all in absurd cc))
+front_whole l h k p (Some b) st e whole body = ap is_some (front_some l h k p b.now st e body)
 
 pub body_held : (o : Option (Bor (List ℕ))) (p : Held) → IfSome o (λ b. IsBody p b.now) → IfSome o (λ b. b.now ≡ p.held) → is_some o ≡ true → IsBody p p.held
 body_held None p body held some = absurd cc

@@ -56,7 +56,7 @@ whole_step (suc n) next ts m h e =
     ∙ ap (λ j. m ∷ whole_from j (suc next) ts) (omega arith)
     ∙ ap (λ j. m ∷ whole_from (suc n - 1) j ts) (omega arith)
 
-whole_end : (n next : ℕ) (ts : List Fragment) → message_of (of_message next ts) ≡ None → whole_from n next ts ≡ []
+pub whole_end : (n next : ℕ) (ts : List Fragment) → message_of (of_message next ts) ≡ None → whole_from n next ts ≡ []
 whole_end zero next ts e = refl
 whole_end (suc n) next ts e = ap (λ o. followed o (whole_from n (suc next) ts)) e
 

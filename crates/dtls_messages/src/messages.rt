@@ -131,7 +131,17 @@ impl Messages {
         self.add_at(index, fragment)
     }
 
-    /// Takes the next message, where all its bytes are there.
+    /// Whether all bytes of the next message are there.
+    pub fn is_front_whole(&self) -> bool
+        ensures { (l : Allowed) (h : Heard) → Stands l h self.now → result ≡ is_some (message_of (of_message h.next h.taken)) }
+    {
+        let Some(Some(part)) = self.slots.first() else {
+            return false;
+        };
+        part.body().is_some()
+    }
+
+    /// Takes the next message, where all its bytes are there. It takes no memory.
     pub fn take_front(&mut self) -> Option<Message>
         ensures places { length self.new.slots + (if is_some result then 1 else 0) ≡ length self.old.slots }
         ensures message { (l : Allowed) (h : Heard) → Stands l h self.old → option_map view_message result ≡ message_of (of_message h.next h.taken) }

@@ -1,6 +1,7 @@
 //! Rows, and what they tell.
+ghost use Rattle.std.specs.Prelude.{◌≡◌, ◌≢◌, ◌≤◌, ◌↔◌, None, string_bytes};
 
-use crate::conversation::Conversation;
+use crate::conversation::Recorded;
 use crate::outcome::told;
 use std::alloc::{AllocError, Global};
 use tls_base::{TlsAlertDescription, TlsAlertSeverity, TlsMessageAlert};
@@ -9,7 +10,7 @@ use tls_flow::{Direction, Event, Flow, Kind};
 /// The rows so far.
 #[derive(Drop)]
 pub struct Rows {
-    conversation: Conversation,
+    conversation: Recorded,
     cases: u64,
     faults: u64,
 }
@@ -17,7 +18,7 @@ pub struct Rows {
 impl Rows {
     pub fn new(alloc: Global) -> Rows {
         Rows {
-            conversation: Conversation::new(alloc),
+            conversation: Recorded::new(alloc),
             cases: 0,
             faults: 0,
         }
@@ -38,7 +39,7 @@ impl Rows {
         }
         if let Some(outcome) = line.strip_prefix("=> ") {
             let found = told(alloc, self.conversation.flow())?;
-            self.conversation = Conversation::new(alloc);
+            self.conversation = Recorded::new(alloc);
             return Ok(self.compare(found, outcome));
         }
         if let Some(digits) = line.strip_prefix("> ") {
@@ -65,7 +66,12 @@ impl Rows {
         Ok(self.compare(found, outcome))
     }
 
-    fn compare(&mut self, found: String, wanted: &str) -> Option<String> {
+    /// Counts a case, and answers how it ended where that isn't what the row says.
+    fn compare(&mut self, found: String, wanted: &str) -> Option<String>
+        ensures right { (result ≡ None) ↔ (string_bytes found ≡ wanted.now) }
+        ensures counted { string_bytes found ≢ wanted.now → 1 ≤ self.new.faults }
+        ensures kept { self.old.faults ≤ self.new.faults }
+    {
         self.cases = self.cases.saturating_add(1);
         if found.as_str() == wanted {
             return None;

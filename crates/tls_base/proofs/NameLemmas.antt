@@ -1,5 +1,23 @@
 -- A look-up in a table of numbers and names.
-use Rattle.std.proofs.Common.{◌≡◌, ◌∙◌, ap, sym, ℕ, Bool, true, false, cond, List, [], ◌∷◌, Option, Some, map, ◌==◌, refl}
+use Rattle.std.proofs.Common.{
+  ◌≡◌,
+  ◌∙◌,
+  ap,
+  sym,
+  ℕ,
+  Bool,
+  true,
+  false,
+  cond,
+  List,
+  [],
+  ◌∷◌,
+  Option,
+  Some,
+  map,
+  ◌==◌,
+  refl,
+}
 use Rattle.std.specs.Borrow.{Bor}
 use Rattle.std.specs.Option.{option_map}
 use Rattle.tls_base.specs.Names.{Text, look_up, shown, name}

@@ -1,5 +1,34 @@
 -- A table whose numbers rise, and the look-up by the place of a number in it.
-use Rattle.std.proofs.Common.{◌≡◌, ◌≢◌, ◌↔◌, ◌∙◌, ap, sym, refl, ℕ, zero, suc, ◌+◌, ◌<◌, ◌≤◌, Bool, true, false, cond, eqb, List, [], ◌∷◌, length, Option, Some, None, slice_get, slice_index, arith}
+use Rattle.std.proofs.Common.{
+  ◌≡◌,
+  ◌≢◌,
+  ◌↔◌,
+  ◌∙◌,
+  ap,
+  sym,
+  refl,
+  ℕ,
+  zero,
+  suc,
+  ◌+◌,
+  ◌<◌,
+  ◌≤◌,
+  Bool,
+  true,
+  false,
+  cond,
+  eqb,
+  List,
+  [],
+  ◌∷◌,
+  length,
+  Option,
+  Some,
+  None,
+  slice_get,
+  slice_index,
+  arith,
+}
 use Rattle.std.specs.Prelude.{nat_lt, ◌==◌, find, MatchOption}
 use Rattle.std.specs.Option.{option_map, option_copied}
 use Rattle.std.specs.List.{zip, HoldsAt}

@@ -1,5 +1,37 @@
 -- What the records are that a direction hasn't read.
-use Rattle.std.proofs.Common.{◌≡◌, ℕ, ◌+◌, ◌-◌, ◌<◌, ◌≤◌, ◌==◌, ◌⊎◌, inl, inr, List, [], ◌∷◌, ◌++◌, length, take, drop, Bool, true, false, cond, Option, Some, None, refl, sym, ◌∙◌, ap, subst, arith, lit<}
+use Rattle.std.proofs.Common.{
+  ◌≡◌,
+  ℕ,
+  ◌+◌,
+  ◌-◌,
+  ◌<◌,
+  ◌≤◌,
+  ◌==◌,
+  ◌⊎◌,
+  inl,
+  inr,
+  List,
+  [],
+  ◌∷◌,
+  ◌++◌,
+  length,
+  take,
+  drop,
+  Bool,
+  true,
+  false,
+  cond,
+  Option,
+  Some,
+  None,
+  refl,
+  sym,
+  ◌∙◌,
+  ap,
+  subst,
+  arith,
+  lit<,
+}
 use Rattle.std.specs.Prelude.{◌||◌, nat_le, slice_index}
 use Rattle.std.proofs.lemmas.Bool.{le-leb, lt-leb}
 use Rattle.std.proofs.Math.Bool.{or-false}
@@ -10,8 +42,33 @@ use Rattle.tls_fields.specs.declared.result.ErrorKind.TheVariants.{Verify}
 use Rattle.tls_stream.specs.Frames.{Shape, IsWhole, body_length, front, frames, left, size}
 use Rattle.tls_stream.proofs.FrontLemmas.{first_in, front_joins, front_stays, same_body}
 use Rattle.tls_stream.proofs.FrameLemmas.{first_frame, no_frame}
-use Rattle.tls_events.specs.Item.{Item, ChangeCipherSpec, ApplicationData, Heartbeat, Fragment, Alone, Broken, Standing, after, broken_front, broken_in, change_in, content_type, fragment, is_change, is_encrypted, item_of, items, or_broken, plain_item, read_item, refusal, refused, wide_record}
-use Rattle.tls_events.specs.Events.{unread_items}
+use Rattle.tls_events.specs.Item.{
+  Item,
+  ChangeCipherSpec,
+  ApplicationData,
+  Heartbeat,
+  Fragment,
+  Alone,
+  Broken,
+  Standing,
+  after,
+  broken_front,
+  broken_in,
+  change_in,
+  content_type,
+  fragment,
+  is_change,
+  is_encrypted,
+  item_of,
+  items,
+  or_broken,
+  plain_item,
+  read_item,
+  refusal,
+  refused,
+  wide_record,
+}
+use Rattle.tls_events.specs.Stream.{unread_items}
 
 takes : 0 < wide_record.header
 takes = lit< tt
@@ -23,7 +80,8 @@ has_header f b x e =
     let whole : size f b ≤ length b = i.is_whole in
     omega (arith, whole, ap length i.frame_is, length-take-le (size f b) b whole)
 
-records_are : (s : Standing) (b : Bytes) (x : Bytes × Bytes) → front wide_record b ≡ Some x → unread_items s b ≡ item_of s x.0 ∷ unread_items (after s x.0) x.1
+records_are : (s : Standing) (b : Bytes) (x : Bytes × Bytes) → front wide_record b ≡ Some x
+    → unread_items s b ≡ item_of s x.0 ∷ unread_items (after s x.0) x.1
 records_are s b x e =
     let one = first_frame wide_record takes b x.0 x.1 e in
     ap (λ rs. items s rs (left wide_record b)) one.0
@@ -48,14 +106,17 @@ same_refused s b y h =
     ap (λ t. refusal (is_encrypted s t) t (body_length wide_record (b ++ y))) (same_type b y h)
     ∙ ap (λ n. refusal (is_encrypted s (content_type b)) (content_type b) n) (same_body wide_record b y h)
 
-front_refused : (s : Standing) (b : Bytes) (x : Bytes × Bytes) → front wide_record b ≡ Some x → refused s x.0 ≡ refused s b
-front_refused s b x e = sym (same_refused s x.0 x.1 (has_header wide_record b x e)) ∙ ap (refused s) (front_joins wide_record b x e)
+front_refused : (s : Standing) (b : Bytes) (x : Bytes × Bytes) → front wide_record b ≡ Some x
+    → refused s x.0 ≡ refused s b
+front_refused s b x e = sym (same_refused s x.0 x.1 (has_header wide_record b x e))
+    ∙ ap (refused s) (front_joins wide_record b x e)
 
 broken_item : (s : Standing) (r : Bytes) (k : ErrorKind) → refused s r ≡ Some k → item_of s r ≡ Broken k
 broken_item s r k e = ap (λ o. or_broken o (read_item (is_encrypted s (content_type r)) r)) e
 
 -- A record that is refused by its header is so, whatever comes.
-pub refused_first : (s : Standing) (u t : Bytes) (k : ErrorKind) → 5 ≤ length u → refused s u ≡ Some k → (is : List Item) × (unread_items s (u ++ t) ≡ Broken k ∷ is)
+pub refused_first : (s : Standing) (u t : Bytes) (k : ErrorKind) → 5 ≤ length u → refused s u ≡ Some k
+    → (is : List Item) × (unread_items s (u ++ t) ≡ Broken k ∷ is)
 refused_first s u t k enough e = go (front wide_record (u ++ t)) refl
   where
     longer : 5 ≤ length (u ++ t)
@@ -64,10 +125,14 @@ refused_first s u t k enough e = go (front wide_record (u ++ t)) refl
     still : refused s (u ++ t) ≡ Some k
     still = same_refused s u t enough ∙ e
 
-    go : (a : Option (Bytes × Bytes)) → front wide_record (u ++ t) ≡ a → (is : List Item) × (unread_items s (u ++ t) ≡ Broken k ∷ is)
+    go : (a : Option (Bytes × Bytes)) → front wide_record (u ++ t) ≡ a
+        → (is : List Item) × (unread_items s (u ++ t) ≡ Broken k ∷ is)
     go (Some x) g =
-        let others = unread_items (after s x.0) x.1 in
-        (others, records_are s (u ++ t) x g ∙ ap (λ i. i ∷ others) (broken_item s x.0 k (front_refused s (u ++ t) x g ∙ still)))
+        let others = unread_items (after s x.0) x.1 in (
+          others,
+          records_are s (u ++ t) x g ∙ ap (λ i. i ∷ others)
+              (broken_item s x.0 k (front_refused s (u ++ t) x g ∙ still)),
+        )
     go None g = (
       [],
       no_records s (u ++ t) g
@@ -79,8 +144,10 @@ refused_first s u t k enough e = go (front wide_record (u ++ t)) refl
 pub none_short : (s : Standing) (u : Bytes) → front wide_record u ≡ None → length u < 5 → unread_items s u ≡ []
 none_short s u e short = no_records s u e ∙ ap (λ c. cond c (broken_in (refused s u)) []) (lt-leb 5 (length u) short)
 
-pub none_refused : (s : Standing) (u : Bytes) → front wide_record u ≡ None → 5 ≤ length u → refused s u ≡ None → unread_items s u ≡ []
-none_refused s u e enough r = no_records s u e ∙ ap (λ c. cond c (broken_in (refused s u)) []) (le-leb 5 (length u) enough) ∙ ap broken_in r
+pub none_refused : (s : Standing) (u : Bytes) → front wide_record u ≡ None → 5 ≤ length u → refused s u ≡ None
+    → unread_items s u ≡ []
+none_refused s u e enough r = no_records s u e
+    ∙ ap (λ c. cond c (broken_in (refused s u)) []) (le-leb 5 (length u) enough) ∙ ap broken_in r
 
 -- A fragment of messages: which it is, and that it changes nothing that is known.
 pub record IsFragment (s : Standing) (r : Bytes) (k : ℕ) (f : Bytes) : Type 0 where
@@ -95,16 +162,21 @@ fragment_is s r k f e = by_refusal (refused s r) e
     changed false g = absurd cc
 
     others : (t v : Bool) → content_type r == 20 ≡ false
-        → cond t (Alone (ApplicationData (fragment r))) (cond v (Alone (Heartbeat (fragment r))) (Fragment (content_type r) (fragment r))) ≡ Fragment k f → IsFragment s r k f
+        → cond t (Alone (ApplicationData (fragment r)))
+        (cond v (Alone (Heartbeat (fragment r))) (Fragment (content_type r) (fragment r))) ≡ Fragment k f
+        → IsFragment s r k f
     others true v at g = absurd cc
     others false true at g = absurd cc
     others false false at g = record {
       bytes_are = cc;
-      keeps = ap (λ t. record { is_tls13 = s.is_tls13; has_changed = s.has_changed || t }) at ∙ ap (λ c. record { is_tls13 = s.is_tls13; has_changed = c }) (or-false s.has_changed);
+      keeps = ap (λ t. record { is_tls13 = s.is_tls13; has_changed = s.has_changed || t }) at
+          ∙ ap (λ c. record { is_tls13 = s.is_tls13; has_changed = c }) (or-false s.has_changed);
     }
 
     by_type : (t : Bool) → content_type r == 20 ≡ t
-        → cond t (change_in (fragment r)) (cond (content_type r == 23) (Alone (ApplicationData (fragment r))) (cond (content_type r == 24) (Alone (Heartbeat (fragment r))) (Fragment (content_type r) (fragment r)))) ≡ Fragment k f
+        → cond t (change_in (fragment r)) (cond (content_type r == 23) (Alone (ApplicationData (fragment r)))
+        (cond (content_type r == 24) (Alone (Heartbeat (fragment r))) (Fragment (content_type r) (fragment r))))
+        ≡ Fragment k f
         → IsFragment s r k f
     by_type true at g = changed (is_change (fragment r)) g
     by_type false at g = others (content_type r == 23) (content_type r == 24) at g
@@ -113,7 +185,8 @@ fragment_is s r k f e = by_refusal (refused s r) e
     by_cipher true g = absurd cc
     by_cipher false g = by_type (content_type r == 20) refl g
 
-    by_refusal : (o : Option ErrorKind) → or_broken o (read_item (is_encrypted s (content_type r)) r) ≡ Fragment k f → IsFragment s r k f
+    by_refusal : (o : Option ErrorKind) → or_broken o (read_item (is_encrypted s (content_type r)) r) ≡ Fragment k f
+        → IsFragment s r k f
     by_refusal (Some b) g = absurd cc
     by_refusal None g = by_cipher (is_encrypted s (content_type r)) g
 
@@ -123,7 +196,8 @@ pub record IsThere (u : Bytes) (x : Bytes × Bytes) (f : Bytes) : Type 0 where
   pub bytes_are : take (length f) (drop 5 u) ≡ f
   pub rest_is : drop (5 + length f) u ≡ x.1
 
-pub fragment_there : (u : Bytes) (x : Bytes × Bytes) (f : Bytes) → front wide_record u ≡ Some x → f ≡ fragment x.0 → IsThere u x f
+pub fragment_there : (u : Bytes) (x : Bytes × Bytes) (f : Bytes) → front wide_record u ≡ Some x → f ≡ fragment x.0
+    → IsThere u x f
 fragment_there u x f e is =
     let i = first_in wide_record u x e in
     let n = body_length wide_record u in

@@ -1,5 +1,6 @@
 pub mod EventLemmas
 pub mod ItemLemmas
+pub mod StreamLemmas
 pub mod DirectionLemmas
 pub mod HeldLemmas
 pub mod TakenLemmas

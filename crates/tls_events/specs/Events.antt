@@ -1,123 +1,72 @@
--- What a direction of a conversation says, by all its bytes: records, then the messages of their fragments, joined as
--- long as no other record stands between them (RFC 5246, section 6.2.1; RFC 8446, section 5.1).
-use Rattle.std.specs.Prelude.{◌≡◌, ℕ, ◌+◌, ◌≤◌, Bool, true, false, cond, ◌==◌, ◌&&◌, ◌||◌, nat_le, nat_lt, Option, Some, None, IsSome, option_map, Result, Ok, Err, List, [], ◌∷◌, ◌++◌, length, take, drop, map}
+-- What a direction of a conversation says, by all its bytes, and where it ends.
+use Rattle.std.specs.Prelude.{
+  ◌≡◌,
+  ℕ,
+  Bool,
+  true,
+  false,
+  Option,
+  Some,
+  None,
+  IsSome,
+  option_map,
+  Result,
+  Ok,
+  Err,
+  List,
+  [],
+  ◌∷◌,
+  ◌++◌,
+}
 use Rattle.tls_fields.specs.Bytes.{Bytes}
-use Rattle.tls_stream.specs.Frames.{Shape, body_length, front, frames, left, IsTooLarge}
-use Rattle.tls_events.specs.Messages.{event_of, messages_of}
-use Rattle.tls_events.specs.Held.{Held, joined}
-use Rattle.tls_events.specs.Item.{Event, Failed, Standing, Item, Fragment, Alone, Broken, items, item_of, after, wide_record}
+use Rattle.tls_events.specs.Item.{Event, Failed, Item}
+use Rattle.tls_events.specs.Stream as stream
 use Rattle.tls_events.specs.declared.direction.Direction.{Direction}
-use Rattle.tls_events.specs.declared.direction.Next.{Next}
-use Rattle.tls_events.specs.declared.direction.Next.TheVariants as next
+use Rattle.tls_events.specs.declared.stream.Stream.{Stream}
 use Rattle.tls_events.specs.declared.fault.Fault.{Fault}
-use Rattle.tls_events.specs.declared.fault.Fault.TheVariants as fault
-
--- The messages of joined fragments.
-abbrev pub said : ℕ → ℕ → Bytes → List Event
-said limit kind b = map (event_of kind) (frames (messages_of limit kind) b)
-
--- What they leave: nothing, or a part of a message, perhaps with a length above the limit.
-abbrev pub open_part : ℕ → ℕ → Bytes → Bytes
-open_part limit kind b = left (messages_of limit kind) b
-
--- Whether the header in front is all there, and says more than the limit.
-abbrev pub is_above : Shape → Bytes → Bool
-is_above f b = nat_le f.header (length b) && nat_lt f.limit (body_length f b)
-
-abbrev pub too_large_or : Shape → Bytes → List Event → List Event
-too_large_or f b others = cond (is_above f b) (Failed fault.TooLarge ∷ []) others
-
--- Another record stands behind them, and then these events: no message may be open.
-abbrev pub closed : Shape → Bytes → List Event → List Event
-closed f [] others = others
-closed f (b ∷ bs) others = too_large_or f (b ∷ bs) (Failed fault.Interrupted ∷ [])
-
--- The events of fragments of a type that are joined so far, and of what stands behind them.
-abbrev pub events_of : ℕ → ℕ → Bytes → List Item → List Event
-events_of limit kind b [] = said limit kind b ++ too_large_or (messages_of limit kind) (open_part limit kind b) []
-events_of limit kind b (Fragment k f ∷ is) =
-    cond (k == kind) (events_of limit kind (b ++ f) is)
-    (said limit kind b ++ closed (messages_of limit kind) (open_part limit kind b) (events_of limit k f is))
-events_of limit kind b (Alone e ∷ is) =
-    said limit kind b ++ closed (messages_of limit kind) (open_part limit kind b) (e ∷ events_of limit kind [] is)
-events_of limit kind b (Broken k ∷ is) =
-    said limit kind b ++ too_large_or (messages_of limit kind) (open_part limit kind b) (Failed (fault.Refused k) ∷ [])
-
--- A fragment in front of others of its type is one with them.
-abbrev pub onto_fragment : ℕ → Bytes → List Item → List Item
-onto_fragment k f (Fragment j g ∷ is) = cond (j == k) (Fragment k (f ++ g) ∷ is) (Fragment k f ∷ Fragment j g ∷ is)
-onto_fragment k f is = Fragment k f ∷ is
-
--- The fragments joined, as long as no other record stands between them.
-abbrev pub joined_items : List Item → List Item
-joined_items [] = []
-joined_items (Fragment k f ∷ is) = onto_fragment k f (joined_items is)
-joined_items (i ∷ is) = i ∷ joined_items is
-
-abbrev pub standing : Direction → Standing
-standing d = record { is_tls13 = d.is_tls13; has_changed = d.has_changed }
-
--- What the records are that a direction hasn't read.
-abbrev pub unread_items : Standing → Bytes → List Item
-unread_items s b = items s (frames wide_record b) (left wide_record b)
 
 -- Nothing was read.
 abbrev pub silent : ℕ → Direction
-silent limit = record { limit = limit; is_tls13 = false; has_changed = false; kind = 22; held = record { part = []; unread = [] } }
+silent limit = record { stream = stream.silent limit; fault = None }
 
 abbrev pub told_tls13 : Direction → Direction
-told_tls13 d = record d { is_tls13 = true }
+told_tls13 d = record d { stream = stream.told_tls13 d.stream }
+
+-- A fault ends it: nothing else is said.
+abbrev pub ended_or : Option Fault → List Event → List Event
+ended_or (Some f) es = Failed f ∷ []
+ended_or None es = es
 
 -- All events of a direction that aren't taken yet.
 abbrev pub events : Direction → List Event
-events d = events_of d.limit d.kind d.held.part (unread_items (standing d) d.held.unread)
+events d = ended_or d.fault (stream.events d.stream)
+
+-- Behind a fault nothing is held.
+abbrev pub with_more : Option Fault → Stream → Bytes → Stream
+with_more (Some f) d s = d
+with_more None d s = stream.fed d s
 
 -- Further bytes of its stream.
 abbrev pub fed : Direction → Bytes → Direction
-fed d s = record d { held = record { part = d.held.part; unread = d.held.unread ++ s } }
+fed d s = record d { stream = with_more d.fault d.stream s }
 
--- A record is taken off the stream.
-abbrev pub behind_record : Direction → Bytes × Bytes → Direction
-behind_record d x = record d { held = record { part = d.held.part; unread = x.1 }; has_changed = (after (standing d) x.0).has_changed }
+-- Pieces of its stream, one after the other.
+abbrev pub fed_all : Direction → List Bytes → Direction
+fed_all d [] = d
+fed_all d (p ∷ ps) = fed_all (fed d p) ps
 
--- A message is taken off the part.
-abbrev pub behind_message : Direction → Bytes × Bytes → Direction
-behind_message d x = record d { held = record { part = x.1; unread = d.held.unread } }
+-- What its records are that aren't read, with further bytes.
+abbrev pub items_with : Direction → Bytes → List Item
+items_with d s = stream.unread_items (stream.standing d.stream) (d.stream.held.unread ++ s)
 
--- A fragment of that type, of so many bytes, is joined to the part.
-abbrev pub joined_to : Direction → ℕ → ℕ → Direction
-joined_to d kind n = record d { held = joined d.held n; kind = kind }
+-- Behind a fault no event stands.
+abbrev pub none_behind : Option Fault → Option (Event × Stream) → Option (Event × Direction)
+none_behind (Some f) a = None
+none_behind None a = option_map (λ x. (x.0, record { stream = x.1; fault = None })) a
 
--- What a record says by itself, where no message is open.
-abbrev pub alone : Bytes → Item → Option Event
-alone [] (Alone e) = Some e
-alone part i = None
-
--- The same of the record that stands next, with its bytes.
-abbrev pub alone_in : Direction → Option (Bytes × Bytes) → Option (Event × Bytes)
-alone_in d None = None
-alone_in d (Some x) = option_map (λ e. (e, x.0)) (alone d.held.part (item_of (standing d) x.0))
-
-abbrev pub alone_record : Direction → Option (Event × Bytes)
-alone_record d = alone_in d (front wide_record d.held.unread)
-
-abbrev pub first_record : Direction → Option (Bytes × Bytes) → Option (Event × Direction)
-first_record d None = None
-first_record d (Some x) = option_map (λ e. (e, behind_record d x)) (alone d.held.part (item_of (standing d) x.0))
-
-abbrev pub first_message : Direction → Option (Bytes × Bytes) → Option (Event × Direction)
-first_message d (Some x) = Some (event_of d.kind x.0, behind_message d x)
-first_message d None = first_record d (front wide_record d.held.unread)
-
--- The event that stands in front, and the direction behind it: a message of the part, or a record that says something by
--- itself.
+-- The event that stands in front, and the direction behind it.
 abbrev pub first : Direction → Option (Event × Direction)
-first d = first_message d (front (messages_of d.limit d.kind) d.held.part)
-
--- Taking it off: true where one stands there; else nothing changes.
-abbrev pub FirstTaken : Option (Event × Direction) → Direction → Bool → Direction → Type 0
-FirstTaken (Some x) old taken new = (taken ≡ true) × (new ≡ x.1)
-FirstTaken None old taken new = (taken ≡ false) × (new ≡ old)
+first d = none_behind d.fault (stream.first d.stream)
 
 -- Whatever comes, these are the events.
 abbrev pub SaysOnly : Direction → List Event → Type 0
@@ -127,15 +76,12 @@ SaysOnly d es = (s : Bytes) → events (fed d s) ≡ es
 abbrev pub SaysTheSame : Direction → Direction → Type 0
 SaysTheSame d e = (s : Bytes) → events (fed d s) ≡ events (fed e s)
 
--- What is to be done next.
-abbrev pub IsNext : Direction → Next → Type 0
-IsNext d next.Ready = IsSome (first d)
-IsNext d next.Waits = events d ≡ []
-IsNext d (next.Fails f) = SaysOnly d (Failed f ∷ [])
-IsNext d (next.Joins kind n) = (5 + n ≤ length d.held.unread) × SaysTheSame (joined_to d kind n) d
-
 -- What a direction says once it is made ready.
 abbrev pub IsReady : Direction → Result Bool Fault → Type 0
 IsReady d (Ok true) = IsSome (first d)
 IsReady d (Ok false) = events d ≡ []
 IsReady d (Err f) = SaysOnly d (Failed f ∷ [])
+
+abbrev pub fault_in : Result Bool Fault → Option Fault
+fault_in (Ok b) = None
+fault_in (Err f) = Some f

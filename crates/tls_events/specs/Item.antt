@@ -1,5 +1,26 @@
 -- What each record of a direction is to it (RFC 5246, section 6.2; RFC 8446, sections 5 and D.4).
-use Rattle.std.specs.Prelude.{ℕ, Bool, true, false, cond, ◌||◌, ◌&&◌, not, ◌==◌, nat_le, nat_lt, Option, Some, None, List, [], ◌∷◌, length, drop, slice_index}
+use Rattle.std.specs.Prelude.{
+  ℕ,
+  Bool,
+  true,
+  false,
+  cond,
+  ◌||◌,
+  ◌&&◌,
+  not,
+  ◌==◌,
+  nat_le,
+  nat_lt,
+  Option,
+  Some,
+  None,
+  List,
+  [],
+  ◌∷◌,
+  length,
+  drop,
+  slice_index,
+}
 use Rattle.tls_fields.specs.Bytes.{Bytes}
 use Rattle.tls_fields.specs.declared.result.ErrorKind.{ErrorKind}
 use Rattle.tls_fields.specs.declared.result.ErrorKind.TheVariants.{TooLarge, Switch, Verify}

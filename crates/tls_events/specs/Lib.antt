@@ -1,6 +1,7 @@
 pub mod Held
 pub mod Item
 pub mod Messages
+pub mod Stream
 pub mod Events
 pub mod Taken
 pub use Rattle.tls_fields.specs.Bytes

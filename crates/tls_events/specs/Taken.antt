@@ -2,9 +2,10 @@
 use Rattle.std.specs.Prelude.{◌≡◌, ℕ, Bool, true, false, Option, Some, None, List, [], ◌∷◌, ◌++◌, map}
 use Rattle.std.specs.List.{flat_map}
 use Rattle.tls_fields.specs.Bytes.{Bytes}
-use Rattle.tls_events.specs.Item.{Event, Handshake}
-use Rattle.tls_events.specs.Events.{events, fed}
+use Rattle.tls_events.specs.Item.{Event, Handshake, Failed}
+use Rattle.tls_events.specs.Events.{SaysOnly, events, fed}
 use Rattle.tls_events.specs.declared.direction.Direction.{Direction}
+use Rattle.tls_events.specs.declared.fault.Fault.{Fault}
 
 -- The bytes of the handshake message that an event is.
 abbrev pub message_in : Event → List Bytes
@@ -28,7 +29,13 @@ handshake_in e = None
 abbrev pub TakesSame : List Bytes → Direction → List Bytes → Direction → Type 0
 TakesSame taken old taken' new = (s : Bytes) → with_those_of taken old s ≡ with_those_of taken' new s
 
--- Messages were taken off a direction; no event of it is left, or it is at fault.
-abbrev pub AreTaken : List Bytes → Direction → List Bytes → Direction → Bool → Type 0
-AreTaken taken old taken' new true = (s : Bytes) → with_those_of taken old s ≡ taken'
-AreTaken taken old taken' new false = (events new ≡ []) × TakesSame taken old taken' new
+-- No event is left: further bytes are needed; or the direction is at fault, which is all that it says, whatever is fed.
+abbrev pub IsOver : Direction → Bool → Type 0
+IsOver d true = (f : Fault) × SaysOnly d (Failed f ∷ [])
+IsOver d false = events d ≡ []
+
+-- The messages of a direction were taken, all that are there; whether it is at fault.
+pub record AreTaken (taken : List Bytes) (old : Direction) (taken' : List Bytes) (new : Direction)
+    (is_at_fault : Bool) : Type 0 where
+  pub same : TakesSame taken old taken' new
+  pub over : IsOver new is_at_fault

@@ -8,8 +8,8 @@ use std::marker::Model;
 /// The bytes of a stream that are fed and not yet handed out: a part of a message, joined from fragments, and what stands
 /// after the records that were taken.
 ///
-/// They lie in one buffer, so that joining takes no memory: a fragment stays where it is, or is moved to the end of the
-/// part in front of it.
+/// They lie in one buffer, so that joining takes no memory: the part is moved to the fragment, or the fragment to the part,
+/// whichever is shorter.
 #[derive(Drop)]
 pub struct Held {
     bytes: Vec<u8>,
@@ -21,7 +21,8 @@ pub struct Held {
 impl Model for Held {
     ghost Value = { Bytes };
 
-    ghost view = { λ h. record { part = take (h.part_end - h.part) (drop h.part h.bytes.items); unread = drop h.unread h.bytes.items } };
+    ghost view = { λ h.
+        record { part = take (h.part_end - h.part) (drop h.part h.bytes.items); unread = drop h.unread h.bytes.items } };
 
     ghost invariant = { λ h. (h.part ≤ h.part_end) × (h.part_end ≤ h.unread) × (h.unread ≤ length h.bytes.items) };
 }
@@ -81,6 +82,15 @@ impl Held {
             self.unread = from + n;
             return;
         }
+        let open = self.part_end - self.part;
+        if open < n {
+            self.bytes
+                .copy_within(self.part..self.part_end, from - open);
+            self.part = from - open;
+            self.part_end = from + n;
+            self.unread = from + n;
+            return;
+        }
         self.bytes.copy_within(from..from + n, self.part_end);
         self.part_end += n;
         self.unread = from + n;
@@ -105,7 +115,8 @@ impl Held {
 
     /// Puts the piece behind what is held. `AllocError` where it could not be held: all is as it was.
     pub fn append(&mut self, piece: &[u8]) -> Result<(), AllocError>
-        ensures { self.new ≡ (if is_ok result then record { part = self.old.part; unread = self.old.unread ++ piece.now } else self.old) }
+        ensures { self.new
+            ≡ (if is_ok result then record { part = self.old.part; unread = self.old.unread ++ piece.now } else self.old) }
     {
         self.make_room();
         self.bytes.extend_from_slice(piece)

@@ -9,6 +9,7 @@ mod fault;
 mod held;
 mod item;
 pub mod laws;
+mod stream;
 mod taken;
 
 pub use direction::{DEFAULT_LIMIT, Direction};

@@ -35,7 +35,8 @@ fn take_event(
     taken: &mut Vec<Vec<u8>>,
 ) -> Result<(), OutOfMemory>
     requires { IsSome (first direction.old) }
-    ensures same { OnOk result (TakesSame (elements taken.old.items) direction.old (elements taken.new.items) direction.new) }
+    ensures same { OnOk result
+        (TakesSame (elements taken.old.items) direction.old (elements taken.new.items) direction.new) }
     ensures fewer { OnOk result (length (events (fed direction.new [])) < length (events (fed direction.old []))) }
 {
     if let Some(message) = front_message(direction) {

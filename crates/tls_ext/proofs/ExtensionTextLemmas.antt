@@ -1,21 +1,81 @@
 -- The text of an extension is read back as that extension, with nothing dropped.
-use Rattle.std.proofs.Common.{◌≡◌, ℕ, ◌+◌, ◌*◌, ◌/◌, ◌%◌, ◌^◌, ◌<◌, ◌≤◌, List, [], ◌∷◌, ◌++◌, length, drop, Ok, false, eqb, refl, sym, ◌∙◌, ap, subst, arith, append-nil, ◌==◌}
+use Rattle.std.proofs.Common.{
+  ◌≡◌,
+  ℕ,
+  ◌+◌,
+  ◌*◌,
+  ◌/◌,
+  ◌%◌,
+  ◌^◌,
+  ◌<◌,
+  ◌≤◌,
+  List,
+  [],
+  ◌∷◌,
+  ◌++◌,
+  length,
+  drop,
+  Ok,
+  false,
+  eqb,
+  refl,
+  sym,
+  ◌∙◌,
+  ap,
+  subst,
+  arith,
+  append-nil,
+  ◌==◌,
+}
 use Rattle.std.proofs.lemmas.List.{length-append}
 use Rattle.std.specs.List.{All, flat_map}
 use Rattle.std.proofs.lemmas.List.Elements.{All-nil, All-cons, All-head, All-tail}
 use Rattle.tls_fields.specs.Bytes.{Bytes, bytes_of}
-use Rattle.tls_fields.specs.Layout.{Layout, done, number, window, left, list, chain, test, choose, counted, counted_window, times, pairs}
+use Rattle.tls_fields.specs.Layout.{
+  Layout,
+  done,
+  number,
+  window,
+  left,
+  list,
+  chain,
+  test,
+  choose,
+  counted,
+  counted_window,
+  times,
+  pairs,
+}
 use Rattle.tls_fields.specs.Meaning.{Spells, Allows}
 use Rattle.tls_fields.specs.declared.result.ErrorKind.TheVariants.{LengthValue}
 use Rattle.tls_fields.specs.Text.{counted_text, numbers_text}
 use Rattle.tls_fields.proofs.NumberLemmas.{length-bytes_of}
 use Rattle.tls_fields.proofs.OneAnswerLemmas.{eqb_other}
-use Rattle.tls_fields.proofs.TextLemmas.{joined, chain_spelled, counted_spelled, window_spelled, test_spelled, times_spelled, number_spelled, length-numbers, picks_second, spelled_allowed}
+use Rattle.tls_fields.proofs.TextLemmas.{
+  joined,
+  chain_spelled,
+  counted_spelled,
+  window_spelled,
+  test_spelled,
+  times_spelled,
+  number_spelled,
+  length-numbers,
+  picks_second,
+  spelled_allowed,
+}
 use Rattle.tls_ext.specs.Extension as ext
 use Rattle.tls_ext.specs.Extension.{Extension, ServerName, extension_type}
 use Rattle.tls_ext.specs.Content.{server_name, server_names, max_fragment_length, supported_groups}
 use Rattle.tls_ext.specs.Dispatch.{registered, extension_content, extension, extensions}
-use Rattle.tls_ext.specs.ExtensionText.{server_name_text, content_text, extension_text, extensions_text, FitsExtension, FitsExtensions, InRangeExtension}
+use Rattle.tls_ext.specs.ExtensionText.{
+  server_name_text,
+  content_text,
+  extension_text,
+  extensions_text,
+  FitsExtension,
+  FitsExtensions,
+  InRangeExtension,
+}
 use Rattle.tls_ext.specs.declared.kind.Side.TheVariants.{General}
 
 -- a counted window that its content fills

@@ -1,5 +1,26 @@
 -- The highest version, found one by one.
-use Rattle.std.proofs.Common.{◌≡◌, ℕ, ◌<◌, ◌≤◌, List, [], ◌∷◌, Option, Some, None, Bool, true, false, cond, ltb, refl, sym, ◌∙◌, ap, arith}
+use Rattle.std.proofs.Common.{
+  ◌≡◌,
+  ℕ,
+  ◌<◌,
+  ◌≤◌,
+  List,
+  [],
+  ◌∷◌,
+  Option,
+  Some,
+  None,
+  Bool,
+  true,
+  false,
+  cond,
+  ltb,
+  refl,
+  sym,
+  ◌∙◌,
+  ap,
+  arith,
+}
 use Rattle.std.proofs.lemmas.Bool.{ltb-true, ltb-false}
 use Rattle.std.specs.Option.{option_map}
 use Rattle.tls_fields.proofs.OneAnswerLemmas.{ltb_yes, ltb_no}
@@ -28,7 +49,8 @@ higher_low v w (Some x) low = go (ltb v x) refl
   where
     go : (t : Bool) → ltb v x ≡ t → cond (ltb w (cond t x v)) (cond t x v) w ≡ cond (ltb w x) x w
     go true e = refl
-    go false e = ap (λ t. cond t v w) (ltb_no w v (omega (arith, low))) ∙ sym (ap (λ t. cond t x w) (ltb_no w x (omega (arith, low, ltb-false v x e))))
+    go false e = ap (λ t. cond t v w) (ltb_no w v (omega (arith, low)))
+        ∙ sym (ap (λ t. cond t x w) (ltb_no w x (omega (arith, low, ltb-false v x e))))
 
 higher_high : (v w : ℕ) (best : Option ℕ) → w ≤ v → higher w (Some (higher v best)) ≡ higher v best
 higher_high v w None high = go (ltb w v) refl
@@ -47,8 +69,10 @@ higher_high v w (Some x) high = go (ltb v x) refl
     go false e = same (ltb w v) refl
 
 -- the known one stays, or the next is better
-pub known_stays : (v w : ℕ) (best : Option ℕ) → v < w → with_known (Some w) (Some (higher v best)) ≡ with_known (Some w) best
+pub known_stays : (v w : ℕ) (best : Option ℕ) → v < w
+    → with_known (Some w) (Some (higher v best)) ≡ with_known (Some w) best
 known_stays v w best low = ap Some (higher_low v w best low)
 
-pub next_is_better : (v w : ℕ) (best : Option ℕ) → w ≤ v → with_known (Some w) (Some (higher v best)) ≡ with_known (Some v) best
+pub next_is_better : (v w : ℕ) (best : Option ℕ) → w ≤ v
+    → with_known (Some w) (Some (higher v best)) ≡ with_known (Some v) best
 next_is_better v w best high = ap Some (higher_high v w best high)

@@ -60,7 +60,8 @@ abbrev pub picked : {A : Type 0} → (Extension → Option A) → Answer Extensi
 picked pick (Ok x) = Ok (pick x.0)
 picked pick (Err e) = Err e
 
-abbrev pub in_content : {A : Type 0} → Layout Extension → (Extension → Option A) → Result (Option Bytes) Refusal → Result (Option A) Refusal
+abbrev pub in_content : {A : Type 0} → Layout Extension → (Extension → Option A) → Result (Option Bytes) Refusal
+    → Result (Option A) Refusal
 in_content l pick (Ok (Some c)) = picked pick (reading l c)
 in_content l pick (Ok None) = Ok None
 in_content l pick (Err e) = Err e
@@ -104,4 +105,5 @@ highest_of version (Err e) = Err e
 -- The highest version in the first supported_versions (RFC 8446, section 4.2.1); where there is none, the one in the hello.
 abbrev pub best_version : ℕ → Bytes → Result (Option ℕ) Refusal
 best_version version b =
-    highest_of version (in_content content.supported_versions listed_versions (content_of extension_number.supported_versions b))
+    highest_of version (in_content content.supported_versions listed_versions
+    (content_of extension_number.supported_versions b))

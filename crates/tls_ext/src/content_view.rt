@@ -35,7 +35,8 @@ pub fn server_names(i: &[u8]) -> IResult<&[u8], Items<ServerName>>
 /// The names of application protocols: as [`crate::parse_tls_extension_alpn_content`] reads them.
 #[inline(always)]
 pub fn protocol_names(i: &[u8]) -> IResult<&[u8], Items<Counted1>>
-    ensures { Gives (λ v. extension.application_layer_protocol_negotiation (items_in (counted 1) v.bytes.now)) content.application_layer_protocol_negotiation i.now result }
+    ensures { Gives (λ v. extension.application_layer_protocol_negotiation (items_in (counted 1) v.bytes.now))
+        content.application_layer_protocol_negotiation i.now result }
 {
     let (i, window) = counted2(i)?;
     Ok((i, Items::new(window)))

@@ -1,7 +1,23 @@
 -- What a layout leaves is an end of the bytes.
 use Rattle.std.proofs.Common.{[], ◌∷◌, ◌++◌, Some, None, sym, ◌∙◌, ap, subst, inl, inr, append_assoc}
 use Rattle.tls_fields.specs.Bytes.{Bytes, AreBytes, bytes_of}
-use Rattle.tls_fields.specs.Layout.{Layout, done, refuse, number, ignored, block, left, tag, window, list, maybe, either, complete, look, chain}
+use Rattle.tls_fields.specs.Layout.{
+  Layout,
+  done,
+  refuse,
+  number,
+  ignored,
+  block,
+  left,
+  tag,
+  window,
+  list,
+  maybe,
+  either,
+  complete,
+  look,
+  chain,
+}
 use Rattle.tls_fields.specs.Meaning.{Spelling, SpellsItems, SpellsOption, Spells, EndsWith}
 use Rattle.tls_fields.proofs.NumberLemmas.{AreBytes-back}
 

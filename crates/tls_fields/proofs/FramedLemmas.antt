@@ -1,5 +1,29 @@
 -- What stands in a frame is read from its content alone.
-use Rattle.std.proofs.Common.{◌≡◌, ℕ, ◌-◌, List, [], ◌∷◌, ◌++◌, length, take, drop, Result, Ok, Err, Bool, true, false, cond, ltb, refl, sym, subst, ◌∙◌, ap}
+use Rattle.std.proofs.Common.{
+  ◌≡◌,
+  ℕ,
+  ◌-◌,
+  List,
+  [],
+  ◌∷◌,
+  ◌++◌,
+  length,
+  take,
+  drop,
+  Result,
+  Ok,
+  Err,
+  Bool,
+  true,
+  false,
+  cond,
+  ltb,
+  refl,
+  sym,
+  subst,
+  ◌∙◌,
+  ap,
+}
 use Rattle.std.proofs.lemmas.List.{length-take-le}
 use Rattle.std.proofs.lemmas.Bool.{ltb-false}
 use Rattle.tls_fields.specs.Bytes.{Bytes}
@@ -16,9 +40,11 @@ split_size : (n : ℕ) (b : Bytes) (x : Bytes × Bytes) → split_at n b ≡ Ok 
 unfolding split_at
 split_size n b x e = go (ltb (length b) n) refl e
   where
-    go : (t : Bool) → ltb (length b) n ≡ t → cond t (Err (Lacks (n - length b))) (Ok (take n b, drop n b)) ≡ Ok x → length x.0 ≡ n
+    go : (t : Bool) → ltb (length b) n ≡ t → cond t (Err (Lacks (n - length b))) (Ok (take n b, drop n b)) ≡ Ok x
+        → length x.0 ≡ n
     go true h f = absurd cc
-    go false h f = let pair : ◌≡◌ {A = Bytes × Bytes} (take n b, drop n b) x = cc in ap (λ y. length y.0) (sym pair) ∙ length-take-le n b (ltb-false (length b) n h)
+    go false h f = let pair : ◌≡◌ {A = Bytes × Bytes} (take n b, drop n b) x =
+        cc in ap (λ y. length y.0) (sym pair) ∙ length-take-le n b (ltb-false (length b) n h)
 
 -- a window whose value is f of what stands in it, as a layout's part
 module _ {A B : Type 0} (f : A → B) (content : ℕ → ℕ → Layout A) where
@@ -39,14 +65,19 @@ module _ {A B : Type 0} (f : A → B) (content : ℕ → ℕ → Layout A) where
   abbrev decoded_then : Framed × Bytes → Answer B
   decoded_then x = content_of x.0 and_then λ y. Ok (y, x.1)
 
-  by_value : (r : Bytes) (a : Answer A) → ((a and_then λ x. Ok (x.0, r)) and_then finished) ≡ (value_of (a and_then finished) and_then λ y. Ok (y, r))
+  by_value : (r : Bytes) (a : Answer A) → ((a and_then λ x. Ok (x.0, r)) and_then finished)
+      ≡ (value_of (a and_then finished) and_then λ y. Ok (y, r))
   by_value r (Ok x) = refl
   by_value r (Err k) = refl
 
-  by_window : (kind n : ℕ) (s : Bytes × Bytes) → length s.0 ≡ n → (in_window kind n s and_then finished) ≡ decoded_then (record { kind = kind; content = s.0 }, s.1)
-  by_window kind n s size = subst (λ m. (in_window kind m s and_then finished) ≡ decoded_then (record { kind = kind; content = s.0 }, s.1)) size (by_value s.1 (reading (content kind (length s.0)) s.0))
+  by_window : (kind n : ℕ) (s : Bytes × Bytes) → length s.0 ≡ n
+      → (in_window kind n s and_then finished) ≡ decoded_then (record { kind = kind; content = s.0 }, s.1)
+  by_window kind n s size = subst (λ m. (in_window kind m s and_then finished)
+      ≡ decoded_then (record { kind = kind; content = s.0 }, s.1)) size
+      (by_value s.1 (reading (content kind (length s.0)) s.0))
 
-  by_content : (kind n : ℕ) (m : Bytes) (a : Answer Bytes) → split_at n m ≡ a → ((a and_then in_window kind n) and_then finished) ≡ ((a and_then as_frame kind) and_then decoded_then)
+  by_content : (kind n : ℕ) (m : Bytes) (a : Answer Bytes) → split_at n m ≡ a
+      → ((a and_then in_window kind n) and_then finished) ≡ ((a and_then as_frame kind) and_then decoded_then)
   by_content kind n m (Ok s) e = by_window kind n s (split_size n m s e)
   by_content kind n m (Err e) h = refl
 
@@ -56,7 +87,8 @@ module _ {A B : Type 0} (f : A → B) (content : ℕ → ℕ → Layout A) where
   abbrev cut : ℕ × Bytes → Answer Bytes
   cut y = split_at y.0 y.1
 
-  by_count : (kind : ℕ) (a : Answer ℕ) → (a and_then counted_window_then kind) ≡ (((a and_then cut) and_then as_frame kind) and_then decoded_then)
+  by_count : (kind : ℕ) (a : Answer ℕ) → (a and_then counted_window_then kind)
+      ≡ (((a and_then cut) and_then as_frame kind) and_then decoded_then)
   by_count kind (Ok y) = by_content kind y.0 y.1 (split_at y.0 y.1) refl
   by_count kind (Err e) = refl
 
@@ -82,10 +114,13 @@ module _ {A B : Type 0} (f : A → B) (content : ℕ → ℕ → Layout A) where
   framed_decodes w k b = by_kind k (reading (number w) b)
 
 -- one or more items, of which the first takes a byte, are the items that are walked; where the first is refused, none is
-pub list1_walked : {A : Type 0} (l : Layout A) (b : Bytes) → LeavesFewer (length b) (reading l b) → list_read (reading (list1 l) b) ≡ items_in l b
+pub list1_walked : {A : Type 0} (l : Layout A) (b : Bytes) → LeavesFewer (length b) (reading l b)
+    → list_read (reading (list1 l) b) ≡ items_in l b
 list1_walked {A} l b fewer = go (reading l b) refl fewer
   where
-    go : (a : Answer A) → reading l b ≡ a → LeavesFewer (length b) a → list_read (◌and_then◌ {Y = List A × Bytes} (completed a) (λ x. Ok ((x.0 ∷ []) ++ items_in l x.1, left_in l x.1))) ≡ items_in l b
+    go : (a : Answer A) → reading l b ≡ a → LeavesFewer (length b) a
+        → list_read (◌and_then◌ {Y = List A × Bytes} (completed a)
+        (λ x. Ok ((x.0 ∷ []) ++ items_in l x.1, left_in l x.1))) ≡ items_in l b
     go (Ok x) e short = sym (items_first l b x.0 x.1 e short)
     go (Err (Broken k)) e short = sym (items_none l b (Broken k) e)
     go (Err (Lacks n)) e short = sym (items_none l b (Lacks n) e)
@@ -136,12 +171,16 @@ module _ {A : Type 0} (content : ℕ → Layout A) (k : ℕ) where
   decodes_to x = value_in x.0 and_then λ y. Ok (y, x.1)
 
   by_frame : (a : Answer Framed) → (a and_then decodes_as) ≡ (a and_then decodes_to)
-  by_frame (Ok x) = ap (λ d. ◌and_then◌ {Y = A × Bytes} d (λ y. Ok (y, x.1))) (plain (reading (content x.0.kind) x.0.content))
+  by_frame (Ok x) = ap (λ d. ◌and_then◌ {Y = A × Bytes} d (λ y. Ok (y, x.1)))
+      (plain (reading (content x.0.kind) x.0.content))
   by_frame (Err e) = refl
 
   pub window_decodes : (w : ℕ) → ReadsThenDecodes (window_of w) (framed w k) value_in
   unfolding framed
-  window_decodes w b = last_kind (reading (number w) b) ∙ framed_decodes (λ x. x) (λ kind n. content kind) w k b ∙ by_frame (reading (framed w k) b)
+  window_decodes w b = last_kind (reading (number w) b) ∙ framed_decodes (λ x. x) (λ kind n. content kind) w k b
+      ∙ by_frame (reading (framed w k) b)
 
-pub items_of_windows : {A : Type 0} (content : ℕ → Layout A) (w k : ℕ) (b : Bytes) → items_in (window_of content k w) b ≡ decode_while (value_in content k) (items_in (framed w k) b)
-items_of_windows content w k b = items_decoded (window_of content k w) (framed w k) (value_in content k) (window_decodes content k w) b
+pub items_of_windows : {A : Type 0} (content : ℕ → Layout A) (w k : ℕ) (b : Bytes)
+    → items_in (window_of content k w) b ≡ decode_while (value_in content k) (items_in (framed w k) b)
+items_of_windows content w k b = items_decoded (window_of content k w) (framed w k) (value_in content k)
+    (window_decodes content k w) b

@@ -1,7 +1,26 @@
 -- Missing bytes: at least one is, and where none can be.
 use Rattle.std.proofs.Common.{◌≡◌, ◌≢◌, ℕ, ◌-◌, ◌<◌, [], ◌∷◌, ◌++◌, length, refl, ap, inl, inr, arith}
 use Rattle.tls_fields.specs.Bytes.{Bytes}
-use Rattle.tls_fields.specs.Layout.{Layout, done, refuse, number, ignored, block, left, tag, window, list, maybe, either, complete, look, chain, behind, list1, rest}
+use Rattle.tls_fields.specs.Layout.{
+  Layout,
+  done,
+  refuse,
+  number,
+  ignored,
+  block,
+  left,
+  tag,
+  window,
+  list,
+  maybe,
+  either,
+  complete,
+  look,
+  chain,
+  behind,
+  list1,
+  rest,
+}
 use Rattle.tls_fields.specs.Meaning.{Broken, Lacks, Refuses}
 use Rattle.tls_fields.specs.Stable.{NeverLacks}
 use Rattle.tls_fields.specs.declared.result.ErrorKind.{ErrorKind}

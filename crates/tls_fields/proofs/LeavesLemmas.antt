@@ -1,11 +1,64 @@
 -- How many bytes a layout leaves: never more than there are, and fewer where it begins with a number.
-use Rattle.std.proofs.Common.{◌≡◌, ℕ, zero, suc, ◌-◌, ◌<◌, ◌≤◌, List, [], ◌∷◌, length, take, drop, Ok, Err, Bool, true, false, cond, ltb, eqb, refl, arith, le_refl}
+use Rattle.std.proofs.Common.{
+  ◌≡◌,
+  ℕ,
+  zero,
+  suc,
+  ◌-◌,
+  ◌<◌,
+  ◌≤◌,
+  List,
+  [],
+  ◌∷◌,
+  length,
+  take,
+  drop,
+  Ok,
+  Err,
+  Bool,
+  true,
+  false,
+  cond,
+  ltb,
+  eqb,
+  refl,
+  arith,
+  le_refl,
+}
 use Rattle.std.proofs.lemmas.Bool.{ltb-false}
 use Rattle.std.proofs.lemmas.List.{length-drop}
 use Rattle.tls_fields.specs.Bytes.{Bytes, number_of}
-use Rattle.tls_fields.specs.Layout.{Layout, done, refuse, number, ignored, block, left, tag, window, list, maybe, either, complete, look, chain}
+use Rattle.tls_fields.specs.Layout.{
+  Layout,
+  done,
+  refuse,
+  number,
+  ignored,
+  block,
+  left,
+  tag,
+  window,
+  list,
+  maybe,
+  either,
+  complete,
+  look,
+  chain,
+}
 use Rattle.tls_fields.specs.Meaning.{Answer, Broken, Lacks}
-use Rattle.tls_fields.specs.Reading.{reading, split_at, number_at, ignored_at, tag_at, with_items, items_at, optional_at, completed, or_else, ◌and_then◌}
+use Rattle.tls_fields.specs.Reading.{
+  reading,
+  split_at,
+  number_at,
+  ignored_at,
+  tag_at,
+  with_items,
+  items_at,
+  optional_at,
+  completed,
+  or_else,
+  ◌and_then◌,
+}
 use Rattle.tls_fields.specs.declared.result.ErrorKind.TheVariants.{Tag}
 
 -- what is read leaves at most n bytes

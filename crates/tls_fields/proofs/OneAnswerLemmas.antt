@@ -1,16 +1,100 @@
 -- Each layout allows one answer on given bytes, and reading gives it.
-use Rattle.std.proofs.Common.{◌≡◌, ◌≢◌, ◌↔◌, ℕ, zero, suc, ◌-◌, ◌^◌, ◌<◌, ◌≤◌, List, [], ◌∷◌, ◌++◌, length, take, drop, Option, Some, None, Ok, Err, Bool, true, false, cond, eqb, ltb, refl, sym, ◌∙◌, ap, subst, arith, inl, inr, append-nil}
+use Rattle.std.proofs.Common.{
+  ◌≡◌,
+  ◌≢◌,
+  ◌↔◌,
+  ℕ,
+  zero,
+  suc,
+  ◌-◌,
+  ◌^◌,
+  ◌<◌,
+  ◌≤◌,
+  List,
+  [],
+  ◌∷◌,
+  ◌++◌,
+  length,
+  take,
+  drop,
+  Option,
+  Some,
+  None,
+  Ok,
+  Err,
+  Bool,
+  true,
+  false,
+  cond,
+  eqb,
+  ltb,
+  refl,
+  sym,
+  ◌∙◌,
+  ap,
+  subst,
+  arith,
+  inl,
+  inr,
+  append-nil,
+}
 use Rattle.std.proofs.lemmas.List.{length-append, take-append-drop, length-take-le}
 use Rattle.std.proofs.lemmas.Bool.{ltb-true, ltb-false, eqb-true, eqb-false}
 use Rattle.std.proofs.lemmas.Bool.Decides.{nat_tests}
 use Rattle.std.proofs.Math.Seq.{take-append_seam, drop-append_seam}
 use Rattle.tls_fields.specs.Bytes.{Bytes, AreBytes, bytes_of, number_of}
-use Rattle.tls_fields.specs.Layout.{Layout, done, refuse, number, ignored, block, left, tag, window, list, maybe, either, complete, look, chain}
-use Rattle.tls_fields.specs.Meaning.{Refusal, Broken, Lacks, SpellsNothing, SpellsItem, SpellsItems, Spells, Refuses, Answer, Allows, AllowsOne}
-use Rattle.tls_fields.specs.Reading.{split_at, number_at, ignored_at, tag_at, with_items, items_at, optional_at, completed, or_else, reading, ◌and_then◌}
+use Rattle.tls_fields.specs.Layout.{
+  Layout,
+  done,
+  refuse,
+  number,
+  ignored,
+  block,
+  left,
+  tag,
+  window,
+  list,
+  maybe,
+  either,
+  complete,
+  look,
+  chain,
+}
+use Rattle.tls_fields.specs.Meaning.{
+  Refusal,
+  Broken,
+  Lacks,
+  SpellsNothing,
+  SpellsItem,
+  SpellsItems,
+  Spells,
+  Refuses,
+  Answer,
+  Allows,
+  AllowsOne,
+}
+use Rattle.tls_fields.specs.Reading.{
+  split_at,
+  number_at,
+  ignored_at,
+  tag_at,
+  with_items,
+  items_at,
+  optional_at,
+  completed,
+  or_else,
+  reading,
+  ◌and_then◌,
+}
 use Rattle.tls_fields.specs.declared.result.ErrorKind.{ErrorKind}
 use Rattle.tls_fields.specs.declared.result.ErrorKind.TheVariants.{Tag}
-use Rattle.tls_fields.proofs.NumberLemmas.{AreBytes-front, length-bytes_of, number_of-bytes_of, bytes_of-number_of, number_of-below}
+use Rattle.tls_fields.proofs.NumberLemmas.{
+  AreBytes-front,
+  length-bytes_of,
+  number_of-bytes_of,
+  bytes_of-number_of,
+  number_of-below,
+}
 use Rattle.tls_fields.proofs.EndLemmas.{AreBytes-rest}
 
 -- what is known of a layout on some bytes

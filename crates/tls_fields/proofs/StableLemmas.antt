@@ -1,16 +1,65 @@
 -- What stands of an answer where further bytes follow.
-use Rattle.std.proofs.Common.{◌≡◌, ℕ, ◌-◌, ◌<◌, ◌≤◌, [], ◌∷◌, ◌++◌, length, take, drop, Ok, Err, Bool, true, false, cond, ltb, eqb, refl, sym, ◌∙◌, ap, subst, arith}
+use Rattle.std.proofs.Common.{
+  ◌≡◌,
+  ℕ,
+  ◌-◌,
+  ◌<◌,
+  ◌≤◌,
+  [],
+  ◌∷◌,
+  ◌++◌,
+  length,
+  take,
+  drop,
+  Ok,
+  Err,
+  Bool,
+  true,
+  false,
+  cond,
+  ltb,
+  eqb,
+  refl,
+  sym,
+  ◌∙◌,
+  ap,
+  subst,
+  arith,
+}
 use Rattle.std.proofs.lemmas.List.{length-append, take-append-le, drop-append-le}
 use Rattle.std.proofs.lemmas.Bool.{ltb-false}
 use Rattle.tls_fields.specs.Bytes.{Bytes, AreBytes, number_of}
-use Rattle.tls_fields.specs.Layout.{Layout, done, refuse, number, ignored, block, left, tag, window, list, maybe, either, complete, look, chain}
+use Rattle.tls_fields.specs.Layout.{
+  Layout,
+  done,
+  refuse,
+  number,
+  ignored,
+  block,
+  left,
+  tag,
+  window,
+  list,
+  maybe,
+  either,
+  complete,
+  look,
+  chain,
+}
 use Rattle.tls_fields.specs.Meaning.{Refusal, Broken, Lacks, Answer, Allows}
 use Rattle.tls_fields.specs.Reading.{split_at, number_at, ignored_at, tag_at, reading, ◌and_then◌}
 use Rattle.tls_fields.specs.Stable.{IsStable, NeverLacks, CountsMissing, Decides, CountsDown}
 use Rattle.tls_fields.specs.declared.result.ErrorKind.{ErrorKind}
 use Rattle.tls_fields.specs.declared.result.ErrorKind.TheVariants.{Tag}
 use Rattle.tls_fields.proofs.NumberLemmas.{AreBytes-append}
-use Rattle.tls_fields.proofs.OneAnswerLemmas.{ltb_yes, ltb_no, read_allowed, only_reading, AreBytes-window, AreBytes-read}
+use Rattle.tls_fields.proofs.OneAnswerLemmas.{
+  ltb_yes,
+  ltb_no,
+  read_allowed,
+  only_reading,
+  AreBytes-window,
+  AreBytes-read,
+}
 
 -- the answer on more bytes, where the fewer decide it
 abbrev pub Stays : {A : Type 0} → Bytes → Answer A → Answer A → Type 0

@@ -1,5 +1,21 @@
 -- A list in place: the items that bytes hold, and what is left behind them.
-use Rattle.std.specs.Prelude.{◌≡◌, ◌==◌, if◌then◌else◌, ℕ, List, [], ◌∷◌, length, Option, Some, None, Result, Ok, Err, ⊤}
+use Rattle.std.specs.Prelude.{
+  ◌≡◌,
+  ◌==◌,
+  if◌then◌else◌,
+  ℕ,
+  List,
+  [],
+  ◌∷◌,
+  length,
+  Option,
+  Some,
+  None,
+  Result,
+  Ok,
+  Err,
+  ⊤,
+}
 use Rattle.std.specs.Borrow.{Bor}
 use Rattle.tls_fields.specs.Bytes.{Bytes}
 use Rattle.tls_fields.specs.Layout.{Layout}
@@ -59,6 +75,7 @@ IsTold (Ok x) = ⊤
 IsTold (Err e) = IsRefusal e
 
 -- The call tells a: the value, or the refusal.
-pub record Tells {X Y : Type 0} (view : X → Y) (a : Result Y Refusal) (result : Result X (Failed (Error (Bor (List ℕ))))) : Type 0 where
+pub record Tells {X Y : Type 0} (view : X → Y) (a : Result Y Refusal)
+    (result : Result X (Failed (Error (Bor (List ℕ))))) : Type 0 where
   pub answers : IsTold result
   pub is : told view result ≡ a

@@ -1,7 +1,43 @@
 -- The one answer of a layout, read from left to right.
-use Rattle.std.specs.Prelude.{ℕ, zero, suc, ◌-◌, List, [], ◌∷◌, length, take, drop, Option, Some, None, Result, Ok, Err, nat_lt, ◌==◌, if◌then◌else◌}
+use Rattle.std.specs.Prelude.{
+  ℕ,
+  zero,
+  suc,
+  ◌-◌,
+  List,
+  [],
+  ◌∷◌,
+  length,
+  take,
+  drop,
+  Option,
+  Some,
+  None,
+  Result,
+  Ok,
+  Err,
+  nat_lt,
+  ◌==◌,
+  if◌then◌else◌,
+}
 use Rattle.tls_fields.specs.Bytes.{Bytes, number_of}
-use Rattle.tls_fields.specs.Layout.{Layout, done, refuse, number, ignored, block, left, tag, window, list, maybe, either, complete, look, chain}
+use Rattle.tls_fields.specs.Layout.{
+  Layout,
+  done,
+  refuse,
+  number,
+  ignored,
+  block,
+  left,
+  tag,
+  window,
+  list,
+  maybe,
+  either,
+  complete,
+  look,
+  chain,
+}
 use Rattle.tls_fields.specs.Meaning.{Refusal, Broken, Lacks, Answer}
 use Rattle.tls_fields.specs.declared.result.ErrorKind.TheVariants.{Tag, Complete}
 

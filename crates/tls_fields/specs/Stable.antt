@@ -1,7 +1,23 @@
 -- What stands of an answer where further bytes follow, as the segments of a stream do.
 use Rattle.std.specs.Prelude.{ℕ, ◌-◌, ◌<◌, ◌++◌, length, Ok, Err, ⊤}
 use Rattle.tls_fields.specs.Bytes.{Bytes}
-use Rattle.tls_fields.specs.Layout.{Layout, done, refuse, number, ignored, block, left, tag, window, list, maybe, either, complete, look, chain}
+use Rattle.tls_fields.specs.Layout.{
+  Layout,
+  done,
+  refuse,
+  number,
+  ignored,
+  block,
+  left,
+  tag,
+  window,
+  list,
+  maybe,
+  either,
+  complete,
+  look,
+  chain,
+}
 use Rattle.tls_fields.specs.Meaning.{Broken, Lacks, Refuses, Allows}
 use Rattle.tls_fields.specs.declared.result.ErrorKind.{ErrorKind}
 

@@ -31,7 +31,8 @@ Builds Fits Refused text (Err e) = IsRefusal e × (Fits → ⊥) × Refused e
 
 -- The text, appended to what the writer holds, which `contents` tells where it is known. A refusal, and running out of memory,
 -- leave the writer as it was: the same value, so it wasn't called. Where the writer failed, how much it took is unknown.
-abbrev pub Writes : {W : Type 0} → Type 0 → (GenError → Type 0) → Bytes → (W → Option Bytes) → W → W → Result Unit GenError → Type 0
+abbrev pub Writes : {W : Type 0} → Type 0 → (GenError → Type 0) → Bytes → (W → Option Bytes) → W → W
+    → Result Unit GenError → Type 0
 Writes Fits Refused text contents old new (Ok u) = Fits × Appends (contents old) (contents new) text
 Writes Fits Refused text contents old new (Err OutOfMemory) = Fits × (new ≡ old)
 Writes Fits Refused text contents old new (Err Io) = Fits

@@ -3,9 +3,10 @@
 //! The first two are why a new structure costs no proof of its own: on any bytes its layout allows exactly one answer,
 //! and that is the one that reading gives.
 
-ghost use Rattle.std.specs.Prelude.{◌≡◌, ◌<◌, ◌↔◌, ℕ};
+ghost use Rattle.std.specs.Prelude.{◌≡◌, ◌<◌, ◌↔◌, ℕ, Ok};
 ghost use Rattle.tls_fields.specs.Bytes.{Bytes, AreBytes};
-ghost use Rattle.tls_fields.specs.Layout.{Layout};
+ghost use Rattle.tls_fields.specs.Items.{items_in, left_in};
+ghost use Rattle.tls_fields.specs.Layout.{Layout, list};
 ghost use Rattle.tls_fields.specs.Meaning.{Answer, Allows, AllowsOne, EndsWith, Lacks, Refuses, Spells};
 ghost use Rattle.tls_fields.specs.Reading.{reading};
 ghost use Rattle.tls_fields.specs.Stable.{CountsDown, CountsMissing, Decides, IsStable};
@@ -57,4 +58,9 @@ pub fn more_bytes_are_counted<S: Structure>()
 #[tactic(auto, using(crate::proofs::StableLemmas::counting_is_stable))]
 pub fn counting_is_stable<S: Structure>()
     ensures { CountsMissing S.layout → IsStable S.layout }
+{}
+
+/// A walk over items in place comes to the items that a list of them has, and leaves what the list leaves.
+pub fn walk_is_the_list<S: Structure>()
+    ensures { (b : Bytes) → reading (list S.layout) b ≡ Ok (items_in S.layout b, left_in S.layout b) }
 {}

@@ -1,5 +1,27 @@
 -- What a state waits for, by its rows and by the grammar.
-use Rattle.std.proofs.Common.{◌≡◌, ◌↔◌, ◌⊎◌, inl, inr, List, [], ◌∷◌, ◌++◌, Bool, true, false, not, ◌&&◌, ◌||◌, Contains, refl, sym, ◌∙◌, ap, subst}
+use Rattle.std.proofs.Common.{
+  ◌≡◌,
+  ◌↔◌,
+  ◌⊎◌,
+  inl,
+  inr,
+  List,
+  [],
+  ◌∷◌,
+  ◌++◌,
+  Bool,
+  true,
+  false,
+  not,
+  ◌&&◌,
+  ◌||◌,
+  Contains,
+  refl,
+  sym,
+  ◌∙◌,
+  ap,
+  subst,
+}
 use Rattle.std.specs.List.{list_all}
 use Rattle.tls_words.specs.Words.{run}
 use Rattle.tls_words.proofs.PatternLemmas.{both_and, and_both}
@@ -19,7 +41,16 @@ use Rattle.tls_flow.specs.declared.state.Outcome.{Outcome}
 use Rattle.tls_flow.specs.declared.state.Outcome.TheVariants as outcome
 use Rattle.tls_flow.specs.declared.table.TheConstants.{ROWS}
 use Rattle.tls_flow.proofs.LetterLemmas.{same_letter, letters, passes}
-use Rattle.tls_flow.proofs.ConversationLemmas.{is_done, is_alive, waiting_is, end_of, waiting_where, alive_to, alive_from, done_from}
+use Rattle.tls_flow.proofs.ConversationLemmas.{
+  is_done,
+  is_alive,
+  waiting_is,
+  end_of,
+  waiting_where,
+  alive_to,
+  alive_from,
+  done_from,
+}
 use Rattle.tls_flow.proofs.FlowLemmas.{state_of}
 
 abbrev same_bool : Bool → Bool → Bool
@@ -53,7 +84,14 @@ false_not true h = cc
 false_not false h = refl
 
 alive_if_done : (o : Outcome) → is_done o ≡ true → is_alive o ≡ true
-alive_if_done = elim [ outcome.Waiting ↦ λ h. refl | outcome.Full ↦ λ h. refl | outcome.Resumed ↦ λ h. refl | outcome.Tls13 r e ↦ λ h. refl | _ ↦ λ h. cc ]
+alive_if_done = elim [
+  | outcome.Waiting ↦ λ h. refl
+  | outcome.Full ↦ λ h. refl
+  | outcome.Resumed ↦ λ h.
+      refl
+  | outcome.Tls13 r e ↦ λ h. refl
+  | _ ↦ λ h. cc
+]
 
 module _ (w : Word) (l : Letter) where
   next_end : end_of (w ++ l ∷ []) ≡ step (end_of w) l
@@ -61,7 +99,8 @@ module _ (w : Word) (l : Letter) where
 
   awaited_to : awaits (end_of w) l ≡ true → IsAwaited l w
   awaited_to t =
-      let a : (is_waiting (outcome_at (end_of w)) ≡ true) × ((not (is_noise l) && is_alive (outcome_at (step (end_of w) l))) ≡ true) = both_and _ _ t in
+      let a : (is_waiting (outcome_at (end_of w)) ≡ true)
+      × ((not (is_noise l) && is_alive (outcome_at (step (end_of w) l))) ≡ true) = both_and _ _ t in
       let b : (not (is_noise l) ≡ true) × (is_alive (outcome_at (step (end_of w) l)) ≡ true) = both_and _ _ a.1 in (
         (waiting_where w).0 (waiting_is (outcome_at (end_of w)) a.0),
         not_true (is_noise l) b.0,
@@ -74,7 +113,8 @@ module _ (w : Word) (l : Letter) where
         | inl k ↦ alive_if_done (outcome_at (end_of (w ++ l ∷ []))) (done_from (w ++ l ∷ []) k)
         | inr k ↦ alive_from (w ++ l ∷ []) k
       ] in
-      and_both _ _ (ap is_waiting ((waiting_where w).1 h.0)) (and_both _ _ (false_not (is_noise l) h.1) (ap (λ q. is_alive (outcome_at q)) (sym next_end) ∙ alive))
+      and_both _ _ (ap is_waiting ((waiting_where w).1 h.0))
+      (and_both _ _ (false_not (is_noise l) h.1) (ap (λ q. is_alive (outcome_at q)) (sym next_end) ∙ alive))
 
 pub awaited_of_flow : (xs : List Letter) (f : Flow) (es : List Event) → xs ≡ awaited_in ROWS f.state
     → f ≡ run follow silence es → (l : Letter) → Contains xs l ↔ IsAwaited l (letters_of es)
@@ -82,6 +122,8 @@ awaited_of_flow xs f es rows comes l =
     let at : f.state ≡ end_of (letters_of es) = ap (λ g. g.state) comes ∙ state_of silence es in
     let ys : xs ≡ awaited_in ROWS (end_of (letters_of es)) = rows ∙ ap (awaited_in ROWS) at in
     subst (λ zs. Contains zs l ↔ IsAwaited l (letters_of es)) (sym ys) (
-      λ h. awaited_to (letters_of es) l (sym (awaits_is (end_of (letters_of es)) l) ∙ contains_in same_letter (awaited_in ROWS (end_of (letters_of es))) l h),
-      λ h. in_contains same_letter (awaited_in ROWS (end_of (letters_of es))) l (awaits_is (end_of (letters_of es)) l ∙ awaited_from (letters_of es) l h),
+      λ h. awaited_to (letters_of es) l (sym (awaits_is (end_of (letters_of es)) l)
+          ∙ contains_in same_letter (awaited_in ROWS (end_of (letters_of es))) l h),
+      λ h. in_contains same_letter (awaited_in ROWS (end_of (letters_of es))) l
+          (awaits_is (end_of (letters_of es)) l ∙ awaited_from (letters_of es) l h),
     )

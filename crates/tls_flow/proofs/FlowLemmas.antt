@@ -1,9 +1,45 @@
 -- Flows of events: where they stand is the run of their letters, and what stopped them stands among them.
-use Rattle.std.proofs.Common.{◌≡◌, ◌↔◌, ◌⊎◌, inl, inr, ℕ, suc, ◌+◌, ◌-◌, ◌^◌, ◌≤◌, lit≤, zero-add, min, length, List, [], ◌∷◌, ◌++◌, map, Option, None, Some, Bool, true, false, not, ◌||◌, ◌&&◌, arith, refl, sym, ◌∙◌, ap, subst}
+use Rattle.std.proofs.Common.{
+  ◌≡◌,
+  ◌↔◌,
+  ◌⊎◌,
+  inl,
+  inr,
+  ℕ,
+  suc,
+  ◌+◌,
+  ◌-◌,
+  ◌^◌,
+  ◌≤◌,
+  lit≤,
+  zero-add,
+  min,
+  length,
+  List,
+  [],
+  ◌∷◌,
+  ◌++◌,
+  map,
+  Option,
+  None,
+  Some,
+  Bool,
+  true,
+  false,
+  not,
+  ◌||◌,
+  ◌&&◌,
+  arith,
+  refl,
+  sym,
+  ◌∙◌,
+  ap,
+  subst,
+}
 use Rattle.tls_words.specs.Words.{run}
 use Rattle.tls_words.proofs.MachineLemmas.{run_on}
 use Rattle.tls_flow.specs.Letters.{letter, Word, letters_of}
-use Rattle.tls_flow.specs.Table.{step, outcome_at, is_waiting}
+use Rattle.tls_flow.specs.Table.{step, outcome_at, is_failed, is_waiting}
 use Rattle.tls_flow.specs.Steps.{silence, follow, follow_by, stop_at, counted, moved}
 use Rattle.tls_flow.specs.Conversations.{IsUnderWay, HasHandshake, IsOutcome, StopsAt, IsStop}
 use Rattle.tls_flow.specs.declared.event.Event.{Event}
@@ -13,22 +49,36 @@ use Rattle.tls_flow.specs.declared.state.State.{State}
 use Rattle.tls_flow.specs.declared.state.State.TheVariants as state
 use Rattle.tls_flow.specs.declared.state.Outcome.{Outcome}
 use Rattle.tls_flow.specs.declared.state.Outcome.TheVariants as outcome
-use Rattle.tls_flow.proofs.ConversationLemmas.{is_done, waiting_is, end_stays, run_stays, true_or_false, end_of, done_from, done_to, waiting_where, told_whole}
+use Rattle.tls_flow.proofs.ConversationLemmas.{
+  is_done,
+  waiting_is,
+  end_stays,
+  run_stays,
+  true_or_false,
+  end_of,
+  done_from,
+  done_to,
+  waiting_where,
+  told_whole,
+}
 
 -- One event, by whether the flow waits.
-followed : (t : Bool) (f : Flow) (e : Event) → is_waiting (outcome_at f.state) ≡ t → (follow_by t f e).state ≡ step f.state e.letter
+followed : (t : Bool) (f : Flow) (e : Event) → is_waiting (outcome_at f.state) ≡ t
+    → (follow_by t f e).state ≡ step f.state e.letter
 followed true f e h = refl
 followed false f e h = sym (end_stays f.state e.letter h)
 
 -- The state is that of the letters.
 pub state_of : (f : Flow) (es : List Event) → (run follow f es).state ≡ run step f.state (letters_of es)
 state_of f [] = refl
-state_of f (e ∷ es) = state_of (follow f e) es ∙ ap (λ q. run step q (letters_of es)) (followed (is_waiting (outcome_at f.state)) f e refl)
+state_of f (e ∷ es) = state_of (follow f e) es
+    ∙ ap (λ q. run step q (letters_of es)) (followed (is_waiting (outcome_at f.state)) f e refl)
 
 pub told_of_flow : (es : List Event) (from end : Flow) → end ≡ run follow from es → from ≡ silence
     → (o : Outcome) → (outcome_at end.state ≡ o) ↔ IsOutcome o (letters_of es)
 told_of_flow es from end ends starts o =
-    let at : end.state ≡ end_of (letters_of es) = ap (λ f. f.state) (ends ∙ ap (λ f. run follow f es) starts) ∙ state_of silence es in
+    let at : end.state ≡ end_of (letters_of es) =
+    ap (λ f. f.state) (ends ∙ ap (λ f. run follow f es) starts) ∙ state_of silence es in
     subst (λ q. (outcome_at q ≡ o) ↔ IsOutcome o (letters_of es)) (sym at) (told_whole (letters_of es) o)
 
 -- Behind an end the stop stays.
@@ -40,29 +90,16 @@ stop_stays : (f : Flow) (es : List Event) → is_waiting (outcome_at f.state) �
 stop_stays f [] h = refl
 stop_stays f (e ∷ es) h =
     let still : is_waiting (outcome_at (follow f e).state) ≡ false
-    = ap (λ q. is_waiting (outcome_at q)) (followed (is_waiting (outcome_at f.state)) f e refl ∙ end_stays f.state e.letter h) ∙ h in
+    = ap (λ q. is_waiting (outcome_at q)) (followed (is_waiting (outcome_at f.state)) f e refl
+    ∙ end_stays f.state e.letter h) ∙ h in
     stop_stays (follow f e) es still ∙ kept_by (is_waiting (outcome_at f.state)) f e h
 
--- An outcome that is neither waiting nor done.
-abbrev is_failed : Outcome → Bool
-is_failed o = not (is_waiting o || is_done o)
+stop_is : (o : Outcome) (f : Flow) (e : Event) → is_failed o ≡ true
+    → stop_at o f e ≡ Some (record { event = e; place = f.events })
+stop_is o f e h = rw h refl
 
-stop_is : (o : Outcome) (n : ℕ) (e : Event) → is_failed o ≡ true
-    → stop_at o n e ≡ Some (record { event = e; place = n })
-stop_is = elim [
-  | outcome.BrokenOff ↦ λ n e h. refl
-  | outcome.Unknown ↦ λ n e h. refl
-  | outcome.NoHandshake ↦ λ n e h. refl
-  | _ ↦ λ n e h. cc
-]
-
-no_stop : (o : Outcome) (n : ℕ) (e : Event) → is_failed o ≡ false → stop_at o n e ≡ None
-no_stop = elim [
-  | outcome.BrokenOff ↦ λ n e h. cc
-  | outcome.Unknown ↦ λ n e h. cc
-  | outcome.NoHandshake ↦ λ n e h. cc
-  | _ ↦ λ n e h. refl
-]
+no_stop : (o : Outcome) (f : Flow) (e : Event) → is_failed o ≡ false → f.stop ≡ None → stop_at o f e ≡ None
+no_stop o f e h n = rw h n
 
 not_failed : (o : Outcome) → is_waiting o ≡ true → is_failed o ≡ false
 not_failed = elim [ outcome.Waiting ↦ λ h. refl | _ ↦ λ h. cc ]
@@ -77,7 +114,7 @@ failed_not = elim [
 
 -- A waiting flow after one event.
 move_is : (f : Flow) (e : Event) → is_waiting (outcome_at f.state) ≡ true
-    → follow f e ≡ moved (step f.state e.letter) f.events e
+    → follow f e ≡ moved (step f.state e.letter) f e
 move_is f e h = ap (λ t. follow_by t f e) h
 
 -- What stopped a flow that waited: nothing, or an event behind a front with which it still waited.
@@ -85,7 +122,8 @@ abbrev Stopped : Flow → List Event → Type 0
 Stopped f es =
     (u v : List Event) × (e : Event) × (es ≡ u ++ e ∷ v)
     × ((run follow f es).stop ≡ Some (record { event = e; place = (run follow f u).events }))
-    × (is_waiting (outcome_at (run follow f u).state) ≡ true) × (is_failed (outcome_at (step (run follow f u).state e.letter)) ≡ true)
+    × (is_waiting (outcome_at (run follow f u).state) ≡ true)
+    × (is_failed (outcome_at (step (run follow f u).state e.letter)) ≡ true)
     × (is_failed (outcome_at (run follow f es).state) ≡ true)
 
 abbrev NotStopped : Flow → List Event → Type 0
@@ -94,27 +132,43 @@ NotStopped f es = ((run follow f es).stop ≡ None) × (is_failed (outcome_at (r
 failed_at_once : (f : Flow) (e : Event) (es : List Event) → is_waiting (outcome_at f.state) ≡ true
     → is_failed (outcome_at (step f.state e.letter)) ≡ true → Stopped f (e ∷ es)
 failed_at_once f e es h t =
-    let m : follow f e ≡ moved (step f.state e.letter) f.events e = move_is f e h in
+    let m : follow f e ≡ moved (step f.state e.letter) f e = move_is f e h in
     let q : (follow f e).state ≡ step f.state e.letter = ap (λ x. x.state) m in
-    let s : (follow f e).stop ≡ Some (record { event = e; place = f.events }) = ap (λ x. x.stop) m ∙ stop_is (outcome_at (step f.state e.letter)) f.events e t in
-    let w : is_waiting (outcome_at (follow f e).state) ≡ false = ap (λ x. is_waiting (outcome_at x)) q ∙ (failed_not (outcome_at (step f.state e.letter)) t).0 in
-    ([], es, e, refl, stop_stays (follow f e) es w ∙ s, h, t, ap (λ x. is_failed (outcome_at x)) (state_of (follow f e) es ∙ run_stays (follow f e).state (letters_of es) w ∙ q) ∙ t)
+    let s : (follow f e).stop ≡ Some (record { event = e; place = f.events }) =
+    ap (λ x. x.stop) m ∙ stop_is (outcome_at (step f.state e.letter)) f e t in
+    let w : is_waiting (outcome_at (follow f e).state) ≡ false =
+    ap (λ x. is_waiting (outcome_at x)) q ∙ (failed_not (outcome_at (step f.state e.letter)) t).0 in (
+      [],
+      es,
+      e,
+      refl,
+      stop_stays (follow f e) es w ∙ s,
+      h,
+      t,
+      ap (λ x. is_failed (outcome_at x)) (state_of (follow f e) es ∙ run_stays (follow f e).state (letters_of es) w
+          ∙ q) ∙ t,
+    )
 
 -- The flow goes on behind an event that doesn't fail.
-goes_on : (f : Flow) (e : Event) (es : List Event) → is_waiting (outcome_at f.state) ≡ true
+goes_on : (f : Flow) (e : Event) (es : List Event) → is_waiting (outcome_at f.state) ≡ true → f.stop ≡ None
     → is_failed (outcome_at (step f.state e.letter)) ≡ false
-    → (is_waiting (outcome_at (follow f e).state) ≡ true → (follow f e).stop ≡ None → NotStopped (follow f e) es ⊎ Stopped (follow f e) es)
+    → (is_waiting (outcome_at (follow f e).state) ≡ true → (follow f e).stop ≡ None
+    → NotStopped (follow f e) es ⊎ Stopped (follow f e) es)
     → NotStopped f (e ∷ es) ⊎ Stopped f (e ∷ es)
-goes_on f e es h t rest =
-    let m : follow f e ≡ moved (step f.state e.letter) f.events e = move_is f e h in
+goes_on f e es h n t rest =
+    let m : follow f e ≡ moved (step f.state e.letter) f e = move_is f e h in
     let q : (follow f e).state ≡ step f.state e.letter = ap (λ x. x.state) m in
-    let none : (follow f e).stop ≡ None = ap (λ x. x.stop) m ∙ no_stop (outcome_at (step f.state e.letter)) f.events e t in
+    let none : (follow f e).stop ≡ None = ap (λ x. x.stop) m ∙ no_stop (outcome_at (step f.state e.letter)) f e t n in
     elim (true_or_false (is_waiting (outcome_at (follow f e).state))) [
       | inl w ↦ elim (rest w none) [
         | inl k ↦ inl k
         | inr k ↦ inr (e ∷ k.0, k.1, k.2, ap (λ x. e ∷ x) k.3, k.4, k.5, k.6, k.7)
       ]
-      | inr w ↦ inl (stop_stays (follow f e) es w ∙ none, ap (λ x. is_failed (outcome_at x)) (state_of (follow f e) es ∙ run_stays (follow f e).state (letters_of es) w ∙ q) ∙ t)
+      | inr w ↦ inl (
+        stop_stays (follow f e) es w ∙ none,
+        ap (λ x. is_failed (outcome_at x)) (state_of (follow f e) es ∙ run_stays (follow f e).state (letters_of es) w
+            ∙ q) ∙ t,
+      )
     ]
 
 stop_among : (f : Flow) (es : List Event) → is_waiting (outcome_at f.state) ≡ true → f.stop ≡ None
@@ -122,7 +176,7 @@ stop_among : (f : Flow) (es : List Event) → is_waiting (outcome_at f.state) �
 stop_among f [] h n = inl (n, not_failed (outcome_at f.state) h)
 stop_among f (e ∷ es) h n = elim (true_or_false (is_failed (outcome_at (step f.state e.letter)))) [
   | inl t ↦ inr (failed_at_once f e es h t)
-  | inr t ↦ goes_on f e es h t (stop_among (follow f e) es)
+  | inr t ↦ goes_on f e es h n t (stop_among (follow f e) es)
 ]
 
 -- The count of events.
@@ -165,22 +219,32 @@ module _ (es : List Event) where
   ]
     where
       waits_if : (o : Outcome) → is_failed o ≡ false → is_done o ≡ false → o ≡ outcome.Waiting
-      waits_if = elim [ outcome.Waiting ↦ λ a b. refl | outcome.BrokenOff ↦ λ a b. cc | outcome.Unknown ↦ λ a b. cc | outcome.NoHandshake ↦ λ a b. cc | _ ↦ λ a b. cc ]
+      waits_if = elim [
+        | outcome.Waiting ↦ λ a b. refl
+        | outcome.BrokenOff ↦ λ a b. cc
+        | outcome.Unknown ↦ λ a b.
+            cc
+        | outcome.NoHandshake ↦ λ a b. cc
+        | _ ↦ λ a b. cc
+      ]
 
   failed_under_way : (u : List Event) (e : Event)
       → is_failed (outcome_at (step (run follow silence u).state e.letter)) ≡ true
       → ¬ IsUnderWay (letters_of (u ++ e ∷ []))
   failed_under_way u e t h =
       let at : end_of (letters_of (u ++ e ∷ [])) ≡ step (run follow silence u).state e.letter
-      = ap end_of (letters_append u (e ∷ [])) ∙ run_on step state.Start (letters_of u) (e.letter ∷ []) ∙ ap (λ q. step q e.letter) (sym (state_of silence u)) in
-      let waits : outcome_at (step (run follow silence u).state e.letter) ≡ outcome.Waiting = ap outcome_at (sym at) ∙ (waiting_where (letters_of (u ++ e ∷ []))).1 h in
+      = ap end_of (letters_append u (e ∷ [])) ∙ run_on step state.Start (letters_of u) (e.letter ∷ [])
+      ∙ ap (λ q. step q e.letter) (sym (state_of silence u)) in
+      let waits : outcome_at (step (run follow silence u).state e.letter) ≡ outcome.Waiting =
+      ap outcome_at (sym at) ∙ (waiting_where (letters_of (u ++ e ∷ []))).1 h in
       let k : is_failed outcome.Waiting ≡ true = subst (λ o. is_failed o ≡ true) waits t in
       cc
 
   failed_not_done : is_failed (outcome_at (run follow silence es).state) ≡ true → ¬ HasHandshake (letters_of es)
   failed_not_done t h =
       let d : is_done (outcome_at (end_of (letters_of es))) ≡ true = done_from (letters_of es) h in
-      let n : is_done (outcome_at (end_of (letters_of es))) ≡ false = (failed_not (outcome_at (end_of (letters_of es))) (ap (λ q. is_failed (outcome_at q)) (sym ends_at) ∙ t)).1 in
+      let n : is_done (outcome_at (end_of (letters_of es))) ≡ false =
+      (failed_not (outcome_at (end_of (letters_of es))) (ap (λ q. is_failed (outcome_at q)) (sym ends_at) ∙ t)).1 in
       let k : true ≡ false = sym d ∙ n in
       cc
 
@@ -192,7 +256,8 @@ module _ (es : List Event) where
       k.1,
       k.3,
       events_of silence k.0 (lit≤ tt) ∙ ap (λ n. min n (2 ^ 64 - 1)) (zero-add (length k.0)),
-      (waiting_where (letters_of k.0)).0 (ap outcome_at (sym (state_of silence k.0)) ∙ waiting_is (outcome_at (run follow silence k.0).state) k.5),
+      (waiting_where (letters_of k.0)).0 (ap outcome_at (sym (state_of silence k.0))
+          ∙ waiting_is (outcome_at (run follow silence k.0).state) k.5),
       failed_under_way k.0 k.2 k.6,
       failed_not_done k.7,
     )

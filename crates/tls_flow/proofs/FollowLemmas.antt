@@ -37,13 +37,15 @@ abbrev road : State → Word
 road state.Start = []
 road state.Hello = after_hello []
 road state.Verify = after_hello (letter kind.HelloVerifyRequest FromServer ∷ [])
-road state.VerifiedHello = after_hello (letter kind.HelloVerifyRequest FromServer ∷ letter kind.ClientHello ToServer ∷ [])
+road state.VerifiedHello =
+    after_hello (letter kind.HelloVerifyRequest FromServer ∷ letter kind.ClientHello ToServer ∷ [])
 road state.ChangedHello = after_hello (letter kind.ChangeCipherSpec ToServer ∷ [])
 road state.EarlyHello = after_hello (letter kind.Encrypted ToServer ∷ [])
 road state.Retry = after_hello (letter kind.HelloRetryRequest FromServer ∷ [])
 road state.EarlyRetry = after_hello (letter kind.HelloRetryRequest FromServer ∷ letter kind.Encrypted ToServer ∷ [])
 road state.SecondHello = after_hello (letter kind.HelloRetryRequest FromServer ∷ letter kind.ClientHello ToServer ∷ [])
-road state.EarlySecondHello = after_hello (letter kind.HelloRetryRequest FromServer ∷ letter kind.Encrypted ToServer ∷ letter kind.ClientHello ToServer ∷ [])
+road state.EarlySecondHello = after_hello
+    (letter kind.HelloRetryRequest FromServer ∷ letter kind.Encrypted ToServer ∷ letter kind.ClientHello ToServer ∷ [])
 road state.ServerHello = after_server_hello []
 road state.Certificate = after_certificate []
 road state.CertificateStatus = after_certificate (letter kind.CertificateStatus FromServer ∷ [])
@@ -52,19 +54,24 @@ road state.Keys = after_server_hello (letter kind.ServerKeyExchange FromServer �
 road state.Request = after_request []
 road state.RequestDone = after_request (letter kind.ServerDone FromServer ∷ [])
 road state.ClientCertificate = after_request (letter kind.ServerDone FromServer ∷ letter kind.Certificate ToServer ∷ [])
-road state.ClientKeys = after_request (letter kind.ServerDone FromServer ∷ letter kind.Certificate ToServer ∷ letter kind.ClientKeyExchange ToServer ∷ [])
+road state.ClientKeys =
+    after_request (letter kind.ServerDone FromServer ∷ letter kind.Certificate ToServer ∷ letter kind.ClientKeyExchange ToServer ∷ [])
 road state.Done = after_server_hello (letter kind.ServerDone FromServer ∷ [])
-road state.ClientDone = after_server_hello (letter kind.ServerDone FromServer ∷ letter kind.ClientKeyExchange ToServer ∷ [])
+road state.ClientDone = after_server_hello
+    (letter kind.ServerDone FromServer ∷ letter kind.ClientKeyExchange ToServer ∷ [])
 road state.ClientChange = after_change []
 road state.Ticket = after_change (letter kind.NewSessionTicket FromServer ∷ [])
 road state.ResumedTicket = after_server_hello (letter kind.NewSessionTicket FromServer ∷ [])
 road state.ServerChange = after_server_hello (letter kind.ChangeCipherSpec FromServer ∷ [])
 road state.Full = after_change (letter kind.ChangeCipherSpec FromServer ∷ [])
-road state.Resumed = after_server_hello (letter kind.ChangeCipherSpec FromServer ∷ letter kind.ChangeCipherSpec ToServer ∷ [])
+road state.Resumed =
+    after_server_hello (letter kind.ChangeCipherSpec FromServer ∷ letter kind.ChangeCipherSpec ToServer ∷ [])
 road state.Tls13 = after_hello (letter kind.ServerHello13 FromServer ∷ [])
 road state.EarlyTls13 = after_hello (letter kind.Encrypted ToServer ∷ letter kind.ServerHello13 FromServer ∷ [])
-road state.RetriedTls13 = after_hello (letter kind.HelloRetryRequest FromServer ∷ letter kind.ClientHello ToServer ∷ letter kind.ServerHello13 FromServer ∷ [])
-road state.EarlyRetriedTls13 = after_hello (letter kind.HelloRetryRequest FromServer ∷ letter kind.Encrypted ToServer ∷ letter kind.ClientHello ToServer ∷ letter kind.ServerHello13 FromServer ∷ [])
+road state.RetriedTls13 =
+    after_hello (letter kind.HelloRetryRequest FromServer ∷ letter kind.ClientHello ToServer ∷ letter kind.ServerHello13 FromServer ∷ [])
+road state.EarlyRetriedTls13 = after_hello
+    (letter kind.HelloRetryRequest FromServer ∷ letter kind.Encrypted ToServer ∷ letter kind.ClientHello ToServer ∷ letter kind.ServerHello13 FromServer ∷ [])
 road state.BrokenOff = letter kind.Other ToServer ∷ []
 road state.Unknown = letter kind.Other ToServer ∷ []
 road state.NoHandshake = letter kind.Other ToServer ∷ []
@@ -128,7 +135,8 @@ form_passes = elim [
 ]
 
 pub follows : (o : Outcome) (q : State) (l : Letter)
-    → waits (pattern_of o) (step q l) ≡ cond (is_noise l) (waits (pattern_of o) q) (behind same_letter (waits (pattern_of o) q) l)
+    → waits (pattern_of o) (step q l) ≡ cond (is_noise l) (waits (pattern_of o) q)
+    (behind same_letter (waits (pattern_of o) q) l)
 follows o q l =
     yes_is (same_pattern (waits (pattern_of o) (step q l)) (waits_next (waits (pattern_of o) q) l))
     (passes (next_test (pattern_of o) q (waits (pattern_of o) q)) l (form_passes o q))

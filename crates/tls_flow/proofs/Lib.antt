@@ -5,3 +5,4 @@ pub mod ConversationLemmas
 pub mod FlowLemmas
 pub mod MessageLemmas
 pub mod AwaitLemmas
+mod BytesLemmas

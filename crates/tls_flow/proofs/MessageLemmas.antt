@@ -23,4 +23,5 @@ pub passed : (count k : ℕ) (x : ℕ × Bytes) (b rest : Bytes) (whole : Bool) 
     → reading extension b ≡ Ok (x, rest) → picks_tls13 x ≡ false → picks_within (count - k) b ≡ whole
     → picks_within (count - (k + 1)) rest ≡ whole
 passed count k x b rest whole h r d e =
-    sym (passed_by (reading extension b) (x, rest) (picks_within (count - (k + 1))) r d) ∙ sym (one_further count k b h) ∙ e
+    sym (passed_by (reading extension b) (x, rest) (picks_within (count - (k + 1))) r d) ∙ sym (one_further count k b h)
+    ∙ e

@@ -5,7 +5,27 @@ use Rattle.tls_flow.specs.Letters.{letter}
 use Rattle.tls_flow.specs.declared.letter.Letter.{Letter}
 use Rattle.tls_words.specs.Words.{Pattern, one, ◌then◌, ◌or◌, many, maybe}
 use Rattle.tls_flow.specs.declared.letter.Kind.{Kind}
-use Rattle.tls_flow.specs.declared.letter.Kind.TheVariants.{HelloRequest, ClientHello, HelloVerifyRequest, ServerHello, HelloRetryRequest, ServerHello13, NewSessionTicket, Certificate, ServerKeyExchange, CertificateRequest, ServerDone, CertificateVerify, ClientKeyExchange, CertificateStatus, ChangeCipherSpec, Encrypted, Warning, NoCertificate, Heartbeat}
+use Rattle.tls_flow.specs.declared.letter.Kind.TheVariants.{
+  HelloRequest,
+  ClientHello,
+  HelloVerifyRequest,
+  ServerHello,
+  HelloRetryRequest,
+  ServerHello13,
+  NewSessionTicket,
+  Certificate,
+  ServerKeyExchange,
+  CertificateRequest,
+  ServerDone,
+  CertificateVerify,
+  ClientKeyExchange,
+  CertificateStatus,
+  ChangeCipherSpec,
+  Encrypted,
+  Warning,
+  NoCertificate,
+  Heartbeat,
+}
 use Rattle.tls_flow.specs.declared.letter.Direction.{Direction}
 use Rattle.tls_flow.specs.declared.letter.Direction.TheVariants.{ToServer, FromServer}
 
@@ -32,7 +52,8 @@ clients_answer =
 
 -- The same with that request.
 abbrev pub with_client_certificate : Pattern Letter
-with_client_certificate = server CertificateRequest then server ServerDone then clients_answer then client ChangeCipherSpec
+with_client_certificate =
+    server CertificateRequest then server ServerDone then clients_answer then client ChangeCipherSpec
 
 -- Behind the server's certificate: its status (RFC 6066, 8), the keys, and the request, which an anonymous server may not
 -- send (RFC 5246, 7.4.4).
@@ -51,7 +72,8 @@ new_session =
 -- ChangeCipherSpec. Who sees both directions may see the client's records behind the server's ticket.
 abbrev pub servers_change : Pattern Letter
 servers_change =
-    many (client Encrypted) then maybe (server NewSessionTicket then many (client Encrypted)) then server ChangeCipherSpec
+    many (client Encrypted) then maybe (server NewSessionTicket then many
+    (client Encrypted)) then server ChangeCipherSpec
 
 -- The first figure of RFC 5246, section 7.3.
 abbrev pub full : Pattern Letter

@@ -5,3 +5,4 @@ pub mod Table
 pub mod Steps
 pub mod Messages
 pub mod Bytes
+pub mod Read

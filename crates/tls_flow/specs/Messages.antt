@@ -1,5 +1,26 @@
 -- Messages as letters, apart from where they lie in memory.
-use Rattle.std.specs.Prelude.{ℕ, zero, suc, List, [], ◌∷◌, length, Bool, true, false, Option, Some, None, Ok, Err, if◌then◌else◌, ◌==◌, ◌&&◌, ◌||◌, not}
+use Rattle.std.specs.Prelude.{
+  ℕ,
+  zero,
+  suc,
+  List,
+  [],
+  ◌∷◌,
+  length,
+  Bool,
+  true,
+  false,
+  Option,
+  Some,
+  None,
+  Ok,
+  Err,
+  if◌then◌else◌,
+  ◌==◌,
+  ◌&&◌,
+  ◌||◌,
+  not,
+}
 use Rattle.std.specs.Str.{bytes_eq}
 use Rattle.tls_fields.specs.Bytes.{Bytes}
 use Rattle.tls_fields.specs.Layout.{Layout, done, number, counted, ◌>>=◌}
@@ -58,19 +79,24 @@ kind_of_server_hello h =
     if bytes_eq h.random HELLO_RETRY_RANDOM then kind.HelloRetryRequest
     else if picks h.extensions then kind.ServerHello13 else kind.ServerHello
 
+-- By the variant alone: of a ServerHello this is the kind of one below TLS 1.3.
+abbrev pub kind_by_variant : handshakes.Handshake → Kind
+kind_by_variant handshakes.HelloRequest = kind.HelloRequest
+kind_by_variant (handshakes.ClientHello hello) = kind.ClientHello
+kind_by_variant (handshakes.ServerHello hello) = kind.ServerHello
+kind_by_variant (handshakes.NewSessionTicket ticket) = kind.NewSessionTicket
+kind_by_variant (handshakes.Certificate chain) = kind.Certificate
+kind_by_variant (handshakes.ServerKeyExchange parameters) = kind.ServerKeyExchange
+kind_by_variant (handshakes.CertificateRequest request) = kind.CertificateRequest
+kind_by_variant (handshakes.ServerDone body) = kind.ServerDone
+kind_by_variant (handshakes.CertificateVerify signature) = kind.CertificateVerify
+kind_by_variant (handshakes.ClientKeyExchange parameters) = kind.ClientKeyExchange
+kind_by_variant (handshakes.CertificateStatus status) = kind.CertificateStatus
+kind_by_variant _ = kind.Other
+
 abbrev pub kind_of_handshake : handshakes.Handshake → Kind
-kind_of_handshake handshakes.HelloRequest = kind.HelloRequest
-kind_of_handshake (handshakes.ClientHello hello) = kind.ClientHello
 kind_of_handshake (handshakes.ServerHello hello) = kind_of_server_hello hello
-kind_of_handshake (handshakes.NewSessionTicket ticket) = kind.NewSessionTicket
-kind_of_handshake (handshakes.Certificate chain) = kind.Certificate
-kind_of_handshake (handshakes.ServerKeyExchange parameters) = kind.ServerKeyExchange
-kind_of_handshake (handshakes.CertificateRequest request) = kind.CertificateRequest
-kind_of_handshake (handshakes.ServerDone body) = kind.ServerDone
-kind_of_handshake (handshakes.CertificateVerify signature) = kind.CertificateVerify
-kind_of_handshake (handshakes.ClientKeyExchange parameters) = kind.ClientKeyExchange
-kind_of_handshake (handshakes.CertificateStatus status) = kind.CertificateStatus
-kind_of_handshake _ = kind.Other
+kind_of_handshake m = kind_by_variant m
 
 -- Level 1 is a warning, unless it is close_notify, 0, behind which its sender says nothing (RFC 5246, 7.2.1), or the
 -- no_certificate of SSL 3.0, 41 (RFC 6101, 5.6.6).

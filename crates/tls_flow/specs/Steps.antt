@@ -1,6 +1,6 @@
 -- A flow: where it stands, the count of its events, and what stopped it.
-use Rattle.std.specs.Prelude.{ℕ, ◌+◌, ◌-◌, ◌^◌, min, Option, None, Some, Bool, true, false}
-use Rattle.tls_flow.specs.Table.{step, outcome_at, is_waiting}
+use Rattle.std.specs.Prelude.{ℕ, ◌+◌, ◌-◌, ◌^◌, min, Option, None, Some, Bool, true, false, if◌then◌else◌}
+use Rattle.tls_flow.specs.Table.{step, outcome_at, is_failed, is_waiting}
 use Rattle.tls_flow.specs.declared.event.Event.{Event}
 use Rattle.tls_flow.specs.declared.flow.Flow.{Flow}
 use Rattle.tls_flow.specs.declared.flow.Stop.{Stop}
@@ -14,22 +14,19 @@ abbrev pub silence : Flow
 silence = record { state = state.Start; events = 0; stop = None }
 
 -- The event that ends a handshake without success is kept, with the count of those in front of it.
-abbrev pub stop_at : Outcome → ℕ → Event → Option Stop
-stop_at outcome.BrokenOff n e = Some (record { event = e; place = n })
-stop_at outcome.Unknown n e = Some (record { event = e; place = n })
-stop_at outcome.NoHandshake n e = Some (record { event = e; place = n })
-stop_at _ n e = None
+abbrev pub stop_at : Outcome → Flow → Event → Option Stop
+stop_at o f e = if is_failed o then Some (record { event = e; place = f.events }) else f.stop
 
 -- One more event was counted.
 abbrev pub counted : ℕ → ℕ
 counted n = min (n + 1) (2 ^ 64 - 1)
 
-abbrev pub moved : State → ℕ → Event → Flow
-moved q n e = record { state = q; events = counted n; stop = stop_at (outcome_at q) n e }
+abbrev pub moved : State → Flow → Event → Flow
+moved q f e = record { state = q; events = counted f.events; stop = stop_at (outcome_at q) f e }
 
 -- The flow after an event: behind an end it is counted only.
 abbrev pub follow_by : Bool → Flow → Event → Flow
-follow_by true f e = moved (step f.state e.letter) f.events e
+follow_by true f e = moved (step f.state e.letter) f e
 follow_by false f e = record f { events = counted f.events }
 
 abbrev pub follow : Flow → Event → Flow

@@ -1,5 +1,20 @@
 -- What the table of transitions answers, and the rules for what stands in no row.
-use Rattle.std.specs.Prelude.{◌≡◌, ℕ, List, [], ◌∷◌, Option, Some, None, Bool, true, false, ◌&&◌, if◌then◌else◌, slice_get}
+use Rattle.std.specs.Prelude.{
+  ◌≡◌,
+  ℕ,
+  List,
+  [],
+  ◌∷◌,
+  Option,
+  Some,
+  None,
+  Bool,
+  true,
+  false,
+  ◌&&◌,
+  if◌then◌else◌,
+  slice_get,
+}
 use Rattle.tls_flow.specs.declared.letter.Letter.{Letter}
 use Rattle.tls_flow.specs.Letters.{letter}
 use Rattle.tls_flow.specs.Grammar.{is_noise_of}
@@ -20,12 +35,14 @@ use denote.Enum.Bare.{sameb}
 -- Where the first row of this kind and direction leads.
 abbrev pub next_in : List Row → Kind → Direction → Option State
 next_in [] k d = None
-next_in (r ∷ rows) k d = if sameb kinds r.kind k && sameb directions r.direction d then Some r.next else next_in rows k d
+next_in (r ∷ rows) k d =
+    if sameb kinds r.kind k && sameb directions r.direction d then Some r.next else next_in rows k d
 
 -- Where the first row of this state, kind and direction leads.
 abbrev pub next_after : List Row → State → Kind → Direction → Option State
 next_after [] q k d = None
-next_after (r ∷ rows) q k d = if sameb states r.state q && (sameb kinds r.kind k && sameb directions r.direction d) then Some r.next else next_after rows q k d
+next_after (r ∷ rows) q k d = if sameb states r.state q &&
+    (sameb kinds r.kind k && sameb directions r.direction d) then Some r.next else next_after rows q k d
 
 -- The letters of a state's rows: what it waits for.
 abbrev pub awaited_in : List Row → State → List Letter
@@ -55,6 +72,13 @@ outcome_at _ = outcome.Waiting
 abbrev pub is_waiting : Outcome → Bool
 is_waiting outcome.Waiting = true
 is_waiting _ = false
+
+-- It ended without success.
+abbrev pub is_failed : Outcome → Bool
+is_failed outcome.BrokenOff = true
+is_failed outcome.Unknown = true
+is_failed outcome.NoHandshake = true
+is_failed _ = false
 
 -- What a message does where the table has no row for it: an end stays, noise keeps the state, a fatal alert breaks off, and
 -- what isn't known is told as such.

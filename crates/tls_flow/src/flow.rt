@@ -14,8 +14,8 @@ ghost use Rattle.tls_flow.specs.declared.table.TheConstants.{ROWS};
 use crate::event::Event;
 use crate::letter::Letter;
 use crate::state::{Outcome, State};
-use crate::step::{is_waiting, next_state};
-use crate::table::awaited;
+use crate::step::{is_failed, is_waiting};
+use crate::table::{awaited, next_state};
 
 /// The event that ended a handshake without success, as [`Outcome`] says.
 #[derive(Clone, Copy, Debug, PartialEq)]
@@ -91,13 +91,12 @@ impl Flow {
     {
         if is_waiting(self.state) {
             self.state = next_state(self.state, event.letter);
-            self.stop = match self.state {
-                State::BrokenOff | State::Unknown | State::NoHandshake => Some(Stop {
+            if is_failed(self.state) {
+                self.stop = Some(Stop {
                     event,
                     place: self.events,
-                }),
-                _ => None,
-            };
+                });
+            }
         }
         self.events = self.events.saturating_add(1);
     }

@@ -19,6 +19,7 @@
 mod bytes;
 mod event;
 mod flow;
+pub mod laws;
 mod letter;
 mod message;
 mod state;

@@ -1,11 +1,11 @@
 //! Messages as letters.
-ghost use Rattle.std.specs.Prelude.{◌≡◌};
+ghost use Rattle.std.specs.Prelude.{◌≡◌, Some, slice_get};
 ghost use Rattle.tls_base.specs.Alert.{view_alert};
 ghost use Rattle.tls_fields.specs.Answers.{Gives};
 ghost use Rattle.tls_hs.specs.ServerHello.{view_server_hello};
 ghost use Rattle.tls_hs.specs.Handshake.{view_handshake};
 ghost use Rattle.tls_hs.specs.Message.{view_message};
-ghost use Rattle.tls_flow.specs.Messages.{extension as extension_layout, is_tls13_version, picks_tls13 as picks, picks_in, kind_of_server_hello, kind_of_handshake, kind_of_alert, kind_of, direction, letter_of as letter_is};
+ghost use Rattle.tls_flow.specs.Messages.{extension as extension_layout, is_tls13_version, picks_tls13 as picks, picks_in, kind_by_variant, kind_of_server_hello, kind_of_handshake, kind_of_alert, kind_of, direction, letter_of as letter_is};
 
 use crate::letter::{Direction, Kind, Letter};
 use tls_base::{TlsAlertDescription, TlsAlertSeverity, TlsMessageAlert};
@@ -69,6 +69,7 @@ pub fn picks_tls13(block: &[u8]) -> bool
 }
 
 /// The kind of a ServerHello: a HelloRetryRequest by its random, one of TLS 1.3 by its extension supported_versions.
+#[inline(never)]
 fn kind_of_hello(hello: &TlsServerHelloContents<'_>) -> Kind
     ensures { result ≡ kind_of_server_hello (view_server_hello hello.now) }
 {
@@ -81,24 +82,62 @@ fn kind_of_hello(hello: &TlsServerHelloContents<'_>) -> Kind
     }
 }
 
+/// The kinds of handshake messages, each at the place of its variant. A look-up here is faster than a jump by the variant.
+static BY_VARIANT: [Kind; 17] = [
+    Kind::HelloRequest,
+    Kind::ClientHello,
+    Kind::ServerHello,
+    Kind::Other,
+    Kind::NewSessionTicket,
+    Kind::Other,
+    Kind::Other,
+    Kind::Certificate,
+    Kind::ServerKeyExchange,
+    Kind::CertificateRequest,
+    Kind::ServerDone,
+    Kind::CertificateVerify,
+    Kind::ClientKeyExchange,
+    Kind::Other,
+    Kind::CertificateStatus,
+    Kind::Other,
+    Kind::Other,
+];
+
+/// The place of a message's variant among the variants.
+#[inline]
+fn place_of_variant(message: &TlsMessageHandshake<'_>) -> usize
+    ensures { slice_get BY_VARIANT result ≡ Some (kind_by_variant (view_handshake message.now)) }
+{
+    match message {
+        TlsMessageHandshake::HelloRequest => 0,
+        TlsMessageHandshake::ClientHello(_) => 1,
+        TlsMessageHandshake::ServerHello(_) => 2,
+        TlsMessageHandshake::ServerHelloV13Draft18(_) => 3,
+        TlsMessageHandshake::NewSessionTicket(_) => 4,
+        TlsMessageHandshake::EndOfEarlyData => 5,
+        TlsMessageHandshake::HelloRetryRequest(_) => 6,
+        TlsMessageHandshake::Certificate(_) => 7,
+        TlsMessageHandshake::ServerKeyExchange(_) => 8,
+        TlsMessageHandshake::CertificateRequest(_) => 9,
+        TlsMessageHandshake::ServerDone(_) => 10,
+        TlsMessageHandshake::CertificateVerify(_) => 11,
+        TlsMessageHandshake::ClientKeyExchange(_) => 12,
+        TlsMessageHandshake::Finished(_) => 13,
+        TlsMessageHandshake::CertificateStatus(_) => 14,
+        TlsMessageHandshake::NextProtocol(_) => 15,
+        TlsMessageHandshake::KeyUpdate(_) => 16,
+    }
+}
+
 impl Kind {
-    /// The kind of a handshake message.
+    /// The kind of a handshake message. A ServerHello is looked at apart, so that the rest is a look-up of the variant.
+    #[inline]
     pub fn of_handshake(message: &TlsMessageHandshake<'_>) -> Kind
         ensures { result ≡ kind_of_handshake (view_handshake message.now) }
     {
         match message {
-            TlsMessageHandshake::HelloRequest => Kind::HelloRequest,
-            TlsMessageHandshake::ClientHello(_) => Kind::ClientHello,
             TlsMessageHandshake::ServerHello(hello) => kind_of_hello(hello),
-            TlsMessageHandshake::NewSessionTicket(_) => Kind::NewSessionTicket,
-            TlsMessageHandshake::Certificate(_) => Kind::Certificate,
-            TlsMessageHandshake::ServerKeyExchange(_) => Kind::ServerKeyExchange,
-            TlsMessageHandshake::CertificateRequest(_) => Kind::CertificateRequest,
-            TlsMessageHandshake::ServerDone(_) => Kind::ServerDone,
-            TlsMessageHandshake::CertificateVerify(_) => Kind::CertificateVerify,
-            TlsMessageHandshake::ClientKeyExchange(_) => Kind::ClientKeyExchange,
-            TlsMessageHandshake::CertificateStatus(_) => Kind::CertificateStatus,
-            _ => Kind::Other,
+            _ => BY_VARIANT[place_of_variant(message)],
         }
     }
 
@@ -117,6 +156,7 @@ impl Kind {
     }
 
     /// The kind of a message that was read, which nobody encrypted.
+    #[inline]
     pub fn of(message: &TlsMessage<'_>) -> Kind
         ensures { result ≡ kind_of (view_message message.now) }
     {
@@ -132,6 +172,7 @@ impl Kind {
 
 impl Direction {
     /// The direction of a message that goes to the server, or doesn't.
+    #[inline]
     pub fn of(to_server: bool) -> Direction
         ensures { result ≡ direction to_server }
     {

@@ -1,11 +1,8 @@
-//! The step from a state to the next.
+//! How a conversation stands at a state.
 ghost use Rattle.std.specs.Prelude.{◌≡◌};
-ghost use Rattle.tls_flow.specs.Grammar.{is_noise_of};
-ghost use Rattle.tls_flow.specs.Table.{is_waiting as is_waiting_at, outcome_at, rule, step};
+ghost use Rattle.tls_flow.specs.Table.{is_failed as is_failed_at, is_waiting as is_waiting_at, outcome_at};
 
-use crate::letter::{Direction, Kind, Letter};
 use crate::state::{Outcome, State};
-use crate::table::next_after;
 
 impl State {
     /// How a conversation stands at this state.
@@ -59,38 +56,13 @@ pub(crate) fn is_waiting(state: State) -> bool
     )
 }
 
-/// Whether a message is noise: a warning, a heartbeat, or a HelloRequest of the server.
+/// Whether a handshake ended without success at a state.
 #[inline]
-fn is_noise(kind: Kind, direction: Direction) -> bool
-    ensures { result ≡ is_noise_of kind direction }
+pub(crate) fn is_failed(state: State) -> bool
+    ensures { result ≡ is_failed_at (outcome_at state) }
 {
     matches!(
-        (kind, direction),
-        (Kind::Warning | Kind::Heartbeat, _) | (Kind::HelloRequest, Direction::FromServer)
+        state,
+        State::BrokenOff | State::Unknown | State::NoHandshake
     )
-}
-
-/// What a message does in `state` where the table has no row for it.
-fn by_rule(state: State, kind: Kind, direction: Direction) -> State
-    ensures { result ≡ rule state kind direction }
-{
-    if state.outcome() != Outcome::Waiting || is_noise(kind, direction) {
-        return state;
-    }
-    match kind {
-        Kind::Fatal => State::BrokenOff,
-        Kind::Unknown => State::Unknown,
-        _ => State::NoHandshake,
-    }
-}
-
-/// The state after a message.
-#[inline]
-pub(crate) fn next_state(state: State, message: Letter) -> State
-    ensures { result ≡ step state message }
-{
-    match next_after(state, message.kind, message.direction) {
-        Some(next) => next,
-        None => by_rule(state, message.kind, message.direction),
-    }
 }

@@ -1,6 +1,6 @@
 //! The table of transitions.
 ghost use Rattle.std.specs.Prelude.{◌≡◌};
-ghost use Rattle.tls_flow.specs.Table.{IsOneRowEach, next_in as next_of, next_after as next_after_of, awaited_in};
+ghost use Rattle.tls_flow.specs.Table.{IsOneRowEach, awaited_in, step};
 
 use crate::letter::{Direction, Kind, Letter};
 use crate::state::State;
@@ -173,14 +173,141 @@ macro_rules! count {
     };
 }
 
-/// For each state an arm that searches its rows.
-macro_rules! search {
-    ([$at:ident $sought:ident $to:ident] $($state:ident { $($kind:ident $direction:ident => $next:ident;)* })*) => {
-        match $at {
-            $(State::$state => next_in(&[$(row!($state $kind $direction $next)),*], $sought, $to),)*
-            State::Full | State::Resumed | State::Tls13 | State::EarlyTls13 | State::RetriedTls13
-            | State::EarlyRetriedTls13 | State::BrokenOff | State::Unknown | State::NoHandshake => None,
-        }
+/// Where a letter leads at a state, by the state's rows: the one that has it, and else a rule. Each letter that stands in a row has
+/// a line here.
+macro_rules! entry {
+    ($at:ident ClientHello ToServer; ClientHello ToServer => $next:ident; $($rows:tt)*) => {
+        State::$next
+    };
+    ($at:ident HelloVerifyRequest FromServer; HelloVerifyRequest FromServer => $next:ident; $($rows:tt)*) => {
+        State::$next
+    };
+    ($at:ident ServerHello FromServer; ServerHello FromServer => $next:ident; $($rows:tt)*) => {
+        State::$next
+    };
+    ($at:ident HelloRetryRequest FromServer; HelloRetryRequest FromServer => $next:ident; $($rows:tt)*) => {
+        State::$next
+    };
+    ($at:ident ServerHello13 FromServer; ServerHello13 FromServer => $next:ident; $($rows:tt)*) => {
+        State::$next
+    };
+    ($at:ident ChangeCipherSpec ToServer; ChangeCipherSpec ToServer => $next:ident; $($rows:tt)*) => {
+        State::$next
+    };
+    ($at:ident ChangeCipherSpec FromServer; ChangeCipherSpec FromServer => $next:ident; $($rows:tt)*) => {
+        State::$next
+    };
+    ($at:ident Encrypted ToServer; Encrypted ToServer => $next:ident; $($rows:tt)*) => {
+        State::$next
+    };
+    ($at:ident Certificate FromServer; Certificate FromServer => $next:ident; $($rows:tt)*) => {
+        State::$next
+    };
+    ($at:ident ServerKeyExchange FromServer; ServerKeyExchange FromServer => $next:ident; $($rows:tt)*) => {
+        State::$next
+    };
+    ($at:ident ServerDone FromServer; ServerDone FromServer => $next:ident; $($rows:tt)*) => {
+        State::$next
+    };
+    ($at:ident NewSessionTicket FromServer; NewSessionTicket FromServer => $next:ident; $($rows:tt)*) => {
+        State::$next
+    };
+    ($at:ident CertificateStatus FromServer; CertificateStatus FromServer => $next:ident; $($rows:tt)*) => {
+        State::$next
+    };
+    ($at:ident CertificateRequest FromServer; CertificateRequest FromServer => $next:ident; $($rows:tt)*) => {
+        State::$next
+    };
+    ($at:ident Certificate ToServer; Certificate ToServer => $next:ident; $($rows:tt)*) => {
+        State::$next
+    };
+    ($at:ident NoCertificate ToServer; NoCertificate ToServer => $next:ident; $($rows:tt)*) => {
+        State::$next
+    };
+    ($at:ident ClientKeyExchange ToServer; ClientKeyExchange ToServer => $next:ident; $($rows:tt)*) => {
+        State::$next
+    };
+    ($at:ident CertificateVerify ToServer; CertificateVerify ToServer => $next:ident; $($rows:tt)*) => {
+        State::$next
+    };
+    ($at:ident Encrypted FromServer; Encrypted FromServer => $next:ident; $($rows:tt)*) => {
+        State::$next
+    };
+    ($at:ident $kind:ident $to:ident; $other:ident $other_to:ident => $next:ident; $($rows:tt)*) => {
+        entry!($at $kind $to; $($rows)*)
+    };
+    ($at:ident Warning $to:ident;) => {
+        State::$at
+    };
+    ($at:ident Heartbeat $to:ident;) => {
+        State::$at
+    };
+    ($at:ident HelloRequest FromServer;) => {
+        State::$at
+    };
+    ($at:ident Fatal $to:ident;) => {
+        State::BrokenOff
+    };
+    ($at:ident Unknown $to:ident;) => {
+        State::Unknown
+    };
+    ($at:ident $kind:ident $to:ident;) => {
+        State::NoHandshake
+    };
+}
+
+/// Where the letters of a kind lead at a state, from the server and to it.
+macro_rules! of_kind {
+    ($at:ident $kind:ident; $($rows:tt)*) => {
+        [entry!($at $kind FromServer; $($rows)*), entry!($at $kind ToServer; $($rows)*)]
+    };
+}
+
+/// Where all letters lead at a state, the kinds in the order of their declaration.
+macro_rules! of_state {
+    ($at:ident; $($rows:tt)*) => {
+        [
+            of_kind!($at HelloRequest; $($rows)*),
+            of_kind!($at ClientHello; $($rows)*),
+            of_kind!($at HelloVerifyRequest; $($rows)*),
+            of_kind!($at ServerHello; $($rows)*),
+            of_kind!($at HelloRetryRequest; $($rows)*),
+            of_kind!($at ServerHello13; $($rows)*),
+            of_kind!($at NewSessionTicket; $($rows)*),
+            of_kind!($at Certificate; $($rows)*),
+            of_kind!($at ServerKeyExchange; $($rows)*),
+            of_kind!($at CertificateRequest; $($rows)*),
+            of_kind!($at ServerDone; $($rows)*),
+            of_kind!($at CertificateVerify; $($rows)*),
+            of_kind!($at ClientKeyExchange; $($rows)*),
+            of_kind!($at CertificateStatus; $($rows)*),
+            of_kind!($at ChangeCipherSpec; $($rows)*),
+            of_kind!($at Encrypted; $($rows)*),
+            of_kind!($at Warning; $($rows)*),
+            of_kind!($at NoCertificate; $($rows)*),
+            of_kind!($at Fatal; $($rows)*),
+            of_kind!($at Heartbeat; $($rows)*),
+            of_kind!($at Unknown; $($rows)*),
+            of_kind!($at Other; $($rows)*),
+        ]
+    };
+}
+
+/// The same at each state, in the order of their declaration. An end stays.
+macro_rules! steps {
+    ([] $($state:ident { $($kind:ident $direction:ident => $next:ident;)* })*) => {
+        [
+            $(of_state!($state; $($kind $direction => $next;)*),)*
+            [[State::Full; 2]; KINDS],
+            [[State::Resumed; 2]; KINDS],
+            [[State::Tls13; 2]; KINDS],
+            [[State::EarlyTls13; 2]; KINDS],
+            [[State::RetriedTls13; 2]; KINDS],
+            [[State::EarlyRetriedTls13; 2]; KINDS],
+            [[State::BrokenOff; 2]; KINDS],
+            [[State::Unknown; 2]; KINDS],
+            [[State::NoHandshake; 2]; KINDS],
+        ]
     };
 }
 
@@ -197,33 +324,28 @@ macro_rules! letters {
 
 const COUNT: usize = transitions!(count);
 
+/// How many kinds, and how many states there are.
+const KINDS: usize = 22;
+
+const STATES: usize = 34;
+
 /// The table.
 static ROWS: [Row; COUNT] = transitions!(rows);
+
+/// The state after each letter at each state: a look-up here costs less than a search of rows.
+static STEPS: [[[State; 2]; KINDS]; STATES] = transitions!(steps);
 
 /// No state, kind and direction stand in two rows.
 fn rows_are_distinct()
     ensures { IsOneRowEach ROWS }
 {}
 
-/// Where the first of `rows` with this kind and direction leads.
+/// The state after a letter.
 #[inline]
-fn next_in(rows: &[Row], kind: Kind, direction: Direction) -> Option<State>
-    ensures { result ≡ next_of rows.now kind direction }
+pub(crate) fn next_state(state: State, letter: Letter) -> State
+    ensures { result ≡ step state letter }
 {
-    for row in rows {
-        if row.kind == kind && row.direction == direction {
-            return Some(row.next);
-        }
-    }
-    None
-}
-
-/// Where the table's row of this state, kind and direction leads.
-#[inline]
-pub(crate) fn next_after(state: State, kind: Kind, direction: Direction) -> Option<State>
-    ensures { result ≡ next_after_of ROWS state kind direction }
-{
-    transitions!(search state kind direction)
+    STEPS[state as usize][letter.kind as usize][letter.direction as usize]
 }
 
 /// The letters that the state waits for.

@@ -39,7 +39,8 @@ view_certificate_request_in_place r = record {
 abbrev pub view_handshake_in_place : HandshakeView → Handshake
 view_handshake_in_place (in_place.ClientHello h) = handshakes.ClientHello (view_client_hello_in_place h)
 view_handshake_in_place (in_place.Certificate c) = handshakes.Certificate (items_in (counted 3) c.bytes.now)
-view_handshake_in_place (in_place.CertificateRequest r) = handshakes.CertificateRequest (view_certificate_request_in_place r)
+view_handshake_in_place (in_place.CertificateRequest r) =
+    handshakes.CertificateRequest (view_certificate_request_in_place r)
 view_handshake_in_place (in_place.Other m) = view_handshake m
 
 abbrev pub view_raw_handshake : RawHandshake → Framed
@@ -55,4 +56,5 @@ body_of h = value_of (reading (handshake_body h.kind (length h.content)) h.conte
 
 -- The message that it is.
 abbrev pub handshake_of : Framed → Result Message Refusal
-handshake_of h = value_of (reading (handshake_body h.kind (length h.content)) h.content and_then λ x. Ok (message.Handshake x.0, x.1))
+handshake_of h = value_of (reading (handshake_body h.kind (length h.content)) h.content
+    and_then λ x. Ok (message.Handshake x.0, x.1))

@@ -118,13 +118,14 @@ impl<'a> Iterator for Messages<'a> {
 
     #[inline(always)]
     fn next(&mut self) -> Option<RawMessage<'a>> {
+        // A record has the most messages of this type. A comparison is foretold, where a jump by the type takes longer.
+        if self.record_type == TlsRecordType::ChangeCipherSpec {
+            let mut items: Items<ChangeCipherSpec> = Items::new(self.bytes);
+            let _ = items.next()?;
+            self.bytes = items.bytes();
+            return Some(RawMessage::ChangeCipherSpec);
+        }
         match self.record_type {
-            TlsRecordType::ChangeCipherSpec => {
-                let mut items: Items<ChangeCipherSpec> = Items::new(self.bytes);
-                let _ = items.next()?;
-                self.bytes = items.bytes();
-                Some(RawMessage::ChangeCipherSpec)
-            }
             TlsRecordType::Alert => {
                 let mut items: Items<Alert> = Items::new(self.bytes);
                 let alert = items.next()?;

@@ -82,7 +82,31 @@ methods_read b xs r d (k, m1, d1, d2, s, (n, m2, d3, d4, t, (u, m3, d5, d6, v, w
 
 client_hello_read : (b : Bytes) (h : ClientHello) (r d : Bytes) → Spells client_hello b h r d → IsReadHello h
 unfolding client_hello
-client_hello_read b h r d (version, m1, a1, b1, s1, (random, m2, a2, b2, s2, (id, m3, a3, b3, s3, (suites, m4, a4, b4, s4, (methods, m5, a5, b5, s5, (ext, m6, a6, b6, s6, f, e6), e5), e4), e3), e2), e1) =
+client_hello_read b h r d (
+  version,
+  m1,
+  a1,
+  b1,
+  s1,
+  (
+    random,
+    m2,
+    a2,
+    b2,
+    s2,
+    (
+      id,
+      m3,
+      a3,
+      b3,
+      s3,
+      (suites, m4, a4, b4, s4, (methods, m5, a5, b5, s5, (ext, m6, a6, b6, s6, f, e6), e5), e4),
+      e3,
+    ),
+    e2,
+  ),
+  e1,
+) =
     let i = session_id_read m2 id m3 a3 s3 in
     subst IsReadHello (sym f.0) (record {
       random = s2.0;
@@ -102,7 +126,15 @@ body_read n w h e d (x, m1, d1, d2, s, f, e1) =
 handshake_read : (b : Bytes) (h : ClientHello) (r d : Bytes)
     → Spells handshake b (Handshake (handshakes.ClientHello h)) r d → IsReadHello h
 unfolding handshake
-handshake_read b h r d (kind, m1, d1, d2, s, (n, m2, d3, d4, t, (m, m3, d5, d6, (w, e, g, size, is, inner, e4), f, e3), e2), e1) =
+handshake_read b h r d (
+  kind,
+  m1,
+  d1,
+  d2,
+  s,
+  (n, m2, d3, d4, t, (m, m3, d5, d6, (w, e, g, size, is, inner, e4), f, e3), e2),
+  e1,
+) =
     let same : handshakes.ClientHello h ≡ m = (let k : Handshake (handshakes.ClientHello h) ≡ Handshake m =
     f.0 in cc) in
     let body : Spells (handshakes.handshake_body kind n) w (handshakes.ClientHello h) e g =

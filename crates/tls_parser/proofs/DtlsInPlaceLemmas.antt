@@ -1,5 +1,23 @@
 -- Records of DTLS in place: what is judged of them, and what they say.
-use Rattle.std.proofs.Common.{◌≡◌, ℕ, List, [], ◌∷◌, map, Bool, Result, Ok, Err, nat_lt, ◌||◌, refl, sym, subst, ◌∙◌, ap}
+use Rattle.std.proofs.Common.{
+  ◌≡◌,
+  ℕ,
+  List,
+  [],
+  ◌∷◌,
+  map,
+  Bool,
+  Result,
+  Ok,
+  Err,
+  nat_lt,
+  ◌||◌,
+  refl,
+  sym,
+  subst,
+  ◌∙◌,
+  ap,
+}
 use Rattle.std.specs.Borrow.{Bor}
 use Rattle.tls_fields.specs.Bytes.{Bytes}
 use Rattle.tls_fields.specs.Layout.{Layout, done, number, block, window, list1, ◌>>=◌}
@@ -14,29 +32,83 @@ use Rattle.tls_base.specs.Alert as base_alert
 use Rattle.tls_hs.specs.Message as tls_message
 use Rattle.tls_parser.specs.DtlsHandshake as dtls_handshake
 use Rattle.tls_parser.specs.DtlsHandshake.{Body, body}
-use Rattle.tls_parser.specs.DtlsRecord.{Message, RecordHeader, RawRecord, Plaintext, change_cipher_spec, alert, handshake, raw_record, record_content, plaintext, read_content}
-use Rattle.tls_parser.specs.DtlsInPlace.{RawHandshake, raw_handshake, handshake_of, is_part, with_body, with_read_body, Handshake, Whole, message_of, messages_of_type}
+use Rattle.tls_parser.specs.DtlsRecord.{
+  Message,
+  RecordHeader,
+  RawRecord,
+  Plaintext,
+  change_cipher_spec,
+  alert,
+  handshake,
+  raw_record,
+  record_content,
+  plaintext,
+  read_content,
+}
+use Rattle.tls_parser.specs.DtlsInPlace.{
+  RawHandshake,
+  raw_handshake,
+  handshake_of,
+  is_part,
+  with_body,
+  with_read_body,
+  Handshake,
+  Whole,
+  message_of,
+  messages_of_type,
+}
 use Rattle.tls_parser.specs.InPlace.{first_judged}
 use Rattle.tls_parser.proofs.ContentLemmas.{dtls_plaintext_is_raw_then_content}
 use Rattle.tls_parser.proofs.InPlaceLemmas.{list_told}
 
 -- what is made of a message, and of a raw one
 abbrev finished : dtls_handshake.Handshake × Bytes → Answer Message
-finished x = Ok (with_body (record { msg_type = x.0.msg_type; length = x.0.length; message_seq = x.0.message_seq; fragment_offset = x.0.fragment_offset; fragment_length = x.0.fragment_length; body = [] }) x.0.body, x.1)
+finished x = Ok (
+  with_body (record {
+    msg_type = x.0.msg_type;
+    length = x.0.length;
+    message_seq =
+        x.0.message_seq;
+    fragment_offset = x.0.fragment_offset;
+    fragment_length = x.0.fragment_length;
+    body =
+        [];
+  }) x.0.body,
+  x.1,
+)
 
 abbrev decoded_then : RawHandshake × Bytes → Answer Message
 decoded_then x = handshake_of x.0 and_then λ y. Ok (y, x.1)
 
 -- the last parts of both
 abbrev raw_of : ℕ → ℕ → ℕ → ℕ → ℕ → Bytes → RawHandshake
-raw_of kind length seq offset n bytes = record { msg_type = kind; length = length; message_seq = seq; fragment_offset = offset; fragment_length = n; body = bytes }
+raw_of kind length seq offset n bytes = record {
+  msg_type = kind;
+  length = length;
+  message_seq = seq;
+  fragment_offset =
+      offset;
+  fragment_length = n;
+  body = bytes;
+}
 
 abbrev part : ℕ → ℕ → ℕ → Bool
 part length offset n = nat_lt 0 offset || nat_lt n length
 
 module _ (kind length seq offset n : ℕ) where
   abbrev read_last : Body × Bytes → Answer dtls_handshake.Handshake
-  read_last x = Ok (record { msg_type = kind; length = length; message_seq = seq; fragment_offset = offset; fragment_length = n; body = x.0 }, x.1)
+  read_last x = Ok (
+    record {
+      msg_type = kind;
+      length = length;
+      message_seq = seq;
+      fragment_offset =
+          offset;
+      fragment_length = n;
+      body = x.0;
+    },
+    x.1,
+  )
 
   abbrev raw_last : Bytes × Bytes → Answer RawHandshake
   raw_last x = Ok (raw_of kind length seq offset n x.0, x.1)
@@ -49,7 +121,8 @@ module _ (kind length seq offset n : ℕ) where
   by_body bytes r (Ok x) = refl
   by_body bytes r (Err e) = refl
 
-  by_window : (a : Answer Bytes) → (((a and_then in_window) and_then read_last) and_then finished) ≡ ((a and_then raw_last) and_then decoded_then)
+  by_window : (a : Answer Bytes) → (((a and_then in_window) and_then read_last) and_then finished)
+      ≡ ((a and_then raw_last) and_then decoded_then)
   by_window (Ok w) = by_body w.0 w.1 (reading (body kind length (part length offset n)) w.0)
   by_window (Err e) = refl
 
@@ -78,18 +151,24 @@ decoded : (xs : List RawHandshake) → decode_while handshake_of xs ≡ decode_w
 decoded [] = refl
 decoded (x ∷ xs) = ap (λ ys. with_decoded (handshake_of x) ys) (decoded xs)
 
-pub change_cipher_specs : (b : Bytes) (r : Result Unit (Failed (Error (Bor (List ℕ))))) → Tells (λ u. tt) (first_judged change_cipher_spec b) r
-    → Tells (λ u. decode_while message_of (map Whole (items_in change_cipher_spec b))) (value_of (reading (list1 change_cipher_spec) b)) r
+pub change_cipher_specs : (b : Bytes) (r : Result Unit (Failed (Error (Bor (List ℕ)))))
+    → Tells (λ u. tt) (first_judged change_cipher_spec b) r
+    → Tells (λ u. decode_while message_of (map Whole (items_in change_cipher_spec b)))
+    (value_of (reading (list1 change_cipher_spec) b)) r
 unfolding change_cipher_spec tls_message.change_cipher_spec
-change_cipher_specs b r t = list_told change_cipher_spec b _ (takes_byte change_cipher_spec b tt) (whole (items_in change_cipher_spec b)) r t
+change_cipher_specs b r t = list_told change_cipher_spec b _ (takes_byte change_cipher_spec b tt)
+    (whole (items_in change_cipher_spec b)) r t
 
-pub some_alerts : (b : Bytes) (r : Result Unit (Failed (Error (Bor (List ℕ))))) → Tells (λ u. tt) (first_judged alert b) r
+pub some_alerts : (b : Bytes) (r : Result Unit (Failed (Error (Bor (List ℕ)))))
+    → Tells (λ u. tt) (first_judged alert b) r
     → Tells (λ u. decode_while message_of (map Whole (items_in alert b))) (value_of (reading (list1 alert) b)) r
 unfolding alert base_alert.alert
 some_alerts b r t = list_told alert b _ (takes_byte alert b tt) (whole (items_in alert b)) r t
 
-pub handshakes : (b : Bytes) (r : Result Unit (Failed (Error (Bor (List ℕ))))) → Tells (λ u. tt) (first_judged handshake b) r
-    → Tells (λ u. decode_while message_of (map Handshake (items_in raw_handshake b))) (value_of (reading (list1 handshake) b)) r
+pub handshakes : (b : Bytes) (r : Result Unit (Failed (Error (Bor (List ℕ)))))
+    → Tells (λ u. tt) (first_judged handshake b) r
+    → Tells (λ u. decode_while message_of (map Handshake (items_in raw_handshake b)))
+    (value_of (reading (list1 handshake) b)) r
 unfolding handshake dtls_handshake.handshake
 handshakes b r t =
     list_told handshake b _ (takes_byte handshake b tt)
@@ -97,35 +176,54 @@ handshakes b r t =
 
 -- a record is its header and what its fragment says
 content_says : (h : RecordHeader) (r : Bytes) (a : Answer (List Message)) (xs : List Message) → value_of a ≡ Ok xs
-    → ◌and_then◌ {Y = Plaintext × Bytes} a (λ m. Ok (record { header = h; messages = m.0 }, r)) ≡ Ok (record { header = h; messages = xs }, r)
-content_says h r (Ok x) xs e = let same : ◌≡◌ {A = Result (List Message) Refusal} (Ok x.0) (Ok xs) = e in let is : x.0 ≡ xs = cc in ap (λ ms. Ok (record { header = h; messages = ms }, r)) is
+    → ◌and_then◌ {Y = Plaintext × Bytes} a (λ m. Ok (record { header = h; messages = m.0 }, r))
+    ≡ Ok (record { header = h; messages = xs }, r)
+content_says h r (Ok x) xs e = let same : ◌≡◌ {A = Result (List Message) Refusal} (Ok x.0) (Ok xs) =
+    e in let is : x.0 ≡ xs = cc in ap (λ ms. Ok (record { header = h; messages = ms }, r)) is
 content_says h r (Err k) xs e = absurd (let no : ◌≡◌ {A = Result (List Message) Refusal} (Err k) (Ok xs) = e in cc)
 
 content_says_not : (h : RecordHeader) (r : Bytes) (a : Answer (List Message)) (k : Refusal) → value_of a ≡ Err k
     → ◌and_then◌ {Y = Plaintext × Bytes} a (λ m. Ok (record { header = h; messages = m.0 }, r)) ≡ Err k
 content_says_not h r (Ok x) k e = absurd (let no : ◌≡◌ {A = Result (List Message) Refusal} (Ok x.0) (Err k) = e in cc)
-content_says_not h r (Err j) k e = let same : ◌≡◌ {A = Result (List Message) Refusal} (Err j) (Err k) = e in let is : j ≡ k = cc in ap Err is
+content_says_not h r (Err j) k e = let same : ◌≡◌ {A = Result (List Message) Refusal} (Err j) (Err k) =
+    e in let is : j ≡ k = cc in ap Err is
 
-pub content_read : (b f r : Bytes) (h : RecordHeader) (xs : List Message) → reading raw_record b ≡ Ok (record { header = h; fragment = f }, r)
-    → Ok xs ≡ value_of (reading (record_content h) f) → reading plaintext b ≡ Ok (record { header = h; messages = xs }, r)
-content_read b f r h xs e g = dtls_plaintext_is_raw_then_content b ∙ ap (λ a. a and_then read_content) e ∙ content_says h r (reading (record_content h) f) xs (sym g)
+pub content_read : (b f r : Bytes) (h : RecordHeader) (xs : List Message)
+    → reading raw_record b ≡ Ok (record { header = h; fragment = f }, r)
+    → Ok xs ≡ value_of (reading (record_content h) f)
+    → reading plaintext b ≡ Ok (record { header = h; messages = xs }, r)
+content_read b f r h xs e g = dtls_plaintext_is_raw_then_content b ∙ ap (λ a. a and_then read_content) e
+    ∙ content_says h r (reading (record_content h) f) xs (sym g)
 
-pub content_refused : (b f r : Bytes) (h : RecordHeader) (k : Refusal) → reading raw_record b ≡ Ok (record { header = h; fragment = f }, r)
+pub content_refused : (b f r : Bytes) (h : RecordHeader) (k : Refusal)
+    → reading raw_record b ≡ Ok (record { header = h; fragment = f }, r)
     → Err k ≡ value_of (reading (record_content h) f) → reading plaintext b ≡ Err k
-content_refused b f r h k e g = dtls_plaintext_is_raw_then_content b ∙ ap (λ a. a and_then read_content) e ∙ content_says_not h r (reading (record_content h) f) k (sym g)
+content_refused b f r h k e g = dtls_plaintext_is_raw_then_content b ∙ ap (λ a. a and_then read_content) e
+    ∙ content_says_not h r (reading (record_content h) f) k (sym g)
 
 -- the fragment of a record, by its type
 abbrev Judges : RecordHeader → ℕ → Bytes → Result Unit (Failed (Error (Bor (List ℕ)))) → Type 0
-Judges h t b r = Tells (λ u. decode_while message_of (messages_of_type t b)) (value_of (reading (record_content (record { content_type = t; version = h.version; epoch = h.epoch; sequence_number = h.sequence_number; length = h.length })) b)) r
+Judges h t b r = Tells (λ u. decode_while message_of (messages_of_type t b))
+    (value_of (reading (record_content (record {
+      content_type = t;
+      version = h.version;
+      epoch =
+          h.epoch;
+      sequence_number = h.sequence_number;
+      length = h.length;
+    })) b)) r
 
-pub judges_change_cipher_specs : (h : RecordHeader) (b : Bytes) (r : Result Unit (Failed (Error (Bor (List ℕ))))) → h.content_type ≡ 20 → Tells (λ u. tt) (first_judged change_cipher_spec b) r → Judges h h.content_type b r
+pub judges_change_cipher_specs : (h : RecordHeader) (b : Bytes) (r : Result Unit (Failed (Error (Bor (List ℕ)))))
+    → h.content_type ≡ 20 → Tells (λ u. tt) (first_judged change_cipher_spec b) r → Judges h h.content_type b r
 unfolding record_content
 judges_change_cipher_specs h b r e x = subst (λ k. Judges h k b r) (sym e) (change_cipher_specs b r x)
 
-pub judges_alerts : (h : RecordHeader) (b : Bytes) (r : Result Unit (Failed (Error (Bor (List ℕ))))) → h.content_type ≡ 21 → Tells (λ u. tt) (first_judged alert b) r → Judges h h.content_type b r
+pub judges_alerts : (h : RecordHeader) (b : Bytes) (r : Result Unit (Failed (Error (Bor (List ℕ)))))
+    → h.content_type ≡ 21 → Tells (λ u. tt) (first_judged alert b) r → Judges h h.content_type b r
 unfolding record_content
 judges_alerts h b r e x = subst (λ k. Judges h k b r) (sym e) (some_alerts b r x)
 
-pub judges_handshakes : (h : RecordHeader) (b : Bytes) (r : Result Unit (Failed (Error (Bor (List ℕ))))) → h.content_type ≡ 22 → Tells (λ u. tt) (first_judged handshake b) r → Judges h h.content_type b r
+pub judges_handshakes : (h : RecordHeader) (b : Bytes) (r : Result Unit (Failed (Error (Bor (List ℕ)))))
+    → h.content_type ≡ 22 → Tells (λ u. tt) (first_judged handshake b) r → Judges h h.content_type b r
 unfolding record_content
 judges_handshakes h b r e x = subst (λ k. Judges h k b r) (sym e) (handshakes b r x)

@@ -1,5 +1,23 @@
 -- Where a conversation ends.
-use Rattle.std.proofs.Common.{◌≡◌, ◌↔◌, ◌⊎◌, inl, inr, [], ◌∷◌, ◌++◌, Bool, true, false, refl, sym, ◌∙◌, ap, subst, append_assoc}
+use Rattle.std.proofs.Common.{
+  ◌≡◌,
+  ◌↔◌,
+  ◌⊎◌,
+  inl,
+  inr,
+  [],
+  ◌∷◌,
+  ◌++◌,
+  Bool,
+  true,
+  false,
+  refl,
+  sym,
+  ◌∙◌,
+  ap,
+  subst,
+  append_assoc,
+}
 use Rattle.tls_words.proofs.PatternLemmas.{has_empty, has_word}
 use Rattle.tls_words.proofs.MachineLemmas.{run_on, front_is_after, word_to_after, word_from_after}
 use Rattle.tls_states.specs.Letters.{Letter, letter, Word}
@@ -11,7 +29,18 @@ use Rattle.tls_states.specs.declared.letter.Direction.{Direction}
 use Rattle.tls_states.specs.declared.state.TlsState.{TlsState}
 use Rattle.tls_states.specs.declared.state.TlsState.TheVariants as state
 use Rattle.tls_states.proofs.LetterLemmas.{same_letter}
-use Rattle.tls_states.proofs.FollowLemmas.{waits, fits, Fits, is_noise, turn, clean_is, next_fits, next_waits, run_fits, finished_by_fatal}
+use Rattle.tls_states.proofs.FollowLemmas.{
+  waits,
+  fits,
+  Fits,
+  is_noise,
+  turn,
+  clean_is,
+  next_fits,
+  next_waits,
+  run_fits,
+  finished_by_fatal,
+}
 
 last_letter : (w : Word) → (w ≡ []) ⊎ ((u : Word) × (l : Letter) × (w ≡ u ++ l ∷ []))
 last_letter [] = inl refl
@@ -49,7 +78,9 @@ fatal_finishes = elim [ state.None ↦ λ d h e. cc | _ ↦ λ d h e. cc ]
 
 module _ (w : Word) where
   no_alert : ¬ (run state.None w ≡ state.Alert)
-  no_alert e = let k : (after : Bool) × Fits (run state.None w) after = run_fits state.None false w refl in let h : fits state.Alert k.0 ≡ true = subst (λ q. fits q k.0 ≡ true) e k.1 in cc
+  no_alert e = let k : (after : Bool) × Fits (run state.None w) after =
+      run_fits state.None false w refl in let h : fits state.Alert k.0 ≡ true =
+      subst (λ q. fits q k.0 ≡ true) e k.1 in cc
 
   encrypted_is : (has_empty (waits (run state.None w)) ≡ true) ↔ HasHandshake w
   encrypted_is = front_is_after is_noise turn same_letter next waits Fits next_fits next_waits state.None false refl clean clean_is handshake refl w
@@ -64,7 +95,8 @@ module _ (w : Word) where
   alive_to t = word_to_after is_noise turn same_letter next waits Fits next_fits next_waits state.None false refl clean clean_is handshake refl w (alive_at (run state.None w) ∙ t)
 
   alive_from : MayBecomeHandshake w → IsAlive (run state.None w)
-  alive_from h = sym (alive_at (run state.None w)) ∙ word_from_after is_noise turn same_letter next waits Fits next_fits next_waits state.None false refl clean clean_is handshake refl w h
+  alive_from h = sym (alive_at (run state.None w))
+      ∙ word_from_after is_noise turn same_letter next waits Fits next_fits next_waits state.None false refl clean clean_is handshake refl w h
 
 -- The last letter's step.
 run_last : (u : Word) (l : Letter) (w : Word) → w ≡ u ++ l ∷ []
@@ -90,11 +122,15 @@ finished_to w e = elim (last_letter w) [
     by_last u l f s = elim (alive_or_not (run state.None u)) [
       | inl t ↦ elim (alive_to u t) [
         | inl h ↦ inl (h.0, h.1 ++ l ∷ [], f ∙ ap (λ x. x ++ l ∷ []) h.2 ∙ append_assoc h.0 h.1 (l ∷ []), h.3)
-        | inr h ↦ let k : (after : Bool) × (fits (run state.None u) after ≡ true) = run_fits state.None false u refl in let d : (d : Direction) × (l ≡ letter Fatal d) = finished_by_fatal (run state.None u) k.0 l k.1 s in inr (u, d.0, f ∙ ap (λ x. u ++ x ∷ []) d.1, h)
+        | inr h ↦ let k : (after : Bool) × (fits (run state.None u) after ≡ true) =
+            run_fits state.None false u refl in let d : (d : Direction) × (l ≡ letter Fatal d) =
+            finished_by_fatal (run state.None u) k.0 l k.1 s in inr (u, d.0, f ∙ ap (λ x. u ++ x ∷ []) d.1, h)
       ]
       | inr (inl a) ↦ absurd (no_alert u a)
-      | inr (inr (inl a)) ↦ let k : state.Invalid ≡ state.Finished = subst (λ q. or_invalid (step q l) ≡ state.Finished) a s in cc
-      | inr (inr (inr a)) ↦ let k : state.Invalid ≡ state.Finished = subst (λ q. or_invalid (step q l) ≡ state.Finished) a s in cc
+      | inr (inr (inl a)) ↦ let k : state.Invalid ≡ state.Finished =
+          subst (λ q. or_invalid (step q l) ≡ state.Finished) a s in cc
+      | inr (inr (inr a)) ↦ let k : state.Invalid ≡ state.Finished =
+          subst (λ q. or_invalid (step q l) ≡ state.Finished) a s in cc
     ]
 
 invalid_from : (w : Word) → ¬ HasHandshake w × ¬ MayBecomeHandshake w × ¬ IsBrokenOff w
@@ -112,7 +148,9 @@ module _ (w : Word) (start end : TlsState) (ends : end ≡ run start w) (starts 
   from_none = ends ∙ ap (λ q. run q w) starts
 
   pub encrypted_where : (end ≡ state.SessionEncrypted) ↔ HasHandshake w
-  encrypted_where = subst (λ q. (q ≡ state.SessionEncrypted) ↔ HasHandshake w) (sym from_none) (encrypted_to w, encrypted_from w)
+  encrypted_where = subst (λ q. (q ≡ state.SessionEncrypted) ↔ HasHandshake w) (sym from_none)
+      (encrypted_to w, encrypted_from w)
 
   pub invalid_where : (end ≡ state.Invalid) ↔ (¬ HasHandshake w × ¬ MayBecomeHandshake w × ¬ IsBrokenOff w)
-  invalid_where = subst (λ q. (q ≡ state.Invalid) ↔ (¬ HasHandshake w × ¬ MayBecomeHandshake w × ¬ IsBrokenOff w)) (sym from_none) (invalid_to w, invalid_from w)
+  invalid_where = subst (λ q. (q ≡ state.Invalid) ↔ (¬ HasHandshake w × ¬ MayBecomeHandshake w × ¬ IsBrokenOff w))
+      (sym from_none) (invalid_to w, invalid_from w)

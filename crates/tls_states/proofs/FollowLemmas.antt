@@ -7,7 +7,25 @@ use Rattle.tls_words.proofs.LetterLemmas.{is_yes, yes_is}
 use Rattle.tls_states.specs.Letters.{Letter, letter, Word}
 use Rattle.tls_states.specs.Grammar.{handshake, is_warning, is_hello_request, is_client_hello, clean}
 use Rattle.tls_states.specs.Steps.{next, run}
-use Rattle.tls_states.specs.declared.letter.Kind.TheVariants.{HelloRequest, ClientHello, ClientHelloWithId, ServerHello, ServerHelloV13Draft18, NewSessionTicket, Certificate, ServerKeyExchange, CertificateRequest, ServerDone, CertificateVerify, ClientKeyExchange, CertificateStatus, ChangeCipherSpec, Warning, Fatal, Other}
+use Rattle.tls_states.specs.declared.letter.Kind.TheVariants.{
+  HelloRequest,
+  ClientHello,
+  ClientHelloWithId,
+  ServerHello,
+  ServerHelloV13Draft18,
+  NewSessionTicket,
+  Certificate,
+  ServerKeyExchange,
+  CertificateRequest,
+  ServerDone,
+  CertificateVerify,
+  ClientKeyExchange,
+  CertificateStatus,
+  ChangeCipherSpec,
+  Warning,
+  Fatal,
+  Other,
+}
 use Rattle.tls_states.specs.declared.letter.Direction.{Direction}
 use Rattle.tls_states.specs.declared.letter.Direction.TheVariants.{ToServer, FromServer}
 use Rattle.tls_states.specs.declared.state.TlsState.{TlsState}
@@ -39,14 +57,16 @@ road state.ClientChangeCipherSpec = letter ClientHello ToServer ∷ letter Serve
 road state.CRCertRequest = after_request []
 road state.CRHelloDone = after_request (letter ServerDone FromServer ∷ [])
 road state.CRCert = after_request (letter ServerDone FromServer ∷ letter Certificate ToServer ∷ [])
-road state.CRClientKeyExchange = after_request (letter ServerDone FromServer ∷ letter Certificate ToServer ∷ letter ClientKeyExchange ToServer ∷ [])
+road state.CRClientKeyExchange = after_request
+    (letter ServerDone FromServer ∷ letter Certificate ToServer ∷ letter ClientKeyExchange ToServer ∷ [])
 road state.CRCertVerify = after_certificate (letter ServerDone FromServer ∷ letter ClientKeyExchange ToServer ∷ [])
 road state.NoCertSKE = after_hello (letter ServerKeyExchange FromServer ∷ [])
 road state.NoCertHelloDone = after_hello (letter ServerKeyExchange FromServer ∷ letter ServerDone FromServer ∷ [])
 road state.NoCertCKE = after_certificate (letter ServerDone FromServer ∷ letter ClientKeyExchange ToServer ∷ [])
 road state.PskHelloDone = after_certificate (letter ServerDone FromServer ∷ [])
 road state.PskCKE = after_certificate (letter ServerDone FromServer ∷ letter ClientKeyExchange ToServer ∷ [])
-road state.SessionEncrypted = letter ClientHello ToServer ∷ letter ServerHelloV13Draft18 FromServer ∷ letter ChangeCipherSpec FromServer ∷ []
+road state.SessionEncrypted =
+    letter ClientHello ToServer ∷ letter ServerHelloV13Draft18 FromServer ∷ letter ChangeCipherSpec FromServer ∷ []
 road state.Alert = letter Other ToServer ∷ []
 road state.Finished = letter Other ToServer ∷ []
 road state.Invalid = letter Other ToServer ∷ []
@@ -118,16 +138,21 @@ follows_if true b h e = h
 follows_if false b h e = cc
 
 tests_pass_at : (q : TlsState) (before : Bool) → (not (fits q before) || tests_at q before) ≡ true
-tests_pass_at q false = (both_and (not (fits q false) || tests_at q false) (not (fits q true) || tests_at q true) (tests_pass q)).0
-tests_pass_at q true = (both_and (not (fits q false) || tests_at q false) (not (fits q true) || tests_at q true) (tests_pass q)).1
+tests_pass_at q false = (both_and (not (fits q false) || tests_at q false) (not (fits q true) || tests_at q true)
+    (tests_pass q)).0
+tests_pass_at q true = (both_and (not (fits q false) || tests_at q false) (not (fits q true) || tests_at q true)
+    (tests_pass q)).1
 
 -- Which states and memories go together.
 abbrev pub Fits : TlsState → Bool → Type 0
 Fits q before = fits q before ≡ true
 
 module _ (q : TlsState) (before : Bool) (l : Letter) (h : Fits q before) where
-  next_passes : Fits (next q l) (turn before l) × ((is_yes (same_pattern (waits (next q l)) (waits_next (waits q) before l)) && (not (is_finished (next q l)) || is_fatal l)) ≡ true)
-  next_passes = both_and _ _ (passes (next_test q (waits q) before) l (follows_if (fits q before) (tests_at q before) (tests_pass_at q before) h))
+  next_passes : Fits (next q l) (turn before l)
+      × ((is_yes (same_pattern (waits (next q l)) (waits_next (waits q) before l)) &&
+      (not (is_finished (next q l)) || is_fatal l)) ≡ true)
+  next_passes = both_and _ _ (passes (next_test q (waits q) before) l
+      (follows_if (fits q before) (tests_at q before) (tests_pass_at q before) h))
 
   pub next_fits : Fits (next q l) (turn before l)
   next_fits = next_passes.0
@@ -136,7 +161,8 @@ module _ (q : TlsState) (before : Bool) (l : Letter) (h : Fits q before) where
   next_waits = yes_is (same_pattern (waits (next q l)) (waits_next (waits q) before l)) (both_and _ _ next_passes.1).0
 
   only_fatal : is_finished (next q l) ≡ true → is_fatal l ≡ true
-  only_fatal = follows_if (is_finished (next q l)) (is_fatal l) (both_and (is_yes (same_pattern (waits (next q l)) (waits_next (waits q) before l))) _ next_passes.1).1
+  only_fatal = follows_if (is_finished (next q l)) (is_fatal l)
+      (both_and (is_yes (same_pattern (waits (next q l)) (waits_next (waits q) before l))) _ next_passes.1).1
 
 pub run_fits : (q : TlsState) (before : Bool) (w : Word) → Fits q before → (after : Bool) × Fits (run q w) after
 run_fits q before [] h = (before, h)

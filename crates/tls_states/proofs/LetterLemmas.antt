@@ -5,7 +5,25 @@ use Rattle.std.specs.Prelude.{is_some, option_map}
 use Rattle.tls_words.proofs.LetterLemmas.{decided, is_in, passes_in}
 use Rattle.tls_states.specs.Letters.{Letter, letter}
 use Rattle.tls_states.specs.declared.letter.Kind.{Kind}
-use Rattle.tls_states.specs.declared.letter.Kind.TheVariants.{HelloRequest, ClientHello, ClientHelloWithId, ServerHello, ServerHelloV13Draft18, NewSessionTicket, Certificate, ServerKeyExchange, CertificateRequest, ServerDone, CertificateVerify, ClientKeyExchange, CertificateStatus, ChangeCipherSpec, Warning, Fatal, Other}
+use Rattle.tls_states.specs.declared.letter.Kind.TheVariants.{
+  HelloRequest,
+  ClientHello,
+  ClientHelloWithId,
+  ServerHello,
+  ServerHelloV13Draft18,
+  NewSessionTicket,
+  Certificate,
+  ServerKeyExchange,
+  CertificateRequest,
+  ServerDone,
+  CertificateVerify,
+  ClientKeyExchange,
+  CertificateStatus,
+  ChangeCipherSpec,
+  Warning,
+  Fatal,
+  Other,
+}
 use Rattle.tls_states.specs.declared.letter.Direction.{Direction}
 use Rattle.tls_states.specs.declared.letter.Direction.TheVariants.{ToServer, FromServer}
 use Rattle.tls_states.specs.contracts.letter.Kind.{the_type as kinds_type}

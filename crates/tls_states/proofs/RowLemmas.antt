@@ -1,5 +1,23 @@
 -- The rows of the table.
-use Rattle.std.proofs.Common.{◌≡◌, ℕ, Option, Some, None, Result, Ok, Bool, true, ◌&&◌, slice_get, Contains, lit<, refl, sym, ◌∙◌, ap}
+use Rattle.std.proofs.Common.{
+  ◌≡◌,
+  ℕ,
+  Option,
+  Some,
+  None,
+  Result,
+  Ok,
+  Bool,
+  true,
+  ◌&&◌,
+  slice_get,
+  Contains,
+  lit<,
+  refl,
+  sym,
+  ◌∙◌,
+  ap,
+}
 use Rattle.tls_words.proofs.PatternLemmas.{and_both}
 use Rattle.tls_words.proofs.TableLemmas.{one_place}
 use Rattle.tls_states.specs.States.{IsOncePlaced}
@@ -26,7 +44,8 @@ abbrev is_like : Row → Row → Bool
 is_like r s = sameb states r.state s.state && (sameb kinds r.kind s.kind && sameb directions r.direction s.direction)
 
 alike : (r s : Row) → r.state ≡ s.state → r.kind ≡ s.kind → r.direction ≡ s.direction → is_like r s ≡ true
-alike r s e f g = and_both _ _ (true_same states r.state s.state e) (and_both _ _ (true_same kinds r.kind s.kind f) (true_same directions r.direction s.direction g))
+alike r s e f g = and_both _ _ (true_same states r.state s.state e)
+    (and_both _ _ (true_same kinds r.kind s.kind f) (true_same directions r.direction s.direction g))
 
 pub rows_are_one_each : IsOneRowEach ROWS
 rows_are_one_each i j r s at_i at_j e f g =
@@ -34,7 +53,8 @@ rows_are_one_each i j r s at_i at_j e f g =
 
 -- All states, each once.
 same_place : (i j : ℕ) (q : TlsState) → slice_get STATES i ≡ Some q → slice_get STATES j ≡ Some q → i ≡ j
-same_place i j q at_i at_j = one_place (sameb states) STATES refl i j q q at_i at_j (true_same states q q refl) (true_same states q q refl)
+same_place i j q at_i at_j = one_place (sameb states) STATES refl i j q q at_i at_j (true_same states q q refl)
+    (true_same states q q refl)
 
 pub each_once : IsOncePlaced STATES
 each_once = same_place

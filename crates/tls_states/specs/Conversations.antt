@@ -17,3 +17,7 @@ MayBecomeHandshake w = MayBecome clean handshake w
 -- The last letter of w is a fatal alert, and what stands before it is the beginning of one.
 abbrev pub IsBrokenOff : Word → Type 0
 IsBrokenOff w = (u : Word) × (d : Direction) × (w ≡ u ++ letter Fatal d ∷ []) × MayBecomeHandshake u
+
+-- No front of w is a handshake, further letters can't make w the beginning of one, and no fatal alert broke one off with its last.
+abbrev pub IsNoHandshake : Word → Type 0
+IsNoHandshake w = ¬ HasHandshake w × ¬ MayBecomeHandshake w × ¬ IsBrokenOff w

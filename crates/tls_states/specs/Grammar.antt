@@ -4,7 +4,23 @@ use Rattle.std.specs.Prelude.{[], ◌∷◌, Bool, true, false, not, if◌then�
 use Rattle.tls_states.specs.Letters.{Letter, letter, Word}
 use Rattle.tls_words.specs.Words.{Pattern, one, ◌then◌, ◌or◌, maybe, many}
 use Rattle.tls_states.specs.declared.letter.Kind.{Kind}
-use Rattle.tls_states.specs.declared.letter.Kind.TheVariants.{HelloRequest, ClientHello, ClientHelloWithId, ServerHello, ServerHelloV13Draft18, NewSessionTicket, Certificate, ServerKeyExchange, CertificateRequest, ServerDone, CertificateVerify, ClientKeyExchange, CertificateStatus, ChangeCipherSpec, Warning}
+use Rattle.tls_states.specs.declared.letter.Kind.TheVariants.{
+  HelloRequest,
+  ClientHello,
+  ClientHelloWithId,
+  ServerHello,
+  ServerHelloV13Draft18,
+  NewSessionTicket,
+  Certificate,
+  ServerKeyExchange,
+  CertificateRequest,
+  ServerDone,
+  CertificateVerify,
+  ClientKeyExchange,
+  CertificateStatus,
+  ChangeCipherSpec,
+  Warning,
+}
 use Rattle.tls_states.specs.declared.letter.Direction.TheVariants.{ToServer, FromServer}
 
 -- A message of the client, of the server, and of either side.
@@ -85,7 +101,8 @@ is_client_hello _ = false
 
 abbrev pub without_later_requests : Word → Word
 without_later_requests [] = []
-without_later_requests (l ∷ w) = l ∷ (if is_client_hello l then filter (λ x. not (is_hello_request x)) w else without_later_requests w)
+without_later_requests (l ∷ w) = l ∷ (if is_client_hello l then filter
+    (λ x. not (is_hello_request x)) w else without_later_requests w)
 
 -- A conversation without its noise.
 abbrev pub clean : Word → Word

@@ -12,12 +12,14 @@ use denote.Enum.Bare.{sameb}
 -- Where the first row of this kind and direction leads.
 abbrev pub next_in : List Row → Kind → Direction → Option TlsState
 next_in [] k d = None
-next_in (r ∷ rows) k d = if sameb kinds r.kind k && sameb directions r.direction d then Some r.next else next_in rows k d
+next_in (r ∷ rows) k d =
+    if sameb kinds r.kind k && sameb directions r.direction d then Some r.next else next_in rows k d
 
 -- Where the first row of this state, kind and direction leads.
 abbrev pub next_after : List Row → TlsState → Kind → Direction → Option TlsState
 next_after [] q k d = None
-next_after (r ∷ rows) q k d = if sameb states r.state q && (sameb kinds r.kind k && sameb directions r.direction d) then Some r.next else next_after rows q k d
+next_after (r ∷ rows) q k d = if sameb states r.state q &&
+    (sameb kinds r.kind k && sameb directions r.direction d) then Some r.next else next_after rows q k d
 
 -- No state, kind and direction stand in two rows.
 abbrev pub IsOneRowEach : List Row → Type 0

@@ -1,6 +1,6 @@
 //! A conversation that is followed.
 ghost use Rattle.std.specs.Prelude.{◌≡◌, ◌↔◌, ◌⊎◌, Ok};
-ghost use Rattle.tls_states.specs.Conversations.{HasHandshake, MayBecomeHandshake, IsBrokenOff};
+ghost use Rattle.tls_states.specs.Conversations.{HasHandshake, IsNoHandshake};
 ghost use Rattle.tls_states.specs.Letters.{letter_of, word};
 ghost use Rattle.tls_states.specs.Steps.{step, run as run_of, IsUpdate};
 ghost use Rattle.tls_states.specs.declared.state.TlsState.{TlsState};
@@ -74,7 +74,7 @@ impl ParseContext {
     pub fn run(&mut self, messages: &[(&TlsMessage<'_>, bool)])
         ensures by_steps { self.new ≡ run_of self.old (word messages.now) }
         ensures encrypted { self.old ≡ state.None → (self.new ≡ state.SessionEncrypted) ↔ HasHandshake (word messages.now) }
-        ensures invalid { self.old ≡ state.None → (self.new ≡ state.Invalid) ↔ (¬ HasHandshake (word messages.now) × ¬ MayBecomeHandshake (word messages.now) × ¬ IsBrokenOff (word messages.now)) }
+        ensures invalid { self.old ≡ state.None → (self.new ≡ state.Invalid) ↔ IsNoHandshake (word messages.now) }
     {
         for i in 0..messages.len() {
             let (message, to_server) = &messages[i];

@@ -1,5 +1,28 @@
 -- Frames are cut off the front of a stream, whatever stands behind them.
-use Rattle.std.proofs.Common.{◌≡◌, ℕ, zero, suc, ◌<◌, ◌≤◌, List, [], ◌∷◌, ◌++◌, length, Option, Some, None, Bool, refl, sym, ◌∙◌, ap, arith, le_refl, append_assoc}
+use Rattle.std.proofs.Common.{
+  ◌≡◌,
+  ℕ,
+  zero,
+  suc,
+  ◌<◌,
+  ◌≤◌,
+  List,
+  [],
+  ◌∷◌,
+  ◌++◌,
+  length,
+  Option,
+  Some,
+  None,
+  Bool,
+  refl,
+  sym,
+  ◌∙◌,
+  ap,
+  arith,
+  le_refl,
+  append_assoc,
+}
 use Rattle.std.specs.List.{concat}
 use Rattle.tls_fields.specs.Bytes.{Bytes}
 use Rattle.tls_stream.specs.Frames.{Shape, IsTooLarge, FrontTaken, cut, frame_of, frames, front, left, with_frame}
@@ -14,11 +37,13 @@ abbrev then_cut : Bytes → List Bytes × Bytes → List Bytes × Bytes
 then_cut y c = (y ∷ c.0, c.1)
 
 -- What stands of all bytes where it stands of fewer.
-by_length : (P : Bytes → Type 0) → ((b : Bytes) → ((c : Bytes) → length c < length b → P c) → P b) → (n : ℕ) (b : Bytes) → length b ≤ n → P b
+by_length : (P : Bytes → Type 0) → ((b : Bytes) → ((c : Bytes) → length c < length b → P c) → P b) → (n : ℕ) (b : Bytes)
+    → length b ≤ n → P b
 by_length P step zero b h = step b (λ c l. absurd (omega (arith, l, h)))
 by_length P step (suc n) b h = step b (λ c l. by_length P step n c (omega (arith, l, h)))
 
-none_cut : (a : Option (Bytes × Bytes)) (more : Bytes → List Bytes × Bytes) (b : Bytes) → length b ≤ 0 → LeavesFewer (length b) a → with_frame a more b ≡ ([], b)
+none_cut : (a : Option (Bytes × Bytes)) (more : Bytes → List Bytes × Bytes) (b : Bytes) → length b ≤ 0
+    → LeavesFewer (length b) a → with_frame a more b ≡ ([], b)
 none_cut (Some x) more b h t = absurd (omega (arith, h, t))
 none_cut None more b h t = refl
 
@@ -38,7 +63,9 @@ module _ (f : Shape) (takes : 0 < f.header) where
   same_cut (suc n) zero b h g = none_cut (front f b) (cut f n) b g (fewer b)
   same_cut (suc n) (suc m) b h g = both (front f b) (fewer b) (same_cut n m)
     where
-      both : (a : Option (Bytes × Bytes)) → LeavesFewer (length b) a → ((c : Bytes) → length c ≤ n → length c ≤ m → cut f n c ≡ cut f m c) → with_frame a (cut f n) b ≡ with_frame a (cut f m) b
+      both : (a : Option (Bytes × Bytes)) → LeavesFewer (length b) a
+          → ((c : Bytes) → length c ≤ n → length c ≤ m → cut f n c ≡ cut f m c)
+          → with_frame a (cut f n) b ≡ with_frame a (cut f m) b
       both (Some x) t same = ap (then_cut x.0) (same x.1 (omega (arith, t, h)) (omega (arith, t, g)))
       both None t same = refl
 
@@ -50,7 +77,8 @@ module _ (f : Shape) (takes : 0 < f.header) where
   unfolding cut
   whole_is b = same_cut (length b) (suc (length b)) b (le_refl _) (omega arith) ∙ each (front f b) (fewer b)
     where
-      each : (a : Option (Bytes × Bytes)) → LeavesFewer (length b) a → with_frame a (cut f (length b)) b ≡ with_frame a whole b
+      each : (a : Option (Bytes × Bytes)) → LeavesFewer (length b) a
+          → with_frame a (cut f (length b)) b ≡ with_frame a whole b
       each (Some x) t = ap (then_cut x.0) (same_cut (length b) (length x.1) x.1 (omega (arith, t)) (le_refl _))
       each None t = refl
 
@@ -137,10 +165,12 @@ module _ (f : Shape) (takes : 0 < f.header) where
     pub left_is : left f b ≡ left f new
     pub fewer : length new < length b
 
-  pub first_taken : (b y new : Bytes) (t : Bool) → Some y ≡ frame_of (front f b) → FrontTaken (front f b) b t new → FirstTaken b y new
+  pub first_taken : (b y new : Bytes) (t : Bool) → Some y ≡ frame_of (front f b) → FrontTaken (front f b) b t new
+      → FirstTaken b y new
   first_taken b y new t is takes_it = go (front f b) refl is takes_it
     where
-      go : (a : Option (Bytes × Bytes)) → front f b ≡ a → Some y ≡ frame_of a → FrontTaken a b t new → FirstTaken b y new
+      go : (a : Option (Bytes × Bytes)) → front f b ≡ a → Some y ≡ frame_of a → FrontTaken a b t new
+          → FirstTaken b y new
       go None read s h = absurd cc
       go (Some x) read s h =
           let same : y ≡ x.0 = cc in

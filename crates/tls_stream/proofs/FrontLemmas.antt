@@ -1,11 +1,46 @@
 -- The frame that stands in front.
-use Rattle.std.proofs.Common.{◌≡◌, ◌↔◌, ◌+◌, ◌-◌, ◌<◌, ◌≤◌, ◌++◌, length, take, drop, Option, Some, None, Bool, true, false, cond, nat_le, refl, sym, ◌∙◌, ap, subst, arith}
+use Rattle.std.proofs.Common.{
+  ◌≡◌,
+  ◌↔◌,
+  ◌+◌,
+  ◌-◌,
+  ◌<◌,
+  ◌≤◌,
+  ◌++◌,
+  length,
+  take,
+  drop,
+  Option,
+  Some,
+  None,
+  Bool,
+  true,
+  false,
+  cond,
+  nat_le,
+  refl,
+  sym,
+  ◌∙◌,
+  ap,
+  subst,
+  arith,
+}
 use Rattle.std.specs.Prelude.{IsSome}
 use Rattle.std.proofs.lemmas.Bool.{leb-true, leb-false}
 use Rattle.std.proofs.lemmas.List.{length-append, length-drop, take-append-drop, take-append-le, drop-append-le}
 use Rattle.std.proofs.Math.Seq.{drop-append_seam}
 use Rattle.tls_fields.specs.Bytes.{Bytes}
-use Rattle.tls_stream.specs.Frames.{Shape, IsTooLarge, IsWhole, NeedsMore, body_length, frame_of, front, size, FrontTaken}
+use Rattle.tls_stream.specs.Frames.{
+  Shape,
+  IsTooLarge,
+  IsWhole,
+  NeedsMore,
+  body_length,
+  frame_of,
+  front,
+  size,
+  FrontTaken,
+}
 
 abbrev pub in_two : Shape → Bytes → Bytes × Bytes
 in_two f b = (take (size f b) b, drop (size f b) b)
@@ -16,7 +51,8 @@ pub data Stands (f : Shape) (b : Bytes) : Type 0 where
   Part : NeedsMore f b → front f b ≡ None → Stands f b
   One : IsWhole f b → body_length f b ≤ f.limit → front f b ≡ Some (in_two f b) → Stands f b
 
-front_is : (f : Shape) (b : Bytes) (t s : Bool) → nat_le (size f b) (length b) ≡ t → nat_le (body_length f b) f.limit ≡ s → front f b ≡ cond t (cond s (Some (in_two f b)) None) None
+front_is : (f : Shape) (b : Bytes) (t s : Bool) → nat_le (size f b) (length b) ≡ t
+    → nat_le (body_length f b) f.limit ≡ s → front f b ≡ cond t (cond s (Some (in_two f b)) None) None
 unfolding front
 front_is f b t s e g =
     ap (λ t. cond t (cond (nat_le (body_length f b) f.limit) (Some (in_two f b)) None) None) e
@@ -26,9 +62,11 @@ not_whole : (f : Shape) (b : Bytes) (t : Bool) → length b < size f b → cond 
 not_whole f b t h e = tt
 
 pub stands : (f : Shape) (b : Bytes) → Stands f b
-stands f b = go (nat_le (size f b) (length b)) (nat_le (body_length f b) f.limit) (nat_le f.header (length b)) refl refl refl
+stands f b = go (nat_le (size f b) (length b)) (nat_le (body_length f b) f.limit)
+    (nat_le f.header (length b)) refl refl refl
   where
-    go : (t s h : Bool) → nat_le (size f b) (length b) ≡ t → nat_le (body_length f b) f.limit ≡ s → nat_le f.header (length b) ≡ h → Stands f b
+    go : (t s h : Bool) → nat_le (size f b) (length b) ≡ t → nat_le (body_length f b) f.limit ≡ s
+        → nat_le f.header (length b) ≡ h → Stands f b
     go true true h e g k = One (leb-true _ _ e) (leb-true _ _ g) (front_is f b true true e g)
     go true false h e g k =
         let enough : size f b ≤ length b = leb-true _ _ e in
@@ -37,7 +75,8 @@ stands f b = go (nat_le (size f b) (length b)) (nat_le (body_length f b) f.limit
         let small : body_length f b ≤ f.limit = leb-true _ _ g in
         let short : length b < size f b = leb-false _ _ e in
         Part (λ w. omega (arith, w, short), λ w. omega (arith, w.above, small)) (front_is f b false true e g)
-    go false false true e g k = Large (record { has_header = leb-true _ _ k; above = leb-false _ _ g }) (front_is f b false false e g)
+    go false false true e g k = Large (record { has_header = leb-true _ _ k; above = leb-false _ _ g })
+        (front_is f b false false e g)
     go false false false e g k =
         let short : length b < f.header = leb-false _ _ k in
         Part (λ w. omega (arith, w, short), λ w. omega (arith, w.has_header, short)) (front_is f b false false e g)
@@ -89,7 +128,8 @@ front_joins f b x e =
     let i = first_in f b x e in
     ap (λ y. y ++ x.1) i.frame_is ∙ ap (λ r. take (size f b) b ++ r) i.rest_is ∙ take-append-drop (size f b) b
 
-pub front_fewer : (f : Shape) (b : Bytes) (x : Bytes × Bytes) → 0 < f.header → front f b ≡ Some x → length x.1 < length b
+pub front_fewer : (f : Shape) (b : Bytes) (x : Bytes × Bytes) → 0 < f.header → front f b ≡ Some x
+    → length x.1 < length b
 front_fewer f b x takes e =
     let i = first_in f b x e in
     omega (arith, takes, i.is_whole, ap length i.rest_is, length-drop (size f b) b)
@@ -104,7 +144,8 @@ large_longer f b s l = record {
   above = subst (λ n. f.limit < n) (sym (same_body f b s l.has_header)) l.above;
 }
 
-pub front_stays : (f : Shape) (b s : Bytes) (x : Bytes × Bytes) → front f b ≡ Some x → front f (b ++ s) ≡ Some (x.0, x.1 ++ s)
+pub front_stays : (f : Shape) (b s : Bytes) (x : Bytes × Bytes) → front f b ≡ Some x
+    → front f (b ++ s) ≡ Some (x.0, x.1 ++ s)
 front_stays f b s x e =
     let i = first_in f b x e in
     let n = size f b in
@@ -125,22 +166,26 @@ what_is_too_large f b h = (λ a. record { has_header = h; above = a }, λ l. l.a
 pub not_large : (f : Shape) (b : Bytes) → length b < f.header → IsTooLarge f b → ⊥
 not_large f b h l = omega (arith, h, l.has_header)
 
-pub bytes_whole : (f : Shape) (b : Bytes) → f.header ≤ length b → body_length f b ≤ f.limit → body_length f b ≤ length b - f.header → frame_of (front f b) ≡ Some (take (size f b) b)
+pub bytes_whole : (f : Shape) (b : Bytes) → f.header ≤ length b → body_length f b ≤ f.limit
+    → body_length f b ≤ length b - f.header → frame_of (front f b) ≡ Some (take (size f b) b)
 bytes_whole f b h s w = ap frame_of (whole_front f b (omega (arith, h, w)) s)
 
 pub bytes_short : (f : Shape) (b : Bytes) → length b < f.header → frame_of (front f b) ≡ None
 bytes_short f b h = ap frame_of (none_part f b (λ w. omega (arith, w, h)))
 
-pub bytes_large : (f : Shape) (b : Bytes) → f.header ≤ length b → f.limit < body_length f b → frame_of (front f b) ≡ None
+pub bytes_large : (f : Shape) (b : Bytes) → f.header ≤ length b → f.limit < body_length f b
+    → frame_of (front f b) ≡ None
 bytes_large f b h l = ap frame_of (none_large f b (record { has_header = h; above = l }))
 
-pub bytes_part : (f : Shape) (b : Bytes) → f.header ≤ length b → length b - f.header < body_length f b → frame_of (front f b) ≡ None
+pub bytes_part : (f : Shape) (b : Bytes) → f.header ≤ length b → length b - f.header < body_length f b
+    → frame_of (front f b) ≡ None
 bytes_part f b h l = ap frame_of (none_part f b (λ w. omega (arith, w, h, l)))
 
 pub ruleset front_rules = (bytes_whole, bytes_short, bytes_large, bytes_part)
 
 -- Taking it off.
-pub taken_off : (f : Shape) (b y : Bytes) → Some y ≡ frame_of (front f b) → FrontTaken (front f b) b true (drop (length y) b)
+pub taken_off : (f : Shape) (b y : Bytes) → Some y ≡ frame_of (front f b)
+    → FrontTaken (front f b) b true (drop (length y) b)
 taken_off f b y is = go (front f b) refl is
   where
     go : (a : Option (Bytes × Bytes)) → front f b ≡ a → Some y ≡ frame_of a → FrontTaken a b true (drop (length y) b)
@@ -148,7 +193,8 @@ taken_off f b y is = go (front f b) refl is
     go (Some x) e s =
         let same : y ≡ x.0 = cc in
         let all = front_joins f b x e in
-        let rest : drop (length y) b ≡ x.1 = ap (λ y. drop (length y) b) same ∙ ap (λ b. drop (length x.0) b) (sym all) ∙ drop-append_seam x.0 x.1 in
+        let rest : drop (length y) b ≡ x.1 = ap (λ y. drop (length y) b) same ∙ ap (λ b. drop (length x.0) b) (sym all)
+        ∙ drop-append_seam x.0 x.1 in
         (refl, rest, sym all ∙ ap (λ r. x.0 ++ r) (sym rest))
 
 pub shorter_frame : (f : Shape) (b y : Bytes) → Some y ≡ frame_of (front f b) → length y ≤ length b

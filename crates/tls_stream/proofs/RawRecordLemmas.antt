@@ -1,5 +1,34 @@
 -- Which record stands next, and that it is the frame that stands next.
-use Rattle.std.proofs.Common.{◌≡◌, ◌↔◌, ℕ, ◌+◌, ◌-◌, ◌<◌, ◌≤◌, ◌∷◌, ◌++◌, length, take, drop, Some, Ok, Err, Bool, true, false, cond, ltb, nat_le, refl, sym, ◌∙◌, ap, subst, arith, lit<}
+use Rattle.std.proofs.Common.{
+  ◌≡◌,
+  ◌↔◌,
+  ℕ,
+  ◌+◌,
+  ◌-◌,
+  ◌<◌,
+  ◌≤◌,
+  ◌∷◌,
+  ◌++◌,
+  length,
+  take,
+  drop,
+  Some,
+  Ok,
+  Err,
+  Bool,
+  true,
+  false,
+  cond,
+  ltb,
+  nat_le,
+  refl,
+  sym,
+  ◌∙◌,
+  ap,
+  subst,
+  arith,
+  lit<,
+}
 use Rattle.std.specs.Prelude.{IsOk}
 use Rattle.std.proofs.lemmas.Bool.{ltb-true, ltb-false, leb-true, leb-false}
 use Rattle.std.proofs.lemmas.List.{length-drop}
@@ -25,7 +54,8 @@ use Rattle.std.proofs.Math.Seq.{drop-append_seam}
 use Rattle.std.proofs.lemmas.List.{length-take-le}
 
 abbrev behind : RecordHeader → Layout RawRecord
-behind h = chain (test (nat_le h.length max_fragment_length) TooLarge) (λ _. chain (block h.length) (λ f. done (raw_of h f)))
+behind h = chain (test (nat_le h.length max_fragment_length) TooLarge)
+    (λ _. chain (block h.length) (λ f. done (raw_of h f)))
 
 abbrev with_raw : RecordHeader → Answer Bytes → Answer RawRecord
 with_raw h a = a and_then λ f. Ok (raw_of h f.0, f.1)
@@ -33,15 +63,19 @@ with_raw h a = a and_then λ f. Ok (raw_of h f.0, f.1)
 -- What stands behind a header, by its length.
 data Behind (h : RecordHeader) (r : Bytes) : Type 0 where
   Above : max_fragment_length < h.length → reading (behind h) r ≡ Err (Broken TooLarge) → Behind h r
-  Short : h.length ≤ max_fragment_length → length r < h.length → (n : ℕ) → reading (behind h) r ≡ Err (Lacks n) → Behind h r
-  Whole : h.length ≤ max_fragment_length → h.length ≤ length r → (x : RawRecord × Bytes) → x.0.header.length ≡ h.length → reading (behind h) r ≡ Ok x → Behind h r
+  Short : h.length ≤ max_fragment_length → length r < h.length → (n : ℕ) → reading (behind h) r ≡ Err (Lacks n)
+      → Behind h r
+  Whole : h.length ≤ max_fragment_length → h.length ≤ length r → (x : RawRecord × Bytes) → x.0.header.length ≡ h.length
+      → reading (behind h) r ≡ Ok x → Behind h r
 
-small_behind : (h : RecordHeader) (r : Bytes) → h.length ≤ max_fragment_length → reading (behind h) r ≡ with_raw h (split_at h.length r) → Behind h r
+small_behind : (h : RecordHeader) (r : Bytes) → h.length ≤ max_fragment_length
+    → reading (behind h) r ≡ with_raw h (split_at h.length r) → Behind h r
 unfolding split_at
 small_behind h r small e = go (ltb (length r) h.length) refl e
   where
     go : (t : Bool) → ltb (length r) h.length ≡ t
-        → reading (behind h) r ≡ with_raw h (cond t (Err (Lacks (h.length - length r))) (Ok (take h.length r, drop h.length r)))
+        → reading (behind h) r ≡ with_raw h (cond t (Err (Lacks (h.length - length r)))
+        (Ok (take h.length r, drop h.length r)))
         → Behind h r
     go true f g = Short small (ltb-true (length r) h.length f) (h.length - length r) g
     go false f g = Whole small (ltb-false (length r) h.length f) (raw_of h (take h.length r), drop h.length r) refl g
@@ -50,7 +84,8 @@ behind_header : (h : RecordHeader) (r : Bytes) → Behind h r
 behind_header h r = go (nat_le h.length max_fragment_length) refl refl
   where
     go : (t : Bool) → nat_le h.length max_fragment_length ≡ t
-        → reading (behind h) r ≡ reading (chain (test t TooLarge) (λ _. chain (block h.length) (λ f. done (raw_of h f)))) r
+        → reading (behind h) r ≡ reading (chain (test t TooLarge)
+        (λ _. chain (block h.length) (λ f. done (raw_of h f)))) r
         → Behind h r
     go true f g = small_behind h r (leb-true h.length max_fragment_length f) g
     go false f g = Above (leb-false h.length max_fragment_length f) g
@@ -59,14 +94,19 @@ behind_header h r = go (nat_le h.length max_fragment_length) refl refl
 data Stands (b : Bytes) : Type 0 where
   Large : IsTooLarge 5 b → reading raw_record b ≡ Err (Broken TooLarge) → Stands b
   Part : NeedsMore 5 b → (n : ℕ) → reading raw_record b ≡ Err (Lacks n) → Stands b
-  One : IsWhole 5 b → (IsTooLarge 5 b → ⊥) → (x : RawRecord × Bytes) → x.0.header.length ≡ fragment_length 5 b → reading raw_record b ≡ Ok x → Stands b
+  One : IsWhole 5 b → (IsTooLarge 5 b → ⊥) → (x : RawRecord × Bytes) → x.0.header.length ≡ fragment_length 5 b
+      → reading raw_record b ≡ Ok x → Stands b
 
-stands_behind : (b : Bytes) (h : RecordHeader) → 5 ≤ length b → reading raw_record b ≡ reading (behind h) (drop 5 b) → h.length ≡ fragment_length 5 b → Behind h (drop 5 b) → Stands b
-stands_behind b h enough then n (Above above e) = Large (record { has_header = enough; above = subst (λ k. max_fragment_length < k) n above }) (then ∙ e)
+stands_behind : (b : Bytes) (h : RecordHeader) → 5 ≤ length b → reading raw_record b ≡ reading (behind h) (drop 5 b)
+    → h.length ≡ fragment_length 5 b → Behind h (drop 5 b) → Stands b
+stands_behind b h enough then n (Above above e) =
+    Large (record { has_header = enough; above = subst (λ k. max_fragment_length < k) n above }) (then ∙ e)
 stands_behind b h enough then n (Short small short k e) =
-    Part (λ w. omega (arith, w.has_fragment, n, short, length-drop 5 b), λ w. omega (arith, w.above, n, small)) k (then ∙ e)
+    Part (λ w. omega (arith, w.has_fragment, n, short, length-drop 5 b), λ w. omega (arith, w.above, n, small)) k
+    (then ∙ e)
 stands_behind b h enough then n (Whole small long x len e) =
-    One (record { has_header = enough; has_fragment = omega (arith, n, long, length-drop 5 b) }) (λ w. omega (arith, w.above, n, small)) x (len ∙ n) (then ∙ e)
+    One (record { has_header = enough; has_fragment = omega (arith, n, long, length-drop 5 b) })
+    (λ w. omega (arith, w.above, n, small)) x (len ∙ n) (then ∙ e)
 
 stands : (b : Bytes) → Stands b
 unfolding raw_record
@@ -76,11 +116,13 @@ stands b = go (ltb (length b) 5) refl
     go true e =
         let few : length b < 5 = ltb-true (length b) 5 e in
         let h = short_header b few in
-        Part (λ w. omega (arith, few, w.has_header), λ w. omega (arith, few, w.has_header)) h.0 (ap (λ a. a and_then λ x. reading (behind x.0) x.1) h.1)
+        Part (λ w. omega (arith, few, w.has_header), λ w. omega (arith, few, w.has_header)) h.0
+        (ap (λ a. a and_then λ x. reading (behind x.0) x.1) h.1)
     go false e =
         let enough : 5 ≤ length b = ltb-false (length b) 5 e in
         let h = long_header b enough in
-        stands_behind b h.0 enough (ap (λ a. a and_then λ x. reading (behind x.0) x.1) h.1) h.2 (behind_header h.0 (drop 5 b))
+        stands_behind b h.0 enough (ap (λ a. a and_then λ x. reading (behind x.0) x.1) h.1) h.2
+        (behind_header h.0 (drop 5 b))
 
 pub read_too_large : (b : Bytes) → (reading raw_record b ≡ Err (Broken TooLarge)) ↔ IsTooLarge 5 b
 read_too_large b = go (stands b)
@@ -113,7 +155,11 @@ length_is b h = absurd (omega (arith, h))
 
 pub whole_is : (b : Bytes) → frames.IsWhole record_frame b ↔ IsWhole 5 b
 whole_is b = (
-  λ w. let enough : 5 ≤ length b = omega (arith, w) in record { has_header = enough; has_fragment = omega (arith, w, length_is b enough) },
+  λ w. let enough : 5 ≤ length b = omega (arith, w) in record {
+    has_header = enough;
+    has_fragment =
+        omega (arith, w, length_is b enough);
+  },
   λ w. omega (arith, w.has_fragment, length_is b w.has_header),
 )
 
@@ -123,13 +169,16 @@ large_is b = (
   λ l. record { has_header = l.has_header; above = omega (arith, l.above, length_is b l.has_header) },
 )
 
-one_front : (b : Bytes) (x : RawRecord × Bytes) → IsWhole 5 b → (IsTooLarge 5 b → ⊥) → x.0.header.length ≡ fragment_length 5 b → IsInFront x.0 b x.1 → front record_frame b ≡ Some (record_bytes x.0 b, x.1)
+one_front : (b : Bytes) (x : RawRecord × Bytes) → IsWhole 5 b → (IsTooLarge 5 b → ⊥)
+    → x.0.header.length ≡ fragment_length 5 b → IsInFront x.0 b x.1
+    → front record_frame b ≡ Some (record_bytes x.0 b, x.1)
 one_front b x w not len i =
     let same : size record_frame b ≡ 5 + x.0.header.length = omega (arith, length_is b w.has_header, len) in
     let small : body_length record_frame b ≤ 16640 = not_above b w not in
     let f = record_bytes x.0 b in
     let rest : drop (5 + x.0.header.length) b ≡ x.1 =
-    ap (λ k. drop k b) (sym (length-take-le (5 + x.0.header.length) b i.is_whole)) ∙ ap (λ y. drop (length f) y) i.then_rest ∙ drop-append_seam f x.1 in
+    ap (λ k. drop k b) (sym (length-take-le (5 + x.0.header.length) b i.is_whole))
+    ∙ ap (λ y. drop (length f) y) i.then_rest ∙ drop-append_seam f x.1 in
     whole_front record_frame b ((whole_is b).1 w) small
     ∙ ap (λ k. Some (take k b, drop k b)) same
     ∙ ap (λ r. Some (f, r)) rest
@@ -139,7 +188,11 @@ one_front b x w not len i =
       where
         go : (t : Bool) → nat_le (fragment_length 5 b) 16640 ≡ t → body_length record_frame b ≤ 16640
         go true e = omega (arith, length_is b w.has_header, leb-true (fragment_length 5 b) 16640 e)
-        go false e = absurd (not (record { has_header = w.has_header; above = leb-false (fragment_length 5 b) 16640 e }))
+        go false e = absurd (not (record {
+          has_header = w.has_header;
+          above =
+              leb-false (fragment_length 5 b) 16640 e;
+        }))
 
 pub front_is_read : (b : Bytes) → front record_frame b ≡ front_of (reading raw_record b) b
 front_is_read b = go (stands b)
@@ -155,30 +208,46 @@ large_stays b s large = (read_too_large (b ++ s)).1 ((large_is (b ++ s)).0 (larg
 
 -- A record that is read takes bytes.
 pub record_takes : (b r : Bytes) (v : RawRecord) → reading raw_record b ≡ Ok (v, r) → length r < length b
-record_takes b r v e = front_fewer record_frame b (record_bytes v b, r) (lit< tt) (front_is_read b ∙ ap (λ a. front_of a b) e)
+record_takes b r v e = front_fewer record_frame b (record_bytes v b, r) (lit< tt)
+    (front_is_read b ∙ ap (λ a. front_of a b) e)
 
 -- The same of what a call returned.
-pub front_too_large : {X : Type 0} (view : X → RawRecord) (b : Bytes) (r : Returned X) → Gives view raw_record b r → IsRefusedAsTooLarge r ↔ IsTooLarge 5 b
+pub front_too_large : {X : Type 0} (view : X → RawRecord) (b : Bytes) (r : Returned X) → Gives view raw_record b r
+    → IsRefusedAsTooLarge r ↔ IsTooLarge 5 b
 front_too_large view b (Ok x) g = (λ h. absurd h, λ h. let e = sym ((read_too_large b).1 h) ∙ g.read in absurd cc)
 front_too_large view b (Err (failed.Incomplete needed.Unknown)) g = absurd g.answers
-front_too_large view b (Err (failed.Incomplete (needed.Size n))) g = (λ h. absurd h, λ h. let e = sym ((read_too_large b).1 h) ∙ g.read in absurd cc)
-front_too_large view b (Err (failed.Error x)) g = (λ h. (read_too_large b).0 (g.read ∙ ap (λ k. Err (Broken k)) h), λ h. let e = sym ((read_too_large b).1 h) ∙ g.read in cc)
+front_too_large view b (Err (failed.Incomplete (needed.Size n))) g =
+    (λ h. absurd h, λ h. let e = sym ((read_too_large b).1 h) ∙ g.read in absurd cc)
+front_too_large view b (Err (failed.Error x)) g = (
+  λ h. (read_too_large b).0 (g.read ∙ ap (λ k. Err (Broken k)) h),
+  λ h. let e =
+      sym ((read_too_large b).1 h) ∙ g.read in cc,
+)
 front_too_large view b (Err (failed.Failure x)) g = absurd g.answers
 front_too_large view b (Err failed.OutOfMemory) g = absurd g.answers
 
-pub front_incomplete : {X : Type 0} (view : X → RawRecord) (b : Bytes) (r : Returned X) → Gives view raw_record b r → IsIncomplete r ↔ NeedsMore 5 b
-front_incomplete view b (Ok x) g = (λ h. absurd h, λ h. let k = (read_incomplete b).1 h in let e = sym k.1 ∙ g.read in absurd cc)
+pub front_incomplete : {X : Type 0} (view : X → RawRecord) (b : Bytes) (r : Returned X) → Gives view raw_record b r
+    → IsIncomplete r ↔ NeedsMore 5 b
+front_incomplete view b (Ok x) g = (
+  λ h. absurd h,
+  λ h. let k = (read_incomplete b).1 h in let e =
+      sym k.1 ∙ g.read in absurd cc,
+)
 front_incomplete view b (Err (failed.Incomplete needed.Unknown)) g = absurd g.answers
 front_incomplete view b (Err (failed.Incomplete (needed.Size n))) g = (λ h. (read_incomplete b).0 (n, g.read), λ h. tt)
-front_incomplete view b (Err (failed.Error x)) g = (λ h. absurd h, λ h. let k = (read_incomplete b).1 h in let e = sym k.1 ∙ g.read in absurd cc)
+front_incomplete view b (Err (failed.Error x)) g =
+    (λ h. absurd h, λ h. let k = (read_incomplete b).1 h in let e = sym k.1 ∙ g.read in absurd cc)
 front_incomplete view b (Err (failed.Failure x)) g = absurd g.answers
 front_incomplete view b (Err failed.OutOfMemory) g = absurd g.answers
 
-pub front_whole : {X : Type 0} (view : X → RawRecord) (b : Bytes) (r : Returned X) → Gives view raw_record b r → IsOk r ↔ (IsWhole 5 b × (IsTooLarge 5 b → ⊥))
+pub front_whole : {X : Type 0} (view : X → RawRecord) (b : Bytes) (r : Returned X) → Gives view raw_record b r
+    → IsOk r ↔ (IsWhole 5 b × (IsTooLarge 5 b → ⊥))
 front_whole view b (Ok x) g = (λ h. (read_whole b).0 (subst IsOk (sym g.read) refl), λ h. refl)
 front_whole view b (Err (failed.Incomplete needed.Unknown)) g = absurd g.answers
-front_whole view b (Err (failed.Incomplete (needed.Size n))) g = (λ h. absurd cc, λ h. let e = subst IsOk g.read ((read_whole b).1 h) in absurd cc)
-front_whole view b (Err (failed.Error x)) g = (λ h. absurd cc, λ h. let e = subst IsOk g.read ((read_whole b).1 h) in absurd cc)
+front_whole view b (Err (failed.Incomplete (needed.Size n))) g =
+    (λ h. absurd cc, λ h. let e = subst IsOk g.read ((read_whole b).1 h) in absurd cc)
+front_whole view b (Err (failed.Error x)) g =
+    (λ h. absurd cc, λ h. let e = subst IsOk g.read ((read_whole b).1 h) in absurd cc)
 front_whole view b (Err (failed.Failure x)) g = absurd g.answers
 front_whole view b (Err failed.OutOfMemory) g = absurd g.answers
 

@@ -1,5 +1,30 @@
 -- Frames: a header, and then as many bytes as the header says, up to a limit. Records are such, and so are handshake messages.
-use Rattle.std.specs.Prelude.{◌≡◌, ℕ, zero, suc, ◌+◌, ◌<◌, ◌≤◌, ◌⊎◌, Bool, true, false, cond, nat_le, Option, Some, None, List, [], ◌∷◌, ◌++◌, length, take, drop, map}
+use Rattle.std.specs.Prelude.{
+  ◌≡◌,
+  ℕ,
+  zero,
+  suc,
+  ◌+◌,
+  ◌<◌,
+  ◌≤◌,
+  ◌⊎◌,
+  Bool,
+  true,
+  false,
+  cond,
+  nat_le,
+  Option,
+  Some,
+  None,
+  List,
+  [],
+  ◌∷◌,
+  ◌++◌,
+  length,
+  take,
+  drop,
+  map,
+}
 use Rattle.std.specs.Borrow.{Bor}
 use Rattle.std.specs.Global.{Vec}
 use Rattle.std.specs.List.{flat_map}
@@ -44,7 +69,8 @@ NeedsMore f b = (IsWhole f b → ⊥) × (IsTooLarge f b → ⊥)
 
 -- The frame in front and what is behind it, where it is whole and not too large.
 unfoldable pub front : Shape → Bytes → Option (Bytes × Bytes)
-front f b = cond (nat_le (size f b) (length b)) (cond (nat_le (body_length f b) f.limit) (Some (take (size f b) b, drop (size f b) b)) None) None
+front f b = cond (nat_le (size f b) (length b))
+    (cond (nat_le (body_length f b) f.limit) (Some (take (size f b) b, drop (size f b) b)) None) None
 
 -- That frame alone.
 abbrev pub frame_of : Option (Bytes × Bytes) → Option Bytes

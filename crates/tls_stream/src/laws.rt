@@ -1,8 +1,9 @@
 //! What stands of the frames of streams. Each function's contract is one law; its body is empty.
-ghost use Rattle.std.specs.Prelude.{◌≡◌, ◌↔◌, ◌<◌, ◌++◌, ◌∷◌, List, [], ℕ, Some, None, IsSome};
+ghost use Rattle.std.specs.Prelude.{◌≡◌, ◌↔◌, ◌<◌, ◌++◌, ◌∷◌, List, [], ℕ, Some, None, IsSome, Err};
 ghost use Rattle.std.specs.Borrow.{Bor};
 ghost use Rattle.std.specs.List.{concat};
 ghost use Rattle.tls_fields.specs.Bytes.{Bytes};
+ghost use Rattle.tls_fields.specs.Meaning.{Lacks};
 ghost use Rattle.tls_fields.specs.Reading.{reading};
 ghost use Rattle.tls_parser.specs.Framing as framing;
 ghost use Rattle.tls_parser.specs.Record.{raw_record};
@@ -68,4 +69,10 @@ pub fn records_are_what_is_read()
 #[tactic(auto, using(crate::proofs::MessageLemmas::message_is_read))]
 pub fn messages_are_read_alone()
     ensures { (limit : ℕ) (b y r : Bytes) → front (message_frame limit) b ≡ Some (y, r) → reading handshake b ≡ with_rest r (reading handshake y) }
+{}
+
+/// Where a message isn't whole, [`tls_parser::parse_tls_message_handshake`] asks for further bytes.
+pub fn messages_that_are_not_whole_are_incomplete()
+    ensures { (limit : ℕ) (b : Bytes) → (IsWhole (message_frame limit) b → ⊥)
+        → (n : ℕ) × (reading handshake b ≡ Err (Lacks n)) }
 {}

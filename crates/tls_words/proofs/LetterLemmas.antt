@@ -1,5 +1,27 @@
 -- Letters of a finite alphabet, which can be told apart by computing, and tests that all letters pass.
-use Rattle.std.proofs.Common.{◌≡◌, ℕ, zero, suc, ◌<◌, length, List, [], ◌∷◌, Bool, true, false, ◌&&◌, ◌||◌, Contains, slice_index_or, arith, inl, inr, refl, subst}
+use Rattle.std.proofs.Common.{
+  ◌≡◌,
+  ℕ,
+  zero,
+  suc,
+  ◌<◌,
+  length,
+  List,
+  [],
+  ◌∷◌,
+  Bool,
+  true,
+  false,
+  ◌&&◌,
+  ◌||◌,
+  Contains,
+  slice_index_or,
+  arith,
+  inl,
+  inr,
+  refl,
+  subst,
+}
 use Rattle.std.specs.List.{list_all}
 use Rattle.tls_words.proofs.PatternLemmas.{both_and, either_or, or_either}
 use denote.Enum.Declared.{Declared}
@@ -38,7 +60,8 @@ module _ {L : Type 0} (same : (a b : L) → Dec (a ≡ b)) where
   at_place : (xs : List L) (l : L) (k : ℕ) → k < length xs → slice_index_or xs k l ≡ l → is_in xs l ≡ true
   at_place [] l k b e = absurd (omega (arith, b))
   at_place (x ∷ xs) l zero b e = or_either (is_yes (same x l)) (is_in xs l) (inl (same_is_yes x l (same x l) e))
-  at_place (x ∷ xs) l (suc k) b e = or_either (is_yes (same x l)) (is_in xs l) (inr (at_place xs l k (omega (arith, b)) e))
+  at_place (x ∷ xs) l (suc k) b e = or_either (is_yes (same x l)) (is_in xs l)
+      (inr (at_place xs l k (omega (arith, b)) e))
 
   pub contains_in : (xs : List L) (l : L) → Contains xs l → is_in xs l ≡ true
   contains_in xs l h = at_place xs l h.0 h.1 h.2

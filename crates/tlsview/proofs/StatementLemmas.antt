@@ -1,5 +1,23 @@
 -- Which lines say something.
-use Rattle.std.proofs.Common.{◌≡◌, ℕ, Bool, true, false, cond, List, [], ◌∷◌, Option, Some, None, Result, Ok, Err, IsSome, refl}
+use Rattle.std.proofs.Common.{
+  ◌≡◌,
+  ℕ,
+  Bool,
+  true,
+  false,
+  cond,
+  List,
+  [],
+  ◌∷◌,
+  Option,
+  Some,
+  None,
+  Result,
+  Ok,
+  Err,
+  IsSome,
+  refl,
+}
 use Rattle.std.proofs.Math.Dec.{eqb}
 use Rattle.std.specs.Prelude.{◌↔◌}
 use Rattle.std.proofs.lemmas.Bool.{eqb-true}
@@ -18,13 +36,15 @@ sign_back FromServer = refl
 sign_stands : (sign : ℕ) (d : Direction) → direction_of sign ≡ Some d → sign ≡ sign_of d
 sign_stands sign d h = tests (eqb sign 62) (eqb sign 60) refl refl h
   where
-    tests : (s t : Bool) → eqb sign 62 ≡ s → eqb sign 60 ≡ t → cond s (Some ToServer) (cond t (Some FromServer) None) ≡ Some d → sign ≡ sign_of d
+    tests : (s t : Bool) → eqb sign 62 ≡ s → eqb sign 60 ≡ t
+        → cond s (Some ToServer) (cond t (Some FromServer) None) ≡ Some d → sign ≡ sign_of d
     tests true t e f g = let is : d ≡ ToServer = cc in rw (is, eqb-true sign 62 e) refl
     tests false true e f g = let is : d ≡ FromServer = cc in rw (is, eqb-true sign 60 f) refl
     tests false false e f g = cc
 
 -- what there is where the digits are decoded
-decoded : (d : Option Direction) (digits : List ℕ) → IsSome (with_direction d digits) → (e : Direction) × (d ≡ Some e) × (bytes : List ℕ) × (decode_of digits ≡ Ok bytes)
+decoded : (d : Option Direction) (digits : List ℕ) → IsSome (with_direction d digits)
+    → (e : Direction) × (d ≡ Some e) × (bytes : List ℕ) × (decode_of digits ≡ Ok bytes)
 decoded None digits h = cc h
 decoded (Some e) digits h = let found = go (decode_of digits) refl in (e, refl, found.0, found.1)
   where
@@ -37,7 +57,8 @@ statement-from_some [] h = cc h
 statement-from_some (s ∷ []) h = cc h
 statement-from_some (s ∷ p ∷ digits) h = go (eqb p 32) refl h
   where
-    go : (t : Bool) → eqb p 32 ≡ t → IsSome (cond t (with_direction (direction_of s) digits) None) → IsStatement (s ∷ p ∷ digits)
+    go : (t : Bool) → eqb p 32 ≡ t → IsSome (cond t (with_direction (direction_of s) digits) None)
+        → IsStatement (s ∷ p ∷ digits)
     go false e g = cc g
     go true e g =
         let parts = decoded (direction_of s) digits g in

@@ -1,5 +1,27 @@
 -- What is printed for an input, and the status.
-use Rattle.std.specs.Prelude.{ℕ, zero, suc, ◌+◌, ◌||◌, Bool, true, false, List, [], ◌∷◌, ◌++◌, length, flat_map, codes, Option, Some, None, Result, Ok, Err}
+use Rattle.std.specs.Prelude.{
+  ℕ,
+  zero,
+  suc,
+  ◌+◌,
+  ◌||◌,
+  Bool,
+  true,
+  false,
+  List,
+  [],
+  ◌∷◌,
+  ◌++◌,
+  length,
+  flat_map,
+  codes,
+  Option,
+  Some,
+  None,
+  Result,
+  Ok,
+  Err,
+}
 use Rattle.std.specs.Io.BufRead.{strip_last}
 use Rattle.std.specs.List.{list_any}
 use Rattle.tls_fields.specs.Bytes.{Bytes}
@@ -57,7 +79,12 @@ cipher_behind Encrypted = false
 cipher_behind (Messages ms) = list_any changes_cipher ms
 
 abbrev pub half_behind : Direction → Half → Content → Bytes → Half
-half_behind d h c rest = record { left = rest; is_encrypted = h.is_encrypted || cipher_behind c; state = state_behind d h.state c }
+half_behind d h c rest = record {
+  left = rest;
+  is_encrypted = h.is_encrypted || cipher_behind c;
+  state =
+      state_behind d h.state c;
+}
 
 -- what a part of the input prints, and what is known behind it or the fault that ends it
 abbrev pub Part : Type 0 → Type 0
@@ -65,7 +92,10 @@ Part A = List ℕ × Result A Fault
 
 abbrev pub content_part : Direction → Half → Bytes → Result Content Refusal → (Half → Part Half) → Part Half
 content_part d h rest (Err e) behind = ([], Err (Refused e))
-content_part d h rest (Ok c) behind = (content_text d c ++ (behind (half_behind d h c rest)).0, (behind (half_behind d h c rest)).1)
+content_part d h rest (Ok c) behind = (
+  content_text d c ++ (behind (half_behind d h c rest)).0,
+  (behind (half_behind d h c rest)).1,
+)
 
 -- the record that stands next, and those behind it; where bytes of it are missing, they are left to read
 abbrev pub record_part : Direction → Half → Answer RawRecord → (Half → Part Half) → Part Half
@@ -150,7 +180,12 @@ out_from k c (line ∷ lines) = followed_by k (line_part c (strip_last 13 line))
 
 -- nothing was read
 abbrev pub silence : Conversation
-silence = record { to_server = record { stream = []; is_encrypted = false }; from_server = record { stream = []; is_encrypted = false }; context = states.None }
+silence = record {
+  to_server = record { stream = []; is_encrypted = false };
+  from_server =
+      record { stream = []; is_encrypted = false };
+  context = states.None;
+}
 
 abbrev pub out : List ℕ → List ℕ × ℕ
 out x = out_from 1 silence (lines_of x)

@@ -20,14 +20,18 @@ or_end None c = Ok c
 or_end (Some fault) c = Err fault
 
 -- a record's content was printed and followed, and it is known whether the next one is encrypted; or its refusal is the fault
-abbrev pub IsShown : Direction → List ℕ → TlsState → List ℕ → TlsState → Bool → Result Content Refusal → rust.Next → Type 0
-IsShown d text state text' state' enc (Ok c) (next.Record enc') = (text' ≡ text ++ content_text d c) × (state' ≡ state_behind d state c) × (enc' ≡ (enc || cipher_behind c))
-IsShown d text state text' state' enc (Err e) (next.Fault fault) = (text' ≡ text) × (state' ≡ state) × (view_fault fault ≡ Refused e)
+abbrev pub IsShown : Direction → List ℕ → TlsState → List ℕ → TlsState → Bool → Result Content Refusal → rust.Next
+    → Type 0
+IsShown d text state text' state' enc (Ok c) (next.Record enc') =
+    (text' ≡ text ++ content_text d c) × (state' ≡ state_behind d state c) × (enc' ≡ (enc || cipher_behind c))
+IsShown d text state text' state' enc (Err e) (next.Fault fault) =
+    (text' ≡ text) × (state' ≡ state) × (view_fault fault ≡ Refused e)
 IsShown d text state text' state' enc c n = ⊥
 
 -- so was the record that stands next; where bytes of it are missing nothing was done
 abbrev pub IsNext : Direction → List ℕ → TlsState → List ℕ → TlsState → Bool → Answer RawRecord → rust.Next → Type 0
 IsNext d text state text' state' enc (Ok x) n = IsShown d text state text' state' enc (content_of enc x.0) n
 IsNext d text state text' state' enc (Err (Lacks missing)) next.Nothing = (text' ≡ text) × (state' ≡ state)
-IsNext d text state text' state' enc (Err (Broken kind)) (next.Fault fault) = (text' ≡ text) × (state' ≡ state) × (view_fault fault ≡ Refused (Broken kind))
+IsNext d text state text' state' enc (Err (Broken kind)) (next.Fault fault) =
+    (text' ≡ text) × (state' ≡ state) × (view_fault fault ≡ Refused (Broken kind))
 IsNext d text state text' state' enc a n = ⊥

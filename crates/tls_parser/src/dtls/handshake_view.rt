@@ -146,7 +146,9 @@ impl<'a> DTLSRawHandshake<'a> {
     /// memory aside. The rest is what the body leaves of its bytes.
     #[inline(always)]
     pub fn parse_body(self) -> IResult<&'a [u8], DTLSBodyView<'a>>
-        ensures { Gives view_body_in_place (body_layout self.entry.msg_type.0 self.entry.length (is_part (view_raw_handshake self.entry))) self.entry.body.now result }
+        ensures { Gives view_body_in_place
+            (body_layout self.entry.msg_type.0 self.entry.length (is_part (view_raw_handshake self.entry)))
+            self.entry.body.now result }
     {
         body(
             self.body,

@@ -145,7 +145,8 @@ pub struct DTLSPlaintextView<'a> {
 /// Judges the fragment `i` of a record with the header `hdr` as [`crate::parse_dtls_record_with_header`] does: by its first message.
 #[tactic(auto, using(crate::proofs::DtlsInPlaceLemmas::judges_change_cipher_specs, crate::proofs::DtlsInPlaceLemmas::judges_alerts, crate::proofs::DtlsInPlaceLemmas::judges_handshakes), unfolding(crate::specs::DtlsRecord::record_content))]
 fn fragment_judged<'a>(i: &'a [u8], hdr: &DTLSRecordHeader) -> Result<(), Err<Error<&'a [u8]>>>
-    ensures { Tells (λ u. decode_while message_of (messages_of_type hdr.now.content_type.0 i.now)) (value_of (reading (record_content (view_header hdr.now)) i.now)) result }
+    ensures { Tells (λ u. decode_while message_of (messages_of_type hdr.now.content_type.0 i.now))
+        (value_of (reading (record_content (view_header hdr.now)) i.now)) result }
 {
     match hdr.content_type {
         TlsRecordType::ChangeCipherSpec => first_judged::<ChangeCipherSpec>(i),

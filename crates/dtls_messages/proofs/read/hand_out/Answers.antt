@@ -1,17 +1,25 @@
-use Rattle.dtls_messages.proofs.ToldLemmas.{begins, ends, one_more, pushed_event}
+use Rattle.std.proofs.Common.{◌≡◌, ◌∙◌, false, subst, sym}
+use Rattle.dtls_messages.specs.Messages.{AreHandedOut, view_events}
+use Rattle.dtls_messages.proofs.StoppedLemmas.{ends_none, pushed_on}
+use Rattle.dtls_messages.proofs.ToldLemmas.{ends, one_more}
 use Rattle.dtls_messages.proofs.read.hand_out.Goals as goal
 
-pub loop-message-init : goal.loop-message-init
-loop-message-init c a h st = begins a h _ _ st
+pub returns-in_default-clause-told : goal.returns-in_default-clause-told
+returns-in_default-clause-told c l h st =
+    let way = c.whole.invariant l h st in
+    subst (λ es. AreHandedOut l h (view_events c.args.events.now.items) (view_events es) c.take_front.new.self) (sym c.in_ok-reserve.ensures.items)
+    (ends l h _ _ c.whole.messages c.take_front.new.self c.take_front.result way c.in_default.is
+    (c.take_front.ensures.message l _ way.stands) (c.take_front.ensures.stands l _ way.stands))
 
-pub loop-message-preserved : goal.loop-message-preserved
-loop-message-preserved c a h st =
-    let way = c.loop-message.invariant a h st in
-    one_more a h _ _ _ c.loop-message.messages c.take_front.new.self c.in-Some.message way
-    (c.in-Some.ensures.message a _ way.stands) (c.in-Some.ensures.stands a _ way.stands) (pushed_event _ _ _ c.in_ok-push.ensures.items)
+pub whole-preserved : goal.whole-preserved
+whole-preserved c a h st =
+    let way = c.whole.invariant a h st in
+    one_more a h _ _ _ c.whole.messages c.take_front.new.self c.in-Some.message way
+    (c.in-Some.ensures.message a _ way.stands) (c.in-Some.ensures.stands a _ way.stands)
+    (pushed_on _ _ _ _ c.in_ok-reserve.ensures.items c.in_ok-push.ensures.items)
 
-pub returns : goal.returns
-returns c l h st =
-    let way = c.loop-message.invariant l h st in
-    ends l h _ _ c.loop-message.messages c.take_front.new.self c.take_front.result way c.in_default.is
-    (c.take_front.ensures.message l _ way.stands) (c.take_front.ensures.stands l _ way.stands)
+pub returns-clause-told : goal.returns-clause-told
+returns-clause-told c l h st =
+    let way = c.whole.invariant l h st in
+    let none : c.is_front_whole.result ≡ false = (let f = c.whole-test.false in cc) in
+    ends_none l h _ _ c.whole.messages way (sym (c.is_front_whole.ensures l _ way.stands) ∙ none)

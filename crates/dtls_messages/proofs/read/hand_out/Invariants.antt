@@ -3,8 +3,8 @@ use Rattle.dtls_messages.specs.Messages.{Heard, Limits, Stands, view_events}
 use Rattle.dtls_messages.proofs.ToldLemmas.{IsOnTheWay}
 use Rattle.dtls_messages.proofs.read.hand_out.Given as goal
 
-abbrev pub invariant-loop-message : goal.invariant-loop-message
-invariant-loop-message l = (a : Limits) (h : Heard) → Stands a h l.initial.messages → IsOnTheWay a h (view_events l.initial.events.items) (view_events l.events.items) l.messages
+abbrev pub invariant-whole : goal.invariant-whole
+invariant-whole l = (a : Limits) (h : Heard) → Stands a h l.initial.messages → IsOnTheWay a h (view_events l.initial.events.items) (view_events l.events.items) l.messages
 
-abbrev pub decreases-loop-message : goal.decreases-loop-message
-decreases-loop-message l = length l.messages.slots
+abbrev pub decreases-whole : goal.decreases-whole
+decreases-whole l = length l.messages.slots

@@ -7,4 +7,5 @@ abbrev pub invariant-loop-extension : goal.invariant-loop-extension
 invariant-loop-extension l =
     (goal.iterator-loop-extension).can_next l.extension-iterator ×
     (goal.iterator-loop-extension).is_finite l.extension-iterator ×
-    (first_of l.kind.0 (items_in raw_extension l.block) ≡ first_of l.kind.0 (items_in raw_extension l.extension-iterator.bytes.now))
+    (first_of l.kind.0 (items_in raw_extension l.block)
+    ≡ first_of l.kind.0 (items_in raw_extension l.extension-iterator.bytes.now))

@@ -10,4 +10,5 @@ abbrev pub invariant-loop-version : goal.invariant-loop-version
 invariant-loop-version l =
     (goal.iterator-loop-version).can_next l.version-iterator ×
     (goal.iterator-loop-version).is_finite l.version-iterator ×
-    (highest (items_in (number 2) l.fn.versions.bytes.now) ≡ with_known (option_map (λ v. v.0) l.best) (highest (items_in (number 2) l.version-iterator.bytes.now)))
+    (highest (items_in (number 2) l.fn.versions.bytes.now)
+    ≡ with_known (option_map (λ v. v.0) l.best) (highest (items_in (number 2) l.version-iterator.bytes.now)))

@@ -8,4 +8,5 @@ abbrev pub invariant-loop-message : goal.invariant-loop-message
 invariant-loop-message l =
     (goal.iterator-loop-message).can_next l.message-iterator ×
     (goal.iterator-loop-message).is_finite l.message-iterator ×
-    (first_of l.kind.0 (items_in raw_handshake l.fragment) ≡ first_of l.kind.0 (items_in raw_handshake l.message-iterator.bytes.now))
+    (first_of l.kind.0 (items_in raw_handshake l.fragment)
+    ≡ first_of l.kind.0 (items_in raw_handshake l.message-iterator.bytes.now))

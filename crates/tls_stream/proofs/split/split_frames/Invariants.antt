@@ -5,4 +5,5 @@ use Rattle.tls_stream.proofs.split.split_frames.Given as goal
 abbrev pub invariant-loop-piece : goal.invariant-loop-piece
 invariant-loop-piece g l =
     let f = up_to g.F.Frame.kind g.row.LIMIT in
-    (elements l.taken.items ≡ frames f (joined (take l.piece-index l.pieces))) × (l.stream ≡ left f (joined (take l.piece-index l.pieces)))
+    (elements l.taken.items ≡ frames f (joined (take l.piece-index l.pieces)))
+    × (l.stream ≡ left f (joined (take l.piece-index l.pieces)))

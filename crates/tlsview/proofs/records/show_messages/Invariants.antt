@@ -8,4 +8,5 @@ use Rattle.tlsview.proofs.records.show_messages.Given as goal
 
 abbrev pub invariant-loop-message : goal.invariant-loop-message
 invariant-loop-message l =
-    string_bytes l.text ≡ string_bytes l.fn.text ++ flat_map (message_line l.direction) (map view_message (take l.message-index l.messages))
+    string_bytes l.text ≡ string_bytes l.fn.text
+    ++ flat_map (message_line l.direction) (map view_message (take l.message-index l.messages))

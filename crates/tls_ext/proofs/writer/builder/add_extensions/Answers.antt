@@ -1,4 +1,22 @@
-use Rattle.std.proofs.Common.{◌≡◌, ◌++◌, ◌∙◌, ℕ, length, map, take, vec_len, vec_capacity, Result, Ok, Err, refl, sym, ap, arith, append_assoc}
+use Rattle.std.proofs.Common.{
+  ◌≡◌,
+  ◌++◌,
+  ◌∙◌,
+  ℕ,
+  length,
+  map,
+  take,
+  vec_len,
+  vec_capacity,
+  Result,
+  Ok,
+  Err,
+  refl,
+  sym,
+  ap,
+  arith,
+  append_assoc,
+}
 use Rattle.std.proofs.lemmas.List.{length-append}
 use Rattle.std.specs.List.{flat_map}
 use Rattle.tls_fields.specs.Writer.{Judges}

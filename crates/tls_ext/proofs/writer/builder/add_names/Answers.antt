@@ -1,4 +1,23 @@
-use Rattle.std.proofs.Common.{◌≡◌, ◌≤◌, ◌<◌, ◌+◌, ◌^◌, ◌++◌, ◌∙◌, ℕ, List, [], length, map, take, get_or, ap, sym, arith, append_assoc}
+use Rattle.std.proofs.Common.{
+  ◌≡◌,
+  ◌≤◌,
+  ◌<◌,
+  ◌+◌,
+  ◌^◌,
+  ◌++◌,
+  ◌∙◌,
+  ℕ,
+  List,
+  [],
+  length,
+  map,
+  take,
+  get_or,
+  ap,
+  sym,
+  arith,
+  append_assoc,
+}
 use Rattle.std.specs.List.{flat_map}
 use Rattle.std.specs.Borrow.{Bor}
 use Rattle.tls_base.specs.declared.sni_type.SNIType.{SNIType}

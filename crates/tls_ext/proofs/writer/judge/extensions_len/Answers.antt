@@ -6,7 +6,14 @@ use Rattle.tls_fields.specs.Writer.{Judges}
 use Rattle.tls_fields.specs.declared.writer.GenError.{GenError}
 use Rattle.tls_ext.specs.Extension.{view}
 use Rattle.tls_ext.specs.declared.extension.TlsExtension.{TlsExtension}
-use Rattle.tls_ext.specs.ExtensionText.{extension_text, extensions_text, FitsExtension, FitsExtensions, RefusedExtension, RefusedExtensions}
+use Rattle.tls_ext.specs.ExtensionText.{
+  extension_text,
+  extensions_text,
+  FitsExtension,
+  FitsExtensions,
+  RefusedExtension,
+  RefusedExtensions,
+}
 use Rattle.tls_fields.proofs.WriterLemmas.{refused_at, none_refused, fits_at, fits_behind, texts_taken}
 use Rattle.tls_ext.proofs.writer.judge.extensions_len.Goals as goal
 

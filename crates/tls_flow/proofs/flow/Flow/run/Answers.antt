@@ -7,10 +7,12 @@ use Rattle.tls_flow.proofs.flow.Flow.run.Goals as goal
 
 pub returns-clause-told : goal.returns-clause-told
 returns-clause-told c =
-    let ends : c.loop-i.self ≡ run follow c.args.self.now c.args.events.now = first_of (search rules, grind (arith, common_steps)) in
+    let ends : c.loop-i.self ≡ run follow c.args.self.now c.args.events.now =
+    first_of (search rules, grind (arith, common_steps)) in
     told_of_flow c.args.events.now c.args.self.now c.loop-i.self ends
 
 pub returns-clause-stopped : goal.returns-clause-stopped
 returns-clause-stopped c =
-    let ends : c.loop-i.self ≡ run follow c.args.self.now c.args.events.now = first_of (search rules, grind (arith, common_steps)) in
+    let ends : c.loop-i.self ≡ run follow c.args.self.now c.args.events.now =
+    first_of (search rules, grind (arith, common_steps)) in
     stopped_of_flow c.args.events.now c.args.self.now c.loop-i.self ends

@@ -5,7 +5,9 @@ use Rattle.tls_hs.proofs.client_hello_view.ClientHelloView.parse_with_places.Goa
 
 pub returns-clause-places : goal.returns-clause-places
 returns-clause-places c =
-    let first : EndsWith c.args.i.now c.in_ok-i.i.now = ends_read (number 2) c.args.i.now c.args.i.now c.in_ok-i.version.0 c.in_ok-i.i.now (ends_here c.args.i.now) c.in_ok-i.ensures.allowed in
+    let first : EndsWith c.args.i.now c.in_ok-i.i.now =
+    ends_read (number 2) c.args.i.now c.args.i.now c.in_ok-i.version.0 c.in_ok-i.i.now
+    (ends_here c.args.i.now) c.in_ok-i.ensures.allowed in
     let second : EndsWith c.args.i.now c.in_ok-i-2.i.now = c.in_ok-i-2.ensures.ends first in
     let third : EndsWith c.args.i.now c.in_ok-i-3.i.now = c.in_ok-i-3.ensures.ends second in
     let fourth : EndsWith c.args.i.now c.in_ok-i-4.i.now = c.in_ok-i-4.ensures.ends third in

@@ -7,10 +7,12 @@ use Rattle.tls_states.proofs.context.ParseContext.run.Goals as goal
 
 pub returns-clause-encrypted : goal.returns-clause-encrypted
 returns-clause-encrypted c =
-    let ends : c.loop-i.self ≡ run c.args.self.now (word c.args.messages.now) = first_of (search rules, grind (arith, common_steps)) in
+    let ends : c.loop-i.self ≡ run c.args.self.now (word c.args.messages.now) =
+    first_of (search rules, grind (arith, common_steps)) in
     encrypted_where (word c.args.messages.now) c.args.self.now c.loop-i.self ends
 
 pub returns-clause-invalid : goal.returns-clause-invalid
 returns-clause-invalid c =
-    let ends : c.loop-i.self ≡ run c.args.self.now (word c.args.messages.now) = first_of (search rules, grind (arith, common_steps)) in
+    let ends : c.loop-i.self ≡ run c.args.self.now (word c.args.messages.now) =
+    first_of (search rules, grind (arith, common_steps)) in
     invalid_where (word c.args.messages.now) c.args.self.now c.loop-i.self ends

@@ -1,0 +1,129 @@
+-- Datagrams of the Internet Protocol (RFC 791; RFC 8200).
+use Rattle.std.specs.Prelude.{ℕ, zero, suc, ◌+◌, ◌-◌, ◌*◌, ◌/◌, ◌%◌, ◌^◌, ◌==◌, ◌||◌, ◌&&◌, nat_le, Bool, if◌then◌else◌}
+use Rattle.tls_fields.specs.Bytes.{Bytes}
+use Rattle.tls_fields.specs.Layout.{Layout, done, number, block, window, complete, test, choose, mapped, ◌>>=◌, ◌>>◌}
+use Rattle.tls_fields.specs.declared.result.ErrorKind.TheVariants.{Verify, LengthValue}
+use Rattle.capture.specs.Transport.{Content, Fragment, view_content, transport}
+use Rattle.capture.specs.declared.ip.Address.{Address as StoredAddress}
+use Rattle.capture.specs.declared.ip.Address.TheVariants as address
+use Rattle.capture.specs.declared.ip.Datagram.{Datagram as LentDatagram}
+use Rattle.capture.specs.declared.ip.Step.{Step}
+use Rattle.capture.specs.declared.ip.Step.TheVariants.{Next, Part, Last}
+
+-- An address, as the number that its bytes spell; of the 16 bytes of IPv6, the upper and the lower 8.
+pub data Address : Type 0 where
+  V4 : ℕ → Address
+  V6 : ℕ → ℕ → Address
+
+abbrev pub view_address : StoredAddress → Address
+view_address (address.V4 n) = V4 n
+view_address (address.V6 upper lower) = V6 upper lower
+
+pub record Datagram : Type 0 where
+  pub source : Address
+  pub destination : Address
+  pub content : Content
+
+abbrev pub view_datagram : LentDatagram → Datagram
+view_datagram d = record {
+  source = view_address d.source;
+  destination = view_address d.destination;
+  content = view_content d.content;
+}
+
+-- More fragments follow (the bit MF), or others come before (the offset, 13 bits): it is not the whole datagram (RFC
+-- 791, section 3.1).
+abbrev pub is_fragment_v4 : ℕ → Bool
+is_fragment_v4 flags = nat_le 1 (flags % 16384)
+
+-- A part of a datagram holds no header of a protocol, but in the first.
+unfoldable pub content_v4 : ℕ → ℕ → Layout Content
+content_v4 flags protocol = choose (is_fragment_v4 flags) (done Fragment) (transport protocol)
+
+-- Version and length of the header in words of 4 bytes; type of service; total length; identification; flags and
+-- fragment offset; time to live; protocol; checksum; source; destination; options up to the header's length (RFC 791,
+-- section 3.1). What the datagram holds ends where its total length says: what follows is padding of the link, and no
+-- part of it.
+unfoldable pub ipv4 : Layout Datagram
+ipv4 = do
+  first ← number 1
+  test (first / 16 == 4) Verify
+  test (nat_le 5 (first % 16)) LengthValue
+  block 1
+  total ← number 2
+  test (nat_le (first % 16 * 4) total) LengthValue
+  block 2
+  flags ← number 2
+  block 1
+  protocol ← number 1
+  block 2
+  source ← number 4
+  destination ← number 4
+  block (first % 16 * 4 - 20)
+  content ← window (total - first % 16 * 4) (complete (content_v4 flags protocol))
+  done (record { source = V4 source; destination = V4 destination; content = content })
+
+-- Hop-by-Hop Options, Routing, Destination Options, Mobility: 8 bytes, and as many times 8 as the header says (RFC
+-- 8200, section 4).
+unfoldable pub is_extension : ℕ → Bool
+is_extension next = (next == 0) || ((next == 43) || ((next == 60) || (next == 135)))
+
+-- The number of the next header; a length, in words of that many bytes; and what is left behind the header's first 8
+-- bytes.
+unfoldable pub skipped : ℕ → Layout ℕ
+skipped word = do
+  next ← number 1
+  len ← number 1
+  block (len * word + 6)
+  done next
+
+-- A Fragment header: next header, reserved, offset (13 bits) and the bit M, identification (RFC 8200, section 4.5).
+-- A fragment that is the whole datagram is read (RFC 6946).
+unfoldable pub fragment_header : Layout Step
+fragment_header = do
+  next ← number 1
+  block 1
+  offset ← number 2
+  block 4
+  done (if (offset / 8 == 0) && (offset % 2 == 0) then Next next else Part)
+
+-- What a header of that number leads to: 51 is the Authentication Header (RFC 4302, section 2.2), 44 a Fragment header;
+-- another is no extension header.
+unfoldable pub step : ℕ → Layout Step
+step next =
+    choose (is_extension next) (mapped Next (skipped 8)) (
+    choose (next == 51) (mapped Next (skipped 4)) (
+    choose (next == 44) fragment_header (
+    done Last)))
+
+-- What the datagram holds, behind that step: f reads on at the next header.
+abbrev pub step_then : (ℕ → Layout Content) → ℕ → Step → Layout Content
+step_then f last (Next next) = f next
+step_then f last Part = done Fragment
+step_then f last Last = transport last
+
+-- At most so many extension headers, one behind the other, and what the datagram holds.
+unfoldable pub headers : ℕ → ℕ → Layout Content
+headers zero next = transport next
+headers (suc n) next = step next >>= step_then (headers n) next
+
+unfoldable pub address_v6 : Layout Address
+address_v6 = do
+  upper ← number 8
+  lower ← number 8
+  done (V6 upper lower)
+
+-- Version, traffic class and flow label; payload length; next header; hop limit; source; destination; and the payload
+-- (RFC 8200, section 3), with at most 16 extension headers.
+unfoldable pub ipv6 : Layout Datagram
+ipv6 = do
+  first ← number 1
+  test (first / 16 == 6) Verify
+  block 3
+  len ← number 2
+  next ← number 1
+  block 1
+  source ← address_v6
+  destination ← address_v6
+  content ← window len (complete (headers 16 next))
+  done (record { source = source; destination = destination; content = content })

@@ -1,0 +1,11 @@
+pub mod Order
+pub mod Pcap
+pub mod Pcapng
+pub mod Transport
+pub mod Ip
+pub mod Link
+pub use Rattle.tls_fields.specs.Bytes
+pub use Rattle.tls_fields.specs.Layout
+pub use Rattle.tls_fields.specs.Meaning
+pub use Rattle.tls_fields.specs.Reading
+pub use Rattle.tls_fields.specs.Answers

@@ -1,0 +1,109 @@
+-- What a packet begins with, by the link type of its capture (the LINKTYPE pages of tcpdump.org).
+use Rattle.std.specs.Prelude.{ℕ, ◌/◌, ◌==◌, ◌||◌, Bool, Option, Some, None, if◌then◌else◌}
+use Rattle.std.specs.Option.{option_map}
+use Rattle.tls_fields.specs.Layout.{Layout, done, refuse, number, block, list, look, test, choose, mapped, ◌>>=◌, ◌>>◌}
+use Rattle.tls_fields.specs.declared.result.ErrorKind.TheVariants.{Tag, Verify, Switch}
+use Rattle.capture.specs.Ip.{Datagram, ipv4, ipv6, view_datagram}
+use Rattle.capture.specs.declared.ip.Datagram.{Datagram as LentDatagram}
+
+-- No datagram where the packet is of another protocol.
+abbrev pub view_packet : Option LentDatagram → Option Datagram
+view_packet p = option_map view_datagram p
+
+-- The types of VLAN tags: C-TAG and S-TAG (IEEE 802.1Q, table 9-1), and 0x9100, which was used for outer tags before.
+abbrev pub is_vlan : ℕ → Bool
+is_vlan kind = (kind == 0x8100) || ((kind == 0x88a8) || (kind == 0x9100))
+
+-- The type of a tag, and 2 bytes of tag control information (IEEE 802.1Q, section 9.3).
+unfoldable pub vlan_tag : Layout Unit
+vlan_tag = do
+  kind ← number 2
+  test (is_vlan kind) Tag
+  mapped (λ _. tt) (block 2)
+
+-- Any number of tags, and then the type of what follows.
+unfoldable pub ether_type : Layout ℕ
+ether_type = do
+  list vlan_tag
+  number 2
+
+-- LINKTYPE_ETHERNET: destination, source, tags, type (IEEE 802.3, section 3.1.1).
+unfoldable pub ethernet : Layout ℕ
+ethernet = block 12 >> ether_type
+
+-- What a family or a protocol of another numbering is as a type of Ethernet; 0 for one that isn't read.
+abbrev pub IPV4 : ℕ
+IPV4 = 0x0800
+
+abbrev pub IPV6 : ℕ
+IPV6 = 0x86dd
+
+-- LINKTYPE_NULL and LINKTYPE_LOOP: the number of an address family: 2 is IPv4; 24, 28 and 30 are IPv6, by the system
+-- that wrote it. The order of its bytes is that of the machine that captured, or big-endian.
+abbrev pub is_family_v6 : ℕ → Bool
+is_family_v6 n = (n == 24) || ((n == 28) || (n == 30))
+
+abbrev pub family : ℕ → ℕ
+family n =
+    if (n == 2) || (n == 0x02000000) then IPV4 else
+    if is_family_v6 n || ((n == 0x18000000) || ((n == 0x1c000000) || (n == 0x1e000000))) then IPV6 else 0
+
+unfoldable pub loopback : Layout ℕ
+loopback = mapped family (number 4)
+
+-- LINKTYPE_LINUX_SLL: packet type, ARPHRD type, length of the link's address and 8 bytes of it; protocol.
+unfoldable pub sll : Layout ℕ
+sll = block 14 >> ether_type
+
+-- LINKTYPE_LINUX_SLL2: protocol; reserved, interface, ARPHRD type, packet type, length of the link's address and 8
+-- bytes of it.
+unfoldable pub sll2 : Layout ℕ
+sll2 = do
+  kind ← number 2
+  block 18
+  done kind
+
+-- LINKTYPE_RAW: the version is in the upper 4 bits of the first byte, which is the datagram's.
+unfoldable pub raw_ip : Layout ℕ
+raw_ip = do
+  first ← look (number 1)
+  choose (first / 16 == 4) (done IPV4) (choose (first / 16 == 6) (done IPV6) (refuse Verify))
+
+-- LINKTYPE_RAW, LINKTYPE_IPV4 and LINKTYPE_IPV6: no header of a link.
+unfoldable pub no_link : ℕ → Layout ℕ
+no_link link_type =
+    choose (link_type == 101) raw_ip (
+    choose (link_type == 228) (done IPV4) (
+    choose (link_type == 229) (done IPV6) (
+    refuse Switch)))
+
+-- The type of what follows, by the link type.
+unfoldable pub link : ℕ → Layout ℕ
+link link_type =
+    choose (link_type == 1) ethernet (
+    choose ((link_type == 0) || (link_type == 108)) loopback (
+    choose (link_type == 113) sll (
+    choose (link_type == 276) sll2 (
+    no_link link_type))))
+
+-- A packet of a PPPoE session: version and type, code 0, session, length (RFC 2516, section 4); and the protocol of
+-- PPP: 0x0021 is IPv4 (RFC 1332), 0x0057 IPv6 (RFC 5072).
+unfoldable pub pppoe : Layout (Option Datagram)
+pppoe = do
+  kind ← number 2
+  test (kind == 0x1100) Verify
+  block 4
+  protocol ← number 2
+  choose (protocol == 0x0021) (mapped Some ipv4) (choose (protocol == 0x0057) (mapped Some ipv6) (done None))
+
+-- What follows, by its type.
+unfoldable pub network : ℕ → Layout (Option Datagram)
+network kind =
+    choose (kind == IPV4) (mapped Some ipv4) (
+    choose (kind == IPV6) (mapped Some ipv6) (
+    choose (kind == 0x8864) pppoe (
+    done None)))
+
+-- A packet of that link type.
+unfoldable pub packet : ℕ → Layout (Option Datagram)
+packet link_type = link link_type >>= network

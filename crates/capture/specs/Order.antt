@@ -1,0 +1,21 @@
+-- Numbers in the order of bytes of the machine that wrote a file (draft-ietf-opsawg-pcap, section 4;
+-- draft-ietf-opsawg-pcapng, section 4.1).
+use Rattle.std.specs.Prelude.{ℕ, ◌+◌, ◌*◌, List, [], ◌∷◌}
+use Rattle.tls_fields.specs.Bytes.{Bytes}
+use Rattle.tls_fields.specs.Layout.{Layout, number, block, mapped}
+use Rattle.capture.specs.declared.order.Order.{Order}
+use Rattle.capture.specs.declared.order.Order.TheVariants.{Big, Little}
+
+-- The number whose bytes these are, the least significant first.
+abbrev pub little_of : Bytes → ℕ
+little_of [] = 0
+little_of (b ∷ bs) = b + 256 * little_of bs
+
+-- A number of k bytes, the least significant first.
+unfoldable pub little : ℕ → Layout ℕ
+little k = mapped little_of (block k)
+
+-- A number of k bytes in that order.
+unfoldable pub number_by : Order → ℕ → Layout ℕ
+number_by Big k = number k
+number_by Little k = little k

@@ -1,0 +1,173 @@
+-- Files of blocks, in sections (draft-ietf-opsawg-pcapng).
+use Rattle.std.specs.Prelude.{ℕ, ◌+◌, ◌-◌, ◌*◌, ◌/◌, ◌%◌, ◌^◌, ◌==◌, ◌||◌, ◌&&◌, not, min, nat_le, nat_lt, Bool}
+use Rattle.std.specs.Prelude.{Option, Some, None, if◌then◌else◌}
+use Rattle.tls_fields.specs.Bytes.{Bytes}
+use Rattle.tls_fields.specs.Layout.{Layout, done, refuse, number, block, left, list, either, look, test, choose}
+use Rattle.tls_fields.specs.Layout.{mapped, ◌>>=◌, ◌>>◌}
+use Rattle.tls_fields.specs.declared.result.ErrorKind.TheVariants.{Tag, Verify, LengthValue, TooLarge}
+use Rattle.capture.specs.Order.{number_by}
+use Rattle.capture.specs.declared.order.Order.{Order}
+use Rattle.capture.specs.declared.order.Order.TheVariants.{Big, Little}
+use Rattle.capture.specs.declared.pcapng.Block.{Block as LentBlock}
+use Rattle.capture.specs.declared.interface.Interface.{Interface as StoredInterface}
+use Rattle.capture.specs.declared.block_packet.BlockPacket.{BlockPacket as LentPacket}
+
+-- The type of a Section Header Block, the same in either order (section 4.1).
+abbrev pub SECTION : ℕ
+SECTION = 0x0a0d0d0a
+
+-- The byte-order magic of a section.
+unfoldable pub order_of : ℕ → Layout Order
+order_of magic =
+    choose (magic == 0x1a2b3c4d) (done Big) (
+    choose (magic == 0x4d3c2b1a) (done Little) (
+    refuse Tag))
+
+-- It stands behind the type and the length of a Section Header Block.
+unfoldable pub section_order : Layout Order
+section_order = do
+  block 8
+  magic ← number 4
+  order_of magic
+
+-- The order of the next block, in a section of that order: a block that begins a section says its own.
+unfoldable pub order_next : Order → Layout Order
+order_next order = do
+  kind ← look (number 4)
+  choose (kind == SECTION) (look section_order) (done order)
+
+-- A block, and the order of its numbers and of those in the blocks behind it.
+pub record Block : Type 0 where
+  pub order : Order
+  pub kind : ℕ
+  pub body : Bytes
+
+abbrev pub view_block : LentBlock → Block
+view_block b = record { order = b.order; kind = b.kind; body = b.body.now }
+
+-- Block type, total length, body, total length again; the length counts all of these, and is a multiple of 4 (section
+-- 3.1). One of more than 16 MiB is refused, as libpcap does.
+unfoldable pub block_by : Order → Layout Block
+block_by order = do
+  kind ← number_by order 4
+  total ← number_by order 4
+  test (nat_le 12 total && (total % 4 == 0)) LengthValue
+  test (nat_le total 16777216) TooLarge
+  body ← block (total - 12)
+  again ← number_by order 4
+  test (again == total) LengthValue
+  done (record { order = order; kind = kind; body = body })
+
+unfoldable pub next_block : Order → Layout Block
+next_block order = order_next order >>= block_by
+
+-- Bytes up to a multiple of 4.
+abbrev pub padded : ℕ → ℕ
+padded n = (n + 3) / 4 * 4
+
+-- An option that neither ends the options nor is if_tsresol: code, length, value, padding (section 3.5).
+unfoldable pub other_option : Order → Layout Unit
+other_option order = do
+  code ← number_by order 2
+  test (not ((code == 0) || (code == 9))) Tag
+  len ← number_by order 2
+  mapped (λ _. tt) (block (padded len))
+
+-- if_tsresol: 1 byte (section 4.2).
+unfoldable pub resolution_option : Order → Layout ℕ
+resolution_option order = do
+  code ← number_by order 2
+  test (code == 9) Tag
+  len ← number_by order 2
+  test (len == 1) LengthValue
+  number 1
+
+-- How many units of time a second has: ten to a power, or two to one where the highest bit is set (section 4.2,
+-- if_tsresol).
+unfoldable pub units_of : ℕ → Layout ℕ
+units_of resolution =
+    choose (nat_le resolution 18) (done (10 ^ resolution)) (
+    choose (nat_le 128 resolution && nat_le resolution 191) (done (2 ^ (resolution - 128))) (
+    refuse Verify))
+
+-- An interface: what its packets begin with, how far they are captured (0: without a limit), and how many units of time
+-- a second has.
+pub record Interface : Type 0 where
+  pub link_type : ℕ
+  pub snap_length : ℕ
+  pub units : ℕ
+
+abbrev pub view_interface : StoredInterface → Interface
+view_interface i = record { link_type = i.link_type; snap_length = i.snap_length; units = i.units }
+
+-- The body of an Interface Description Block: link type, reserved, snap length, options; a second has 10^6 units where
+-- if_tsresol isn't among these (section 4.2).
+unfoldable pub interface : Order → Layout Interface
+interface order = do
+  link_type ← number_by order 2
+  block 2
+  snap_length ← number_by order 4
+  list (other_option order)
+  resolution ← either (resolution_option order) (done 6)
+  units ← units_of resolution
+  done (record { link_type = link_type; snap_length = snap_length; units = units })
+
+-- So many units as nanoseconds, rounded down; none where these are 2^64 or more, or where a second has no units.
+abbrev pub nanoseconds_of : ℕ → ℕ → Option ℕ
+nanoseconds_of per_second units =
+    if per_second == 0 then None else
+    if nat_lt (units * 1000000000 / per_second) (2 ^ 64) then Some (units * 1000000000 / per_second) else None
+
+-- A packet: of which interface of its section, counted from 0; when, in that interface's units since 1970-01-01 00:00
+-- UTC; how long it was; what was captured.
+pub record BlockPacket : Type 0 where
+  pub interface : ℕ
+  pub units : ℕ
+  pub original_length : ℕ
+  pub bytes : Bytes
+
+abbrev pub view_packet : LentPacket → BlockPacket
+view_packet p = record {
+  interface = p.interface;
+  units = p.units;
+  original_length = p.original_length;
+  bytes = p.bytes.now;
+}
+
+-- Upper and lower 4 bytes of the time, length captured, original length, bytes.
+unfoldable pub packet_of : Order → ℕ → Layout BlockPacket
+packet_of order interface = do
+  upper ← number_by order 4
+  lower ← number_by order 4
+  captured ← number_by order 4
+  original ← number_by order 4
+  bytes ← block captured
+  done (record {
+    interface = interface;
+    units = upper * 2 ^ 32 + lower;
+    original_length = original;
+    bytes = bytes;
+  })
+
+-- The body of an Enhanced Packet Block (section 4.3).
+unfoldable pub enhanced_packet : Order → Layout BlockPacket
+enhanced_packet order = number_by order 4 >>= packet_of order
+
+-- The body of a Packet Block, which is obsolete: interface, drops, and the same (appendix A).
+unfoldable pub obsolete_packet : Order → Layout BlockPacket
+obsolete_packet order = do
+  interface ← number_by order 2
+  block 2
+  packet_of order interface
+
+-- How much of a packet of that length is captured.
+abbrev pub captured_of : ℕ → ℕ → ℕ
+captured_of original snap_length = if snap_length == 0 then original else min original snap_length
+
+-- The body of a Simple Packet Block, of interface 0 and without a time: original length, and the bytes that the
+-- interface's snap length lets through (section 4.4).
+unfoldable pub simple_packet : Order → ℕ → Layout BlockPacket
+simple_packet order snap_length = do
+  original ← number_by order 4
+  bytes ← block (captured_of original snap_length)
+  done (record { interface = 0; units = 0; original_length = original; bytes = bytes })

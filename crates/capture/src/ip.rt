@@ -1,0 +1,230 @@
+//! Datagrams of the Internet Protocol (RFC 791; RFC 8200).
+#![tactic(auto, using(tls_fields::proofs::OneAnswerLemmas::read_allowed), unfolding(crate::specs::Ip::content_v4, crate::specs::Ip::skipped, crate::specs::Ip::fragment_header, crate::specs::Ip::step, crate::specs::Ip::address_v6))]
+
+ghost use Rattle.std.specs.Prelude.{◌≡◌, ◌<◌};
+ghost use Rattle.tls_fields.specs.Layout.{complete};
+ghost use Rattle.tls_fields.specs.Answers.{Gives};
+ghost use Rattle.capture.specs.Transport.{view_content};
+ghost use Rattle.capture.specs.Ip.{content_v4 as content_v4_layout, ipv4, ipv6, view_datagram, view_address};
+ghost use Rattle.capture.specs.Ip.{skipped as skipped_layout};
+ghost use Rattle.capture.specs.Ip.{address_v6 as address_v6_layout, headers as headers_layout, step as step_layout};
+ghost use Rattle.capture.specs.Ip.{fragment_header as fragment_header_layout, is_extension as is_extension_number};
+
+use crate::transport::{Content, transport};
+use tls_fields::{Err, ErrorKind, IResult, block, number1, number2, number4, number8, refused};
+
+/// An address, as the number that its bytes spell, the most significant first.
+#[derive(Clone, Copy, Debug, PartialEq, Eq)]
+pub enum Address {
+    /// The 4 bytes of an address of IPv4.
+    V4(u32),
+    /// The upper 8 bytes of an address of IPv6, and the lower 8.
+    V6(u64, u64),
+}
+
+/// A datagram of IPv4 or IPv6.
+#[derive(Clone, Copy, Debug, PartialEq)]
+pub struct Datagram<'a> {
+    /// Where it comes from.
+    pub source: Address,
+    /// Where it goes to.
+    pub destination: Address,
+    /// What it holds.
+    pub content: Content<'a>,
+}
+
+/// What a header of IPv6 leads to.
+#[derive(Clone, Copy)]
+enum Step {
+    /// A header of this number.
+    Next(u8),
+    /// A part of a datagram that was cut.
+    Part,
+    /// What the datagram holds.
+    Last,
+}
+
+/// What a datagram of IPv4 holds.
+fn content_v4(i: &[u8], flags: u16, protocol: u8) -> IResult<&[u8], Content>
+    ensures { Gives view_content (content_v4_layout flags protocol) i.now result }
+{
+    if flags % 16384 >= 1 {
+        return Ok((i, Content::Fragment));
+    }
+    transport(i, protocol)
+}
+
+/// The same, where no further bytes belong to it.
+fn whole_v4(i: &[u8], flags: u16, protocol: u8) -> IResult<&[u8], Content>
+    ensures { Gives view_content (complete (content_v4_layout flags protocol)) i.now result }
+{
+    match content_v4(i, flags, protocol) {
+        Err(Err::Incomplete(_)) => refused(i, ErrorKind::Complete),
+        answer => answer,
+    }
+}
+
+/// Reads a datagram of IPv4 (RFC 791, section 3.1): its header of 20 bytes and options, and what it holds, which ends
+/// where its total length says. What follows is padding.
+///
+/// - `Incomplete` of what is missing of the header, or of the bytes that the total length counts: it wasn't captured
+///   whole.
+/// - `Error` of kind `Verify` where the version isn't 4.
+/// - `Error` of kind `LengthValue` where the header's length is below 5 words or above the total length; or where the
+///   data offset of a segment is below 5 words, or the length of a user datagram below 8.
+/// - `Error` of kind `Complete` where a segment or user datagram doesn't fit in the total length.
+#[tactic(auto, using(tls_fields::proofs::OneAnswerLemmas::read_allowed), unfolding(crate::specs::Ip::ipv4))]
+pub fn parse_ipv4(i: &[u8]) -> IResult<&[u8], Datagram>
+    ensures { Gives view_datagram ipv4 i.now result }
+{
+    let (i, first) = number1(i)?;
+    if first / 16 != 4 {
+        return refused(i, ErrorKind::Verify);
+    }
+    if first % 16 < 5 {
+        return refused(i, ErrorKind::LengthValue);
+    }
+    let header = (first % 16) as usize * 4;
+    let (i, _) = block(i, 1)?;
+    let (i, total) = number2(i)?;
+    if header > total as usize {
+        return refused(i, ErrorKind::LengthValue);
+    }
+    let (i, _) = block(i, 2)?;
+    let (i, flags) = number2(i)?;
+    let (i, _) = block(i, 1)?;
+    let (i, protocol) = number1(i)?;
+    let (i, _) = block(i, 2)?;
+    let (i, source) = number4(i)?;
+    let (i, destination) = number4(i)?;
+    let (i, _) = block(i, header - 20)?;
+    let (i, held) = block(i, total as usize - header)?;
+    let (_, content) = whole_v4(held, flags, protocol)?;
+    let datagram = Datagram {
+        source: Address::V4(source),
+        destination: Address::V4(destination),
+        content,
+    };
+    Ok((i, datagram))
+}
+
+/// An extension header whose length counts words of that many bytes: the number of the next one.
+fn skipped(i: &[u8], word: usize) -> IResult<&[u8], u8>
+    requires { word < 16 }
+    ensures { Gives (λ v. v) (skipped_layout word) i.now result }
+{
+    let (i, next) = number1(i)?;
+    let (i, len) = number1(i)?;
+    let (i, _) = block(i, len as usize * word + 6)?;
+    Ok((i, next))
+}
+
+/// What a Fragment header leads to.
+fn fragment_header(i: &[u8]) -> IResult<&[u8], Step>
+    ensures { Gives (λ v. v) fragment_header_layout i.now result }
+{
+    let (i, next) = number1(i)?;
+    let (i, _) = block(i, 1)?;
+    let (i, offset) = number2(i)?;
+    let (i, _) = block(i, 4)?;
+    if offset / 8 == 0 && offset % 2 == 0 {
+        return Ok((i, Step::Next(next)));
+    }
+    Ok((i, Step::Part))
+}
+
+/// Whether a header of that number is an extension header whose length counts 8 bytes.
+#[tactic(auto, unfolding(crate::specs::Ip::is_extension))]
+fn is_extension(next: u8) -> bool
+    ensures { result ≡ is_extension_number next }
+{
+    next == 0 || next == 43 || next == 60 || next == 135
+}
+
+/// What a header of that number leads to.
+fn step_at(i: &[u8], next: u8) -> IResult<&[u8], Step>
+    ensures { Gives (λ v. v) (step_layout next) i.now result }
+{
+    if is_extension(next) {
+        let (i, next) = skipped(i, 8)?;
+        return Ok((i, Step::Next(next)));
+    }
+    if next == 51 {
+        let (i, next) = skipped(i, 4)?;
+        return Ok((i, Step::Next(next)));
+    }
+    if next == 44 {
+        return fragment_header(i);
+    }
+    Ok((i, Step::Last))
+}
+
+/// At most so many extension headers, and what the datagram holds.
+#[tactic(auto, using(tls_fields::proofs::OneAnswerLemmas::read_allowed, crate::proofs::HeadersLemmas::none_left, crate::proofs::HeadersLemmas::one_more))]
+fn headers(i: &[u8], next: u8, most: u8) -> IResult<&[u8], Content>
+    ensures { Gives view_content (headers_layout most next) i.now result }
+{
+    if most == 0 {
+        return transport(i, next);
+    }
+    let (i, step) = step_at(i, next)?;
+    match step {
+        Step::Next(further) => headers(i, further, most - 1),
+        Step::Part => Ok((i, Content::Fragment)),
+        Step::Last => transport(i, next),
+    }
+}
+
+/// The same, where no further bytes belong to it.
+fn whole_v6(i: &[u8], next: u8) -> IResult<&[u8], Content>
+    ensures { Gives view_content (complete (headers_layout 16 next)) i.now result }
+{
+    match headers(i, next, 16) {
+        Err(Err::Incomplete(_)) => refused(i, ErrorKind::Complete),
+        answer => answer,
+    }
+}
+
+/// An address of IPv6.
+fn address_v6(i: &[u8]) -> IResult<&[u8], Address>
+    ensures { Gives view_address address_v6_layout i.now result }
+{
+    let (i, upper) = number8(i)?;
+    let (i, lower) = number8(i)?;
+    Ok((i, Address::V6(upper, lower)))
+}
+
+/// Reads a datagram of IPv6 (RFC 8200, section 3): its header of 40 bytes, at most 16 extension headers, and what it
+/// holds, which ends where its payload length says. What follows is padding. Behind 16 extension headers what it holds
+/// is `Other`.
+///
+/// - `Incomplete` of what is missing of the header, or of the bytes that the payload length counts: it wasn't captured
+///   whole.
+/// - `Error` of kind `Verify` where the version isn't 6.
+/// - `Error` of kind `LengthValue` where the data offset of a segment is below 5 words, or the length of a user
+///   datagram below 8.
+/// - `Error` of kind `Complete` where an extension header, a segment or a user datagram doesn't fit in the payload
+///   length.
+#[tactic(auto, using(tls_fields::proofs::OneAnswerLemmas::read_allowed), unfolding(crate::specs::Ip::ipv6))]
+pub fn parse_ipv6(i: &[u8]) -> IResult<&[u8], Datagram>
+    ensures { Gives view_datagram ipv6 i.now result }
+{
+    let (i, first) = number1(i)?;
+    if first / 16 != 6 {
+        return refused(i, ErrorKind::Verify);
+    }
+    let (i, _) = block(i, 3)?;
+    let (i, len) = number2(i)?;
+    let (i, next) = number1(i)?;
+    let (i, _) = block(i, 1)?;
+    let (i, source) = address_v6(i)?;
+    let (i, destination) = address_v6(i)?;
+    let (i, held) = block(i, len as usize)?;
+    let (_, content) = whole_v6(held, next)?;
+    let datagram = Datagram {
+        source,
+        destination,
+        content,
+    };
+    Ok((i, datagram))
+}

@@ -1,0 +1,29 @@
+//! Captured packets: files of them, and what each holds.
+//!
+//! Each call reads one structure from the front of bytes, takes no memory, and answers what a layout of `specs/` allows
+//! there: the value and the exact rest, the kind of the broken rule, or the exact count of missing bytes.
+#![tactic(auto, using(tls_fields::proofs::OneAnswerLemmas::read_allowed))]
+
+mod block_packet;
+mod interface;
+mod ip;
+mod link;
+mod order;
+mod pcap;
+mod pcapng;
+#[cfg(test)]
+mod tests;
+mod transport;
+
+pub use block_packet::{
+    BlockPacket, parse_enhanced_packet, parse_obsolete_packet, parse_simple_packet,
+};
+pub use interface::{Interface, parse_interface};
+pub use ip::{Address, Datagram, parse_ipv4, parse_ipv6};
+pub use link::parse_packet;
+pub use order::{Order, number2_by, number4_by};
+pub use pcap::{
+    Captured, Format, MAX_PACKET_LEN, PcapHeader, Unit, parse_pcap_header, parse_pcap_packet,
+};
+pub use pcapng::{Block, MAX_BLOCK_LEN, SECTION_HEADER, parse_block};
+pub use transport::{Content, TcpSegment, UdpDatagram, parse_tcp, parse_udp};

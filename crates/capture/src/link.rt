@@ -1,0 +1,181 @@
+//! What a packet begins with, by the link type of its capture (the LINKTYPE pages of tcpdump.org).
+#![tactic(auto, using(tls_fields::proofs::OneAnswerLemmas::read_allowed), unfolding(crate::specs::Link::vlan_tag, crate::specs::Link::ethernet, crate::specs::Link::loopback, crate::specs::Link::sll, crate::specs::Link::sll2, crate::specs::Link::raw_ip, crate::specs::Link::no_link, crate::specs::Link::link, crate::specs::Link::pppoe, crate::specs::Link::network))]
+
+ghost use Rattle.tls_fields.specs.Meaning.{AllowsOne};
+ghost use Rattle.tls_fields.specs.Answers.{Gives};
+ghost use Rattle.capture.specs.Link.{vlan_tag, view_packet, ether_type as ether_type_layout};
+ghost use Rattle.capture.specs.Link.{loopback as loopback_layout, sll2 as sll2_layout};
+ghost use Rattle.capture.specs.Link.{raw_ip as raw_ip_layout, no_link as no_link_layout, link as link_layout};
+ghost use Rattle.capture.specs.Link.{pppoe as pppoe_layout, network as network_layout, packet};
+ghost use Rattle.capture.specs.Link.{family as type_of_family};
+ghost use Rattle.std.specs.Prelude.{◌≡◌};
+
+use crate::ip::{Datagram, parse_ipv4, parse_ipv6};
+use tls_fields::{ErrorKind, IResult, InPlace, Items, block, number1, number2, number4, refused};
+
+/// The type of Ethernet that is IPv4.
+const IPV4: u16 = 0x0800;
+
+/// The type of Ethernet that is IPv6.
+const IPV6: u16 = 0x86dd;
+
+/// A VLAN tag.
+struct VlanTag;
+
+impl<'a> InPlace<'a> for VlanTag {
+    type Read = ();
+
+    ghost Value = { Unit };
+
+    ghost view = { λ v. v };
+
+    ghost layout = { vlan_tag };
+
+    fn read(i: &'a [u8]) -> IResult<&'a [u8], ()> {
+        let (i, kind) = number2(i)?;
+        if kind != 0x8100 && kind != 0x88a8 && kind != 0x9100 {
+            return refused(i, ErrorKind::Tag);
+        }
+        let (i, _) = block(i, 2)?;
+        Ok((i, ()))
+    }
+}
+
+/// Any number of VLAN tags, and the type of what follows.
+#[tactic(auto, using(tls_fields::proofs::OneAnswerLemmas::read_allowed), unfolding(crate::specs::Link::ether_type))]
+fn ether_type(i: &[u8]) -> IResult<&[u8], u16>
+    ensures { Gives (λ v. v) ether_type_layout i.now result }
+{
+    number2(Items::<VlanTag>::new(i).rest())
+}
+
+/// The type that an address family stands for.
+fn family_type(family: u32) -> u16
+    ensures { result ≡ type_of_family family }
+{
+    match family {
+        2 | 0x0200_0000 => IPV4,
+        24 | 28 | 30 | 0x1800_0000 | 0x1c00_0000 | 0x1e00_0000 => IPV6,
+        _ => 0,
+    }
+}
+
+/// LINKTYPE_NULL and LINKTYPE_LOOP.
+fn loopback(i: &[u8]) -> IResult<&[u8], u16>
+    ensures { Gives (λ v. v) loopback_layout i.now result }
+{
+    let (i, n) = number4(i)?;
+    Ok((i, family_type(n)))
+}
+
+/// LINKTYPE_LINUX_SLL2.
+fn sll2(i: &[u8]) -> IResult<&[u8], u16>
+    ensures { Gives (λ v. v) sll2_layout i.now result }
+{
+    let (i, kind) = number2(i)?;
+    let (i, _) = block(i, 18)?;
+    Ok((i, kind))
+}
+
+/// LINKTYPE_RAW.
+fn raw_ip(i: &[u8]) -> IResult<&[u8], u16>
+    ensures { Gives (λ v. v) raw_ip_layout i.now result }
+{
+    let (_, first) = number1(i)?;
+    match first / 16 {
+        4 => Ok((i, IPV4)),
+        6 => Ok((i, IPV6)),
+        _ => refused(i, ErrorKind::Verify),
+    }
+}
+
+/// The type of what follows, by the link type, where no header of a link is there.
+fn no_link(i: &[u8], link_type: u16) -> IResult<&[u8], u16>
+    ensures { Gives (λ v. v) (no_link_layout link_type) i.now result }
+{
+    match link_type {
+        101 => raw_ip(i),
+        228 => Ok((i, IPV4)),
+        229 => Ok((i, IPV6)),
+        _ => refused(i, ErrorKind::Switch),
+    }
+}
+
+/// The type of what follows, by the link type.
+fn link(i: &[u8], link_type: u16) -> IResult<&[u8], u16>
+    ensures { Gives (λ v. v) (link_layout link_type) i.now result }
+{
+    match link_type {
+        1 => {
+            let (i, _) = block(i, 12)?;
+            ether_type(i)
+        }
+        0 | 108 => loopback(i),
+        113 => {
+            let (i, _) = block(i, 14)?;
+            ether_type(i)
+        }
+        276 => sll2(i),
+        _ => no_link(i, link_type),
+    }
+}
+
+/// A packet of a PPPoE session (RFC 2516, section 4).
+fn pppoe(i: &[u8]) -> IResult<&[u8], Option<Datagram>>
+    ensures { Gives view_packet pppoe_layout i.now result }
+{
+    let (i, kind) = number2(i)?;
+    if kind != 0x1100 {
+        return refused(i, ErrorKind::Verify);
+    }
+    let (i, _) = block(i, 4)?;
+    let (i, protocol) = number2(i)?;
+    match protocol {
+        0x0021 => {
+            let (i, datagram) = parse_ipv4(i)?;
+            Ok((i, Some(datagram)))
+        }
+        0x0057 => {
+            let (i, datagram) = parse_ipv6(i)?;
+            Ok((i, Some(datagram)))
+        }
+        _ => Ok((i, None)),
+    }
+}
+
+/// What follows the link's header, by its type.
+fn network(i: &[u8], kind: u16) -> IResult<&[u8], Option<Datagram>>
+    ensures { Gives view_packet (network_layout kind) i.now result }
+{
+    match kind {
+        IPV4 => {
+            let (i, datagram) = parse_ipv4(i)?;
+            Ok((i, Some(datagram)))
+        }
+        IPV6 => {
+            let (i, datagram) = parse_ipv6(i)?;
+            Ok((i, Some(datagram)))
+        }
+        0x8864 => pppoe(i),
+        _ => Ok((i, None)),
+    }
+}
+
+/// Reads the packet `i` of a capture with that link type: the link's header, and the datagram of IPv4 or IPv6 that it
+/// carries; `None` where it carries another protocol. What is left is padding, or bytes of another protocol.
+///
+/// Link types (LINKTYPE of tcpdump.org): 1 Ethernet, with any number of VLAN tags, 0 null, 108 loopback, 113 Linux
+/// cooked (SLL), 276 SLL2, 101 raw IP, 228 IPv4, 229 IPv6; in those that have types of Ethernet also PPPoE sessions.
+///
+/// - `Incomplete` of what is missing of the first part that isn't whole: the packet wasn't captured whole.
+/// - `Error` of kind `Switch` where the link type is another.
+/// - `Error` of kind `Verify` where a PPPoE packet isn't one of a session, or raw IP has another version.
+/// - What [`parse_ipv4`] and [`parse_ipv6`] refuse.
+#[tactic(auto, using(tls_fields::proofs::OneAnswerLemmas::read_allowed, tls_fields::proofs::OneAnswerLemmas::one_answer), unfolding(crate::specs::Link::packet))]
+pub fn parse_packet(i: &[u8], link_type: u16) -> IResult<&[u8], Option<Datagram>>
+    ensures gives { Gives view_packet (packet link_type) i.now result }
+    ensures only_one { AllowsOne (packet link_type) i.now }
+{
+    let (i, kind) = link(i, link_type)?;
+    network(i, kind)
+}

@@ -1,0 +1,62 @@
+//! Numbers in the order of bytes of the machine that wrote a file.
+#![tactic(auto, using(tls_fields::proofs::GivesLemmas::reads), unfolding(tls_fields::specs::Reading::split_at, crate::specs::Order::little))]
+
+ghost use Rattle.tls_fields.specs.Answers.{Gives};
+ghost use Rattle.capture.specs.Order.{little, number_by};
+
+use tls_fields::{Err, IResult, Needed, number2, number4};
+
+/// Which byte of a number stands first.
+#[derive(Clone, Copy, Debug, PartialEq, Eq)]
+pub enum Order {
+    /// The most significant.
+    Big,
+    /// The least significant.
+    Little,
+}
+
+/// A number of 2 bytes, the least significant first.
+fn little2(i: &[u8]) -> IResult<&[u8], u16>
+    ensures { Gives (λ v. v) (little 2) i.now result }
+{
+    match i {
+        [a, b, rest @ ..] => Ok((rest, u16::from_le_bytes([*a, *b]))),
+        _ => Err(Err::Incomplete(Needed::Size(2 - i.len()))),
+    }
+}
+
+/// A number of 4 bytes, the least significant first.
+fn little4(i: &[u8]) -> IResult<&[u8], u32>
+    ensures { Gives (λ v. v) (little 4) i.now result }
+{
+    match i {
+        [a, b, c, d, rest @ ..] => Ok((rest, u32::from_le_bytes([*a, *b, *c, *d]))),
+        _ => Err(Err::Incomplete(Needed::Size(4 - i.len()))),
+    }
+}
+
+/// A number of 2 bytes in that order.
+///
+/// `Incomplete` of the missing bytes where there are fewer than 2.
+#[tactic(auto, using(tls_fields::proofs::OneAnswerLemmas::read_allowed), unfolding(crate::specs::Order::number_by))]
+pub fn number2_by(i: &[u8], order: Order) -> IResult<&[u8], u16>
+    ensures { Gives (λ v. v) (number_by order 2) i.now result }
+{
+    match order {
+        Order::Big => number2(i),
+        Order::Little => little2(i),
+    }
+}
+
+/// A number of 4 bytes in that order.
+///
+/// `Incomplete` of the missing bytes where there are fewer than 4.
+#[tactic(auto, using(tls_fields::proofs::OneAnswerLemmas::read_allowed), unfolding(crate::specs::Order::number_by))]
+pub fn number4_by(i: &[u8], order: Order) -> IResult<&[u8], u32>
+    ensures { Gives (λ v. v) (number_by order 4) i.now result }
+{
+    match order {
+        Order::Big => number4(i),
+        Order::Little => little4(i),
+    }
+}

@@ -1,0 +1,135 @@
+//! Files of captured packets (draft-ietf-opsawg-pcap).
+ghost use Rattle.std.specs.Prelude.{◌≡◌};
+ghost use Rattle.tls_fields.specs.Meaning.{AllowsOne};
+ghost use Rattle.tls_fields.specs.Answers.{Gives};
+ghost use Rattle.capture.specs.Pcap.{format_of, view_format, header, view_header, packet, view_packet, nanoseconds};
+
+use crate::order::{Order, number2_by, number4_by};
+use tls_fields::{ErrorKind, IResult, block, number4, refused};
+
+/// No packet of a file is longer than this, in bytes (`MAXIMUM_SNAPLEN` of libpcap).
+pub const MAX_PACKET_LEN: u32 = 262_144;
+
+/// The unit of a time's fraction of a second.
+#[derive(Clone, Copy, Debug, PartialEq, Eq)]
+pub enum Unit {
+    /// 1,000 nanoseconds.
+    Microsecond,
+    /// 1 nanosecond.
+    Nanosecond,
+}
+
+/// What the first 4 bytes of a file say of the others (draft-ietf-opsawg-pcap, section 4).
+#[derive(Clone, Copy, Debug, PartialEq, Eq)]
+pub struct Format {
+    /// The order of bytes in the numbers of the file's own headers.
+    pub order: Order,
+    /// The unit of the fraction of a second.
+    pub unit: Unit,
+}
+
+/// The header of a file (draft-ietf-opsawg-pcap, section 4), 24 bytes.
+#[derive(Clone, Copy, Debug, PartialEq, Eq)]
+pub struct PcapHeader {
+    /// How the packets' headers are written.
+    pub format: Format,
+    /// No packet was captured further than this, in bytes.
+    pub snap_length: u32,
+    /// What each packet begins with: a LINKTYPE value of tcpdump.org.
+    pub link_type: u16,
+}
+
+/// A packet of a capture.
+#[derive(Clone, Copy, Debug, PartialEq)]
+pub struct Captured<'a> {
+    /// When it was captured, in nanoseconds since 1970-01-01 00:00 UTC.
+    pub time: u64,
+    /// How long it was on the wire, in bytes; more than `bytes` has where it was cut.
+    pub original_length: u32,
+    /// The bytes that were captured.
+    pub bytes: &'a [u8],
+}
+
+impl Unit {
+    /// How many nanoseconds it has.
+    pub fn nanoseconds(self) -> u64
+        ensures { result ≡ nanoseconds self }
+    {
+        match self {
+            Unit::Microsecond => 1000,
+            Unit::Nanosecond => 1,
+        }
+    }
+}
+
+/// The format that a magic number stands for.
+#[tactic(auto, using(tls_fields::proofs::OneAnswerLemmas::read_allowed), unfolding(crate::specs::Pcap::format_of))]
+fn format_by_magic(i: &[u8], magic: u32) -> IResult<&[u8], Format>
+    ensures { Gives view_format (format_of magic) i.now result }
+{
+    let (order, unit) = match magic {
+        0xa1b2_c3d4 => (Order::Big, Unit::Microsecond),
+        0xd4c3_b2a1 => (Order::Little, Unit::Microsecond),
+        0xa1b2_3c4d => (Order::Big, Unit::Nanosecond),
+        0x4d3c_b2a1 => (Order::Little, Unit::Nanosecond),
+        _ => return refused(i, ErrorKind::Tag),
+    };
+    Ok((i, Format { order, unit }))
+}
+
+/// Reads the header of a file (draft-ietf-opsawg-pcap, section 4): 24 bytes, behind which the first packet stands.
+///
+/// - `Incomplete` of the count that is missing of the first field that isn't whole.
+/// - `Error` of kind `Tag` where the first 4 bytes are no magic number: it is no such file.
+/// - `Error` of kind `Verify` where the major version isn't 2.
+#[tactic(auto, using(tls_fields::proofs::OneAnswerLemmas::read_allowed, tls_fields::proofs::OneAnswerLemmas::one_answer), unfolding(crate::specs::Pcap::header))]
+pub fn parse_pcap_header(i: &[u8]) -> IResult<&[u8], PcapHeader>
+    ensures gives { Gives view_header header i.now result }
+    ensures only_one { AllowsOne header i.now }
+{
+    let (i, magic) = number4(i)?;
+    let (i, format) = format_by_magic(i, magic)?;
+    let (i, major) = number2_by(i, format.order)?;
+    if major != 2 {
+        return refused(i, ErrorKind::Verify);
+    }
+    let (i, _) = block(i, 10)?;
+    let (i, snap_length) = number4_by(i, format.order)?;
+    let (i, link) = number4_by(i, format.order)?;
+    let header = PcapHeader {
+        format,
+        snap_length,
+        link_type: (link % 65536) as u16,
+    };
+    Ok((i, header))
+}
+
+/// Reads a packet of a file whose header said that format (draft-ietf-opsawg-pcap, section 5): 16 bytes, and then as
+/// many bytes as were captured of it.
+///
+/// - `Incomplete` of the count that is missing of the first field that isn't whole, or else of the packet's bytes.
+/// - `Error` of kind `TooLarge` where more than [`MAX_PACKET_LEN`] bytes are said to follow, even if they aren't there
+///   yet.
+#[tactic(auto, using(tls_fields::proofs::OneAnswerLemmas::read_allowed, tls_fields::proofs::OneAnswerLemmas::one_answer), unfolding(crate::specs::Pcap::packet))]
+pub fn parse_pcap_packet(i: &[u8], format: Format) -> IResult<&[u8], Captured>
+    ensures gives { Gives view_packet (packet (view_format format)) i.now result }
+    ensures only_one { AllowsOne (packet (view_format format)) i.now }
+{
+    let (i, seconds) = number4_by(i, format.order)?;
+    let (i, fraction) = number4_by(i, format.order)?;
+    let (i, captured) = number4_by(i, format.order)?;
+    let (i, original_length) = number4_by(i, format.order)?;
+    if captured > MAX_PACKET_LEN {
+        return refused(i, ErrorKind::TooLarge);
+    }
+    let (i, bytes) = block(i, captured as usize)?;
+    let time = seconds as u64 * 1_000_000_000 + fraction as u64 * format.unit.nanoseconds();
+    Ok((
+        i,
+        Captured {
+            time,
+            original_length,
+            bytes,
+        },
+    ))
+}

@@ -1,0 +1,82 @@
+-- What is held of a stream, from one place on.
+use Rattle.std.specs.Prelude.{◌≡◌, ℕ, zero, suc, ◌+◌, ◌-◌, ◌*◌, ◌%◌, ◌^◌, ◌<◌, ◌≤◌, ◌⊎◌, Bool, Option, Some, None, List, [], ◌∷◌, ◌++◌, length, map, drop, replicate, nat_lt, if◌then◌else◌}
+
+abbrev pub Bytes : Type 0
+Bytes = List ℕ
+
+-- At each place the byte that stands there, where one does.
+abbrev pub Cells : Type 0
+Cells = List (Option ℕ)
+
+-- What stands first stays.
+abbrev pub or_else : Option ℕ → ℕ → Option ℕ
+or_else None y = Some y
+or_else (Some x) y = Some x
+
+-- Bytes from the first place on, put where none stands.
+abbrev pub fill : Cells → Bytes → Cells
+fill [] ys = map Some ys
+fill (c ∷ cs) [] = c ∷ cs
+fill (c ∷ cs) (y ∷ ys) = or_else c y ∷ fill cs ys
+
+-- The same from a later place on.
+abbrev pub fill_at : ℕ → Cells → Bytes → Cells
+fill_at zero cs ys = fill cs ys
+fill_at (suc k) [] ys = None ∷ fill_at k [] ys
+fill_at (suc k) (c ∷ cs) ys = c ∷ fill_at k cs ys
+
+-- The same; no bytes change nothing.
+abbrev pub put : ℕ → Bytes → Cells → Cells
+put k [] cs = cs
+put k (y ∷ ys) cs = fill_at k cs (y ∷ ys)
+
+-- The longest front of which each byte stands.
+abbrev pub run : Cells → Bytes
+run [] = []
+run (None ∷ cs) = []
+run (Some x ∷ cs) = x ∷ run cs
+
+-- A stream that is held from the place `taken` on; what stands before it was handed out.
+pub record Held : Type 0 where
+  pub first : ℕ
+  pub limit : ℕ
+  pub taken : ℕ
+  pub cells : Cells
+
+-- The place of the first byte that is missing.
+abbrev pub wanted : Held → ℕ
+wanted h = h.taken + length (run h.cells)
+
+-- How far a sequence number is ahead of the one of a place, in the circle of 2^32.
+abbrev pub ahead : ℕ → ℕ → ℕ → ℕ
+ahead first place seq = (seq + (2 ^ 32 - (first + place % 2 ^ 32) % 2 ^ 32)) % 2 ^ 32
+
+-- How far ahead of the wanted place bytes begin, and which they are: what is behind it is dropped.
+abbrev pub located : ℕ → Bytes → ℕ × Bytes
+located d b = if nat_lt d (2 ^ 31) then (d, b) else (0, drop (2 ^ 32 - d) b)
+
+-- A segment's bytes stand where none stood.
+abbrev pub with_located : ℕ × Bytes → Held → Held
+with_located p h = record { first = h.first; limit = h.limit; taken = h.taken; cells = put (length (run h.cells) + p.0) p.1 h.cells }
+
+abbrev pub with_segment : ℕ → Bytes → Held → Held
+with_segment seq b h = with_located (located (ahead h.first (wanted h) seq) b) h
+
+-- The same of bytes whose place in the stream is known.
+abbrev pub placed : ℕ → ℕ → Bytes → ℕ × Bytes
+placed w place b = if nat_lt place w then (0, drop (w - place) b) else (place - w, b)
+
+-- Bytes at a place of the stream stand where none stood.
+abbrev pub with_part : ℕ → Bytes → Held → Held
+with_part place b h = with_located (placed (wanted h) place b) h
+
+-- The first bytes are handed out.
+abbrev pub without_front : ℕ → Held → Held
+without_front n h = record { first = h.first; limit = h.limit; taken = h.taken + n; cells = drop n h.cells }
+
+-- The bytes end further behind the wanted place than the limit, and don't begin at it, or the stream gets longer than 2^62.
+abbrev pub IsBeyond : ℕ × Bytes → Held → Type 0
+IsBeyond p h = (0 < length p.1) × (((0 < p.0) × (h.limit < p.0 + length p.1)) ⊎ (2 ^ 62 < wanted h + p.0 + length p.1))
+
+abbrev pub IsTooMuch : ℕ → Bytes → Held → Type 0
+IsTooMuch seq b h = IsBeyond (located (ahead h.first (wanted h) seq) b) h

@@ -1,0 +1,76 @@
+-- What is handed out of a stream, by the stream and its segments alone.
+use Rattle.std.specs.Prelude.{◌≡◌, ℕ, zero, suc, ◌+◌, ◌-◌, ◌^◌, ◌<◌, ◌≤◌, ◌⊎◌, Option, Some, None, List, [], ◌∷◌, ◌++◌, length, map, nat_lt, if◌then◌else◌}
+use Rattle.std.specs.Borrow.{Bor}
+use Rattle.std.specs.Option.{IsSome}
+use Rattle.segments.specs.Cells.{Bytes, Cells, Held, ahead}
+
+-- A segment: the sequence number of its first byte, and its bytes.
+abbrev pub Segment : Type 0
+Segment = ℕ × Bor Bytes
+
+-- How far behind the stream's first byte a segment begins.
+abbrev pub place_of : ℕ → Segment → ℕ
+place_of first s = ahead first 0 s.0
+
+-- The stream has these bytes at the place.
+pub record IsPart (stream : Bytes) (place : ℕ) (b : Bytes) : Type 0 where
+  pub before : Bytes
+  pub behind : Bytes
+  pub is : stream ≡ before ++ (b ++ behind)
+  pub at : length before ≡ place
+
+-- Each segment is a part of the stream at its place. A sequence number is below 2^32.
+abbrev pub AreParts : Bytes → ℕ → List Segment → Type 0
+AreParts stream first [] = Unit {0}
+AreParts stream first (s ∷ ss) = (s.0 < 2 ^ 32) × IsPart stream (place_of first s) s.1.now × AreParts stream first ss
+
+-- The place is among those of the bytes.
+abbrev pub IsOver : ℕ → Bytes → ℕ → Type 0
+IsOver place b i = (place ≤ i) × (i < place + length b)
+
+-- The byte at the place stands in some segment.
+abbrev pub IsCovered : ℕ → List Segment → ℕ → Type 0
+IsCovered first [] i = ⊥
+IsCovered first (s ∷ ss) i = IsOver (place_of first s) s.1.now i ⊎ IsCovered first ss i
+
+-- The longest front of the stream of which each byte is known.
+pub record IsLongestFront (stream : Bytes) (IsKnown : ℕ → Type 0) (front : Bytes) : Type 0 where
+  pub rest : Bytes
+  pub is_front : stream ≡ front ++ rest
+  pub known : (i : ℕ) → i < length front → IsKnown i
+  pub ends : IsKnown (length front) → ⊥
+
+-- Of each stream of fewer than 2^31 bytes that the segments are parts of, the longest front of which each byte stands in some
+-- segment.
+abbrev pub IsReassembled : ℕ → List Segment → Bytes → Type 0
+IsReassembled first segments out =
+    (stream : Bytes) → length stream < 2 ^ 31 → AreParts stream first segments → IsLongestFront stream (IsCovered first segments) out
+
+-- What stands at a place.
+abbrev pub cell : Cells → ℕ → Option ℕ
+cell [] i = None
+cell (c ∷ cs) zero = c
+cell (c ∷ cs) (suc i) = cell cs i
+
+abbrev pub byte_at : Bytes → ℕ → Option ℕ
+byte_at b i = cell (map Some b) i
+
+-- The byte that stands at a place of the stream, by bytes that stand from another on.
+abbrev pub part_at : ℕ → Bytes → ℕ → Option ℕ
+part_at place b i = if nat_lt i place then None else byte_at b (i - place)
+
+-- The first of two that is there.
+abbrev pub earlier : Option ℕ → Option ℕ → Option ℕ
+earlier None o = o
+earlier (Some x) o = Some x
+
+-- What is held is what is known of the stream.
+pub record IsMadeOf (stream : Bytes) (IsKnown : ℕ → Type 0) (h : Held) : Type 0 where
+  pub stands : (k y : ℕ) → cell h.cells k ≡ Some y → IsKnown (h.taken + k) × (byte_at stream (h.taken + k) ≡ Some y)
+  pub held : (k : ℕ) → IsKnown (h.taken + k) → IsSome (cell h.cells k)
+  pub given : (i : ℕ) → i < h.taken → IsKnown i
+
+-- The place is among those of some bytes at a place.
+abbrev pub IsAmong : List (ℕ × Bytes) → ℕ → Type 0
+IsAmong [] i = ⊥
+IsAmong (s ∷ ss) i = IsOver s.0 s.1 i ⊎ IsAmong ss i

@@ -1,0 +1,269 @@
+//! What is held of a stream.
+ghost use Rattle.std.specs.Prelude.{◌≡◌, ◌≤◌, ◌<◌, ◌+◌, ◌-◌, ◌%◌, ◌^◌, ◌↔◌, ◌++◌, List, [], ℕ, length, drop, Ok, Err, OnOk, OnErr};
+ghost use Rattle.segments.specs.Cells.{Held, ahead, located, placed, put, run, wanted, with_located, with_part, with_segment, without_front, IsBeyond, IsTooMuch};
+ghost use Rattle.segments.specs.Blocks.{IsSound, held_cells};
+ghost use Rattle.segments.specs.declared.segments.SegmentError.TheVariants as segment_error;
+
+use crate::blocks::{Block, clip, cut_out, drop_front, join};
+use std::alloc::{AllocError, AllocFailed, Global};
+use std::error::Error;
+use std::fmt;
+use std::marker::Model;
+
+/// Why a segment isn't taken. Nothing that is held is changed by it.
+#[derive(Debug, PartialEq, Drop)]
+pub enum SegmentError {
+    /// It ends too far behind the first byte that is missing.
+    TooMuch,
+    /// Memory ran out for its bytes.
+    OutOfMemory,
+}
+
+impl From<AllocError> for SegmentError {
+    ghost from_gives = { λ _ e. e ≡ segment_error.OutOfMemory };
+
+    fn from(_e: AllocError) -> SegmentError {
+        SegmentError::OutOfMemory
+    }
+}
+
+impl fmt::Display for SegmentError {
+    fn fmt<W: fmt::Write>(&self, f: &mut fmt::Formatter<W>) -> fmt::Result {
+        match self {
+            SegmentError::TooMuch => write!(f, "too far ahead of what is missing"),
+            SegmentError::OutOfMemory => write!(f, "out of memory"),
+        }
+    }
+}
+
+impl Error for SegmentError {}
+
+/// The bytes of a stream that came and are not yet handed out.
+///
+/// Its value in a contract: at each place behind what was handed out, the byte that stands there, where one came.
+#[derive(Drop)]
+pub struct Segments {
+    alloc: Global,
+    first: u32,
+    limit: u32,
+    // How many bytes were handed out.
+    taken: u64,
+    // What stands in order, behind `start` bytes that were handed out.
+    front: Vec<u8>,
+    start: usize,
+    // What stands behind a byte that is missing.
+    pending: Vec<Block>,
+}
+
+impl Model for Segments {
+    ghost use Rattle.segments.specs.Cells.{Held};
+    ghost use Rattle.segments.specs.Blocks.{IsSound, held_cells};
+
+    ghost Value = { Held };
+
+    ghost view = { λ s. record { first = s.first; limit = s.limit; taken = s.taken; cells = held_cells s.start s.taken s.front.items s.pending.items } };
+
+    ghost invariant = { λ s. IsSound s.start s.taken s.front.items s.pending.items };
+}
+
+/// How far a sequence number is ahead of the one of a place.
+fn distance(first: u32, place: u64, seq: u32) -> u32
+    ensures { result ≡ ahead first place seq }
+{
+    let next = first.wrapping_add((place % 0x1_0000_0000) as u32);
+    seq.wrapping_sub(next)
+}
+
+/// How far ahead of the wanted place bytes begin, and which they are.
+fn locate(distance: u32, bytes: &[u8]) -> (u32, &[u8])
+    ensures place { result.0 ≡ (located distance bytes.now).0 }
+    ensures bytes { result.1.now ≡ (located distance bytes.now).1 }
+    ensures small { result.0 < 2 ^ 31 }
+{
+    if distance < 0x8000_0000 {
+        (distance, bytes)
+    } else {
+        let behind = (0xffff_ffff - distance) as usize + 1;
+        (0, &bytes[behind.min(bytes.len())..])
+    }
+}
+
+/// How far ahead of the wanted place bytes of a place begin, and which they are.
+fn place_at(wanted: u64, place: u32, bytes: &[u8]) -> (u32, &[u8])
+    ensures place { result.0 ≡ (placed wanted place bytes.now).0 }
+    ensures bytes { result.1.now ≡ (placed wanted place bytes.now).1 }
+{
+    let place = u64::from(place);
+    if place < wanted {
+        let behind = (wanted - place).min(bytes.len() as u64) as usize;
+        (0, &bytes[behind..])
+    } else {
+        ((place - wanted) as u32, bytes)
+    }
+}
+
+impl Segments {
+    /// Holds nothing, and takes no memory. `first_place` is the sequence number of the stream's first byte: one more than the
+    /// SYN's. A segment that isn't next may end at most `limit` bytes behind the first byte that is missing.
+    pub fn new(alloc: Global, first_place: u32, limit: u32) -> Self
+        ensures { result ≡ record { first = first_place; limit = limit; taken = 0; cells = [] } }
+    {
+        Segments {
+            alloc,
+            first: first_place,
+            limit,
+            taken: 0,
+            front: Vec::new(alloc),
+            start: 0,
+            pending: Vec::new(alloc),
+        }
+    }
+
+    /// The bytes that come next, up to the first that is missing.
+    pub fn available(&self) -> &[u8]
+        ensures { result.now ≡ run self.now.cells }
+    {
+        &self.front[self.start..]
+    }
+
+    /// Takes bytes off the front.
+    pub fn take(&mut self, n: usize)
+        requires { n ≤ length (run self.old.cells) }
+        ensures { self.new ≡ without_front n self.old }
+    {
+        self.start += n;
+        self.taken += n as u64;
+    }
+
+    /// Moves what is held to the beginning, where it is at most as long as what was handed out, so that each byte is moved
+    /// no more often than another is handed out.
+    fn make_room(&mut self)
+        ensures { self.new ≡ self.old }
+    {
+        let held = self.front.len() - self.start;
+        if held <= self.start {
+            self.front.copy_within(self.start.., 0);
+            self.front.truncate(held);
+            self.start = 0;
+        }
+    }
+
+    /// The place of the first byte that is missing.
+    fn wanted(&self) -> u64
+        ensures is { result ≡ wanted self.now }
+        ensures small { result ≤ 2 ^ 62 }
+    {
+        self.taken + (self.front.len() - self.start) as u64
+    }
+
+    /// Puts bytes at the wanted place.
+    fn append(&mut self, bytes: &[u8]) -> Result<(), AllocError>
+        requires { wanted self.old + length bytes.now ≤ 2 ^ 62 }
+        ensures ok { OnOk result (self.new ≡ with_located (0, bytes.now) self.old) }
+        ensures err { OnErr result (self.new ≡ self.old) }
+    {
+        self.make_room();
+        let at = self.wanted();
+        let held = self.front.len();
+        match join(&mut self.front, false, at, bytes, &self.pending) {
+            Ok(count) => {
+                cut_out(&mut self.pending, 0, count);
+                Ok(())
+            }
+            Err(e) => {
+                self.front.truncate(held);
+                Err(e)
+            }
+        }
+    }
+
+    /// Keeps bytes behind a byte that is missing.
+    fn hold(&mut self, distance: u32, bytes: &[u8]) -> Result<(), AllocError>
+        requires some { 0 < length bytes.now }
+        requires ahead { 0 < distance }
+        requires small { wanted self.old + distance + length bytes.now ≤ 2 ^ 62 }
+        ensures ok { OnOk result (self.new ≡ with_located (distance, bytes.now) self.old) }
+        ensures err { OnErr result (self.new ≡ self.old) }
+    {
+        let at = self.wanted() + u64::from(distance);
+        let (place, rest, first) = clip(&self.pending, at, bytes);
+        if rest.is_empty() {
+            return Ok(());
+        }
+        let mut whole = Vec::with_capacity(self.alloc, rest.len())?;
+        let count = join(&mut whole, true, place, rest, &self.pending[first..])?;
+        if whole.is_empty() {
+            return Ok(());
+        }
+        let block = Block {
+            place,
+            bytes: whole,
+        };
+        self.pending.insert(first, block)?;
+        cut_out(&mut self.pending, first + 1, first + 1 + count);
+        Ok(())
+    }
+
+    /// Takes a segment whose first byte has the sequence number `seq`. Its bytes stand where none stood; what is behind the first
+    /// byte that is missing is dropped.
+    ///
+    /// - `TooMuch` exactly where it has bytes ahead of the first byte that is missing, and ends more than the limit behind
+    ///   it; also where the stream got longer than 2^62. Nothing changes.
+    /// - `OutOfMemory` where its bytes could not be held. Nothing changes.
+    pub fn segment(&mut self, seq: u32, bytes: &[u8]) -> Result<(), SegmentError>
+        ensures ok { OnOk result (self.new ≡ with_segment seq bytes.now self.old) }
+        ensures err { OnErr result (self.new ≡ self.old) }
+        ensures too_much { (result ≡ Err segment_error.TooMuch) ↔ IsTooMuch seq bytes.now self.old }
+    {
+        let at = self.wanted();
+        let (ahead, rest) = locate(distance(self.first, at, seq), bytes);
+        self.add(ahead, rest)
+    }
+
+    /// Takes bytes that stand from a place of the stream on, where its first byte stands at 0: what `segment` does, by a place
+    /// in place of a sequence number.
+    ///
+    /// - `TooMuch` exactly where they reach ahead of the first byte that is missing, and end more than the limit behind it;
+    ///   also where the stream got longer than 2^62. Nothing changes.
+    /// - `OutOfMemory` where they could not be held. Nothing changes.
+    pub fn put(&mut self, place: u32, bytes: &[u8]) -> Result<(), SegmentError>
+        ensures ok { OnOk result (self.new ≡ with_part place bytes.now self.old) }
+        ensures err { OnErr result (self.new ≡ self.old) }
+        ensures too_much { (result ≡ Err segment_error.TooMuch) ↔ IsBeyond (placed (wanted self.old) place bytes.now) self.old }
+    {
+        let (ahead, rest) = place_at(self.wanted(), place, bytes);
+        self.add(ahead, rest)
+    }
+
+    /// Takes bytes that begin so far behind the first byte that is missing.
+    fn add(&mut self, ahead: u32, bytes: &[u8]) -> Result<(), SegmentError>
+        ensures ok { OnOk result (self.new ≡ with_located (ahead, bytes.now) self.old) }
+        ensures err { OnErr result (self.new ≡ self.old) }
+        ensures too_much { (result ≡ Err segment_error.TooMuch) ↔ IsBeyond (ahead, bytes.now) self.old }
+    {
+        if bytes.is_empty() {
+            return Ok(());
+        }
+        if ahead > 0 && u64::from(ahead) + bytes.len() as u64 > u64::from(self.limit) {
+            return Err(SegmentError::TooMuch);
+        }
+        if self.wanted() + u64::from(ahead) + bytes.len() as u64 > 0x4000_0000_0000_0000 {
+            return Err(SegmentError::TooMuch);
+        }
+        if ahead == 0 {
+            self.append(bytes)?;
+        } else {
+            self.hold(ahead, bytes)?;
+        }
+        Ok(())
+    }
+
+    /// The bytes that come next, up to the first that is missing; those behind it are let go. It takes no memory.
+    pub fn into_available(self) -> Vec<u8>
+        ensures { result.items ≡ run self.cells }
+    {
+        let mut front = self.front;
+        drop_front(&mut front, self.start);
+        front
+    }
+}

@@ -1,0 +1,16 @@
+//! Conversations of TLS: both sides' streams in, and out what they say and what it came to.
+//!
+//! A [`Conversation`] takes the pieces of both directions in their order. What a side says is handed out event by event, and
+//! followed by a flow, which tells the outcome.
+#![tactic(auto)]
+
+mod conversation;
+mod ear;
+mod event;
+mod said;
+
+pub use conversation::{Conversation, outcome_of};
+pub use event::{chooses_tls13, dtls_event, tls_event};
+pub use said::Said;
+pub use tls_events::{DEFAULT_LIMIT, Event, Fault};
+pub use tls_flow::{Direction, Flow, Kind, Outcome, Stop};

@@ -1,0 +1,19 @@
+use Rattle.std.proofs.Common.{◌∙◌, ap, refl}
+use Rattle.tls_events.specs.Stream.{events, fed}
+use Rattle.tls_events.proofs.stream.Stream.ready.Goals as goal
+
+pub fragments-init : goal.fragments-init
+fragments-init c = λ s. refl
+
+pub fragments-preserved : goal.fragments-preserved
+fragments-preserved c = λ s.
+    ap (λ h. events (fed (record {
+      limit = c.fragments.self.limit;
+      is_tls13 = c.fragments.self.is_tls13;
+      has_changed =
+          c.fragments.self.has_changed;
+      kind = c.in-Joins.kind;
+      held = h;
+    }) s)) c.join.ensures
+    ∙ c.in-Joins.ensures.1 s
+    ∙ c.fragments.invariant s

@@ -1,0 +1,11 @@
+-- The letter of a handshake message is the same by its bytes and by what is read of them.
+use Rattle.std.specs.Prelude.{◌≡◌, [], Ok}
+use Rattle.tls_fields.specs.Bytes.{Bytes}
+use Rattle.tls_fields.specs.Reading.{reading}
+use Rattle.tls_hs.specs.Message as messages
+use Rattle.tls_flow.specs.Bytes.{kind_of_bytes}
+use Rattle.tls_flow.specs.Messages.{kind_of}
+
+-- Of every whole message that is read.
+abbrev pub IsSameKind : Bytes → messages.Message → Type 0
+IsSameKind b m = reading messages.handshake b ≡ Ok (m, []) → kind_of_bytes b ≡ kind_of m

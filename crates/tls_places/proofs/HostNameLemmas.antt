@@ -1,0 +1,119 @@
+-- The name of a host in a ClientHello's body, told by its place.
+use Rattle.std.proofs.Common.{
+  ◌≡◌,
+  [],
+  Option,
+  Some,
+  None,
+  Ok,
+  ◌==◌,
+  if◌then◌else◌,
+  Bool,
+  true,
+  false,
+  not,
+  refl,
+  sym,
+  ◌∙◌,
+  ap,
+  subst,
+}
+use Rattle.std.specs.Option.{option_map}
+use Rattle.tls_fields.specs.Bytes.{Bytes}
+use Rattle.tls_fields.specs.Items.{Tells}
+use Rattle.tls_fields.specs.Layout.{number, block, counted}
+use Rattle.tls_fields.specs.Meaning.{Allows, EndsWith}
+use Rattle.tls_fields.specs.Place.{bytes_at}
+use Rattle.tls_fields.specs.Reading.{reading, items_at}
+use Rattle.tls_fields.specs.Text.{held}
+use Rattle.tls_fields.specs.declared.places.Place.{Place}
+use Rattle.tls_fields.proofs.EndLemmas.{ends}
+use Rattle.tls_hs.specs.Hello.{ClientHello, client_hello, session_id, cipher_suites, compression_methods}
+use Rattle.tls_ext.specs.InPlace.{host_name}
+use Rattle.tls_parser.specs.InPlace.{body_of_type, host_name_of_record, name_in_body, name_in_hello, name_in_record}
+use Rattle.tls_parser.specs.Record.{RawRecord, raw_record}
+use Rattle.tls_places.specs.Place.{EndsIn, MayStand, Stands}
+use Rattle.tls_places.proofs.LastLemmas.{behind, counted_last, ends_in_after, maybe_last}
+use Rattle.tls_places.proofs.OutwardLemmas.{Found}
+
+-- the extensions end a ClientHello
+pub extensions_last : (b r : Bytes) (v : ClientHello) → Allows client_hello b (Ok (v, r)) → EndsIn b v.extensions r
+unfolding Allows client_hello
+extensions_last b r v (
+  d,
+  (
+    version,
+    m1,
+    d1,
+    d2,
+    s1,
+    (
+      random,
+      m2,
+      d3,
+      d4,
+      s2,
+      (
+        id,
+        m3,
+        d5,
+        d6,
+        s3,
+        (suites, m4, d7, d8, s4, (methods, m5, d9, d10, s5, (ext, m6, d11, d12, s6, (is, last, e12), e11), e9), e7),
+        e5,
+      ),
+      e4,
+    ),
+    e2,
+  ),
+) =
+    let at : EndsWith b m5 = behind compression_methods b m4 methods m5 d9
+    (behind cipher_suites b m3 suites m4 d7 (behind session_id b m2 id m3 d5
+    (behind (block 32) b m1 random m2 d3 (ends (number 2) b version m1 d1 s1) s2) s3) s4) s5 in
+    subst (λ x. EndsIn b v.extensions x) last
+    (subst (λ x. EndsIn b x m6) (sym (ap (λ y. y.extensions) is))
+    (ends_in_after b m5 ext m6 at (maybe_last (counted 2) (counted_last 2) m5 ext m6 d11 s6)))
+
+pub stands_held : (b : Bytes) (p : Place) (x : Option Bytes) → MayStand b (Some p) x → Stands b p (held x)
+stands_held b p None s = absurd s
+stands_held b p (Some x) s = s
+
+-- no extensions have no name
+no_name : host_name [] ≡ Ok None
+unfolding items_at
+no_name = refl
+
+none_held : (b : Bytes) (x : Option Bytes) → MayStand b None x → host_name (held x) ≡ Ok None
+none_held b None s = no_name
+none_held b (Some x) s = absurd s
+
+module _ (b r : Bytes) (v : ClientHello) (read : reading client_hello b ≡ Ok (v, r)) where
+  pub none_told : MayStand b None v.extensions
+      → Tells {X = Option Place} (option_map (bytes_at b)) (name_in_hello (reading client_hello b)) (Ok None)
+  none_told s = record { answers = tt; is = sym (ap name_in_hello read ∙ none_held b v.extensions s) }
+
+  pub name_told : (p : Place) (x : Bytes) (f : Found) → MayStand b (Some p) v.extensions → x ≡ bytes_at b p
+      → Tells (option_map (bytes_at x)) (host_name x) f
+      → Tells (option_map (bytes_at (bytes_at b p))) (name_in_hello (reading client_hello b)) f
+  name_told p x f s is t =
+      let here : Tells (option_map (bytes_at (bytes_at b p))) (host_name (bytes_at b p)) f =
+      subst (λ y. Tells (option_map (bytes_at y)) (host_name y) f) is t in
+      subst (λ a. Tells (option_map (bytes_at (bytes_at b p))) a f)
+      (ap host_name (stands_held b p v.extensions s).is ∙ sym (ap name_in_hello read)) here
+
+is_true : (c : Bool) → false ≡ not c → c ≡ true
+is_true true e = refl
+is_true false e = absurd cc
+
+-- a record of handshake messages tells what its fragment tells
+pub handshake_told : (i r : Bytes) (p : Place) (v : RawRecord) (f : Found) → reading raw_record i ≡ Ok (v, r)
+    → false ≡ not (v.header.content_type == 22) → bytes_at i p ≡ v.fragment
+    → Tells (option_map (bytes_at v.fragment)) (name_in_body (body_of_type 1 v.fragment)) f
+    → Tells (option_map (bytes_at (bytes_at i p))) (host_name_of_record i) f
+handshake_told i r p v f read kind is t =
+    let here : Tells (option_map (bytes_at (bytes_at i p))) (name_in_body (body_of_type 1 v.fragment)) f =
+    subst (λ y. Tells (option_map (bytes_at y)) (name_in_body (body_of_type 1 v.fragment)) f) (sym is) t in
+    let same : host_name_of_record i ≡ name_in_body (body_of_type 1 v.fragment) =
+    ap name_in_record read ∙ ap (λ c. if c then name_in_body (body_of_type 1 v.fragment) else Ok None)
+    (is_true (v.header.content_type == 22) kind) in
+    subst (λ a. Tells (option_map (bytes_at (bytes_at i p))) a f) (sym same) here

@@ -1,0 +1,38 @@
+use Rattle.std.proofs.Common.{Some, subst}
+use Rattle.std.specs.Option.{option_map}
+use Rattle.tls_fields.specs.Place.{bytes_at}
+use Rattle.tls_fields.specs.Reading.{reading}
+use Rattle.tls_hs.specs.Hello.{client_hello}
+use Rattle.tls_hs.specs.InPlace.{view_client_hello_in_place}
+use Rattle.tls_parser.specs.InPlace.{name_in_hello}
+use Rattle.tls_places.specs.Place.{IsWithin, Lies, MayStand}
+use Rattle.tls_places.proofs.HostNameLemmas.{extensions_last, stands_held, name_told, none_told}
+use Rattle.tls_places.proofs.host_name.host_name_place_of_hello.Goals as goal
+
+stand : (c : goal.After-outward) → MayStand c.args.body.now (Some c.in-Some.outer)
+    (option_map (λ x. x.now) c.in_ok-rest.hello.ext)
+stand c = c.in-Some.ensures (extensions_last c.args.body.now c.in_ok-rest.rest.now
+    (view_client_hello_in_place c.in_ok-rest.hello) c.in_ok-rest.ensures.allowed)
+
+lies : (c : goal.After-outward) → Lies c.args.body.now c.in-Some.outer
+lies c = (stands_held c.args.body.now c.in-Some.outer (option_map (λ x. x.now) c.in_ok-rest.hello.ext) (stand c)).within
+
+found : (c : goal.After-outward) → IsWithin (bytes_at c.args.body.now c.in-Some.outer) c.host_name_place.result
+found c = subst (λ x. IsWithin x c.host_name_place.result) c.bytes_at.ensures c.host_name_place.ensures.within
+
+pub returns-in-Some-clause-tells : goal.returns-in-Some-clause-tells
+returns-in-Some-clause-tells c =
+    c.outward.ensures.tells (name_in_hello (reading client_hello c.args.body.now)) (lies c) (found c)
+    (name_told c.args.body.now c.in_ok-rest.rest.now
+    (view_client_hello_in_place c.in_ok-rest.hello) c.in_ok-rest.ensures.read c.in-Some.outer c.bytes_at.result.now c.host_name_place.result (stand c)
+    c.bytes_at.ensures c.host_name_place.ensures.tells)
+
+pub returns-in-Some-clause-within : goal.returns-in-Some-clause-within
+returns-in-Some-clause-within c = c.outward.ensures.within (lies c) (found c)
+
+pub returns-in-None-clause-tells : goal.returns-in-None-clause-tells
+returns-in-None-clause-tells c =
+    none_told c.args.body.now c.in_ok-rest.rest.now
+    (view_client_hello_in_place c.in_ok-rest.hello) c.in_ok-rest.ensures.read
+    (c.in-None.ensures (extensions_last c.args.body.now c.in_ok-rest.rest.now
+    (view_client_hello_in_place c.in_ok-rest.hello) c.in_ok-rest.ensures.allowed))

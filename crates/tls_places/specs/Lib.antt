@@ -1,0 +1,4 @@
+pub mod Place
+pub mod Last
+pub mod Hello
+pub mod DtlsHello

@@ -1,0 +1,65 @@
+-- Where parts stand.
+use Rattle.std.specs.Prelude.{
+  ◌≡◌,
+  ℕ,
+  ◌+◌,
+  ◌-◌,
+  ◌≤◌,
+  ◌++◌,
+  length,
+  drop,
+  Option,
+  Some,
+  None,
+  MatchOption,
+  List,
+  Result,
+  Ok,
+  ⊤,
+}
+use Rattle.std.specs.Iterator.{YieldsFirstBy}
+use Rattle.tls_fields.specs.Bytes.{Bytes}
+use Rattle.tls_fields.specs.Meaning.{EndsWith}
+use Rattle.tls_fields.specs.Place.{bytes_at}
+use Rattle.tls_fields.specs.declared.places.Place.{Place}
+
+-- The place lies within b.
+abbrev pub Lies : Bytes → Place → Type 0
+Lies b p = p.offset + p.length ≤ length b
+
+-- The place of x, where it begins behind so many bytes.
+abbrev pub place_from : ℕ → Bytes → Place
+place_from o x = record { offset = o; length = length x }
+
+-- x stands at the place p, which lies within b.
+pub record Stands (b : Bytes) (p : Place) (x : Bytes) : Type 0 where
+  pub is : bytes_at b p ≡ x
+  pub within : Lies b p
+
+-- A part that may be missing stands at its place, or there is none of either.
+abbrev pub MayStand : Bytes → Option Place → Option Bytes → Type 0
+MayStand b (Some p) (Some x) = Stands b p x
+MayStand b None None = ⊤
+MayStand b p x = ⊥
+
+-- r is the end of b: what is left behind as many bytes as b has more.
+pub record IsEnd (b r : Bytes) : Type 0 where
+  pub fits : length r ≤ length b
+  pub is : drop (length b - length r) b ≡ r
+
+-- What may be there ends b, with r behind it.
+abbrev pub EndsIn : Bytes → Option Bytes → Bytes → Type 0
+EndsIn b (Some x) r = EndsWith b (x ++ r)
+EndsIn b None r = ⊤
+
+-- The next item is the first of the list, and its content stands at its place in the whole.
+pub record YieldsPlaced {S X A : Type 0} (view : X → A) (content : X → Bytes) (whole : S → Bytes) (items : S → List A)
+    (s : S) (r : Option (X × Place)) (t : S) : Type 0 where
+  pub first : YieldsFirstBy (λ x. view x.0) items s r t
+  pub same : whole t ≡ whole s
+  pub stands : MatchOption r ⊤ (λ x. Stands (whole s) x.1 (content x.0))
+
+-- A place that is answered lies within b.
+abbrev pub IsWithin : {E : Type 0} → Bytes → Result (Option Place) E → Type 0
+IsWithin b (Ok (Some p)) = Lies b p
+IsWithin b r = ⊤

@@ -1,0 +1,95 @@
+//! Which bytes stand last in what is walked: the content of an extension, the body of a message, a name, a certificate.
+
+use crate::frame::Frame;
+use tls_base::SNIType;
+use tls_ext::{KeyShareEntry, OidFilter, RawExtension, ServerName};
+use tls_fields::{Counted1, Counted2};
+use tls_hs::{RawCertificate, RawHandshake};
+
+/// A name of an application protocol, without its length.
+impl<'a> Frame<'a> for Counted1 {
+    ghost content = { λ x. x.now };
+
+    #[tactic(auto, using(crate::proofs::LastLemmas::counted_is_last))]
+    #[inline(always)]
+    fn content(read: &&'a [u8]) -> &'a [u8] {
+        *read
+    }
+}
+
+/// What stands behind 2 bytes of its length.
+impl<'a> Frame<'a> for Counted2 {
+    ghost content = { λ x. x.now };
+
+    #[tactic(auto, using(crate::proofs::LastLemmas::counted_is_last))]
+    #[inline(always)]
+    fn content(read: &&'a [u8]) -> &'a [u8] {
+        *read
+    }
+}
+
+/// The content of an extension.
+impl<'a> Frame<'a> for RawExtension<'a> {
+    ghost content = { λ e. e.content.now };
+
+    #[tactic(auto, using(crate::proofs::LastLemmas::frame_is_last))]
+    #[inline(always)]
+    fn content(read: &Self) -> &'a [u8] {
+        read.content
+    }
+}
+
+/// The body of a handshake message.
+impl<'a> Frame<'a> for RawHandshake<'a> {
+    ghost content = { λ m. m.body.now };
+
+    #[tactic(auto, using(crate::proofs::LastLemmas::frame_is_last))]
+    #[inline(always)]
+    fn content(read: &Self) -> &'a [u8] {
+        read.body
+    }
+}
+
+/// The public value of a key share.
+impl<'a> Frame<'a> for KeyShareEntry<'a> {
+    ghost content = { λ s. s.kx.now };
+
+    #[tactic(auto, using(crate::proofs::LastLemmas::frame_is_last))]
+    #[inline(always)]
+    fn content(read: &Self) -> &'a [u8] {
+        read.kx
+    }
+}
+
+/// A certificate, without its length.
+impl<'a> Frame<'a> for RawCertificate<'a> {
+    ghost content = { λ c. c.bytes.now };
+
+    #[tactic(auto, using(crate::proofs::LastLemmas::counted_is_last))]
+    #[inline(always)]
+    fn content(read: &Self) -> &'a [u8] {
+        read.bytes
+    }
+}
+
+/// The name of a host, without its type and its length.
+impl<'a> Frame<'a> for ServerName {
+    ghost content = { λ n. n.1.now };
+
+    #[tactic(auto, using(crate::proofs::LastLemmas::server_name_is_last))]
+    #[inline(always)]
+    fn content(read: &(SNIType, &'a [u8])) -> &'a [u8] {
+        read.1
+    }
+}
+
+/// The values of a filter, behind its OID.
+impl<'a> Frame<'a> for OidFilter<'a> {
+    ghost content = { λ f. f.cert_ext_val.now };
+
+    #[tactic(auto, using(crate::proofs::LastLemmas::oid_filter_is_last))]
+    #[inline(always)]
+    fn content(read: &Self) -> &'a [u8] {
+        read.cert_ext_val
+    }
+}

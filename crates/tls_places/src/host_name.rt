@@ -1,0 +1,83 @@
+//! Where the name of the host that a client asks for stands: in a hello, in a fragment, in a record.
+#![tactic(auto, using(tls_fields::proofs::OneAnswerLemmas::read_allowed))]
+
+ghost use Rattle.std.specs.Option.{option_map};
+ghost use Rattle.tls_fields.specs.Items.{Tells};
+ghost use Rattle.tls_fields.specs.Place.{bytes_at as bytes_there};
+ghost use Rattle.tls_fields.specs.Reading.{reading};
+ghost use Rattle.tls_hs.specs.Hello.{client_hello};
+ghost use Rattle.tls_parser.specs.InPlace.{body_of_type, host_name_of_record, name_in_body, name_in_hello};
+ghost use Rattle.tls_places.specs.Place.{IsWithin};
+
+use crate::find::host_name_place;
+use crate::frame::{Placed, frame_at};
+use crate::place::{bytes_at, held_before, outward};
+use crate::record::Record;
+use tls_base::{TlsHandshakeType, TlsRecordType};
+use tls_fields::{Err, Error, Place};
+use tls_hs::{ClientHelloView, RawHandshake};
+
+/// Where the body of the first of the handshake messages in `fragment` that has that type stands in it.
+///
+/// It answers and refuses as [`tls_parser::first_body`].
+pub fn body_place(
+    fragment: &[u8],
+    kind: TlsHandshakeType,
+) -> Result<Option<Place>, Err<Error<&[u8]>>>
+    ensures tells { Tells (option_map (bytes_there fragment.now)) (body_of_type kind.0 fragment.now) result }
+    ensures within { IsWithin fragment.now result }
+{
+    let walk: Placed<RawHandshake> = Placed::new(fragment);
+    for (message, place) in walk {
+        if message.msg_type == kind {
+            return Ok(Some(place));
+        }
+    }
+    let whole: Placed<RawHandshake> = Placed::new(fragment);
+    match whole.items().refusal() {
+        Some(e) => Err(e),
+        None => Ok(None),
+    }
+}
+
+/// Where the name of the host stands in `body`, that of a ClientHello.
+#[tactic(auto, using(tls_fields::proofs::OneAnswerLemmas::read_allowed, crate::proofs::HostNameLemmas::none_told))]
+pub fn host_name_place_of_hello(body: &[u8]) -> Result<Option<Place>, Err<Error<&[u8]>>>
+    ensures tells { Tells (option_map (bytes_there body.now)) (name_in_hello (reading client_hello body.now)) result }
+    ensures within { IsWithin body.now result }
+{
+    let (rest, hello) = ClientHelloView::parse(body)?;
+    match held_before(body, hello.ext, rest) {
+        Some(outer) => outward(body, outer, host_name_place(bytes_at(body, outer))),
+        None => Ok(None),
+    }
+}
+
+/// Where the name of the host stands in `fragment`, in the first ClientHello of its handshake messages.
+fn host_name_place_of_fragment(fragment: &[u8]) -> Result<Option<Place>, Err<Error<&[u8]>>>
+    ensures tells { Tells (option_map (bytes_there fragment.now)) (name_in_body (body_of_type 1 fragment.now)) result }
+    ensures within { IsWithin fragment.now result }
+{
+    match body_place(fragment, TlsHandshakeType::ClientHello)? {
+        Some(outer) => outward(
+            fragment,
+            outer,
+            host_name_place_of_hello(bytes_at(fragment, outer)),
+        ),
+        None => Ok(None),
+    }
+}
+
+/// Where the name of the host that the first ClientHello of the record in front of `i` asks for stands in `i`.
+///
+/// It answers and refuses as [`tls_parser::server_name_of_record`].
+pub fn host_name_place_of_record(i: &[u8]) -> Result<Option<Place>, Err<Error<&[u8]>>>
+    ensures tells { Tells (option_map (bytes_there i.now)) (host_name_of_record i.now) result }
+    ensures within { IsWithin i.now result }
+{
+    let (_, (record, outer)) = frame_at::<Record>(i, i)?;
+    if record.hdr.record_type != TlsRecordType::Handshake {
+        return Ok(None);
+    }
+    outward(i, outer, host_name_place_of_fragment(record.bytes))
+}

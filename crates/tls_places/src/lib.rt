@@ -1,0 +1,23 @@
+//! Where parts stand in the bytes that they were read from: places, counted in bytes, each proved by what stands there.
+//!
+//! An item whose last part is bytes is a [`Frame`]: a record and its fragment, a message and its body, an extension and its content,
+//! a name, a certificate, a key share. [`frame_at`] reads one and says where these bytes stand, and [`Placed`] walks many. A place in a
+//! part is one in the whole by [`place_within`]. Nothing here takes memory, and every refusal is that of the reader without places.
+#![tactic(auto)]
+
+mod dtls_hello;
+mod find;
+mod frame;
+mod frames;
+mod host_name;
+mod place;
+mod record;
+mod server_hello;
+
+pub use dtls_hello::{DtlsClientHelloPlaces, dtls_client_hello_with_places};
+pub use find::{content_place, host_name_place, protocol_names_place};
+pub use frame::{Frame, Placed, frame_at};
+pub use host_name::{body_place, host_name_place_of_hello, host_name_place_of_record};
+pub use place::{bytes_at, place_before, place_within};
+pub use record::{DtlsRecord, Record};
+pub use server_hello::{ServerHelloPlaces, server_hello_with_places};

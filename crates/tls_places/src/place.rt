@@ -1,0 +1,91 @@
+//! Where parts stand in the bytes that they were read from.
+ghost use Rattle.std.specs.Prelude.{◌≡◌, ◌++◌, Option, Some, Result};
+ghost use Rattle.tls_fields.specs.Bytes.{Bytes};
+ghost use Rattle.std.specs.Option.{option_map};
+ghost use Rattle.tls_fields.specs.Meaning.{EndsWith, Refusal};
+ghost use Rattle.tls_fields.specs.Items.{Tells};
+ghost use Rattle.tls_fields.specs.Place.{bytes_at as bytes_there};
+ghost use Rattle.tls_places.specs.Place.{EndsIn, IsWithin, Lies, MayStand, Stands, place_from};
+
+use tls_fields::{Err, Error, Place};
+
+/// Where `part` stands in `whole`, at whose end it is followed by `rest`.
+#[tactic(auto, using(crate::proofs::PlaceLemmas::stands_before))]
+#[inline(always)]
+pub fn place_before(whole: &[u8], part: &[u8], rest: &[u8]) -> Place
+    ensures { EndsWith whole.now (part.now ++ rest.now) → Stands whole.now result part.now }
+{
+    let behind = whole.len().saturating_sub(rest.len());
+    let offset = behind.saturating_sub(part.len());
+    Place {
+        offset,
+        length: part.len(),
+    }
+}
+
+/// The place in `whole` of what stands at the place `inner` of the bytes at the place `outer` in `whole`.
+#[tactic(auto, using(crate::proofs::PlaceLemmas::stands_within))]
+#[inline(always)]
+pub fn place_within(whole: &[u8], outer: Place, inner: Place) -> Place
+    ensures { (x y : Bytes) → Stands whole.now outer x → Stands x inner y → Stands whole.now result y }
+{
+    let offset = outer.offset.saturating_add(inner.offset).min(whole.len());
+    Place {
+        offset,
+        length: inner.length,
+    }
+}
+
+/// The bytes at that place of `whole`; fewer where the place doesn't lie within it.
+#[tactic(auto, using(crate::proofs::PlaceLemmas::cut_there))]
+#[inline(always)]
+pub fn bytes_at(whole: &[u8], place: Place) -> &[u8]
+    ensures { result.now ≡ bytes_there whole.now place }
+{
+    let (_, behind) = whole.split_at(place.offset.min(whole.len()));
+    let (part, _) = behind.split_at(place.length.min(behind.len()));
+    part
+}
+
+/// Where what may be there stands in `whole`, in front of `rest`, which ends it.
+#[inline(always)]
+pub(crate) fn held_before(whole: &[u8], part: Option<&[u8]>, rest: &[u8]) -> Option<Place>
+    ensures { EndsIn whole.now (option_map (λ x. x.now) part.entry) rest.now → MayStand whole.now result (option_map (λ x. x.now) part.entry) }
+{
+    match part {
+        Some(bytes) => Some(place_before(whole, bytes, rest)),
+        None => None,
+    }
+}
+
+/// Where what may be there stands in `whole`, if it begins at `offset`.
+#[inline(always)]
+pub(crate) fn held_from(whole: &[u8], offset: usize, part: Option<&[u8]>) -> Option<Place>
+    ensures { ((x : Bytes) → option_map (λ y. y.now) part.entry ≡ Some x → Stands whole.now (place_from offset x) x) → MayStand whole.now result (option_map (λ y. y.now) part.entry) }
+{
+    match part {
+        Some(bytes) => Some(Place {
+            offset,
+            length: bytes.len(),
+        }),
+        None => None,
+    }
+}
+
+/// What was found in the bytes at the place `outer` of `whole`, counted from the front of `whole`.
+#[tactic(auto, using(crate::proofs::OutwardLemmas::some_told, crate::proofs::OutwardLemmas::some_within))]
+#[inline(always)]
+pub(crate) fn outward<'a>(
+    whole: &[u8],
+    outer: Place,
+    found: Result<Option<Place>, Err<Error<&'a [u8]>>>,
+) -> Result<Option<Place>, Err<Error<&'a [u8]>>>
+    ensures tells { (a : Result (Option Bytes) Refusal) → Lies whole.now outer → IsWithin (bytes_there whole.now outer) found.entry
+        → Tells (option_map (bytes_there (bytes_there whole.now outer))) a found.entry → Tells (option_map (bytes_there whole.now)) a result }
+    ensures within { Lies whole.now outer → IsWithin (bytes_there whole.now outer) found.entry → IsWithin whole.now result }
+{
+    match found? {
+        Some(inner) => Ok(Some(place_within(whole, outer, inner))),
+        None => Ok(None),
+    }
+}

@@ -1,0 +1,90 @@
+//! Records of TLS and DTLS, and messages of DTLS, as items whose bytes have a place.
+#![tactic(auto, using(tls_fields::proofs::OneAnswerLemmas::read_allowed))]
+
+ghost use Rattle.tls_fields.specs.Answers.{Gives};
+ghost use Rattle.tls_parser.specs.Record as tls;
+ghost use Rattle.tls_parser.specs.DtlsRecord as dtls;
+
+use crate::frame::Frame;
+use tls_fields::{ErrorKind, IResult, InPlace, block, refused};
+use tls_parser::{
+    DTLSRawHandshake, DTLSRawRecord, MAX_RECORD_LEN, TlsRawRecord, parse_dtls_record_header,
+    parse_tls_raw_record,
+};
+
+/// How a record of TLS is read whose fragment isn't: as [`parse_tls_raw_record`].
+#[derive(Clone, Copy)]
+pub struct Record;
+
+impl<'a> InPlace<'a> for Record {
+    type Read = TlsRawRecord<'a>;
+
+    ghost Value = { tls.RawRecord };
+
+    ghost view = { tls.view_raw_record };
+
+    ghost layout = { tls.raw_record };
+
+    #[inline(always)]
+    fn read(i: &'a [u8]) -> IResult<&'a [u8], TlsRawRecord<'a>> {
+        parse_tls_raw_record(i)
+    }
+}
+
+/// The fragment of a record.
+impl<'a> Frame<'a> for Record {
+    ghost content = { λ r. r.bytes.now };
+
+    #[tactic(auto, using(crate::proofs::RecordLemmas::fragment_is_last))]
+    #[inline(always)]
+    fn content(read: &TlsRawRecord<'a>) -> &'a [u8] {
+        read.bytes
+    }
+}
+
+/// How a record of DTLS is read whose fragment isn't (RFC 6347, section 4.1).
+#[derive(Clone, Copy)]
+pub struct DtlsRecord;
+
+impl<'a> InPlace<'a> for DtlsRecord {
+    type Read = DTLSRawRecord<'a>;
+
+    ghost Value = { dtls.RawRecord };
+
+    ghost view = { dtls.view_raw_record };
+
+    ghost layout = { dtls.raw_record };
+
+    #[tactic(auto, using(tls_fields::proofs::OneAnswerLemmas::read_allowed), unfolding(tls_parser::specs::DtlsRecord::raw_record))]
+    #[inline(always)]
+    fn read(i: &'a [u8]) -> IResult<&'a [u8], DTLSRawRecord<'a>> {
+        let (i, header) = parse_dtls_record_header(i)?;
+        if header.length > MAX_RECORD_LEN {
+            return refused(i, ErrorKind::TooLarge);
+        }
+        let (i, fragment) = block(i, header.length as usize)?;
+        Ok((i, DTLSRawRecord { header, fragment }))
+    }
+}
+
+/// The fragment of a record of DTLS.
+impl<'a> Frame<'a> for DtlsRecord {
+    ghost content = { λ r. r.fragment.now };
+
+    #[tactic(auto, using(crate::proofs::RecordLemmas::dtls_fragment_is_last))]
+    #[inline(always)]
+    fn content(read: &DTLSRawRecord<'a>) -> &'a [u8] {
+        read.fragment
+    }
+}
+
+/// The body of a handshake message of DTLS, or the part of it that a fragment has.
+impl<'a> Frame<'a> for DTLSRawHandshake<'a> {
+    ghost content = { λ m. m.body.now };
+
+    #[tactic(auto, using(crate::proofs::RecordLemmas::dtls_body_is_last))]
+    #[inline(always)]
+    fn content(read: &Self) -> &'a [u8] {
+        read.body
+    }
+}

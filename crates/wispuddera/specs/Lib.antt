@@ -1,0 +1,82 @@
+pub use Rattle.tls_fields.specs.Bytes
+pub use Rattle.tls_fields.specs.Layout
+pub use Rattle.tls_fields.specs.Meaning
+pub use Rattle.tls_fields.specs.Reading
+pub use Rattle.tls_fields.specs.Stable
+pub use Rattle.tls_fields.specs.Answers
+pub use Rattle.tls_fields.specs.Items
+pub use Rattle.tls_fields.specs.Framed
+pub use Rattle.tls_fields.specs.Place
+pub use Rattle.tls_fields.specs.Text
+pub use Rattle.tls_fields.specs.Writer
+pub use Rattle.tls_base.specs.Names
+pub use Rattle.tls_base.specs.ExtensionNumbers
+pub use Rattle.tls_base.specs.Constants
+pub use Rattle.tls_base.specs.KeyExchange
+pub use Rattle.tls_base.specs.Alert
+pub use Rattle.tls_base.specs.Signature
+pub use Rattle.tls_base.specs.Timestamp
+pub use Rattle.tls_base.specs.Cipher
+pub use Rattle.tls_base.specs.CipherTable
+pub use Rattle.tls_ext.specs.Extension
+pub use Rattle.tls_ext.specs.Content
+pub use Rattle.tls_ext.specs.Tagged
+pub use Rattle.tls_ext.specs.Dispatch
+pub use Rattle.tls_ext.specs.InPlace as ExtensionInPlace
+pub use Rattle.tls_ext.specs.Kinds
+pub use Rattle.tls_ext.specs.ExtensionText
+pub use Rattle.tls_hs.specs.Hello
+pub use Rattle.tls_hs.specs.ServerHello
+pub use Rattle.tls_hs.specs.Certificate
+pub use Rattle.tls_hs.specs.Session
+pub use Rattle.tls_hs.specs.Handshake
+pub use Rattle.tls_hs.specs.Message
+pub use Rattle.tls_hs.specs.InPlace as HandshakeInPlace
+pub use Rattle.tls_hs.specs.Places
+pub use Rattle.tls_hs.specs.Messages
+pub use Rattle.tls_hs.specs.HandshakeText
+pub use Rattle.tls_hs.specs.HandshakeWriter
+pub use Rattle.tls_hs.specs.Writable
+pub use Rattle.tls_words.specs.Words
+pub use Rattle.tls_states.specs.Letters
+pub use Rattle.tls_states.specs.Grammar
+pub use Rattle.tls_states.specs.Conversations
+pub use Rattle.tls_states.specs.Steps
+pub use Rattle.tls_states.specs.Table
+pub use Rattle.tls_states.specs.States
+pub use Rattle.tls_parser.specs.Framing
+pub use Rattle.tls_parser.specs.Record
+pub use Rattle.tls_parser.specs.InPlace
+pub use Rattle.tls_parser.specs.RecordText
+pub use Rattle.tls_parser.specs.RecordWriter
+pub use Rattle.tls_parser.specs.DtlsHello
+pub use Rattle.tls_parser.specs.DtlsHandshake
+pub use Rattle.tls_parser.specs.DtlsRecord
+pub use Rattle.tls_parser.specs.DtlsInPlace
+pub use Rattle.tls_places.specs.Place as PlacePlace
+pub use Rattle.tls_places.specs.Last
+pub use Rattle.tls_places.specs.Hello as PlaceHello
+pub use Rattle.tls_places.specs.DtlsHello as PlaceDtlsHello
+pub use Rattle.tls_stream.specs.Frames
+pub use Rattle.tls_stream.specs.Records
+pub use Rattle.tls_events.specs.Held
+pub use Rattle.tls_events.specs.Item
+pub use Rattle.tls_events.specs.Messages as EventMessages
+pub use Rattle.tls_events.specs.Stream
+pub use Rattle.tls_events.specs.Events
+pub use Rattle.tls_events.specs.Taken
+pub use Rattle.tls_flow.specs.Letters as FlowLetters
+pub use Rattle.tls_flow.specs.Grammar as FlowGrammar
+pub use Rattle.tls_flow.specs.Conversations as FlowConversations
+pub use Rattle.tls_flow.specs.Table as FlowTable
+pub use Rattle.tls_flow.specs.Steps as FlowSteps
+pub use Rattle.tls_flow.specs.Messages as FlowMessages
+pub use Rattle.tls_flow.specs.Bytes as FlowBytes
+pub use Rattle.tls_flow.specs.Read
+pub use Rattle.dtls_messages.specs.Fragments
+pub use Rattle.dtls_messages.specs.Messages as DtlsMessages
+pub use Rattle.dtls_messages.specs.Sent
+pub use Rattle.dtls_stream.specs.Datagrams
+pub use Rattle.tls_conversations.specs.Events as BothEvents
+pub use Rattle.tls_conversations.specs.Ears
+pub use Rattle.tls_conversations.specs.Conversations as BothConversations

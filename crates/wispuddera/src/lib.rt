@@ -1,0 +1,33 @@
+//! One crate to name: all of Wispuddera's public calls, types and layouts. Nothing is defined here.
+//!
+//! | module | what it has |
+//! |---|---|
+//! | `tls` | records and messages of TLS and DTLS, extensions, views, the writer, `ParseContext` |
+//! | `streams` | records and messages off the front of a stream that comes in pieces |
+//! | `events` | what one direction of TLS says: its messages, however they are cut |
+//! | `datagrams` | what one direction of DTLS says, from its datagrams |
+//! | `conversations` | both sides together: what they say, and how the handshake ended |
+//! | `places` | where the parts of a message stand in its bytes |
+//! | `flows` | how a handshake ended: full, resumed, TLS 1.3, broken off |
+//!
+//! Their definitions stand under this crate's name, too: `Rattle.wispuddera.specs.Layout`, and where two crates have a file of one name,
+//! with the layer in front (`FlowGrammar`, `HandshakeInPlace`).
+//!
+//! The other modules are the crates that `tls` is made of. They are named here so that a program that names this crate alone has
+//! their impls too.
+#![tactic(auto)]
+
+pub use dtls_messages as fragments;
+pub use dtls_stream as datagrams;
+pub use tls_base as numbers;
+pub use tls_conversations as conversations;
+pub use tls_events as events;
+pub use tls_ext as extensions;
+pub use tls_fields as fields;
+pub use tls_flow as flows;
+pub use tls_hs as handshakes;
+pub use tls_parser as tls;
+pub use tls_places as places;
+pub use tls_states as states;
+pub use tls_stream as streams;
+pub use tls_words as words;
