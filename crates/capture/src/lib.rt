@@ -11,8 +11,6 @@ mod link;
 mod order;
 mod pcap;
 mod pcapng;
-#[cfg(test)]
-mod tests;
 mod transport;
 
 pub use block_packet::{

@@ -1,5 +1,5 @@
 //! Captures whose fields were told by tshark 4. The bytes are laid out by the formats' documents.
-use crate::{
+use capture::{
     Address, Block, BlockPacket, Captured, Content, Datagram, Format, Interface, Order, PcapHeader,
     SECTION_HEADER, TcpSegment, UdpDatagram, Unit, parse_block, parse_enhanced_packet,
     parse_interface, parse_packet, parse_pcap_header, parse_pcap_packet,
