@@ -137,10 +137,11 @@ fn units(i: &[u8], resolution: u8) -> IResult<&[u8], u64>
 }
 
 /// Reads the body of an Interface Description Block (type 1; draft-ietf-opsawg-pcapng, section 4.2). Of its options
-/// only if_tsresol is read; what is left is the options behind it.
+/// only if_tsresol is read, and what is left is the options behind it; where none is read, a second has 10^6 units.
 ///
 /// - `Incomplete` of what is missing of the link type, the reserved 2 bytes or the snap length.
-/// - `Error` of kind `Verify` where a second would have more than 10^18 or 2^63 units.
+/// - `Error` of kind `Verify` where if_tsresol says that a second has a power of 10 above 10^18, or a power of 2 above
+///   2^63, of units.
 #[tactic(auto, using(tls_fields::proofs::OneAnswerLemmas::read_allowed), unfolding(crate::specs::Pcapng::interface))]
 pub fn parse_interface(i: &[u8], order: Order) -> IResult<&[u8], Interface>
     ensures { Gives view_interface (interface order) i.now result }

@@ -195,8 +195,8 @@ fn address_v6(i: &[u8]) -> IResult<&[u8], Address>
 }
 
 /// Reads a datagram of IPv6 (RFC 8200, section 3): its header of 40 bytes, at most 16 extension headers, and what it
-/// holds, which ends where its payload length says. What follows is padding. Behind 16 extension headers what it holds
-/// is `Other`.
+/// holds, which ends where its payload length says. What follows is padding. One more extension header behind 16 is
+/// `Other`.
 ///
 /// - `Incomplete` of what is missing of the header, or of the bytes that the payload length counts: it wasn't captured
 ///   whole.

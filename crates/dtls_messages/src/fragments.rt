@@ -56,8 +56,8 @@ pub struct Fragment<'a> {
 }
 
 /// Reads a handshake message of DTLS, or a fragment of one (RFC 6347, section 4.2.2), and leaves its body as it stands: 1 byte of
-/// type, 3 of length, 2 of message number, 3 of fragment offset and 3 of fragment length, all big-endian, and as many bytes as the
-/// fragment length says.
+/// type, 3 of length, 2 of message number, 3 of fragment offset and 3 of fragment length, all big-endian, and as many bytes as
+/// the fragment length says.
 ///
 /// `Incomplete` of the count of missing bytes.
 #[tactic(auto, using(tls_fields::proofs::OneAnswerLemmas::read_allowed), unfolding(crate::specs::Fragments::fragment))]
@@ -117,8 +117,9 @@ fn fill(have: &mut [bool], held: &mut [u8], offset: usize, bytes: &[u8]) -> usiz
 
 /// A message of which fragments are there.
 ///
-/// Its value in a contract is what they say of it, and the byte at each place where one is there. A fragment costs time by
-/// its own bytes. No length that a peer writes takes memory: it grows with the highest place that came.
+/// Its value in a contract is what they say of it, and the byte at each place where one is there. No length that a peer writes
+/// takes memory: memory grows with the highest place that came, and time with that place and the bytes of the fragments. No
+/// clause says either.
 #[derive(Drop)]
 pub struct Fragments {
     msg_type: TlsHandshakeType,

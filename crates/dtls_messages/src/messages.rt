@@ -14,11 +14,11 @@ use std::marker::Model;
 pub struct Limits {
     /// How many bytes a message's body may have.
     pub message: usize,
-    /// Of how many messages fragments are held, of which the first is the next one.
+    /// Of how many messages fragments may be held at a time, the next one among them.
     pub ahead: u16,
 }
 
-/// The limits that peers need: a body of 131,072 bytes, and 16 messages.
+/// The limits for a caller with none of its own: a body of 131,072 bytes, and 16 messages.
 pub const DEFAULT_LIMITS: Limits = Limits {
     message: 131_072,
     ahead: 16,

@@ -10,10 +10,11 @@ use tls_parser::OutOfMemory;
 
 /// Takes a datagram of one direction, and puts what it says behind the events. `messages` holds what came of that direction.
 ///
-/// A record that isn't read is told as a fault. Where its length is too large, or the datagram ends within it, nothing behind it in
-/// this datagram is read.
+/// A record that isn't read is told as a fault. Where its length is too large, or the datagram ends within it, nothing behind it
+/// in this datagram is read.
 ///
-/// `OutOfMemory` where what comes could not be held, or not be told; what was told before stands.
+/// `OutOfMemory` where what comes could not be held, or not be told. Which of the datagram's records were taken then is in no
+/// clause.
 pub fn read_datagram<'a>(
     alloc: Global,
     messages: &mut Messages,

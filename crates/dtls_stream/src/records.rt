@@ -21,7 +21,7 @@ use tls_parser::{
 /// The most bytes that an encrypted record may have behind its header (RFC 5246, section 6.2.3).
 const MAX_ENCRYPTED_LEN: u16 = 18_432;
 
-/// The fragment that this message is, where its body is one: a whole body was read, and its bytes aren't known.
+/// The fragment that this message is. `None` where it was read whole: the value of a whole body doesn't keep the body's bytes.
 pub fn fragment_of<'a>(message: &DTLSMessageHandshake<'a>) -> Option<Fragment<'a>>
     ensures { option_map view_fragment result ≡ fragment_in (view_handshake message.now) }
 {

@@ -126,7 +126,7 @@ impl Segments {
         &self.front[self.start..]
     }
 
-    /// Takes bytes off the front.
+    /// Takes the first `n` bytes off what is available, which has at least as many.
     pub fn take(&mut self, n: usize)
         requires { n ≤ length (run self.old.cells) }
         ensures { self.new ≡ without_front n self.old }
@@ -204,11 +204,11 @@ impl Segments {
         Ok(())
     }
 
-    /// Takes a segment whose first byte has the sequence number `seq`. Its bytes stand where none stood; what is behind the first
-    /// byte that is missing is dropped.
+    /// Takes a segment whose first byte has the sequence number `seq`. Its bytes stand where none stood; those of them that stand
+    /// in front of the first byte that is missing came before, and are dropped.
     ///
-    /// - `TooMuch` exactly where it has bytes ahead of the first byte that is missing, and ends more than the limit behind
-    ///   it; also where the stream got longer than 2^62. Nothing changes.
+    /// - `TooMuch` exactly where it isn't empty, and begins behind the first byte that is missing and ends more than the limit
+    ///   behind it, or makes the stream longer than 2^62 bytes. Nothing changes.
     /// - `OutOfMemory` where its bytes could not be held. Nothing changes.
     pub fn segment(&mut self, seq: u32, bytes: &[u8]) -> Result<(), SegmentError>
         ensures ok { OnOk result (self.new ≡ with_segment seq bytes.now self.old) }
@@ -220,11 +220,11 @@ impl Segments {
         self.add(ahead, rest)
     }
 
-    /// Takes bytes that stand from a place of the stream on, where its first byte stands at 0: what `segment` does, by a place
-    /// in place of a sequence number.
+    /// Takes bytes that stand from a place of the stream on, whose first byte stands at 0. It is what `segment` does, with a
+    /// place where that has a sequence number.
     ///
-    /// - `TooMuch` exactly where they reach ahead of the first byte that is missing, and end more than the limit behind it;
-    ///   also where the stream got longer than 2^62. Nothing changes.
+    /// - `TooMuch` exactly where there are any, and they begin behind the first byte that is missing and end more than the limit
+    ///   behind it, or make the stream longer than 2^62 bytes. Nothing changes.
     /// - `OutOfMemory` where they could not be held. Nothing changes.
     pub fn put(&mut self, place: u32, bytes: &[u8]) -> Result<(), SegmentError>
         ensures ok { OnOk result (self.new ≡ with_part place bytes.now self.old) }

@@ -7,7 +7,11 @@ use std::alloc::Global;
 
 /// What is handed out in total where each segment is taken in turn and all that is available is handed out after it.
 ///
-/// A segment is the sequence number of its first byte, and its bytes.
+/// A segment is the sequence number of its first byte, and its bytes. Where the segments are parts of a stream of fewer than 2^31
+/// bytes, it is the longest front of that stream of which each byte stands in a segment.
+///
+/// What refuses the first segment that [`Segments::segment`] doesn't take is the answer; `OutOfMemory` also where what is handed
+/// out could not be held.
 pub fn reassemble(
     alloc: Global,
     first_place: u32,

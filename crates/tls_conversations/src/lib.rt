@@ -1,7 +1,7 @@
 //! Conversations of TLS: both sides' streams in, and out what they say and what it came to.
 //!
 //! A [`Conversation`] takes the pieces of both directions in their order. What a side says is handed out event by event, and
-//! followed by a flow, which tells the outcome.
+//! followed by a flow, which tells the outcome. Of DTLS, [`dtls_event`] makes events of a flow from those of `dtls_stream`.
 #![tactic(auto)]
 
 mod conversation;

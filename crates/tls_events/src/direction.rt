@@ -16,8 +16,8 @@ pub const DEFAULT_LIMIT: usize = 131_072;
 
 /// One direction of a conversation: the bytes of its stream that are fed and not yet taken off as events.
 ///
-/// The events are those of its bytes, however they are cut into pieces and messages over records. Where the next event is
-/// a handshake message it is handed out once it is whole, and a message is open until then.
+/// The events are those of its bytes, however these are cut into pieces, and however messages are cut over records. A handshake
+/// message stands in front once it is whole.
 #[derive(Drop)]
 pub struct Direction {
     stream: Stream,
@@ -88,7 +88,7 @@ impl Direction {
         }
     }
 
-    /// The event that stands in front, once [`Direction::ready`] is true.
+    /// The event that stands in front, once [`Direction::ready`] is true; `None` where it is false or a fault.
     #[tactic(auto, using(crate::proofs::DirectionLemmas::front_before))]
     pub fn front(&self) -> Option<Event<'_>>
         ensures { option_map view_event result ≡ option_map (λ x. x.0) (first self.now) }

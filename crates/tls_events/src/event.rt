@@ -7,7 +7,7 @@ ghost use Rattle.tls_events.specs.Messages.{alerts, event_of};
 use tls_base::{TlsAlertDescription, TlsAlertSeverity, TlsMessageAlert};
 use tls_stream::Frame;
 
-/// What one direction of a conversation says next.
+/// What one direction of a conversation says next: its slices are parts of what the direction holds.
 #[derive(Clone, Debug, PartialEq, Drop)]
 pub enum Event<'a> {
     /// A handshake message: its whole bytes, its header of 4 bytes first, which [`tls_parser::parse_tls_message_handshake`]

@@ -1,4 +1,4 @@
-//! What a direction of a conversation says: the messages of its records, however they are cut over them.
+//! What a direction of a conversation says: its handshake messages, however they are cut over records, and its other records.
 //!
 //! A [`Direction`] takes pieces of a TCP stream and gives [`Event`]s in order.
 #![tactic(auto)]

@@ -52,7 +52,8 @@ fn take_event(
 /// Takes all events off that are there, and puts the bytes of each handshake message, its header first, behind those that
 /// were taken before. It answers whether the direction is at fault: then no message follows, whatever is fed.
 ///
-/// `OutOfMemory` where a message or the list could not be held: the messages that were taken are in the list.
+/// `OutOfMemory` where a message or the list could not be held. The list then has the messages that were taken, and the call can
+/// be made again: that is in no clause, and is tried by `.ci/refusals`.
 pub fn take_messages(
     alloc: Global,
     direction: &mut Direction,
@@ -72,7 +73,8 @@ pub fn take_messages(
 /// The bytes of each handshake message of one direction's stream that comes in these pieces, its header first, and the
 /// direction with what it holds then. A message's body may have at most `limit` bytes.
 ///
-/// They are those of the pieces joined, however these are cut. It stops where the direction is at fault.
+/// They are those of the pieces joined, however these are cut. It stops where the direction is at fault. The direction isn't told
+/// of TLS 1.3: what stands behind its ChangeCipherSpec counts as encrypted.
 ///
 /// `OutOfMemory` where a piece, a message or the list could not be held.
 pub fn join_pieces(

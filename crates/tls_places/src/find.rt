@@ -76,7 +76,7 @@ fn first_name_place(i: &[u8]) -> Result<Option<Place>, Err<Error<&[u8]>>>
 }
 
 /// Where the name of the host that a client asks for stands in `block`, the extensions of its hello after their length: the
-/// first name in the first server_name extension (RFC 6066, section 3).
+/// first name, of whatever type, in the first server_name extension (RFC 6066, section 3).
 ///
 /// It answers and refuses as [`tls_ext::server_name`].
 pub fn host_name_place(block: &[u8]) -> Result<Option<Place>, Err<Error<&[u8]>>>

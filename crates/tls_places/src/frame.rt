@@ -15,13 +15,15 @@ use tls_fields::{IResult, InPlace, Items, Place};
 pub trait Frame<'a>: InPlace<'a> {
     ghost content: { Self.Read → Bytes };
 
-    /// These bytes: where it is read, they stand in front of what is left.
+    /// These bytes. Where the item is read, they stand in front of what is left.
     fn content(read: &Self::Read) -> &'a [u8]
         ensures is { result.now ≡ content read.now }
         ensures last { StandsLast Self.layout (Self.view read.now) (content read.now) };
 }
 
-/// Reads one item from the front of `i`, which ends `whole`, and says where its bytes stand in `whole`.
+/// Reads one item from the front of `i`, and says where its content stands in `whole`, if `i` is an end of `whole`.
+///
+/// Refused as the item's own reader refuses `i`.
 #[tactic(auto, using(tls_fields::proofs::OneAnswerLemmas::read_allowed))]
 #[inline(always)]
 pub fn frame_at<'a, T: Frame<'a>>(whole: &[u8], i: &'a [u8]) -> IResult<&'a [u8], (T::Read, Place)>

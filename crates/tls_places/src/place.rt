@@ -23,7 +23,8 @@ pub fn place_before(whole: &[u8], part: &[u8], rest: &[u8]) -> Place
     }
 }
 
-/// The place in `whole` of what stands at the place `inner` of the bytes at the place `outer` in `whole`.
+/// The place in `whole` of bytes that stand at the place `inner` in a part, where that part stands at the place `outer` in
+/// `whole`.
 #[tactic(auto, using(crate::proofs::PlaceLemmas::stands_within))]
 #[inline(always)]
 pub fn place_within(whole: &[u8], outer: Place, inner: Place) -> Place

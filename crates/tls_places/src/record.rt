@@ -12,7 +12,7 @@ use tls_parser::{
     parse_tls_raw_record,
 };
 
-/// How a record of TLS is read whose fragment isn't: as [`parse_tls_raw_record`].
+/// Names the way in which [`parse_tls_raw_record`] reads a record: its fragment is left as it stands.
 #[derive(Clone, Copy)]
 pub struct Record;
 
@@ -42,7 +42,10 @@ impl<'a> Frame<'a> for Record {
     }
 }
 
-/// How a record of DTLS is read whose fragment isn't (RFC 6347, section 4.1).
+/// Names the same for a record of DTLS (RFC 6347, section 4.1).
+///
+/// Refused as `TooLarge` where its length is above [`MAX_RECORD_LEN`]; `Incomplete` of the missing bytes of its header, or else
+/// of its fragment.
 #[derive(Clone, Copy)]
 pub struct DtlsRecord;
 

@@ -59,8 +59,11 @@ fn add_messages(
     take_messages(alloc, direction, messages)
 }
 
-/// The handshake messages of a conversation that aren't encrypted, from pieces of both sides as they come. They are those of
-/// each side's bytes, joined: neither the pieces nor the records cut a message.
+/// The handshake messages of a conversation, from pieces of both sides as they come: those of each side in front of its
+/// ChangeCipherSpec. They are those of each side's bytes, joined: neither the pieces nor the records cut a message.
+///
+/// The sides aren't told of TLS 1.3 here, so a second ClientHello that stands behind a ChangeCipherSpec counts as encrypted: a
+/// `Conversation` of `tls_conversations` hands it out.
 ///
 /// `OutOfMemory` where a piece, a message or a list could not be held.
 pub fn conversation_messages(alloc: Global, pieces: &[Piece]) -> Result<Messages, OutOfMemory>

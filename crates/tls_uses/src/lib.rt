@@ -1,9 +1,9 @@
 //! Callers of the library, as a program has them, each with what it promises.
 //!
-//! They stand on `tls_parser`, and where bytes come in pieces on `tls_events`: its calls in the code, and its definitions in the
-//! clauses. A clause says what the bytes mean: `reading` of a layout of `tls_parser` is the value that stands in front of the
-//! bytes, and what is left of them, or the refusal; `events` of `tls_events` is what one side's bytes say. The definitions in
-//! `specs/` say what this crate takes from such a value.
+//! [`watch`] names `wispuddera`. The others name one crate below it: `tls_parser`, or where bytes come in pieces `tls_events`. A
+//! clause says what the bytes mean: `reading` of a layout of `tls_parser` is the value that stands in front of the bytes, and
+//! what is left of them, or the refusal; `events` of `tls_events` is what one side's bytes say. The definitions in `specs/` say
+//! what this crate takes from such a value.
 //!
 //! - [`watch`]: a monitor, over both sides of a connection in pieces.
 //! - [`next_record`]: the answers of a parse call, and what to do at each.
@@ -11,7 +11,7 @@
 //! - [`parse_host_name`]: a call of one's own over the answers of two of the library's.
 //! - [`parse_alerts`]: a list over all records of a buffer.
 //! - [`replace_extensions`]: a record read, changed in one field, and written.
-//! - [`conversation_messages`]: both sides of a conversation in pieces, its handshake messages out.
+//! - [`conversation_messages`]: both sides of a conversation in pieces, the handshake messages of TLS up to 1.2 out.
 #![tactic(auto, using(tls_parser::proofs::CallerLemmas::read_allowed))]
 
 mod alerts;

@@ -33,7 +33,11 @@ fn show<W: Write>(message: &[u8], out: &mut W) -> io::Result<()> {
     writeln!(out)
 }
 
-/// Puts a piece of one side's stream behind what came of it, and writes what each ClientHello in it asks for.
+/// Feeds a piece of one side's stream, follows each event that the side says by it, and writes what each ClientHello among them
+/// asks for. The conversation keeps how its handshake stands.
+///
+/// `Err` where memory runs out for the piece, or where `out` fails. What changed then is in no clause, and neither is what is
+/// written.
 pub fn watch<W: Write>(
     conversation: &mut Conversation,
     side: Direction,

@@ -1,4 +1,5 @@
-//! One crate to name: all of Wispuddera's public calls, types and layouts. Nothing is defined here.
+//! One crate to name: the public calls, types and layouts of Wispuddera's crates for TLS and DTLS. Nothing is defined here.
+//! `capture` and `segments`, which read captured packets and put TCP streams in order, stand apart and are named by themselves.
 //!
 //! | module | what it has |
 //! |---|---|
@@ -6,14 +7,15 @@
 //! | `streams` | records and messages off the front of a stream that comes in pieces |
 //! | `events` | what one direction of TLS says: its messages, however they are cut |
 //! | `datagrams` | what one direction of DTLS says, from its datagrams |
+//! | `fragments` | messages of DTLS from their fragments |
 //! | `conversations` | both sides together: what they say, and how the handshake ended |
 //! | `places` | where the parts of a message stand in its bytes |
 //! | `flows` | how a handshake ended: full, resumed, TLS 1.3, broken off |
 //!
-//! Their definitions stand under this crate's name, too: `Rattle.wispuddera.specs.Layout`, and where two crates have a file of one name,
-//! with the layer in front (`FlowGrammar`, `HandshakeInPlace`).
+//! Their definitions stand under this crate's name, too: `Rattle.wispuddera.specs.Layout`, and where two crates have a file of
+//! one name, with the layer in front (`FlowGrammar`, `HandshakeInPlace`).
 //!
-//! The other modules are the crates that `tls` is made of. They are named here so that a program that names this crate alone has
+//! The other modules are the crates on which these stand. They are named here so that a program that names this crate alone has
 //! their impls too.
 #![tactic(auto)]
 
