@@ -1,0 +1,201 @@
+"""Rows of crates/tlscall/data (docs/ROWS.md), read as inputs of groups of calls, and written as a source of static arrays.
+
+An input is the bytes of a row of a call that reads the group's layout, or a part of them that does: the body of a message, the
+content of an extension.
+"""
+
+import re
+from pathlib import Path
+from typing import NamedTuple
+
+DATA = Path(__file__).resolve().parent.parent.parent / "crates/tlscall/data"
+# Inputs up to so many bytes are cut at every place.
+SHORT = 600
+# On each side of the ends of a longer one, and of its repeated parts, it is cut at so many places.
+NEAR = 4
+# Bytes that are repeated stand as one part and a count, from so many bytes on.
+REPEATED = 64
+# No part that is read in place is longer.
+MOST = 1 << 17
+
+
+class Within(NamedTuple):
+    """Bytes from `start` up to `end`, and where the last bytes of their length stand."""
+
+    places: tuple
+    start: int
+    end: int
+
+    def moved(self, by):
+        return Within(tuple(place + by for place in self.places), self.start + by, self.end + by)
+
+
+class Input(NamedTuple):
+    row: str
+    data: bytes
+    within: tuple = ()
+    # The type of the extension that has this content; of other inputs 0.
+    kind: int = 0
+
+    def behind(self, count, end=None):
+        """The bytes behind so many, up to `end`."""
+        moved = [w.moved(-count) for w in self.within if end is None or w.end <= end]
+        kept = tuple(w for w in moved if min((*w.places, w.start)) >= 0)
+        return self._replace(data=self.data[count:end], within=kept)
+
+    def framed(self, head, width):
+        """The bytes behind a head and their length, of so many bytes."""
+        front = head + len(self.data).to_bytes(width, "big")
+        return self._replace(data=front + self.data, within=tuple(w.moved(len(front)) for w in self.within))
+
+    def counted(self, width, start=0):
+        """The same, to be cut within the length of so many bytes that stands at `start`, if that is one."""
+        behind = start + width
+        end = behind + number(self.data, start, width)
+        if not behind < end <= len(self.data):
+            return self
+        return self._replace(within=(*self.within, Within((behind - 1,), behind, end)))
+
+
+def number(data, start, width):
+    return int.from_bytes(data[start : start + width], "big")
+
+
+def bytes_of(words, names):
+    """The bytes in front of the first mark that begins a piece."""
+    data, group = bytearray(), 0
+    for word in words:
+        if word[0] in "/<>+-?=":
+            break
+        if word == "|":
+            continue
+        if word[0] == "$":
+            data += names[word[1:]]
+            continue
+        word, _, times = word.partition("*")
+        if word[0] == "(":
+            group, word = len(data), word[1:]
+        is_group = word.endswith(")")
+        data += bytes.fromhex(word.rstrip(")"))
+        if times:
+            start = group if is_group else len(data) - 1
+            data[start:] = bytes(data[start:]) * min(int(times), MOST)
+    return bytes(data)
+
+
+def rows():
+    """The calls of each row, and its bytes as an input."""
+    for file in sorted(DATA.glob("*.rows")):
+        names = {}
+        for number_of_line, words in rows_of(file.read_text()):
+            if words[0] == "let":
+                names[words[1]] = bytes_of(words[3:], names)
+            else:
+                yield row(f"{file.name}:{number_of_line}", words, names)
+
+
+def rows_of(text):
+    """The words of each row, and the line on which it begins."""
+    found = []
+    for number_of_line, line in enumerate(text.split("\n"), 1):
+        if not line.startswith((" ", "#")) and line:
+            found.append((number_of_line, []))
+        if not line.startswith("#") and line:
+            found[-1][1].extend(line.split())
+    return found
+
+
+def row(name, words, names):
+    count = next((k + 1 for k, word in enumerate(words) if not word.endswith(",")), len(words))
+    calls = [call for word in words[:count] for call in word.split(",") if call]
+    clause = re.compile(r"=>$|(written|cut|within|inside):")
+    ends = [k for k, word in enumerate(words) if k >= count and clause.match(word)] + [len(words)]
+    data = bytes_of(words[count : ends[0]], names)
+    within = []
+    for begin, end in zip(ends, ends[1:]):
+        if words[begin].startswith(("within:", "inside:")):
+            places = tuple(int(place) for place in words[begin].split(":")[1].split(","))
+            size = sum(int(re.search(r"\d+", part)[0]) for part in words[begin + 1 : end])
+            within.append(Within(places, len(data) - size, len(data)))
+    return calls, Input(name, data, tuple(within))
+
+
+def parts(data):
+    """Bytes, and how often they stand there."""
+    found, plain, k = [], 0, 0
+    while k < len(data):
+        period, times = repeated(data, k)
+        if not period:
+            k += 1
+            continue
+        if plain < k:
+            found.append((data[plain:k], 1))
+        found.append((data[k : k + period], times))
+        k += period * times
+        plain = k
+    if plain < k:
+        found.append((data[plain:k], 1))
+    return found
+
+
+def repeated(data, start):
+    """How many bytes at `start` are repeated, and how often they stand there; 0 where they are few."""
+    for period in (1, 2, 4):
+        end = start + period
+        while end < len(data) and data[end] == data[end - period]:
+            end += 1
+        times = (end - start) // period
+        if period * times >= REPEATED:
+            return period, times
+    return 0, 0
+
+
+def places(data):
+    """Where a long input is cut: near its ends, and near those of its parts."""
+    ends, end = {0, len(data)}, 0
+    for part, times in parts(data):
+        end += len(part) * times
+        ends.add(end)
+    near = {end + k for end in ends for k in range(-NEAR, NEAR + 1)}
+    return sorted(place for place in near if 0 <= place < len(data))
+
+
+def is_long(one):
+    return len(one.data) > SHORT
+
+
+def count_of(inputs):
+    """How many inputs are compared: each whole, its fronts, and those with a length that is cut, with and without what is behind."""
+    count = 0
+    for one in inputs:
+        count += 1 + (len(places(one.data)) if is_long(one) else len(one.data))
+        count += 0 if is_long(one) else sum(2 * (w.end - w.start) for w in one.within)
+    return count
+
+
+def source(name, inputs):
+    """The source of the inputs, in order."""
+    lines = [
+        f"//! Inputs of {name}, off the rows of the calls.",
+        "",
+        "use crate::input::{Input, Part, Within};",
+        "",
+        "/// How many comparisons they make.",
+        f"pub const COUNT: usize = {count_of(inputs)};",
+        "",
+        f"pub static INPUTS: [Input; {len(inputs)}] = [",
+    ]
+    return "\n".join([*lines, *(written(one) for one in inputs), "];", ""])
+
+
+def written(one):
+    fronts = places(one.data) if is_long(one) else []
+    within = () if is_long(one) else one.within
+    told = ", ".join(f"Part {{ bytes: {literal(part)}, times: {times} }}" for part, times in parts(one.data))
+    cuts = ", ".join(f"Within {{ places: &{list(w.places)}, start: {w.start}, end: {w.end} }}" for w in within)
+    words = f'row: "{one.row}", kind: {one.kind}, parts: &[{told}], fronts: &{fronts}, within: &[{cuts}]'
+    return f"    Input {{ {words} }},"
+
+
+def literal(data):
+    return 'b"' + "".join(f"\\x{byte:02x}" for byte in data) + '"'
