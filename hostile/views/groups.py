@@ -53,6 +53,16 @@ CONTENTS = {"sni": 0, "elliptic_curves": 10, "ec_point_formats": 11, "signature_
 WIDTHS = {0: 2, 10: 2, 11: 1, 13: 2, 16: 2, 43: 1, 45: 1, 48: 2, 51: 2}
 
 
+def front(kind):
+    """What stands in front of the length of a record of TLS 1.2."""
+    return bytes([kind, 3, 3])
+
+
+def dtls_front(kind):
+    """The same of DTLS 1.2."""
+    return bytes([kind, 0xFE, 0xFD, *8 * [0]])
+
+
 class Groups:
     """The inputs of each group, in the order of the rows."""
 
@@ -61,11 +71,11 @@ class Groups:
         self.adds = {ONE_TIMESTAMP: lambda one: self.add("timestamps", one.framed(b"", 2).counted(2))}
         for calls, add in [
             (RECORDS, self.add_record),
-            (MESSAGES, self.add_message),
+            (MESSAGES, self.add_in_record),
             (HELLOS, self.add_hello),
             (LISTS, self.add_list),
             (DTLS_RECORDS, self.add_dtls_record),
-            (DTLS_MESSAGES, self.add_dtls_message),
+            (DTLS_MESSAGES, self.add_in_dtls_record),
         ]:
             self.adds |= dict.fromkeys(calls.split(), add)
 
@@ -84,11 +94,11 @@ class Groups:
         if call in self.adds:
             self.adds[call](one)
         elif call == "parse_tls_record_with_header":
-            self.add_record(one.framed(bytes([int(numbers[0]), 3, 3]), 2))
+            self.add_record(one.framed(front(int(numbers[0])), 2))
         elif call == "parse_dtls_record_with_header":
-            self.add_dtls_record(one.framed(bytes([int(numbers[0]), 0xFE, 0xFD, *8 * [0]]), 2))
+            self.add_dtls_record(one.framed(dtls_front(int(numbers[0])), 2))
         elif call.startswith(BODY):
-            self.add_message(one.framed(bytes([BODIES[call.removeprefix(BODY)]]), 3))
+            self.add_in_record(one.framed(bytes([BODIES[call.removeprefix(BODY)]]), 3))
         elif call.startswith(EXTENSION) and call.endswith(CONTENT):
             self.add_content(CONTENTS.get(call.removeprefix(EXTENSION).removesuffix(CONTENT)), one)
         elif call.startswith(EXTENSION) and call not in NO_EXTENSIONS.split():
@@ -105,6 +115,11 @@ class Groups:
             if rows.is_long(one):
                 return
             one = one.behind(4 + rows.number(one.data, 1, 3))
+
+    def add_in_record(self, one):
+        """A message, alone and in a record."""
+        self.add_message(one)
+        self.add("records", one.framed(front(HANDSHAKE), 2).counted(2, 3))
 
     def add_message(self, one):
         self.add("messages", one.counted(3, 1))
@@ -148,6 +163,11 @@ class Groups:
         end = 13 + rows.number(one.data, 11, 2)
         if one.data[:1] == bytes([HANDSHAKE]) and end <= len(one.data):
             self.add_dtls_message(one.behind(13, end))
+
+    def add_in_dtls_record(self, one):
+        """The same of DTLS."""
+        self.add_dtls_message(one)
+        self.add("dtls_records", one.framed(dtls_front(HANDSHAKE), 2).counted(2, 11))
 
     def add_dtls_message(self, one):
         one, whole, part = one.counted(3, 9), rows.number(one.data, 1, 3), rows.number(one.data, 9, 3)

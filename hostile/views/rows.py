@@ -1,4 +1,4 @@
-"""Rows of crates/tlscall/data (docs/ROWS.md), read as inputs of groups of calls, and written as a source of static arrays.
+"""Rows of crates/tlscall/data (docs/ROWS.md), read as inputs of groups of calls, and written as a source of text.
 
 An input is the bytes of a row of a call that reads the group's layout, or a part of them that does: the body of a message, the
 content of an extension.
@@ -12,7 +12,7 @@ DATA = Path(__file__).resolve().parent.parent.parent / "crates/tlscall/data"
 # Inputs up to so many bytes are cut at every place.
 SHORT = 600
 # On each side of the ends of a longer one, and of its repeated parts, it is cut at so many places.
-NEAR = 4
+NEAR = 2
 # Bytes that are repeated stand as one part and a count, from so many bytes on.
 REPEATED = 64
 # No part that is read in place is longer.
@@ -174,28 +174,25 @@ def count_of(inputs):
 
 
 def source(name, inputs):
-    """The source of the inputs, in order."""
-    lines = [
-        f"//! Inputs of {name}, off the rows of the calls.",
-        "",
-        "use crate::input::{Input, Part, Within};",
-        "",
-        "/// How many comparisons they make.",
-        f"pub const COUNT: usize = {count_of(inputs)};",
-        "",
-        f"pub static INPUTS: [Input; {len(inputs)}] = [",
-    ]
-    return "\n".join([*lines, *(written(one) for one in inputs), "];", ""])
+    """The source of the inputs, a line of each."""
+    lines = "\\n".join(map(written, inputs))
+    return f"""//! Inputs of {name}, off the rows of the calls.
+
+/// How many comparisons they make.
+pub const COUNT: usize = {count_of(inputs)};
+
+/// A line of each.
+pub static INPUTS: &str = "{lines}";
+"""
 
 
 def written(one):
-    fronts = places(one.data) if is_long(one) else []
-    within = () if is_long(one) else one.within
-    told = ", ".join(f"Part {{ bytes: {literal(part)}, times: {times} }}" for part, times in parts(one.data))
-    cuts = ", ".join(f"Within {{ places: &{list(w.places)}, start: {w.start}, end: {w.end} }}" for w in within)
-    words = f'row: "{one.row}", kind: {one.kind}, parts: &[{told}], fronts: &{fronts}, within: &[{cuts}]'
-    return f"    Input {{ {words} }},"
+    """A line: the row, the kind, the parts, where it is cut, and what is cut with its length; `-` is none."""
+    told = ",".join(f"{marked(part, '.')}*{times}" for part, times in parts(one.data))
+    fronts = marked(places(one.data), ",") if is_long(one) else ""
+    within = "" if is_long(one) else ",".join(f"{marked(w.places, '.')}/{w.start}/{w.end}" for w in one.within)
+    return " ".join([one.row, str(one.kind), told or "-", fronts or "-", within or "-"])
 
 
-def literal(data):
-    return 'b"' + "".join(f"\\x{byte:02x}" for byte in data) + '"'
+def marked(numbers, mark):
+    return mark.join(map(str, numbers))
