@@ -6,7 +6,7 @@ use Rattle.dtls_messages.specs.Fragments.{Fragment, view_fragment, view_fragment
 use Rattle.dtls_messages.specs.Messages.{AreHandedOut, AreHeard, AreKept, Event, Handshake, Heard, IsStopped, Kept, Limits, Message, Stands, after, events, heard, heard_by, message_of, of_message, told, told_by, verdict, view_event, view_events, whole_from, with_taken}
 use Rattle.dtls_messages.specs.declared.event.Event.{Event as Lent}
 use Rattle.dtls_messages.specs.declared.fragments.Fragment.{Fragment as Given}
-use Rattle.dtls_messages.proofs.ToldLemmas.{IsOnTheWay, pushed_event, whole_end}
+use Rattle.dtls_messages.proofs.ToldLemmas.{IsOnTheWay, pushed_event, way_events, whole_end}
 
 pub on_err : {P Q E : Type 0} (r : Result Unit E) → OnErr r P → (P → Q) → OnErr r Q
 on_err (Ok t) p f = tt
@@ -20,7 +20,7 @@ ends_none l h es es' k way none =
     whole_end (l.ahead - way.moved) (h.next + way.moved) h.taken (is_none (message_of (of_message (h.next + way.moved) h.taken)) none) in
     let all : way.moved ≡ length (whole_from l.ahead h.next h.taken) = omega (arith, way.count, ap length no) in
     record {
-      events = sym (append-nil es') ∙ ap (λ w. es' ++ map Handshake w) (sym no) ∙ way.events;
+      events = sym (append-nil es') ∙ ap (λ w. es' ++ map Handshake w) (sym no) ∙ way_events l h es es' k way;
       stands = subst (λ n. Stands l (record { taken = h.taken; next = h.next + n }) k) all way.stands;
     }
   where
@@ -33,7 +33,9 @@ pub kept_way : (l : Limits) (h : Heard) (es es' : List Event) (k : Kept) → IsO
 kept_way l h es es' k way = record {
   kept = whole_from (l.ahead - way.moved) (h.next + way.moved) h.taken;
   next = h.next + way.moved;
-  told = way.events;
+  front = way.front;
+  told = way.told;
+  all = way.all;
   count = omega (arith, way.count);
   stands = way.stands;
 }
@@ -48,7 +50,9 @@ stopped_out l h f es es' k' ok out = record {
   split = refl;
   kept = out.kept;
   next = out.next;
-  told = out.told ∙ ap (λ v. es ++ told_by v l h f) (sym ok) ∙ ap (λ e. es ++ e) (sym (append-nil (told l h f)));
+  front = out.front;
+  told = out.told;
+  all = out.all ∙ ap (λ v. told_by v l h f) (sym ok) ∙ sym (append-nil (told l h f));
   count = out.count ∙ ap (λ v. (heard_by v l h f).next) (sym ok);
   stands = subst (λ v. Stands l (record { taken = (heard_by v l h f).taken; next = out.next }) k') (sym ok) out.stands;
 }
@@ -62,7 +66,9 @@ stopped_none l h f es k st = record {
   split = refl;
   kept = [];
   next = h.next;
-  told = refl;
+  front = [];
+  told = sym (append-nil es);
+  all = refl;
   count = omega arith;
   stands = st;
 }
@@ -99,9 +105,10 @@ stopped_next l h fs i d es es' es'' k k' low was hears =
           ∙ sym (append_assoc gs one.first (one.behind ++ rest));
       kept = one.kept;
       next = one.next;
-      told = one.told ∙ ap (λ e. e ++ events l (after l h gs) one.first) was.events
-          ∙ append_assoc es (events l h gs) (events l (after l h gs) one.first)
-          ∙ ap (λ e. es ++ e) (sym (events_append l h gs one.first));
+      front = events l h gs ++ one.front;
+      told = one.told ∙ ap (λ e. e ++ one.front) was.events ∙ append_assoc es (events l h gs) one.front;
+      all = append_assoc (events l h gs) one.front (map Handshake one.kept) ∙ ap (λ e. events l h gs ++ e) one.all
+          ∙ sym (events_append l h gs one.first);
       count = one.count ∙ ap (λ h. h.next) same;
       stands = subst (λ h. Stands l (record { taken = h.taken; next = one.next }) k') same one.stands;
     }

@@ -30,9 +30,17 @@ pub record IsOnTheWay (l : Limits) (h : Heard) (es : List Event) (es' : List Eve
   pub moved : ℕ
   pub few : moved ≤ l.ahead
   pub stands : Stands l (record h { next = h.next + moved }) k
-  pub events : es' ++ map Handshake (whole_from (l.ahead - moved) (h.next + moved) h.taken) ≡ es ++ map Handshake (whole_from l.ahead h.next h.taken)
+  pub front : List Event
+  pub told : es' ≡ es ++ front
+  pub all : front ++ map Handshake (whole_from (l.ahead - moved) (h.next + moved) h.taken) ≡ map Handshake (whole_from l.ahead h.next h.taken)
   pub count : moved + length (whole_from (l.ahead - moved) (h.next + moved) h.taken) ≡ length (whole_from l.ahead h.next h.taken)
   pub last : of_message (h.next + l.ahead) h.taken ≡ []
+
+pub way_events : (l : Limits) (h : Heard) (es es' : List Event) (k : Kept) → (way : IsOnTheWay l h es es' k) →
+    es' ++ map Handshake (whole_from (l.ahead - way.moved) (h.next + way.moved) h.taken) ≡ es ++ map Handshake (whole_from l.ahead h.next h.taken)
+way_events l h es es' k way =
+    let rest : List Event = map Handshake (whole_from (l.ahead - way.moved) (h.next + way.moved) h.taken) in
+    ap (λ e. e ++ rest) way.told ∙ append_assoc es way.front rest ∙ ap (λ e. es ++ e) way.all
 
 pub begins : (l : Limits) (h : Heard) (es : List Event) (k : Kept) → Stands l h k → IsOnTheWay l h es es k
 begins l h es k st =
@@ -44,7 +52,9 @@ begins l h es k st =
       moved = 0;
       few = omega arith;
       stands = subst (λ n. Stands l (record { taken = h.taken; next = n }) k) (sym next) st;
-      events = ap (λ w. es ++ map Handshake w) same;
+      front = [];
+      told = sym (append-nil es);
+      all = ap (map Handshake) same;
       count = omega (arith, ap length same);
       last = none_beyond l h k st;
     }
@@ -86,11 +96,12 @@ one_more l h es es' es'' k new m way is st pushed = go (sized (l.ahead - way.mov
           moved = way.moved + 1;
           few = omega (arith, some);
           stands = subst (λ n. Stands l (record { taken = h.taken; next = n }) new) (sym next) st;
-          events = ap (λ e. e ++ map Handshake (whole_from (l.ahead - (way.moved + 1)) (h.next + (way.moved + 1)) h.taken)) pushed
-              ∙ append_assoc es' (Handshake (view_message m) ∷ []) (map Handshake (whole_from (l.ahead - (way.moved + 1)) (h.next + (way.moved + 1)) h.taken))
-              ∙ ap (λ w. es' ++ Handshake (view_message m) ∷ map Handshake w) rest
-              ∙ ap (λ w. es' ++ map Handshake w) (sym steps)
-              ∙ way.events;
+          front = way.front ++ Handshake (view_message m) ∷ [];
+          told = pushed ∙ ap (λ e. e ++ Handshake (view_message m) ∷ []) way.told ∙ append_assoc es way.front (Handshake (view_message m) ∷ []);
+          all = append_assoc way.front (Handshake (view_message m) ∷ []) (map Handshake (whole_from (l.ahead - (way.moved + 1)) (h.next + (way.moved + 1)) h.taken))
+              ∙ ap (λ w. way.front ++ Handshake (view_message m) ∷ map Handshake w) rest
+              ∙ ap (λ w. way.front ++ map Handshake w) (sym steps)
+              ∙ way.all;
           count = omega (arith, way.count, ap length steps, ap length rest);
           last = way.last;
         }
@@ -104,7 +115,7 @@ ends l h es es' k new o way none is st =
     whole_end (l.ahead - way.moved) (h.next + way.moved) h.taken (sym is ∙ ap (option_map view_message) none) in
     let all : way.moved ≡ length (whole_from l.ahead h.next h.taken) = omega (arith, way.count, ap length no) in
     record {
-      events = sym (append-nil es') ∙ ap (λ w. es' ++ map Handshake w) (sym no) ∙ way.events;
+      events = sym (append-nil es') ∙ ap (λ w. es' ++ map Handshake w) (sym no) ∙ way_events l h es es' k way;
       stands = subst (λ n. Stands l (record { taken = h.taken; next = h.next + n }) new) all
           (subst (λ (o : Option Owned). Stands l (record { taken = h.taken; next = if is_some o then h.next + way.moved + 1 else h.next + way.moved }) new) none st);
     }

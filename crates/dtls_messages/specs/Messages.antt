@@ -196,23 +196,27 @@ messages [] = []
 messages (Handshake m ∷ es) = m ∷ messages es
 messages (e ∷ es) = messages es
 
--- Memory ran out while messages were handed out: the rest of them are kept, and stand next in what is held.
+-- Memory ran out while messages were handed out: what was told stands, and the rest of them are kept, and stand next in what is held.
 pub record AreKept (l : Limits) (h : Heard) (es : List Event) (es' : List Event) (k' : Kept) : Type 0 where
   pub kept : List Message
   pub next : ℕ
-  pub told : es' ++ map Handshake kept ≡ es ++ map Handshake (whole_from l.ahead h.next h.taken)
+  pub front : List Event
+  pub told : es' ≡ es ++ front
+  pub all : front ++ map Handshake kept ≡ map Handshake (whole_from l.ahead h.next h.taken)
   pub count : next + length kept ≡ h.next + length (whole_from l.ahead h.next h.taken)
   pub stands : Stands l (record h { next = next }) k'
 
--- Memory ran out within these fragments: the first of them were heard. Their events are told but for the messages that are kept,
--- which are whole and stand next in what is held.
+-- Memory ran out within these fragments: what was told stands, and the first of them were heard. Their events are told but for the
+-- messages that are kept, which are whole and stand next in what is held.
 pub record IsStopped (l : Limits) (h : Heard) (fs : List Fragment) (es : List Event) (es' : List Event) (k' : Kept) : Type 0 where
   pub first : List Fragment
   pub behind : List Fragment
   pub split : fs ≡ first ++ behind
   pub kept : List Message
   pub next : ℕ
-  pub told : es' ++ map Handshake kept ≡ es ++ events l h first
+  pub front : List Event
+  pub told : es' ≡ es ++ front
+  pub all : front ++ map Handshake kept ≡ events l h first
   pub count : next + length kept ≡ (after l h first).next
   pub stands : Stands l (record { taken = (after l h first).taken; next = next }) k'
 

@@ -1,8 +1,8 @@
 -- What is told of records and datagrams.
-use Rattle.std.proofs.Common.{◌≡◌, ℕ, zero, suc, ◌+◌, ◌-◌, ◌<◌, ◌≤◌, Bool, true, false, cond, nat_lt, Option, Some, None, Result, Ok, Err, List, [], ◌∷◌, ◌++◌, length, take, drop, map, refl, sym, ◌∙◌, ap, subst, arith, get_or, append_assoc, append-nil}
+use Rattle.std.proofs.Common.{◌≡◌, ℕ, zero, suc, ◌+◌, ◌<◌, ◌≤◌, Bool, true, false, cond, Result, Ok, Err, List, [], ◌∷◌, ◌++◌, length, take, drop, map, refl, sym, ◌∙◌, ap, subst, arith, get_or, append_assoc, append-nil}
 use Rattle.std.specs.Prelude.{OnOk, ◌==◌}
 use Rattle.std.specs.Borrow.{Bor}
-use Rattle.std.proofs.lemmas.Bool.{lt-ltb, le-ltb, eq-eqb, eqb-false, eqb-true}
+use Rattle.std.proofs.lemmas.Bool.{lt-ltb, le-ltb, eq-eqb, eqb-true}
 use Rattle.std.proofs.lemmas.List.{map-append, drop_more}
 use Rattle.std.proofs.Math.Seq.{take-suc}
 use Rattle.tls_fields.specs.Bytes.{Bytes}
@@ -11,8 +11,8 @@ use Rattle.tls_fields.specs.Reading.{reading}
 use Rattle.tls_parser.specs.DtlsRecord.{Message, RawRecord, record_content, view_message}
 use Rattle.tls_parser.specs.declared.dtls.message.DTLSMessage.{DTLSMessage}
 use Rattle.dtls_messages.specs.Fragments.{Fragment}
-use Rattle.dtls_messages.specs.Messages.{AreHeard, Encrypted, Event, Failed, Heard, Kept, Limits, Stands, after, events}
-use Rattle.dtls_stream.specs.Datagrams.{IsStep, Step, content_step, datagram, datagram_record, datagrams, encrypted, event_of, fragment_record_step, fragments_step, kind_of, left_over, next_record, record_step, records_step, then_step, unread, views}
+use Rattle.dtls_messages.specs.Messages.{AreHeard, Encrypted, Event, Failed, Heard, Kept, Limits, Stands, events}
+use Rattle.dtls_stream.specs.Datagrams.{IsStep, content_step, datagram, datagrams, encrypted, event_of, fragment_record_step, fragments_step, kind_of, left_over, record_step, then_step, views}
 
 pub map_next : {X Y : Type 0} (f : X → Y) (xs : List X) (i : ℕ) (d : X) → i < length xs → map f (take (i + 1) xs) ≡ map f (take i xs) ++ f (get_or xs i d) ∷ []
 map_next f xs i d h =
@@ -25,7 +25,7 @@ told_next f xs i d es es' es'' h was pushed =
     pushed ∙ ap (λ e. e ++ f (get_or xs i d) ∷ []) was ∙ append_assoc es (map f (take i xs)) (f (get_or xs i d) ∷ [])
     ∙ ap (λ e. es ++ e) (sym (map_next f xs i d h))
 
-map_twice : (ms : List DTLSMessage) → map event_of (map view_message ms) ≡ map (λ m. event_of (view_message m)) ms
+pub map_twice : (ms : List DTLSMessage) → map event_of (map view_message ms) ≡ map (λ m. event_of (view_message m)) ms
 map_twice [] = refl
 map_twice (m ∷ ms) = ap (λ es. event_of (view_message m) ∷ es) (map_twice ms)
 
@@ -70,14 +70,14 @@ handshake_step l h r es es' k low kind is =
     clear_step l h r es es' k low
     (subst (λ b. IsStep l (cond b (fragment_record_step r.fragment l h) (content_step (reading (record_content r.header) r.fragment) h)) es es' k) (sym (eq-eqb r.header.content_type 22 kind)) is)
 
-eqb-ne : (a b : ℕ) → (a ≡ b → ⊥) → (a == b) ≡ false
+pub eqb-ne : (a b : ℕ) → (a ≡ b → ⊥) → (a == b) ≡ false
 eqb-ne a b not = go (a == b) refl
   where
     go : (t : Bool) → (a == b) ≡ t → t ≡ false
     go true e = absurd (not (eqb-true a b e))
     go false e = refl
 
-content_same : (h : Heard) (r : Answer (List Message)) → (content_step r h).0 ≡ h
+pub content_same : (h : Heard) (r : Answer (List Message)) → (content_step r h).0 ≡ h
 content_same h (Ok x) = refl
 content_same h (Err e) = refl
 
@@ -91,66 +91,6 @@ other_step l h r es es' k low kind told st =
 pub on_ok : {P Q E : Type 0} (r : Result Unit E) → OnOk r P → (P → Q) → OnOk r Q
 on_ok (Ok t) p f = f p
 on_ok (Err e) p f = tt
-
--- A datagram of which so many records may still come.
-pub record IsReading (l : Limits) (s : Step) (n : ℕ) (left : Bytes) (es es' : List Event) (k : Kept) : Type 0 where
-  pub heard : Heard
-  pub stands : Stands l heard k
-  pub told : es' ++ (records_step n l heard left).1 ≡ es ++ s.1
-  pub end : (records_step n l heard left).0 ≡ s.0
-
-pub reading_begins : (l : Limits) (h : Heard) (b : Bytes) (n : ℕ) (es : List Event) (k : Kept) → n ≡ length b → Stands l h k → IsReading l (datagram l h b) n b es es k
-reading_begins l h b n es k is st = record {
-  heard = h;
-  stands = st;
-  told = ap (λ n. es ++ (records_step n l h b).1) is;
-  end = ap (λ n. (records_step n l h b).0) is;
-}
-
-step_ok : (n : ℕ) (l : Limits) (h : Heard) (b rest : Bytes) (r : RawRecord) → reading datagram_record b ≡ Ok (r, rest) →
-    records_step (suc n) l h b ≡ then_step (record_step l h r) (λ h. records_step n l h rest)
-unfolding records_step
-step_ok n l h b rest r is = ap (λ a. next_record a l h b (records_step n l)) is
-
-step_err : (n : ℕ) (l : Limits) (h : Heard) (b : Bytes) (e : Refusal) → reading datagram_record b ≡ Err e → records_step (suc n) l h b ≡ (h, unread b e)
-unfolding records_step
-step_err n l h b e is = ap (λ a. next_record a l h b (records_step n l)) is
-
-step_none : (l : Limits) (h : Heard) (b : Bytes) → records_step 0 l h b ≡ (h, [])
-unfolding records_step
-step_none l h b = refl
-
-pub reading_next : (l : Limits) (s : Step) (n m : ℕ) (left rest : Bytes) (r : RawRecord) (es es' es'' : List Event) (k k' : Kept) → n ≡ suc m → reading datagram_record left ≡ Ok (r, rest) →
-    IsReading l s n left es es' k → ((l : Limits) (h : Heard) → Stands l h k → IsStep l (record_step l h r) es' es'' k') → IsReading l s m rest es es'' k'
-reading_next l s n m left rest r es es' es'' k k' is ok was hears =
-    let one = hears l was.heard was.stands in
-    let steps : records_step n l was.heard left ≡ then_step (record_step l was.heard r) (λ h. records_step m l h rest) =
-    ap (λ n. records_step n l was.heard left) is ∙ step_ok m l was.heard left rest r ok in
-    record {
-      heard = (record_step l was.heard r).0;
-      stands = one.stands;
-      told = ap (λ e. e ++ (records_step m l (record_step l was.heard r).0 rest).1) one.events
-          ∙ append_assoc es' (record_step l was.heard r).1 (records_step m l (record_step l was.heard r).0 rest).1
-          ∙ ap (λ s. es' ++ s.1) (sym steps) ∙ was.told;
-      end = ap (λ s. s.0) (sym steps) ∙ was.end;
-    }
-
-pub reading_fails : (l : Limits) (s : Step) (n m : ℕ) (left : Bytes) (e : Refusal) (es es' es'' : List Event) (k : Kept) → n ≡ suc m → reading datagram_record left ≡ Err e →
-    IsReading l s n left es es' k → es'' ≡ es' ++ unread left e → IsStep l s es es'' k
-reading_fails l s n m left e es es' es'' k is err was told =
-    let steps : records_step n l was.heard left ≡ (was.heard, unread left e) = ap (λ n. records_step n l was.heard left) is ∙ step_err m l was.heard left e err in
-    record {
-      events = told ∙ ap (λ s. es' ++ s.1) (sym steps) ∙ was.told;
-      stands = subst (λ h. Stands l h k) (ap (λ s. s.0) (sym steps) ∙ was.end) was.stands;
-    }
-
-pub reading_ends : (l : Limits) (s : Step) (n : ℕ) (left : Bytes) (es es' : List Event) (k : Kept) → n ≡ 0 → IsReading l s n left es es' k → IsStep l s es es' k
-reading_ends l s n left es es' k is was =
-    let steps : records_step n l was.heard left ≡ (was.heard, []) = ap (λ n. records_step n l was.heard left) is ∙ step_none l was.heard left in
-    record {
-      events = sym (append-nil es') ∙ ap (λ s. es' ++ s.1) (sym steps) ∙ was.told;
-      stands = subst (λ h. Stands l h k) (ap (λ s. s.0) (sym steps) ∙ was.end) was.stands;
-    }
 
 -- Datagrams.
 pub record AreReading (l : Limits) (all ds : List Bytes) (es : List Event) (k : Kept) : Type 0 where

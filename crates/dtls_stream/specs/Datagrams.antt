@@ -1,8 +1,8 @@
 -- What is told of the datagrams of one direction (RFC 6347, sections 4.1 and 4.2).
-use Rattle.std.specs.Prelude.{◌≡◌, ℕ, zero, suc, cond, nat_le, nat_lt, Option, Some, None, Result, Ok, Err, ◌==◌, List, [], ◌∷◌, ◌++◌, length, map}
+use Rattle.std.specs.Prelude.{◌≡◌, ℕ, zero, suc, ◌+◌, cond, nat_le, nat_lt, Option, Some, None, Ok, Err, ◌==◌, List, [], ◌∷◌, ◌++◌, length, map}
 use Rattle.std.specs.Borrow.{Bor}
 use Rattle.tls_fields.specs.Bytes.{Bytes}
-use Rattle.tls_fields.specs.Layout.{Layout, done, number, block, list1, ◌>>=◌, ◌>>◌, test}
+use Rattle.tls_fields.specs.Layout.{Layout, done, block, list1, ◌>>=◌, ◌>>◌, test}
 use Rattle.tls_fields.specs.Meaning.{Answer, Broken, Lacks, Refusal}
 use Rattle.tls_fields.specs.Reading.{reading}
 use Rattle.tls_fields.specs.declared.result.ErrorKind.{ErrorKind}
@@ -12,7 +12,7 @@ use Rattle.tls_parser.specs.DtlsRecord as dtls_record
 use Rattle.tls_parser.specs.DtlsHandshake as handshakes
 use Rattle.tls_parser.specs.Framing.{max_fragment_length}
 use Rattle.dtls_messages.specs.Fragments.{Fragment, fragment}
-use Rattle.dtls_messages.specs.Messages.{Alert, ChangeCipherSpec, Encrypted, EncryptedRecord, Event, Failed, Heard, Kept, Limits, Stands, after, events}
+use Rattle.dtls_messages.specs.Messages.{Alert, ChangeCipherSpec, Encrypted, EncryptedRecord, Event, Failed, Handshake, Heard, Kept, Limits, Message, Stands, after, events, messages}
 
 abbrev pub fragment_by : handshakes.Handshake → handshakes.Body → Option Fragment
 fragment_by m (handshakes.Fragment b) = Some (record {
@@ -129,3 +129,50 @@ views ds = map (λ d. d.now) ds
 pub record IsStep (l : Limits) (s : Step) (es : List Event) (es' : List Event) (k' : Kept) : Type 0 where
   pub events : es' ≡ es ++ s.1
   pub stands : Stands l s.0 k'
+
+abbrev pub those_read : Answer (List Fragment) → List Fragment
+those_read (Ok x) = x.0
+those_read (Err e) = []
+
+-- The fragments in a record: it holds some where its epoch is 0 and its type is 22.
+abbrev pub fragments_in_record : RawRecord → List Fragment
+fragments_in_record r =
+    cond (nat_lt 0 r.header.epoch) [] (
+    cond (r.header.content_type == 22) (those_read (reading (list1 fragment) r.fragment)) [])
+
+abbrev pub fragments_from : Answer RawRecord → (Bytes → List Fragment) → List Fragment
+fragments_from (Err e) more = []
+fragments_from (Ok x) more = fragments_in_record x.0 ++ more x.1
+
+-- The fragments in at most n records of a datagram.
+unfoldable pub fragments_within : ℕ → Bytes → List Fragment
+fragments_within zero b = []
+fragments_within (suc n) b = fragments_from (reading datagram_record b) (fragments_within n)
+
+-- All fragments in a datagram, in order.
+abbrev pub fragments_of : Bytes → List Fragment
+fragments_of b = fragments_within (length b) b
+
+-- Memory ran out while these events were told: the first of them are.
+pub record AreToldInPart (all : List Event) (es : List Event) (es' : List Event) : Type 0 where
+  pub front : List Event
+  pub untold : List Event
+  pub split : all ≡ front ++ untold
+  pub told : es' ≡ es ++ front
+
+-- Memory ran out within records in which these fragments are, and of which these events are to be told. What was told stands, and the
+-- first of the fragments were heard. Of their messages each is told or is kept, in order: those that are kept are whole, and stand next
+-- in what is held.
+pub record IsCut (l : Limits) (h : Heard) (fs : List Fragment) (all : List Event) (es : List Event) (es' : List Event) (k' : Kept) : Type 0 where
+  pub first : List Fragment
+  pub behind : List Fragment
+  pub split : fs ≡ first ++ behind
+  pub front : List Event
+  pub told : es' ≡ es ++ front
+  pub kept : List Message
+  pub none_lost : messages front ++ kept ≡ messages (events l h first)
+  pub untold : List Event
+  pub in_order : front ++ map Handshake kept ++ untold ≡ all
+  pub next : ℕ
+  pub count : next + length kept ≡ (after l h first).next
+  pub stands : Stands l (record { taken = (after l h first).taken; next = next }) k'

@@ -1,7 +1,7 @@
 //! Datagrams of one direction.
-ghost use Rattle.std.specs.Prelude.{◌≡◌, OnOk, IfOk};
+ghost use Rattle.std.specs.Prelude.{◌≡◌, OnErr, OnOk, IfOk};
 ghost use Rattle.dtls_messages.specs.Messages.{Heard, Limits as Allowed, Stands, nothing, view_events, view_limits};
-ghost use Rattle.dtls_stream.specs.Datagrams.{IsStep, datagram as datagram_step, datagrams as datagrams_step, views};
+ghost use Rattle.dtls_stream.specs.Datagrams.{IsCut, IsStep, datagram as datagram_step, datagrams as datagrams_step, fragments_of, views};
 
 use crate::records::{hear_record, read_record, tell_unread};
 use dtls_messages::{Event, Limits, Messages};
@@ -13,16 +13,19 @@ use tls_parser::OutOfMemory;
 /// A record that isn't read is told as a fault. Where its length is too large, or the datagram ends within it, nothing behind it
 /// in this datagram is read.
 ///
-/// `OutOfMemory` where what comes could not be held, or not be told. Which of the datagram's records were taken then is in no
-/// clause.
+/// `OutOfMemory` where what comes could not be held, or not be told. Then what was told stands, and what is told of this datagram is a
+/// front of its events. The first of its fragments were taken, and no message is lost: each that they complete is told, or is still
+/// held whole and stands next, so that it is handed out with the next fragment that is taken, or by `Messages::take_front`.
 pub fn read_datagram<'a>(
     alloc: Global,
     messages: &mut Messages,
     datagram: &'a [u8],
     events: &mut Vec<Event<'a>>,
 ) -> Result<(), OutOfMemory>
-    ensures { (l : Allowed) (h : Heard) → Stands l h messages.old
+    ensures told { (l : Allowed) (h : Heard) → Stands l h messages.old
         → OnOk result (IsStep l (datagram_step l h datagram.now) (view_events events.old.items) (view_events events.new.items) messages.new) }
+    ensures stopped { (l : Allowed) (h : Heard) → Stands l h messages.old
+        → OnErr result (IsCut l h (fragments_of datagram.now) (datagram_step l h datagram.now).1 (view_events events.old.items) (view_events events.new.items) messages.new) }
 {
     let mut left = datagram;
     'records: for taken in 0..datagram.len() {

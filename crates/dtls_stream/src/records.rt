@@ -1,13 +1,14 @@
 //! Records of a datagram, and what is told of each.
-ghost use Rattle.std.specs.Prelude.{◌≡◌, ◌++◌, OnOk, map};
+ghost use Rattle.std.specs.Prelude.{◌≡◌, ◌++◌, OnErr, OnOk, map};
 ghost use Rattle.tls_fields.specs.Answers.{Gives, refusal_of};
+ghost use Rattle.tls_fields.specs.Layout.{list1};
 ghost use Rattle.tls_fields.specs.Reading.{reading};
 ghost use Rattle.tls_parser.specs.DtlsRecord.{record_content, view_header, view_message as view_content, view_raw_record};
 ghost use Rattle.std.specs.Option.{option_map};
 ghost use Rattle.tls_parser.specs.DtlsHandshake.{view_handshake};
-ghost use Rattle.dtls_messages.specs.Fragments.{view_fragment};
+ghost use Rattle.dtls_messages.specs.Fragments.{fragment as fragment_layout, view_fragment};
 ghost use Rattle.dtls_messages.specs.Messages.{Heard, Limits as Allowed, Stands, view_event, view_events};
-ghost use Rattle.dtls_stream.specs.Datagrams.{IsStep, content as content_layout, content_step, datagram_record, event_of, fragment_in, fragment_record_step, kind_of as kind_told, left_over, limit, record_step, unread};
+ghost use Rattle.dtls_stream.specs.Datagrams.{AreToldInPart, IsCut, IsStep, content as content_layout, content_step, datagram_record, event_of, fragment_in, fragment_record_step, fragments_in_record, kind_of as kind_told, left_over, limit, record_step, those_read, unread};
 
 use dtls_messages::{EncryptedRecord, Event, Fragment, Messages, read_all};
 use std::alloc::Global;
@@ -95,7 +96,8 @@ fn kind_of(error: Refused<Error<&[u8]>>) -> ErrorKind
 
 /// Tells of bytes that are left behind what was read.
 fn tell_left_over(rest: &[u8], events: &mut Vec<Event>) -> Result<(), OutOfMemory>
-    ensures { OnOk result (view_events events.new.items ≡ view_events events.old.items ++ left_over rest.now) }
+    ensures told { OnOk result (view_events events.new.items ≡ view_events events.old.items ++ left_over rest.now) }
+    ensures stopped { OnErr result (view_events events.new.items ≡ view_events events.old.items) }
 {
     if !rest.is_empty() {
         events.push(Event::Fault(ErrorKind::Complete))?;
@@ -109,7 +111,8 @@ pub(crate) fn tell_unread(
     error: Refused<Error<&[u8]>>,
     events: &mut Vec<Event>,
 ) -> Result<(), OutOfMemory>
-    ensures { OnOk result (view_events events.new.items ≡ view_events events.old.items ++ unread left.now (refusal_of error.entry)) }
+    ensures told { OnOk result (view_events events.new.items ≡ view_events events.old.items ++ unread left.now (refusal_of error.entry)) }
+    ensures stopped { OnErr result (view_events events.new.items ≡ view_events events.old.items) }
 {
     if !left.is_empty() {
         events.push(Event::Fault(kind_of(error)))?;
@@ -122,7 +125,8 @@ fn tell_messages<'a>(
     messages: &[DTLSMessage<'a>],
     events: &mut Vec<Event<'a>>,
 ) -> Result<(), OutOfMemory>
-    ensures { OnOk result (view_events events.new.items ≡ view_events events.old.items ++ map (λ m. event_of (view_content m)) messages.now) }
+    ensures told { OnOk result (view_events events.new.items ≡ view_events events.old.items ++ map (λ m. event_of (view_content m)) messages.now) }
+    ensures stopped { OnErr result (AreToldInPart (map (λ m. event_of (view_content m)) messages.now) (view_events events.old.items) (view_events events.new.items)) }
 {
     for message in messages {
         events.push(told_as(message))?;
@@ -136,8 +140,10 @@ fn tell_content<'a>(
     raw: &DTLSRawRecord<'a>,
     events: &mut Vec<Event<'a>>,
 ) -> Result<(), OutOfMemory>
-    ensures { (h : Heard)
+    ensures told { (h : Heard)
         → OnOk result (view_events events.new.items ≡ view_events events.old.items ++ (content_step (reading (record_content (view_header raw.now.header)) raw.now.fragment.now) h).1) }
+    ensures stopped { (h : Heard)
+        → OnErr result (AreToldInPart (content_step (reading (record_content (view_header raw.now.header)) raw.now.fragment.now) h).1 (view_events events.old.items) (view_events events.new.items)) }
 {
     match parse_dtls_record_with_header(alloc, raw.fragment, &raw.header) {
         Ok((rest, messages)) => {
@@ -159,8 +165,10 @@ fn read_handshake(
     messages: &mut Messages,
     events: &mut Vec<Event>,
 ) -> Result<(), OutOfMemory>
-    ensures { (l : Allowed) (h : Heard) → Stands l h messages.old
+    ensures told { (l : Allowed) (h : Heard) → Stands l h messages.old
         → OnOk result (IsStep l (fragment_record_step bytes.now l h) (view_events events.old.items) (view_events events.new.items) messages.new) }
+    ensures stopped { (l : Allowed) (h : Heard) → Stands l h messages.old
+        → OnErr result (IsCut l h (those_read (reading (list1 fragment_layout) bytes.now)) (fragment_record_step bytes.now l h).1 (view_events events.old.items) (view_events events.new.items) messages.new) }
 {
     match items1::<Fragment>(alloc, bytes) {
         Ok((rest, fragments)) => {
@@ -182,8 +190,10 @@ pub(crate) fn hear_record<'a>(
     messages: &mut Messages,
     events: &mut Vec<Event<'a>>,
 ) -> Result<(), OutOfMemory>
-    ensures { (l : Allowed) (h : Heard) → Stands l h messages.old
+    ensures told { (l : Allowed) (h : Heard) → Stands l h messages.old
         → OnOk result (IsStep l (record_step l h (view_raw_record raw.entry)) (view_events events.old.items) (view_events events.new.items) messages.new) }
+    ensures stopped { (l : Allowed) (h : Heard) → Stands l h messages.old
+        → OnErr result (IsCut l h (fragments_in_record (view_raw_record raw.entry)) (record_step l h (view_raw_record raw.entry)).1 (view_events events.old.items) (view_events events.new.items) messages.new) }
 {
     if raw.header.epoch > 0 {
         events.push(Event::Encrypted(EncryptedRecord {
