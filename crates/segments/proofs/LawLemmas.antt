@@ -5,6 +5,7 @@ use Rattle.std.proofs.lemmas.Bool.{ltb-true, ltb-false, lt-ltb, le-ltb}
 use Rattle.std.proofs.lemmas.List.{length-append, length-drop, length-map, take_more, take_at, take-append-drop, length-take-le}
 use Rattle.std.proofs.lemmas.Nat.{div-add-mod', mod_below, mod_low}
 use Rattle.segments.specs.Cells.{Bytes, Cells, Held, or_else, fill, fill_at, put, run, wanted, ahead, located, placed, with_located, with_part, with_segment, without_front}
+use Rattle.segments.proofs.CellLemmas.{run_drop, run_low, fill_at_low}
 use Rattle.segments.specs.Law.{Segment, place_of, IsPart, AreParts, IsOver, IsCovered, IsLongestFront, IsReassembled, cell, byte_at, part_at, earlier, IsMadeOf, IsAmong}
 
 -- Filled cells, place by place.
@@ -275,23 +276,22 @@ pub record IsHandingOut (stream : Bytes) (K : ℕ → Type 0) (out : Bytes) (h :
   pub taken_is : h.taken ≡ length out
   pub none_left : run h.cells ≡ []
 
-run_drop : (cs : Cells) → run (drop (length (run cs)) cs) ≡ []
-run_drop [] = refl
-run_drop (None ∷ cs) = refl
-run_drop (Some x ∷ cs) = run_drop cs
+-- What stands in front is the stream's, from what was handed out on.
+pub front_rest : (stream : Bytes) (K : ℕ → Type 0) (out rest : Bytes) (h : Held) → IsMadeOf stream K h → stream ≡ out ++ rest → h.taken ≡ length out →
+    rest ≡ run h.cells ++ drop (length (run h.cells)) rest
+front_rest stream K out rest h made is taken =
+    run_front h.cells rest (λ k y e.
+    sym (byte_append out rest k) ∙ ap (λ n. byte_at (out ++ rest) (n + k)) (sym taken) ∙ ap (λ s. byte_at s (h.taken + k)) (sym is) ∙ (made.stands k y e).1)
 
 pub handing_front : (stream : Bytes) (K : ℕ → Type 0) (out rest : Bytes) (h : Held) → IsMadeOf stream K h → stream ≡ out ++ rest → h.taken ≡ length out →
     IsHandingOut stream K (out ++ run h.cells) (without_front (length (run h.cells)) h)
-handing_front stream K out rest h made is taken =
-    let agrees : (k y : ℕ) → cell h.cells k ≡ Some y → byte_at rest k ≡ Some y =
-    λ k y e. sym (byte_append out rest k) ∙ ap (λ n. byte_at (out ++ rest) (n + k)) (sym taken) ∙ ap (λ s. byte_at s (h.taken + k)) (sym is) ∙ (made.stands k y e).1 in
-    record {
-      made = made_fewer stream K h (length (run h.cells)) made (le_refl _);
-      rest = drop (length (run h.cells)) rest;
-      is_front = is ∙ ap (λ r. out ++ r) (run_front h.cells rest agrees) ∙ sym (append_assoc out (run h.cells) (drop (length (run h.cells)) rest));
-      taken_is = ap (λ n. n + length (run h.cells)) taken ∙ sym (length-append out (run h.cells));
-      none_left = run_drop h.cells;
-    }
+handing_front stream K out rest h made is taken = record {
+  made = made_fewer stream K h (length (run h.cells)) made (le_refl _);
+  rest = drop (length (run h.cells)) rest;
+  is_front = is ∙ ap (λ r. out ++ r) (front_rest stream K out rest h made is taken) ∙ sym (append_assoc out (run h.cells) (drop (length (run h.cells)) rest));
+  taken_is = ap (λ n. n + length (run h.cells)) taken ∙ sym (length-append out (run h.cells));
+  none_left = run_drop h.cells;
+}
 
 pub longest : (stream : Bytes) (K : ℕ → Type 0) (out : Bytes) (h : Held) → IsHandingOut stream K out h → IsLongestFront stream K out
 longest stream K out h s = record {
@@ -484,27 +484,9 @@ run_all cs n all = go (ltb (length (run cs)) n) refl
     go false e = ltb-false (length (run cs)) n e
 
 -- No place is taken beyond what is put there.
-fill_low : (cs : Cells) (ys : Bytes) (n : ℕ) → length cs ≤ n → length ys ≤ n → length (fill cs ys) ≤ n
-fill_low [] ys n h g = omega (arith, g, length-map ys Some)
-fill_low (c ∷ cs) [] n h g = h
-fill_low (c ∷ cs) (y ∷ ys) zero h g = absurd (omega (arith, h))
-fill_low (c ∷ cs) (y ∷ ys) (suc n) h g = let r = fill_low cs ys n (omega (arith, h)) (omega (arith, g)) in omega (arith, r)
-
-fill_at_low : (k : ℕ) (cs : Cells) (ys : Bytes) (n : ℕ) → length cs ≤ n → k + length ys ≤ n → length (fill_at k cs ys) ≤ n
-fill_at_low zero cs ys n h g = fill_low cs ys n h (omega (arith, g))
-fill_at_low (suc k) [] ys zero h g = absurd (omega (arith, g))
-fill_at_low (suc k) [] ys (suc n) h g = let r = fill_at_low k [] ys n (omega arith) (omega (arith, g)) in omega (arith, r)
-fill_at_low (suc k) (c ∷ cs) ys zero h g = absurd (omega (arith, h))
-fill_at_low (suc k) (c ∷ cs) ys (suc n) h g = let r = fill_at_low k cs ys n (omega (arith, h)) (omega (arith, g)) in omega (arith, r)
-
 put_low : (k : ℕ) (ys : Bytes) (cs : Cells) (n : ℕ) → length cs ≤ n → k + length ys ≤ n → length (put k ys cs) ≤ n
 put_low k [] cs n h g = h
 put_low k (y ∷ ys) cs n h g = fill_at_low k cs (y ∷ ys) n h g
-
-pub run_low : (cs : Cells) → length (run cs) ≤ length cs
-run_low [] = omega arith
-run_low (None ∷ cs) = omega arith
-run_low (Some x ∷ cs) = let r = run_low cs in omega (arith, r)
 
 pub part_low_end : (h : Held) (place : ℕ) (b : Bytes) (n : ℕ) → h.taken ≡ 0 → length h.cells ≤ n → place + length b ≤ n →
     length (with_part place b h).cells ≤ n
