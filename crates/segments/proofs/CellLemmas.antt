@@ -1,16 +1,10 @@
 -- Cells, filled.
-use Rattle.std.proofs.Common.{◌≡◌, ℕ, zero, suc, ◌+◌, ◌-◌, ◌<◌, ◌≤◌, List, [], ◌∷◌, ◌++◌, length, take, drop, map, Option, Some, None, Bool, true, false, cond, ltb, refl, sym, ◌∙◌, ap, arith}
-use Rattle.segments.specs.Cells.{Bytes, Cells, or_else, fill, fill_at, put, run, known, empties, known_behind, gap}
+use Rattle.std.proofs.Common.{◌≡◌, ℕ, zero, suc, ◌+◌, ◌<◌, ◌≤◌, [], ◌∷◌, ◌++◌, length, take, drop, map, Option, Some, None, Bool, true, false, cond, ltb, refl, sym, ◌∙◌, ap, arith}
+use Rattle.segments.specs.Cells.{Bytes, Cells, fill, fill_at, put, run, known, empties, known_behind, gap}
 
 pub fill_nil : (c : Cells) → fill c [] ≡ c
 fill_nil [] = refl
 fill_nil (x ∷ c) = refl
-
--- bytes that stand, and then more
-pub fill_some : (b : Bytes) (cs : Cells) (ys : Bytes) → fill (map Some b ++ cs) ys ≡ map Some b ++ fill cs (drop (length b) ys)
-fill_some [] cs ys = refl
-fill_some (x ∷ b) cs [] = ap (λ c. Some x ∷ (map Some b ++ c)) (sym (fill_nil cs))
-fill_some (x ∷ b) cs (y ∷ ys) = ap (λ c. Some x ∷ c) (fill_some b cs ys)
 
 -- from a place on
 pub fill_at_behind : (b : Cells) (cs : Cells) (k : ℕ) (ys : Bytes) → fill_at (length b + k) (b ++ cs) ys ≡ b ++ fill_at k cs ys

@@ -1,10 +1,10 @@
 -- What is held, after bytes are added.
-use Rattle.std.proofs.Common.{◌≡◌, ℕ, zero, suc, ◌+◌, ◌-◌, ◌^◌, ◌<◌, ◌≤◌, List, [], ◌∷◌, ◌++◌, length, take, drop, map, Option, Some, None, Bool, true, false, cond, ltb, refl, sym, ◌∙◌, ap, subst, arith, append_assoc, append-nil, le_refl, min}
-use Rattle.std.proofs.lemmas.Bool.{ltb-true, ltb-false, lt-ltb}
+use Rattle.std.proofs.Common.{◌≡◌, ℕ, zero, suc, ◌+◌, ◌-◌, ◌^◌, ◌<◌, ◌≤◌, [], ◌∷◌, ◌++◌, length, drop, map, Some, Bool, true, false, cond, ltb, refl, sym, ◌∙◌, ap, subst, arith, append_assoc, append-nil, min}
+use Rattle.std.proofs.lemmas.Bool.{ltb-true, ltb-false}
 use Rattle.std.proofs.lemmas.List.{length-append, length-drop, length-map, map-append, drop-drop, drop-append-le, drop_min, drop_all}
-use Rattle.segments.specs.Cells.{Bytes, Cells, Held, fill, fill_at, put, run, wanted, with_located, without_front, known, known_behind, empties, gap}
+use Rattle.segments.specs.Cells.{Bytes, Cells, fill, fill_at, put, run, wanted, with_located, without_front, known, known_behind, gap}
 use Rattle.segments.specs.Places.{IsSound, held_cells, held_of}
-use Rattle.segments.proofs.CellLemmas.{put_at, put_now, put_behind, run_some, run_split, run_drop, run_low, run_fill_long, drop_fill, fill_low, fill_at_low, fill_at_run, known_low, behind_some, behind_all}
+use Rattle.segments.proofs.CellLemmas.{put_at, put_now, put_behind, run_some, run_split, run_drop, run_low, run_fill_long, drop_fill, fill_low, fill_at_low, fill_at_run, behind_some, behind_all}
 
 pub run_held : (start taken limit : ℕ) (front : Bytes) (window : Cells) → IsSound start taken limit front window → run (held_cells start front window) ≡ drop start front
 run_held start taken limit front window s =
@@ -189,25 +189,9 @@ skipped f l start taken n m front front' window window' s none few front_is m_is
           ∙ ap (λ e. drop n (map Some e ++ window)) (sym empty));
     }
 
--- The gap is what is empty at the window's front.
-pub gap_is : (start taken l : ℕ) (front : Bytes) (window : Cells) → IsSound start taken l front window → length front ≤ start → 0 < known window → gap (held_cells start front window) ≡ empties window
-gap_is start taken l front window s none some =
-    ap (λ e. gap (map Some e ++ window)) (drop_all start front none)
-    ∙ ap (λ t. cond t (empties window) 0) (lt-ltb 0 (known window) some)
-
 same_cond : (t : Bool) → ◌≡◌ {A = ℕ} (cond t 0 0) 0
 same_cond true = refl
 same_cond false = refl
-
-pub gap_none : (start taken l : ℕ) (front : Bytes) (window : Cells) → IsSound start taken l front window → known window ≡ 0 → gap (held_cells start front window) ≡ 0
-gap_none start taken l front window s none = go (drop start front)
-  where
-    zero_is : (n m : ℕ) → n ≡ 0 → cond (ltb 0 n) m 0 ≡ 0
-    zero_is n m e = ap (λ n. cond (ltb 0 n) m 0) e
-
-    go : (F : Bytes) → gap (map Some F ++ window) ≡ 0
-    go [] = zero_is (known window) (empties window) none
-    go (x ∷ F) = same_cond (ltb 0 (known (map Some (x ∷ F) ++ window)))
 
 pub gap_front : (start : ℕ) (front : Bytes) (window : Cells) → start < length front → gap (held_cells start front window) ≡ 0
 gap_front start front window some = go (drop start front) (let l = length-drop start front in omega (arith, l, some))
@@ -215,9 +199,6 @@ gap_front start front window some = go (drop start front) (let l = length-drop s
     go : (F : Bytes) → 0 < length F → gap (map Some F ++ window) ≡ 0
     go [] h = absurd (omega (arith, h))
     go (x ∷ F) h = same_cond (ltb 0 (known (map Some (x ∷ F) ++ window)))
-
-pub without_none : (h : Held) → without_front 0 h ≡ h
-without_none h = let n : h.taken + 0 ≡ h.taken = omega arith in ap (λ n. record { first = h.first; limit = h.limit; taken = n; cells = h.cells }) n
 
 pub behind_is : (start taken l : ℕ) (front : Bytes) (window : Cells) → IsSound start taken l front window → known_behind (held_cells start front window) ≡ known window
 behind_is start taken l front window s = behind_some (drop start front) window ∙ behind_all window s.first_empty

@@ -1,31 +1,15 @@
 -- Places, stored one by one.
-use Rattle.std.proofs.Common.{◌≡◌, ℕ, zero, suc, ◌+◌, ◌-◌, ◌<◌, ◌≤◌, List, [], ◌∷◌, ◌++◌, length, take, drop, map, set, get_or, Option, Some, None, refl, sym, ◌∙◌, ap, arith, append_assoc, append-nil, replicate, ◌⊎◌, inl, inr, Bool, true, false, ltb, min}
+use Rattle.std.proofs.Common.{◌≡◌, ℕ, zero, suc, ◌+◌, ◌-◌, ◌<◌, ◌≤◌, [], ◌∷◌, ◌++◌, length, take, drop, set, get_or, Option, Some, None, refl, sym, ◌∙◌, ap, arith, append_assoc, replicate, ◌⊎◌, inl, inr, Bool, true, false, ltb, min}
 use Rattle.std.specs.Option.{IsSome, is_some}
 use Rattle.std.proofs.lemmas.Bool.{ltb-true, ltb-false}
-use Rattle.std.proofs.lemmas.List.{drop_more, drop_all, take_rest, drop_min}
-use Rattle.segments.specs.Cells.{Bytes, Cells, or_else, fill, fill_at, run, known, empties}
-use Rattle.segments.specs.Places.{over, standing}
+use Rattle.std.proofs.lemmas.List.{drop_all, take_rest, drop_min}
+use Rattle.segments.specs.Cells.{Bytes, Cells, or_else, fill, fill_at, run, known}
+use Rattle.segments.specs.Places.{over}
 
 -- A loop that appends: what is done and what is left to do.
 pub record IsAppending (out out0 left all : Bytes) : Type 0 where
   pub is : out ++ left ≡ out0 ++ all
   pub more : (s : Bytes) × (out ≡ out0 ++ s)
-
-pub appending_starts : (out all : Bytes) → IsAppending out out all all
-appending_starts out all = record { is = refl; more = ([], sym (append-nil out)) }
-
-pub appending_next : (out out' out0 left left' all : Bytes) (y : ℕ) → IsAppending out out0 left all → left ≡ y ∷ left' → out' ≡ out ++ y ∷ [] → IsAppending out' out0 left' all
-appending_next out out' out0 left left' all y a is put = record {
-  is = ap (λ o. o ++ left') put ∙ append_assoc out (y ∷ []) left' ∙ ap (λ l. out ++ l) (sym is) ∙ a.is;
-  more = (a.more.0 ++ y ∷ [], put ∙ ap (λ o. o ++ y ∷ []) a.more.1 ∙ append_assoc out0 a.more.0 (y ∷ []));
-}
-
-pub appending_ends : (out out0 left all : Bytes) → IsAppending out out0 left all → left ≡ [] → out ≡ out0 ++ all
-appending_ends out out0 left all a is = sym (append-nil out) ∙ ap (λ l. out ++ l) (sym is) ∙ a.is
-
--- Bytes over places.
-pub over_next : (cs : Cells) (ys : Bytes) (i : ℕ) (c : Option ℕ) (y : ℕ) → i < length cs → i < length ys → over (drop i cs) (drop i ys) ≡ standing (get_or cs i c) (get_or ys i y) ∷ over (drop (i + 1) cs) (drop (i + 1) ys)
-over_next cs ys i c y h g = ap (λ d. over d (drop i ys)) (drop_more cs i c h) ∙ ap (over (get_or cs i c ∷ drop (i + 1) cs)) (drop_more ys i y g)
 
 pub over_end : (cs : Cells) (ys : Bytes) (i : ℕ) → (length cs ≤ i) ⊎ (length ys ≤ i) → over (drop i cs) (drop i ys) ≡ drop i ys
 over_end cs ys i (inl h) = ap (λ c. over c (drop i ys)) (drop_all i cs h)

@@ -1,9 +1,9 @@
 -- Steps, taken one after another.
-use Rattle.std.proofs.Common.{◌≡◌, ℕ, zero, suc, ◌+◌, ◌-◌, ◌%◌, ◌^◌, ◌<◌, ◌≤◌, List, [], ◌∷◌, ◌++◌, length, take, drop, min, refl, sym, ◌∙◌, ap, subst, arith, append_assoc, append-nil}
+use Rattle.std.proofs.Common.{◌≡◌, ℕ, ◌+◌, ◌%◌, ◌^◌, ◌≤◌, List, [], ◌∷◌, ◌++◌, length, take, drop, min, refl, sym, ◌∙◌, ap, subst, arith, append_assoc, append-nil}
 use Rattle.std.proofs.lemmas.List.{length-append, take-append-drop, length-take-le}
-use Rattle.segments.specs.Cells.{Bytes, Held, run, wanted, with_segment, without_front}
+use Rattle.segments.specs.Cells.{Bytes, Held, run, with_segment, without_front}
 use Rattle.segments.specs.Law.{IsAmong, IsLongestFront, IsMadeOf, IsPart}
-use Rattle.segments.specs.Steps.{stepped, told, after, handed, IsNear, AreNear, came, IsReplayed}
+use Rattle.segments.specs.Steps.{after, handed, IsNear, AreNear, came, IsReplayed}
 use Rattle.segments.specs.declared.steps.Step.{Step}
 use Rattle.segments.specs.declared.steps.Step.TheVariants.{Segment, Take}
 use Rattle.segments.proofs.LawLemmas.{made_among, fewer_among, handing_front, longest, front_rest}
@@ -92,24 +92,6 @@ replayed first limit steps out available out_is available_is = λ stream places 
 pub record IsReplaying (start h : Held) (out : Bytes) (left all : List Step) : Type 0 where
   pub after_is : after left h ≡ after all start
   pub handed_is : out ++ handed left h ≡ handed all start
-
-pub replaying_starts : (start h : Held) (out : Bytes) (all : List Step) → h ≡ start → out ≡ [] → IsReplaying start h out all all
-replaying_starts start h out all same none = record {
-  after_is = ap (after all) same;
-  handed_is = ap (λ o. o ++ handed all h) none ∙ ap (handed all) same;
-}
-
-pub replaying_next : (start h h' : Held) (out out' : Bytes) (s : Step) (left rest all : List Step) → IsReplaying start h out left all → left ≡ s ∷ rest →
-    h' ≡ stepped s h → out' ≡ out ++ told s h → IsReplaying start h' out' rest all
-replaying_next start h h' out out' s left rest all r is held put = record {
-  after_is = ap (after rest) held ∙ ap (λ l. after l h) (sym is) ∙ r.after_is;
-  handed_is =
-      ap (λ o. o ++ handed rest h') put
-      ∙ ap (λ k. (out ++ told s h) ++ handed rest k) held
-      ∙ append_assoc out (told s h) (handed rest (stepped s h))
-      ∙ ap (λ l. out ++ handed l h) (sym is)
-      ∙ r.handed_is;
-}
 
 pub replaying_ends : (start h : Held) (out : Bytes) (left all : List Step) → IsReplaying start h out left all → left ≡ [] →
     (h ≡ after all start) × (out ≡ handed all start)

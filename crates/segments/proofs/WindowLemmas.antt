@@ -1,15 +1,11 @@
 -- Places, behind those that were let go.
-use Rattle.std.proofs.Common.{◌≡◌, ℕ, zero, suc, Some, ◌+◌, ◌-◌, ◌<◌, ◌≤◌, [], ◌∷◌, ◌++◌, length, take, drop, replicate, Option, None, Bool, true, false, ltb, refl, sym, ◌∙◌, ap, subst, arith, append-nil}
+use Rattle.std.proofs.Common.{◌≡◌, ℕ, zero, suc, Some, ◌+◌, ◌-◌, ◌≤◌, [], ◌∷◌, ◌++◌, length, take, drop, replicate, Option, None, Bool, true, false, ltb, refl, sym, ◌∙◌, ap, subst, arith, append-nil}
 use Rattle.std.proofs.lemmas.Bool.{ltb-true, ltb-false}
-use Rattle.std.proofs.lemmas.List.{length-append, length-drop, length-replicate, drop-drop, drop_all, drop-append-le, take_all, take_at}
+use Rattle.std.proofs.lemmas.List.{length-append, length-drop, length-replicate, drop-drop, drop-append-le, take_all, take_at}
 use Rattle.segments.specs.Cells.{Bytes, Cells, fill_at, known}
 use Rattle.segments.specs.Places.{IsCounted}
 use Rattle.segments.proofs.CellLemmas.{known_low, known_split, fill_at_low}
 use Rattle.segments.proofs.PlaceLemmas.{fill_more, drop_fill_at, take_fill_at, fill_at_length}
-
-pub dropped_all : (begin n : ℕ) (places old : Cells) → drop begin places ≡ old → begin + n ≡ length places → [] ≡ drop n old
-dropped_all begin n places old is all =
-    sym (ap (drop n) (sym is) ∙ drop-drop n begin places ∙ drop_all (begin + n) places (omega (arith, all)))
 
 pub record IsLess (begin held n count : ℕ) (places : Cells) : Type 0 where
   pub within : count ≤ held

@@ -1,5 +1,5 @@
 -- What is held of a stream, from one place on.
-use Rattle.std.specs.Prelude.{◌≡◌, ℕ, zero, suc, ◌+◌, ◌-◌, ◌*◌, ◌%◌, ◌^◌, ◌<◌, ◌≤◌, ◌⊎◌, Bool, Option, Some, None, List, [], ◌∷◌, ◌++◌, length, map, drop, replicate, nat_lt, if◌then◌else◌}
+use Rattle.std.specs.Prelude.{ℕ, zero, suc, ◌+◌, ◌-◌, ◌%◌, ◌^◌, ◌<◌, ◌⊎◌, Option, Some, None, List, [], ◌∷◌, length, map, drop, nat_lt, if◌then◌else◌}
 
 abbrev pub Bytes : Type 0
 Bytes = List ℕ

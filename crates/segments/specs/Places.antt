@@ -1,5 +1,5 @@
 -- How the bytes that wait for others are stored: place by place.
-use Rattle.std.specs.Prelude.{◌≡◌, ℕ, ◌+◌, ◌-◌, ◌^◌, ◌≤◌, Option, Some, None, List, [], ◌∷◌, ◌++◌, length, map, drop}
+use Rattle.std.specs.Prelude.{◌≡◌, ℕ, ◌+◌, ◌-◌, ◌^◌, ◌≤◌, Option, Some, None, [], ◌∷◌, ◌++◌, length, map, drop}
 use Rattle.segments.specs.Cells.{Bytes, Cells, Held, known, run}
 
 -- What stands at a place, or else a byte.

@@ -34,3 +34,6 @@ mod window;
 pub use segments::{SegmentError, Segments};
 pub use steps::{Step, replay};
 pub use whole::reassemble;
+
+#[cfg(test)]
+mod tests;

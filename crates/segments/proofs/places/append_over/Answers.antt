@@ -1,4 +1,4 @@
-use Rattle.std.proofs.Common.{◌≡◌, ◌≤◌, arith}
+use Rattle.std.proofs.Common.{arith}
 use Rattle.segments.proofs.PlaceLemmas.{over_ends}
 use Rattle.segments.proofs.places.append_over.Goals as goal
 

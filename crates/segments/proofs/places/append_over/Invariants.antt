@@ -1,4 +1,4 @@
-use Rattle.std.proofs.Common.{◌≡◌, ◌++◌, drop}
+use Rattle.std.proofs.Common.{drop}
 use Rattle.segments.specs.Places.{over}
 use Rattle.segments.proofs.PlaceLemmas.{IsAppending}
 use Rattle.segments.proofs.places.append_over.Given as goal

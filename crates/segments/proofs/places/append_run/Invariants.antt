@@ -1,4 +1,4 @@
-use Rattle.std.proofs.Common.{◌≡◌, ◌++◌, drop}
+use Rattle.std.proofs.Common.{drop}
 use Rattle.segments.specs.Cells.{run}
 use Rattle.segments.proofs.PlaceLemmas.{IsAppending}
 use Rattle.segments.proofs.places.append_run.Given as goal

@@ -1,4 +1,4 @@
-use Rattle.std.proofs.Common.{◌≡◌, sym, ◌∙◌}
+use Rattle.std.proofs.Common.{sym, ◌∙◌}
 use Rattle.segments.proofs.PlaceLemmas.{fill_standing, fill_empty, known_set, is_none}
 use Rattle.segments.proofs.places.fill_place.Goals as goal
 

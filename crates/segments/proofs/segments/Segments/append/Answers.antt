@@ -1,6 +1,6 @@
 use Rattle.std.proofs.Common.{◌≡◌, ◌≤◌, ◌+◌, ◌-◌, ◌^◌, ◌++◌, length, drop, ap, sym, ◌∙◌, subst, arith, min}
 use Rattle.segments.specs.Cells.{fill, run, wanted, with_located}
-use Rattle.segments.proofs.HeldLemmas.{wanted_is, appended, IsHeldMore}
+use Rattle.segments.proofs.HeldLemmas.{wanted_is, appended}
 use Rattle.segments.proofs.segments.Segments.append.Goals as goal
 
 pub invariant_of-self : goal.invariant_of-self

@@ -1,4 +1,4 @@
-use Rattle.std.proofs.Common.{◌≡◌, length, drop, take, ap, sym, ◌∙◌}
+use Rattle.std.proofs.Common.{drop, ap, sym, ◌∙◌}
 use Rattle.std.proofs.lemmas.List.{take_rest}
 use Rattle.segments.specs.Cells.{run}
 use Rattle.segments.proofs.HeldLemmas.{run_held}

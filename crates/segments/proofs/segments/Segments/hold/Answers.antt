@@ -1,6 +1,6 @@
-use Rattle.std.proofs.Common.{◌≡◌, ◌≤◌, ◌+◌, ◌-◌, ◌^◌, length, ap, sym, ◌∙◌, subst, arith}
+use Rattle.std.proofs.Common.{◌≤◌, ◌+◌, ◌^◌, length, ap, sym, ◌∙◌, subst}
 use Rattle.segments.specs.Cells.{wanted, with_located}
-use Rattle.segments.proofs.HeldLemmas.{wanted_is, held_more, IsHeldMore}
+use Rattle.segments.proofs.HeldLemmas.{wanted_is, held_more}
 use Rattle.segments.proofs.segments.Segments.hold.Goals as goal
 
 pub invariant_of-self-2 : goal.invariant_of-self-2

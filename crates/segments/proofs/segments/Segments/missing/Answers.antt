@@ -1,4 +1,4 @@
-use Rattle.std.proofs.Common.{◌≡◌, ◌<◌, length, ap, sym, ◌∙◌, arith}
+use Rattle.std.proofs.Common.{ap, sym, ◌∙◌, arith}
 use Rattle.segments.specs.Cells.{gap}
 use Rattle.segments.proofs.HeldLemmas.{gap_front}
 use Rattle.segments.proofs.segments.Segments.missing.Goals as goal

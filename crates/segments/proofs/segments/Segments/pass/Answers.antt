@@ -1,7 +1,7 @@
 use Rattle.std.proofs.Common.{◌≡◌, ◌≤◌, ◌+◌, ◌-◌, ◌++◌, length, drop, ap, sym, ◌∙◌, subst, arith}
 use Rattle.std.proofs.lemmas.List.{take_rest, drop_min}
 use Rattle.segments.specs.Cells.{run, without_front}
-use Rattle.segments.proofs.HeldLemmas.{none_front, all_window, pass_room, skipped, IsSkipped}
+use Rattle.segments.proofs.HeldLemmas.{none_front, all_window, pass_room, skipped}
 use Rattle.segments.proofs.segments.Segments.pass.Goals as goal
 
 pub drop_front-requires : goal.drop_front-requires

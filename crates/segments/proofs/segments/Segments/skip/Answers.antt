@@ -1,5 +1,4 @@
-use Rattle.std.proofs.Common.{◌<◌, ◌≤◌, length, arith}
-use Rattle.segments.specs.Cells.{gap}
+use Rattle.std.proofs.Common.{arith}
 use Rattle.segments.proofs.CellLemmas.{gap_first, gap_low}
 use Rattle.segments.proofs.segments.Segments.skip.Goals as goal
 

@@ -1,4 +1,4 @@
-use Rattle.std.proofs.Common.{◌≡◌, ◌≤◌, ◌<◌, ◌+◌, ◌-◌, length, drop, take, ap, sym, ◌∙◌, subst, arith}
+use Rattle.std.proofs.Common.{◌≡◌, ◌+◌, ◌-◌, length, ap, sym, ◌∙◌, arith}
 use Rattle.segments.specs.Cells.{wanted}
 use Rattle.segments.proofs.HeldLemmas.{wanted_is}
 use Rattle.segments.proofs.segments.Segments.wanted.Goals as goal

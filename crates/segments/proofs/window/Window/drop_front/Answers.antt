@@ -1,6 +1,6 @@
 use Rattle.std.proofs.Common.{◌≡◌, ◌≤◌, ◌+◌, ◌-◌, length, take, drop, ap, sym, ◌∙◌, subst, arith}
 use Rattle.segments.specs.Cells.{known}
-use Rattle.segments.proofs.WindowLemmas.{counted_less, IsLess}
+use Rattle.segments.proofs.WindowLemmas.{counted_less}
 use Rattle.segments.proofs.window.Window.drop_front.Goals as goal
 
 pub overflow_sub-self : goal.overflow_sub-self

@@ -1,5 +1,5 @@
-use Rattle.std.proofs.Common.{◌≡◌, ◌≤◌, ◌+◌, length, ap, sym, ◌∙◌, subst, arith}
-use Rattle.segments.proofs.WindowLemmas.{room, filled_in, filled_few, IsFilled}
+use Rattle.std.proofs.Common.{◌≤◌, ◌+◌, length, sym, ◌∙◌, subst, arith}
+use Rattle.segments.proofs.WindowLemmas.{room, filled_in, filled_few}
 use Rattle.segments.proofs.window.Window.fill.Goals as goal
 
 pub fill_places-requires : goal.fill_places-requires

@@ -1,5 +1,4 @@
-use Rattle.std.proofs.Common.{◌≤◌, length, drop, ap, arith}
-use Rattle.segments.specs.Cells.{known}
+use Rattle.std.proofs.Common.{length, drop, ap, arith}
 use Rattle.segments.proofs.CellLemmas.{known_low}
 use Rattle.segments.proofs.window.Window.held.Goals as goal
 
