@@ -9,6 +9,7 @@
 //! - [`Segments::available`] is what comes next, up to the first byte that is missing, and [`Segments::take`] hands it out.
 //! - [`Segments::held_behind`] tells how many bytes wait behind the first that is missing. A caller that no longer waits for it
 //!   takes what is available, and calls [`Segments::skip`], which tells how many bytes were missed.
+//!   Where more bytes than the limit were lost, none can be held behind them: a new [`Segments`] begins at the next segment.
 //!
 //! [`reassemble`] does it for a list of segments, [`replay`] for segments and takes in any order. [`laws`] has what stands of
 //! streams of any length.

@@ -267,8 +267,8 @@ impl Segments {
         Ok(())
     }
 
-    /// How many bytes are held behind the first that is missing: 0 where nothing shows that one is. It takes no time by what
-    /// is held.
+    /// How many bytes are held behind the first that is missing, at most the limit: 0 where nothing shows that one is. It
+    /// takes the same time however many are held.
     pub fn held_behind(&self) -> usize
         ensures is { result ≡ known_behind self.now.cells }
         ensures within { result ≤ self.now.limit }
