@@ -1,35 +1,10 @@
 -- Cells, filled.
-use Rattle.std.proofs.Common.{◌≡◌, ℕ, zero, suc, ◌+◌, ◌-◌, ◌<◌, ◌≤◌, List, [], ◌∷◌, ◌++◌, length, take, drop, map, Option, Some, None, Bool, true, false, refl, sym, ◌∙◌, ap, subst, arith, replicate}
-use Rattle.segments.specs.Cells.{Bytes, Cells, or_else, fill, fill_at, put, run}
-use Rattle.segments.specs.Blocks.{nones}
+use Rattle.std.proofs.Common.{◌≡◌, ℕ, zero, suc, ◌+◌, ◌<◌, ◌≤◌, [], ◌∷◌, ◌++◌, length, take, drop, map, Option, Some, None, Bool, true, false, cond, ltb, refl, sym, ◌∙◌, ap, arith}
+use Rattle.segments.specs.Cells.{Bytes, Cells, fill, fill_at, put, run, known, empties, known_behind, gap}
 
 pub fill_nil : (c : Cells) → fill c [] ≡ c
 fill_nil [] = refl
 fill_nil (x ∷ c) = refl
-
-drop_nil : (n : ℕ) → drop {A = ℕ} n [] ≡ []
-drop_nil zero = refl
-drop_nil (suc n) = refl
-
--- bytes that stand, and then more
-pub fill_some : (b : Bytes) (cs : Cells) (ys : Bytes) → fill (map Some b ++ cs) ys ≡ map Some b ++ fill cs (drop (length b) ys)
-fill_some [] cs ys = refl
-fill_some (x ∷ b) cs [] = ap (λ c. Some x ∷ (map Some b ++ c)) (sym (fill_nil cs))
-fill_some (x ∷ b) cs (y ∷ ys) = ap (λ c. Some x ∷ c) (fill_some b cs ys)
-
--- no more bytes than places without one
-pub fill_few : (n : ℕ) (cs : Cells) (ys : Bytes) → length ys ≤ n → fill (nones n ++ cs) ys ≡ map Some ys ++ (nones (n - length ys) ++ cs)
-fill_few zero cs [] h = fill_nil cs
-fill_few zero cs (y ∷ ys) h = absurd (omega (arith, h))
-fill_few (suc n) cs [] h = let k : suc n ≡ suc n - 0 = omega arith in ap (λ k. nones k ++ cs) k
-fill_few (suc n) cs (y ∷ ys) h =
-    ap (λ c. Some y ∷ c) (fill_few n cs ys (omega (arith, h)) ∙ (let k : n - length ys ≡ suc n - suc (length ys) = omega arith in ap (λ k. map Some ys ++ (nones k ++ cs)) k))
-
--- more bytes than places without one
-pub fill_many : (n : ℕ) (cs : Cells) (ys : Bytes) → n ≤ length ys → fill (nones n ++ cs) ys ≡ map Some (take n ys) ++ fill cs (drop n ys)
-fill_many zero cs ys h = refl
-fill_many (suc n) cs [] h = absurd (omega (arith, h))
-fill_many (suc n) cs (y ∷ ys) h = ap (λ c. Some y ∷ c) (fill_many n cs ys (omega (arith, h)))
 
 -- from a place on
 pub fill_at_behind : (b : Cells) (cs : Cells) (k : ℕ) (ys : Bytes) → fill_at (length b + k) (b ++ cs) ys ≡ b ++ fill_at k cs ys
@@ -37,16 +12,6 @@ fill_at_behind [] cs k ys = ap (λ n. fill_at n cs ys) (omega arith)
 fill_at_behind (c ∷ b) cs k ys =
     let n : suc (length b) + k ≡ suc (length b + k) = omega arith in
     ap (λ m. fill_at m (c ∷ (b ++ cs)) ys) n ∙ ap (λ r. c ∷ r) (fill_at_behind b cs k ys)
-
-pub fill_at_nothing : (k : ℕ) (ys : Bytes) → fill_at k [] ys ≡ nones k ++ map Some ys
-fill_at_nothing zero ys = refl
-fill_at_nothing (suc k) ys = ap (λ r. None ∷ r) (fill_at_nothing k ys)
-
--- over bytes that stand
-pub fill_at_some : (k : ℕ) (b : Bytes) (cs : Cells) (ys : Bytes) → k ≤ length b → fill_at k (map Some b ++ cs) ys ≡ map Some b ++ fill cs (drop (length b - k) ys)
-fill_at_some zero b cs ys h = fill_some b cs ys ∙ (let k : length b ≡ length b - 0 = omega arith in ap (λ n. map Some b ++ fill cs (drop n ys)) k)
-fill_at_some (suc k) [] cs ys h = absurd (omega (arith, h))
-fill_at_some (suc k) (x ∷ b) cs ys h = ap (λ c. Some x ∷ c) (fill_at_some k b cs ys (omega (arith, h)) ∙ (let m : length b - k ≡ suc (length b) - suc k = omega arith in ap (λ n. map Some b ++ fill cs (drop n ys)) m))
 
 pub put_at : (k : ℕ) (ys : Bytes) (cs : Cells) → 0 < length ys → put k ys cs ≡ fill_at k cs ys
 put_at k [] cs h = absurd (omega (arith, h))
@@ -64,3 +29,104 @@ put_behind b cs k (y ∷ ys) = fill_at_behind b cs k (y ∷ ys)
 pub run_some : (b : Bytes) (cs : Cells) → run (map Some b ++ cs) ≡ b ++ run cs
 run_some [] cs = refl
 run_some (x ∷ b) cs = ap (λ r. x ∷ r) (run_some b cs)
+
+pub run_split : (cs : Cells) → cs ≡ map Some (run cs) ++ drop (length (run cs)) cs
+run_split [] = refl
+run_split (None ∷ cs) = refl
+run_split (Some x ∷ cs) = ap (λ c. Some x ∷ c) (run_split cs)
+
+pub run_drop : (cs : Cells) → run (drop (length (run cs)) cs) ≡ []
+run_drop [] = refl
+run_drop (None ∷ cs) = refl
+run_drop (Some x ∷ cs) = run_drop cs
+
+pub run_low : (cs : Cells) → length (run cs) ≤ length cs
+run_low [] = omega arith
+run_low (None ∷ cs) = omega arith
+run_low (Some x ∷ cs) = let r = run_low cs in omega (arith, r)
+
+-- bytes at the first places: they are part of the front, and nothing changes behind them
+pub run_fill_long : (cs : Cells) (ys : Bytes) → length ys ≤ length (run (fill cs ys))
+run_fill_long [] [] = omega arith
+run_fill_long [] (y ∷ ys) = let r = run_fill_long [] ys in omega (arith, r)
+run_fill_long (c ∷ cs) [] = omega arith
+run_fill_long (None ∷ cs) (y ∷ ys) = let r = run_fill_long cs ys in omega (arith, r)
+run_fill_long (Some x ∷ cs) (y ∷ ys) = let r = run_fill_long cs ys in omega (arith, r)
+
+pub drop_fill : (n : ℕ) (cs : Cells) (ys : Bytes) → length ys ≤ n → drop n (fill cs ys) ≡ drop n cs
+drop_fill zero cs [] h = fill_nil cs
+drop_fill zero cs (y ∷ ys) h = absurd (omega (arith, h))
+drop_fill (suc n) [] [] h = refl
+drop_fill (suc n) [] (y ∷ ys) h = drop_fill n [] ys (omega (arith, h)) ∙ nothing n
+  where
+    nothing : (n : ℕ) → drop {A = Option ℕ} n [] ≡ []
+    nothing zero = refl
+    nothing (suc n) = refl
+drop_fill (suc n) (c ∷ cs) [] h = refl
+drop_fill (suc n) (c ∷ cs) (y ∷ ys) h = drop_fill n cs ys (omega (arith, h))
+
+-- no place is taken beyond what is put there
+pub fill_low : (cs : Cells) (ys : Bytes) (n : ℕ) → length cs ≤ n → length ys ≤ n → length (fill cs ys) ≤ n
+fill_low [] [] n h g = h
+fill_low [] (y ∷ ys) zero h g = absurd (omega (arith, g))
+fill_low [] (y ∷ ys) (suc n) h g = let r = fill_low [] ys n (omega arith) (omega (arith, g)) in omega (arith, r)
+fill_low (c ∷ cs) [] n h g = h
+fill_low (c ∷ cs) (y ∷ ys) zero h g = absurd (omega (arith, h))
+fill_low (c ∷ cs) (y ∷ ys) (suc n) h g = let r = fill_low cs ys n (omega (arith, h)) (omega (arith, g)) in omega (arith, r)
+
+pub fill_at_low : (k : ℕ) (cs : Cells) (ys : Bytes) (n : ℕ) → length cs ≤ n → k + length ys ≤ n → length (fill_at k cs ys) ≤ n
+fill_at_low zero cs ys n h g = fill_low cs ys n h (omega (arith, g))
+fill_at_low (suc k) [] ys zero h g = absurd (omega (arith, g))
+fill_at_low (suc k) [] ys (suc n) h g = let r = fill_at_low k [] ys n (omega arith) (omega (arith, g)) in omega (arith, r)
+fill_at_low (suc k) (c ∷ cs) ys zero h g = absurd (omega (arith, h))
+fill_at_low (suc k) (c ∷ cs) ys (suc n) h g = let r = fill_at_low k cs ys n (omega (arith, h)) (omega (arith, g)) in omega (arith, r)
+
+-- a first place that is empty stays so, where bytes are put behind it
+pub fill_at_run : (k : ℕ) (cs : Cells) (ys : Bytes) → 0 < k → run cs ≡ [] → run (fill_at k cs ys) ≡ []
+fill_at_run zero cs ys h e = absurd (omega (arith, h))
+fill_at_run (suc k) [] ys h e = refl
+fill_at_run (suc k) (None ∷ cs) ys h e = refl
+fill_at_run (suc k) (Some x ∷ cs) ys h e = absurd cc
+
+-- What stands, counted.
+pub known_low : (cs : Cells) → known cs ≤ length cs
+known_low [] = omega arith
+known_low (None ∷ cs) = let r = known_low cs in omega (arith, r)
+known_low (Some x ∷ cs) = let r = known_low cs in omega (arith, r)
+
+pub known_split : (n : ℕ) (cs : Cells) → known (take n cs) + known (drop n cs) ≡ known cs
+known_split zero cs = omega arith
+known_split (suc n) [] = refl
+known_split (suc n) (None ∷ cs) = known_split n cs
+known_split (suc n) (Some x ∷ cs) = let r = known_split n cs in omega (arith, r)
+
+pub behind_some : (b : Bytes) (cs : Cells) → known_behind (map Some b ++ cs) ≡ known_behind cs
+behind_some [] cs = refl
+behind_some (x ∷ b) cs = behind_some b cs
+
+pub behind_all : (cs : Cells) → run cs ≡ [] → known_behind cs ≡ known cs
+behind_all [] e = refl
+behind_all (None ∷ cs) e = refl
+behind_all (Some x ∷ cs) e = absurd cc
+
+pub empties_low : (cs : Cells) → empties cs ≤ length cs
+empties_low [] = omega arith
+empties_low (None ∷ cs) = let r = empties_low cs in omega (arith, r)
+empties_low (Some x ∷ cs) = omega arith
+
+-- A gap: nothing stands in front of it, and something behind.
+pub gap_low : (cs : Cells) → gap cs ≤ length cs
+gap_low cs = go (ltb 0 (known cs))
+  where
+    go : (t : Bool) → cond t (empties cs) 0 ≤ length cs
+    go true = empties_low cs
+    go false = omega arith
+
+pub gap_first : (cs : Cells) → 0 < gap cs → run cs ≡ []
+gap_first [] h = refl
+gap_first (None ∷ cs) h = refl
+gap_first (Some x ∷ cs) h = let n = none (ltb 0 (known (Some x ∷ cs))) in absurd (omega (arith, h, n))
+  where
+    none : (t : Bool) → ◌≡◌ {A = ℕ} (cond t 0 0) 0
+    none true = refl
+    none false = refl

@@ -1,11 +1,12 @@
 -- What stands of a stream, place by place.
-use Rattle.std.proofs.Common.{◌≡◌, ◌↔◌, ◌⊎◌, inl, inr, ℕ, zero, suc, ◌+◌, ◌-◌, ◌*◌, ◌/◌, ◌%◌, ◌^◌, ◌<◌, ◌≤◌, List, [], ◌∷◌, ◌++◌, length, take, drop, map, Option, Some, None, Bool, true, false, cond, ltb, refl, sym, ◌∙◌, ap, subst, arith, append_assoc, append-nil, le_refl}
+use Rattle.std.proofs.Common.{◌≡◌, ◌↔◌, ◌⊎◌, inl, inr, ℕ, zero, suc, ◌+◌, ◌-◌, ◌*◌, ◌/◌, ◌%◌, ◌^◌, ◌<◌, ◌≤◌, List, [], ◌∷◌, ◌++◌, length, take, drop, Option, Some, None, Bool, true, false, cond, ltb, refl, sym, ◌∙◌, ap, subst, arith, append_assoc, le_refl}
 use Rattle.std.specs.Option.{IsSome}
-use Rattle.std.proofs.lemmas.Bool.{ltb-true, ltb-false, lt-ltb, le-ltb}
-use Rattle.std.proofs.lemmas.List.{length-append, length-drop, length-map, take_more, take_at, take-append-drop, length-take-le}
+use Rattle.std.proofs.lemmas.Bool.{ltb-true, ltb-false}
+use Rattle.std.proofs.lemmas.List.{length-append, take_at, take-append-drop, length-take-le}
 use Rattle.std.proofs.lemmas.Nat.{div-add-mod', mod_below, mod_low}
-use Rattle.segments.specs.Cells.{Bytes, Cells, Held, or_else, fill, fill_at, put, run, wanted, ahead, located, placed, with_located, with_part, with_segment, without_front}
-use Rattle.segments.specs.Law.{Segment, place_of, IsPart, AreParts, IsOver, IsCovered, IsLongestFront, IsReassembled, cell, byte_at, part_at, earlier, IsMadeOf, IsAmong}
+use Rattle.segments.specs.Cells.{Bytes, Cells, Held, fill, fill_at, put, run, wanted, ahead, located, with_located, with_segment, without_front}
+use Rattle.segments.proofs.CellLemmas.{run_drop}
+use Rattle.segments.specs.Law.{Segment, place_of, IsPart, AreParts, IsOver, IsCovered, IsLongestFront, cell, byte_at, earlier, IsMadeOf, IsAmong}
 
 -- Filled cells, place by place.
 cell_fill : (cs : Cells) (ys : Bytes) (i : ℕ) → cell (fill cs ys) i ≡ earlier (cell cs i) (byte_at ys i)
@@ -275,23 +276,22 @@ pub record IsHandingOut (stream : Bytes) (K : ℕ → Type 0) (out : Bytes) (h :
   pub taken_is : h.taken ≡ length out
   pub none_left : run h.cells ≡ []
 
-run_drop : (cs : Cells) → run (drop (length (run cs)) cs) ≡ []
-run_drop [] = refl
-run_drop (None ∷ cs) = refl
-run_drop (Some x ∷ cs) = run_drop cs
+-- What stands in front is the stream's, from what was handed out on.
+pub front_rest : (stream : Bytes) (K : ℕ → Type 0) (out rest : Bytes) (h : Held) → IsMadeOf stream K h → stream ≡ out ++ rest → h.taken ≡ length out →
+    rest ≡ run h.cells ++ drop (length (run h.cells)) rest
+front_rest stream K out rest h made is taken =
+    run_front h.cells rest (λ k y e.
+    sym (byte_append out rest k) ∙ ap (λ n. byte_at (out ++ rest) (n + k)) (sym taken) ∙ ap (λ s. byte_at s (h.taken + k)) (sym is) ∙ (made.stands k y e).1)
 
 pub handing_front : (stream : Bytes) (K : ℕ → Type 0) (out rest : Bytes) (h : Held) → IsMadeOf stream K h → stream ≡ out ++ rest → h.taken ≡ length out →
     IsHandingOut stream K (out ++ run h.cells) (without_front (length (run h.cells)) h)
-handing_front stream K out rest h made is taken =
-    let agrees : (k y : ℕ) → cell h.cells k ≡ Some y → byte_at rest k ≡ Some y =
-    λ k y e. sym (byte_append out rest k) ∙ ap (λ n. byte_at (out ++ rest) (n + k)) (sym taken) ∙ ap (λ s. byte_at s (h.taken + k)) (sym is) ∙ (made.stands k y e).1 in
-    record {
-      made = made_fewer stream K h (length (run h.cells)) made (le_refl _);
-      rest = drop (length (run h.cells)) rest;
-      is_front = is ∙ ap (λ r. out ++ r) (run_front h.cells rest agrees) ∙ sym (append_assoc out (run h.cells) (drop (length (run h.cells)) rest));
-      taken_is = ap (λ n. n + length (run h.cells)) taken ∙ sym (length-append out (run h.cells));
-      none_left = run_drop h.cells;
-    }
+handing_front stream K out rest h made is taken = record {
+  made = made_fewer stream K h (length (run h.cells)) made (le_refl _);
+  rest = drop (length (run h.cells)) rest;
+  is_front = is ∙ ap (λ r. out ++ r) (front_rest stream K out rest h made is taken) ∙ sym (append_assoc out (run h.cells) (drop (length (run h.cells)) rest));
+  taken_is = ap (λ n. n + length (run h.cells)) taken ∙ sym (length-append out (run h.cells));
+  none_left = run_drop h.cells;
+}
 
 pub longest : (stream : Bytes) (K : ℕ → Type 0) (out : Bytes) (h : Held) → IsHandingOut stream K out h → IsLongestFront stream K out
 longest stream K out h s = record {
@@ -402,123 +402,3 @@ pub front_among : (stream : Bytes) (ss : List (ℕ × Bytes)) (h : Held) → IsM
 front_among stream ss h made few =
     longest stream (IsAmong ss) (take h.taken stream ++ run h.cells) (without_front (length (run h.cells)) h)
     (handing_front stream (IsAmong ss) (take h.taken stream) (drop h.taken stream) h made (sym (take-append-drop h.taken stream)) (sym (length-take-le h.taken stream few)))
-
--- Bytes that are put at a place of the stream, place by place.
-earlier_some : (o q : Option ℕ) → IsSome o → earlier o q ≡ o
-earlier_some None q h = absurd cc
-earlier_some (Some x) q h = refl
-
-earlier_none : (o : Option ℕ) → earlier o None ≡ o
-earlier_none None = refl
-earlier_none (Some x) = refl
-
-pub part_low : (place : ℕ) (b : Bytes) (i : ℕ) → i < place → part_at place b i ≡ None
-part_low place b i h = ap (λ t. cond t None (byte_at b (i - place))) (lt-ltb i place h)
-
-pub part_high : (place : ℕ) (b : Bytes) (i : ℕ) → place ≤ i → part_at place b i ≡ byte_at b (i - place)
-part_high place b i h = ap (λ t. cond t None (byte_at b (i - place))) (le-ltb i place h)
-
-cell_behind : (h : Held) (place : ℕ) (b : Bytes) (k : ℕ) → place < wanted h →
-    cell (put (length (run h.cells) + 0) (drop (wanted h - place) b) h.cells) k ≡ earlier (cell h.cells k) (part_at place b (h.taken + k))
-cell_behind h place b k before = go (ltb k from) refl
-  where
-    from : ℕ
-    from = length (run h.cells) + 0
-
-    go : (t : Bool) → ltb k from ≡ t →
-        cell (put from (drop (wanted h - place) b) h.cells) k ≡ earlier (cell h.cells k) (part_at place b (h.taken + k))
-    go true e =
-        let low = ltb-true k from e in
-        cell_put_low from (drop (wanted h - place) b) h.cells k low
-        ∙ sym (earlier_some (cell h.cells k) (part_at place b (h.taken + k)) (run_stands h.cells k (omega (arith, low))))
-    go false e =
-        let low = ltb-false k from e in
-        let n : wanted h - place + (k - from) ≡ h.taken + k - place = omega (arith, low, before) in
-        cell_put from (drop (wanted h - place) b) h.cells k low
-        ∙ ap (earlier (cell h.cells k)) (byte_drop (wanted h - place) b (k - from) ∙ ap (byte_at b) n
-        ∙ sym (part_high place b (h.taken + k) (omega (arith, low, before))))
-
-cell_ahead : (h : Held) (place : ℕ) (b : Bytes) (k : ℕ) → wanted h ≤ place →
-    cell (put (length (run h.cells) + (place - wanted h)) b h.cells) k ≡ earlier (cell h.cells k) (part_at place b (h.taken + k))
-cell_ahead h place b k behind = go (ltb k from) refl
-  where
-    from : ℕ
-    from = length (run h.cells) + (place - wanted h)
-
-    go : (t : Bool) → ltb k from ≡ t → cell (put from b h.cells) k ≡ earlier (cell h.cells k) (part_at place b (h.taken + k))
-    go true e =
-        let low = ltb-true k from e in
-        cell_put_low from b h.cells k low
-        ∙ sym (ap (earlier (cell h.cells k)) (part_low place b (h.taken + k) (omega (arith, low, behind))) ∙ earlier_none (cell h.cells k))
-    go false e =
-        let low = ltb-false k from e in
-        let n : k - from ≡ h.taken + k - place = omega (arith, low, behind) in
-        cell_put from b h.cells k low
-        ∙ ap (earlier (cell h.cells k)) (ap (byte_at b) n ∙ sym (part_high place b (h.taken + k) (omega (arith, low, behind))))
-
-pub cell_with_part : (h : Held) (place : ℕ) (b : Bytes) (k : ℕ) →
-    cell (with_part place b h).cells k ≡ earlier (cell h.cells k) (part_at place b (h.taken + k))
-cell_with_part h place b k = go (ltb place (wanted h)) refl
-  where
-    value : Bool → Held
-    value t = with_located (cond t (pair 0 (drop (wanted h - place) b)) (pair (place - wanted h) b)) h
-
-    go : (t : Bool) → ltb place (wanted h) ≡ t →
-        cell (value t).cells k ≡ earlier (cell h.cells k) (part_at place b (h.taken + k))
-    go true e = cell_behind h place b k (ltb-true place (wanted h) e)
-    go false e = cell_ahead h place b k (ltb-false place (wanted h) e)
-
--- What is available, byte by byte.
-pub cell_run : (cs : Cells) (k : ℕ) → k < length (run cs) → cell cs k ≡ byte_at (run cs) k
-cell_run [] k h = absurd (omega (arith, h))
-cell_run (None ∷ cs) k h = absurd (omega (arith, h))
-cell_run (Some x ∷ cs) zero h = refl
-cell_run (Some x ∷ cs) (suc k) h = cell_run cs k (omega (arith, h))
-
--- All places below the end of a run stand, and only those.
-pub run_all : (cs : Cells) (n : ℕ) → ((k : ℕ) → k < n → IsSome (cell cs k)) → n ≤ length (run cs)
-run_all cs n all = go (ltb (length (run cs)) n) refl
-  where
-    go : (t : Bool) → ltb (length (run cs)) n ≡ t → n ≤ length (run cs)
-    go true e = let s = subst IsSome (run_ends cs) (all (length (run cs)) (ltb-true (length (run cs)) n e)) in absurd cc
-    go false e = ltb-false (length (run cs)) n e
-
--- No place is taken beyond what is put there.
-fill_low : (cs : Cells) (ys : Bytes) (n : ℕ) → length cs ≤ n → length ys ≤ n → length (fill cs ys) ≤ n
-fill_low [] ys n h g = omega (arith, g, length-map ys Some)
-fill_low (c ∷ cs) [] n h g = h
-fill_low (c ∷ cs) (y ∷ ys) zero h g = absurd (omega (arith, h))
-fill_low (c ∷ cs) (y ∷ ys) (suc n) h g = let r = fill_low cs ys n (omega (arith, h)) (omega (arith, g)) in omega (arith, r)
-
-fill_at_low : (k : ℕ) (cs : Cells) (ys : Bytes) (n : ℕ) → length cs ≤ n → k + length ys ≤ n → length (fill_at k cs ys) ≤ n
-fill_at_low zero cs ys n h g = fill_low cs ys n h (omega (arith, g))
-fill_at_low (suc k) [] ys zero h g = absurd (omega (arith, g))
-fill_at_low (suc k) [] ys (suc n) h g = let r = fill_at_low k [] ys n (omega arith) (omega (arith, g)) in omega (arith, r)
-fill_at_low (suc k) (c ∷ cs) ys zero h g = absurd (omega (arith, h))
-fill_at_low (suc k) (c ∷ cs) ys (suc n) h g = let r = fill_at_low k cs ys n (omega (arith, h)) (omega (arith, g)) in omega (arith, r)
-
-put_low : (k : ℕ) (ys : Bytes) (cs : Cells) (n : ℕ) → length cs ≤ n → k + length ys ≤ n → length (put k ys cs) ≤ n
-put_low k [] cs n h g = h
-put_low k (y ∷ ys) cs n h g = fill_at_low k cs (y ∷ ys) n h g
-
-pub run_low : (cs : Cells) → length (run cs) ≤ length cs
-run_low [] = omega arith
-run_low (None ∷ cs) = omega arith
-run_low (Some x ∷ cs) = let r = run_low cs in omega (arith, r)
-
-pub part_low_end : (h : Held) (place : ℕ) (b : Bytes) (n : ℕ) → h.taken ≡ 0 → length h.cells ≤ n → place + length b ≤ n →
-    length (with_part place b h).cells ≤ n
-part_low_end h place b n none low end = go (ltb place (wanted h)) refl
-  where
-    value : Bool → Held
-    value t = with_located (cond t (pair 0 (drop (wanted h - place) b)) (pair (place - wanted h) b)) h
-
-    go : (t : Bool) → ltb place (wanted h) ≡ t → length (value t).cells ≤ n
-    go true e =
-        let before = ltb-true place (wanted h) e in
-        let r = run_low h.cells in
-        let d = length-drop (wanted h - place) b in
-        put_low (length (run h.cells) + 0) (drop (wanted h - place) b) h.cells n low (omega (arith, before, r, d, none, low, end))
-    go false e =
-        let behind = ltb-false place (wanted h) e in
-        put_low (length (run h.cells) + (place - wanted h)) b h.cells n low (omega (arith, behind, none, end))

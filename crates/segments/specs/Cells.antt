@@ -1,5 +1,5 @@
 -- What is held of a stream, from one place on.
-use Rattle.std.specs.Prelude.{◌≡◌, ℕ, zero, suc, ◌+◌, ◌-◌, ◌*◌, ◌%◌, ◌^◌, ◌<◌, ◌≤◌, ◌⊎◌, Bool, Option, Some, None, List, [], ◌∷◌, ◌++◌, length, map, drop, replicate, nat_lt, if◌then◌else◌}
+use Rattle.std.specs.Prelude.{ℕ, zero, suc, ◌+◌, ◌-◌, ◌%◌, ◌^◌, ◌<◌, ◌⊎◌, Option, Some, None, List, [], ◌∷◌, length, map, drop, nat_lt, if◌then◌else◌}
 
 abbrev pub Bytes : Type 0
 Bytes = List ℕ
@@ -36,7 +36,29 @@ run [] = []
 run (None ∷ cs) = []
 run (Some x ∷ cs) = x ∷ run cs
 
--- A stream that is held from the place `taken` on; what stands before it was handed out.
+-- How many bytes stand.
+abbrev pub known : Cells → ℕ
+known [] = 0
+known (None ∷ cs) = known cs
+known (Some x ∷ cs) = suc (known cs)
+
+-- How many places are empty before the first byte.
+abbrev pub empties : Cells → ℕ
+empties [] = 0
+empties (None ∷ cs) = suc (empties cs)
+empties (Some x ∷ cs) = 0
+
+-- How many bytes stand behind the first place that is empty.
+abbrev pub known_behind : Cells → ℕ
+known_behind [] = 0
+known_behind (None ∷ cs) = known cs
+known_behind (Some x ∷ cs) = known_behind cs
+
+-- How many bytes are missing before the first that stands; none are where none stands.
+abbrev pub gap : Cells → ℕ
+gap cs = if nat_lt 0 (known cs) then empties cs else 0
+
+-- A stream that is held from the place `taken` on; what stands before it was handed out, or is missed.
 pub record Held : Type 0 where
   pub first : ℕ
   pub limit : ℕ

@@ -1,5 +1,5 @@
 -- What is handed out of a stream, by the stream and its segments alone.
-use Rattle.std.specs.Prelude.{◌≡◌, ℕ, zero, suc, ◌+◌, ◌-◌, ◌^◌, ◌<◌, ◌≤◌, ◌⊎◌, Option, Some, None, List, [], ◌∷◌, ◌++◌, length, map, nat_lt, if◌then◌else◌}
+use Rattle.std.specs.Prelude.{◌≡◌, ℕ, zero, suc, ◌+◌, ◌^◌, ◌<◌, ◌≤◌, ◌⊎◌, Option, Some, None, List, [], ◌∷◌, ◌++◌, length, map}
 use Rattle.std.specs.Borrow.{Bor}
 use Rattle.std.specs.Option.{IsSome}
 use Rattle.segments.specs.Cells.{Bytes, Cells, Held, ahead}
@@ -54,10 +54,6 @@ cell (c ∷ cs) (suc i) = cell cs i
 
 abbrev pub byte_at : Bytes → ℕ → Option ℕ
 byte_at b i = cell (map Some b) i
-
--- The byte that stands at a place of the stream, by bytes that stand from another on.
-abbrev pub part_at : ℕ → Bytes → ℕ → Option ℕ
-part_at place b i = if nat_lt i place then None else byte_at b (i - place)
 
 -- The first of two that is there.
 abbrev pub earlier : Option ℕ → Option ℕ → Option ℕ

@@ -1,11 +1,11 @@
 //! What is held of a stream.
-ghost use Rattle.std.specs.Prelude.{◌≡◌, ◌≤◌, ◌<◌, ◌+◌, ◌-◌, ◌%◌, ◌^◌, ◌↔◌, ◌++◌, List, [], ℕ, length, drop, Ok, Err, OnOk, OnErr};
-ghost use Rattle.segments.specs.Cells.{Held, ahead, located, placed, put, run, wanted, with_located, with_part, with_segment, without_front, IsBeyond, IsTooMuch};
-ghost use Rattle.segments.specs.Blocks.{IsSound, held_cells};
+ghost use Rattle.std.specs.Prelude.{◌≡◌, ◌≤◌, ◌<◌, ◌+◌, ◌^◌, ◌↔◌, [], length, Err, IfErr, IfOk, OnOk, OnErr};
+ghost use Rattle.segments.specs.Cells.{ahead, gap, known_behind, located, placed, run, wanted, with_located, with_part, with_segment, without_front, IsBeyond, IsTooMuch};
 ghost use Rattle.segments.specs.declared.segments.SegmentError.TheVariants as segment_error;
 
-use crate::blocks::{Block, clip, cut_out, drop_front, join};
-use std::alloc::{AllocError, AllocFailed, Global};
+use crate::places::{append_joined, append_run, count_empty, drop_first};
+use crate::window::Window;
+use std::alloc::{AllocError, Global};
 use std::error::Error;
 use std::fmt;
 use std::marker::Model;
@@ -43,27 +43,26 @@ impl Error for SegmentError {}
 /// Its value in a contract: at each place behind what was handed out, the byte that stands there, where one came.
 #[derive(Drop)]
 pub struct Segments {
-    alloc: Global,
     first: u32,
     limit: u32,
-    // How many bytes were handed out.
+    // How many bytes were handed out, or are missed.
     taken: u64,
     // What stands in order, behind `start` bytes that were handed out.
     front: Vec<u8>,
     start: usize,
-    // What stands behind a byte that is missing.
-    pending: Vec<Block>,
+    // What stands from the first byte on that is missing.
+    window: Window,
 }
 
 impl Model for Segments {
     ghost use Rattle.segments.specs.Cells.{Held};
-    ghost use Rattle.segments.specs.Blocks.{IsSound, held_cells};
+    ghost use Rattle.segments.specs.Places.{IsSound, held_of};
 
     ghost Value = { Held };
 
-    ghost view = { λ s. record { first = s.first; limit = s.limit; taken = s.taken; cells = held_cells s.start s.taken s.front.items s.pending.items } };
+    ghost view = { λ s. held_of s.first s.limit s.start s.taken s.front.items s.window };
 
-    ghost invariant = { λ s. IsSound s.start s.taken s.front.items s.pending.items };
+    ghost invariant = { λ s. IsSound s.start s.taken s.limit s.front.items s.window };
 }
 
 /// How far a sequence number is ahead of the one of a place.
@@ -109,13 +108,12 @@ impl Segments {
         ensures { result ≡ record { first = first_place; limit = limit; taken = 0; cells = [] } }
     {
         Segments {
-            alloc,
             first: first_place,
             limit,
             taken: 0,
             front: Vec::new(alloc),
             start: 0,
-            pending: Vec::new(alloc),
+            window: Window::new(alloc),
         }
     }
 
@@ -163,11 +161,12 @@ impl Segments {
         ensures err { OnErr result (self.new ≡ self.old) }
     {
         self.make_room();
-        let at = self.wanted();
         let held = self.front.len();
-        match join(&mut self.front, false, at, bytes, &self.pending) {
-            Ok(count) => {
-                cut_out(&mut self.pending, 0, count);
+        match append_joined(&mut self.front, bytes, self.window.places()) {
+            Ok(()) => {
+                let added = self.front.len() - held;
+                let count = added.min(self.window.places().len());
+                self.window.drop_front(count);
                 Ok(())
             }
             Err(e) => {
@@ -178,30 +177,40 @@ impl Segments {
     }
 
     /// Keeps bytes behind a byte that is missing.
-    fn hold(&mut self, distance: u32, bytes: &[u8]) -> Result<(), AllocError>
+    fn hold(&mut self, ahead: u32, bytes: &[u8]) -> Result<(), AllocError>
         requires some { 0 < length bytes.now }
-        requires ahead { 0 < distance }
-        requires small { wanted self.old + distance + length bytes.now ≤ 2 ^ 62 }
-        ensures ok { OnOk result (self.new ≡ with_located (distance, bytes.now) self.old) }
+        requires ahead { 0 < ahead }
+        requires near { ahead + length bytes.now ≤ self.old.limit }
+        requires small { wanted self.old + ahead + length bytes.now ≤ 2 ^ 62 }
+        ensures ok { OnOk result (self.new ≡ with_located (ahead, bytes.now) self.old) }
         ensures err { OnErr result (self.new ≡ self.old) }
     {
-        let at = self.wanted() + u64::from(distance);
-        let (place, rest, first) = clip(&self.pending, at, bytes);
-        if rest.is_empty() {
-            return Ok(());
-        }
-        let mut whole = Vec::with_capacity(self.alloc, rest.len())?;
-        let count = join(&mut whole, true, place, rest, &self.pending[first..])?;
-        if whole.is_empty() {
-            return Ok(());
-        }
-        let block = Block {
-            place,
-            bytes: whole,
-        };
-        self.pending.insert(first, block)?;
-        cut_out(&mut self.pending, first + 1, first + 1 + count);
+        self.window.fill(ahead as usize, bytes)?;
         Ok(())
+    }
+
+    /// Moves the bytes that stand behind a gap of so many places to the front, on which none are.
+    fn pass(&mut self, missed: usize) -> Result<(), AllocError>
+        requires empty { run self.old.cells ≡ [] }
+        requires within { missed ≤ length self.old.cells }
+        ensures ok { OnOk result (self.new ≡ without_front missed self.old) }
+        ensures err { OnErr result (self.new ≡ self.old) }
+    {
+        let held = self.front.len();
+        let places = self.window.places();
+        let from = missed.min(places.len());
+        match append_run(&mut self.front, &places[from..]) {
+            Ok(()) => {
+                let added = self.front.len() - held;
+                self.window.drop_front(missed + added);
+                self.taken += missed as u64;
+                Ok(())
+            }
+            Err(e) => {
+                self.front.truncate(held);
+                Err(e)
+            }
+        }
     }
 
     /// Takes a segment whose first byte has the sequence number `seq`. Its bytes stand where none stood; those of them that stand
@@ -258,12 +267,54 @@ impl Segments {
         Ok(())
     }
 
+    /// How many bytes are held behind the first that is missing, at most the limit: 0 where nothing shows that one is. It
+    /// takes the same time however many are held.
+    pub fn held_behind(&self) -> usize
+        ensures is { result ≡ known_behind self.now.cells }
+        ensures within { result ≤ self.now.limit }
+    {
+        self.window.held()
+    }
+
+    /// How many bytes are missing before the next that is held: 0 where bytes are available, or none are held behind those that
+    /// are missing. It takes time by their count.
+    pub fn missing(&self) -> usize
+        ensures { result ≡ gap self.now.cells }
+    {
+        if self.front.len() > self.start {
+            return 0;
+        }
+        if self.window.held() == 0 {
+            return 0;
+        }
+        count_empty(self.window.places())
+    }
+
+    /// Gives up the bytes that are missing at the front, and tells how many they are: what is held behind them comes next.
+    ///
+    /// Where bytes are available, or nothing is held behind those that are missing, none are given up, and nothing changes.
+    ///
+    /// - `OutOfMemory` where the bytes that come next could not be held in order. Nothing changes.
+    pub fn skip(&mut self) -> Result<usize, SegmentError>
+        ensures missed { IfOk result (λ n. n ≡ gap self.old.cells) }
+        ensures ok { OnOk result (self.new ≡ without_front (gap self.old.cells) self.old) }
+        ensures err { OnErr result (self.new ≡ self.old) }
+        ensures memory { IfErr result (λ e. e ≡ segment_error.OutOfMemory) }
+    {
+        let missed = self.missing();
+        if missed == 0 {
+            return Ok(0);
+        }
+        self.pass(missed)?;
+        Ok(missed)
+    }
+
     /// The bytes that come next, up to the first that is missing; those behind it are let go. It takes no memory.
     pub fn into_available(self) -> Vec<u8>
         ensures { result.items ≡ run self.cells }
     {
         let mut front = self.front;
-        drop_front(&mut front, self.start);
+        drop_first(&mut front, self.start);
         front
     }
 }

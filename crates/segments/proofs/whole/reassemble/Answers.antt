@@ -1,7 +1,7 @@
-use Rattle.std.proofs.Common.{◌≡◌, ◌<◌, ◌^◌, ◌+◌, ◌++◌, [], ◌∷◌, length, take, get_or, ap, sym, ◌∙◌, subst, arith}
+use Rattle.std.proofs.Common.{◌≡◌, ◌+◌, ◌++◌, [], length, take, get_or, ap, sym, ◌∙◌, subst}
 use Rattle.std.proofs.lemmas.List.{take_more, take_all}
-use Rattle.segments.specs.Cells.{Bytes, Held, run, with_segment, without_front}
-use Rattle.segments.specs.Law.{Segment, AreParts, IsCovered, IsLongestFront}
+use Rattle.segments.specs.Cells.{Held, run, with_segment, without_front}
+use Rattle.segments.specs.Law.{Segment, AreParts, IsCovered}
 use Rattle.segments.proofs.LawLemmas.{IsHandingOut, handing_starts, handing_next, longest}
 use Rattle.segments.proofs.whole.reassemble.Goals as goal
 

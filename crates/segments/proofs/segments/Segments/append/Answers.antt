@@ -1,29 +1,39 @@
-use Rattle.std.proofs.Common.{false, ◌≡◌, ◌≤◌, ◌<◌, ◌+◌, ◌-◌, ◌^◌, ◌++◌, length, drop, take, ap, sym, ◌∙◌, subst, arith}
-use Rattle.segments.specs.Cells.{wanted, with_located}
-use Rattle.segments.specs.Blocks.{IsApart, held_of, joined}
-use Rattle.segments.proofs.HeldLemmas.{wanted_is, appended, IsHeldMore}
+use Rattle.std.proofs.Common.{◌≡◌, ◌≤◌, ◌+◌, ◌-◌, ◌^◌, ◌++◌, length, drop, ap, sym, ◌∙◌, subst, arith, min}
+use Rattle.segments.specs.Cells.{fill, run, wanted, with_located}
+use Rattle.segments.proofs.HeldLemmas.{wanted_is, appended}
 use Rattle.segments.proofs.segments.Segments.append.Goals as goal
-
-pub join-requires : goal.join-requires
-join-requires c =
-    let i = c.self.inside in
-    let here = c.wanted-at.ensures.is ∙ ap wanted (sym c.self.view_is) ∙ (wanted_is i.first i.limit i.start i.taken i.front.items i.pending.items c.self.invariant).0 in
-    let value = c.deref.ensures.value in
-    subst (λ n. IsApart n c.deref.result.now) (sym here) (subst (IsApart (i.taken + (length i.front.items - i.start))) (sym value) c.self.invariant.apart)
 
 pub invariant_of-self : goal.invariant_of-self
 invariant_of-self c =
     let i = c.self.inside in
-    let here = c.wanted-at.ensures.is ∙ ap wanted (sym c.self.view_is) ∙ (wanted_is i.first i.limit i.start i.taken i.front.items i.pending.items c.self.invariant).0 in
-    let value = c.deref.ensures.value in
-    let small : c.wanted-at.result + length c.args.bytes.now ≤ 2 ^ 62 = subst (λ n. n + length c.args.bytes.now ≤ 2 ^ 62) (sym (c.wanted-at.ensures.is ∙ ap wanted c.make_room.ensures)) c.requires in
-    (appended i.first i.limit i.start i.taken i.front.items _ i.pending.items _ c.wanted-at.result c.args.bytes.now c.self.invariant here small (c.in-Ok.ensures.out ∙ ap (λ p. i.front.items ++ (joined false c.wanted-at.result c.args.bytes.now p).0) value) (c.cut_out.ensures ∙ ap (drop c.in-Ok.count) (sym value) ∙ c.in-Ok.ensures.left ∙ ap (λ p. (joined false c.wanted-at.result c.args.bytes.now p).1) value)).sound
+    let ys = c.args.bytes.now in
+    let there = sym (ap wanted (c.self.view_is ∙ c.make_room.ensures)) ∙ (wanted_is i.first i.limit i.start i.taken i.front.items i.window c.self.invariant).0 in
+    let small = subst (λ n. n + length ys ≤ 2 ^ 62) there c.requires in
+    let n = c.len.result - c.len-held.result in
+    let o = i.front.ok.0 in
+    let o' = c.append_joined.new.out.ok.0 in
+    let l = c.len.ensures in
+    let l' = c.len-held.ensures in
+    let n_is : n ≡ length c.append_joined.new.out.items - length i.front.items = omega (arith, o, o', l, l') in
+    (appended i.first i.limit i.start i.taken i.front.items c.append_joined.new.out.items i.window c.drop_front.new.self ys n c.self.invariant small
+    (c.in-Ok.ensures.out ∙ ap (λ w. i.front.items ++ run (fill w ys)) c.places.ensures)
+    n_is
+    (c.drop_front.ensures ∙ ap (λ k. drop k i.window) (c.min-count.ensures ∙ ap (λ p. min n (length p)) c.places-in-Ok.ensures))).sound
 
 pub returns-in-Ok-clause-ok : goal.returns-in-Ok-clause-ok
 returns-in-Ok-clause-ok c =
     let i = c.self.inside in
-    let here = c.wanted-at.ensures.is ∙ ap wanted (sym c.self.view_is) ∙ (wanted_is i.first i.limit i.start i.taken i.front.items i.pending.items c.self.invariant).0 in
-    let value = c.deref.ensures.value in
-    let small : c.wanted-at.result + length c.args.bytes.now ≤ 2 ^ 62 = subst (λ n. n + length c.args.bytes.now ≤ 2 ^ 62) (sym (c.wanted-at.ensures.is ∙ ap wanted c.make_room.ensures)) c.requires in
-    (appended i.first i.limit i.start i.taken i.front.items _ i.pending.items _ c.wanted-at.result c.args.bytes.now c.self.invariant here small (c.in-Ok.ensures.out ∙ ap (λ p. i.front.items ++ (joined false c.wanted-at.result c.args.bytes.now p).0) value) (c.cut_out.ensures ∙ ap (drop c.in-Ok.count) (sym value) ∙ c.in-Ok.ensures.left ∙ ap (λ p. (joined false c.wanted-at.result c.args.bytes.now p).1) value)).held
-    ∙ ap (with_located (0, c.args.bytes.now)) (c.self.view_is ∙ c.make_room.ensures)
+    let ys = c.args.bytes.now in
+    let there = sym (ap wanted (c.self.view_is ∙ c.make_room.ensures)) ∙ (wanted_is i.first i.limit i.start i.taken i.front.items i.window c.self.invariant).0 in
+    let small = subst (λ n. n + length ys ≤ 2 ^ 62) there c.requires in
+    let n = c.len.result - c.len-held.result in
+    let o = i.front.ok.0 in
+    let o' = c.append_joined.new.out.ok.0 in
+    let l = c.len.ensures in
+    let l' = c.len-held.ensures in
+    let n_is : n ≡ length c.append_joined.new.out.items - length i.front.items = omega (arith, o, o', l, l') in
+    (appended i.first i.limit i.start i.taken i.front.items c.append_joined.new.out.items i.window c.drop_front.new.self ys n c.self.invariant small
+    (c.in-Ok.ensures.out ∙ ap (λ w. i.front.items ++ run (fill w ys)) c.places.ensures)
+    n_is
+    (c.drop_front.ensures ∙ ap (λ k. drop k i.window) (c.min-count.ensures ∙ ap (λ p. min n (length p)) c.places-in-Ok.ensures))).held
+    ∙ ap (with_located (0, ys)) (c.self.view_is ∙ c.make_room.ensures)

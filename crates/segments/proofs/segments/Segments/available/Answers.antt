@@ -1,4 +1,4 @@
-use Rattle.std.proofs.Common.{◌≡◌, length, drop, take, ap, sym, ◌∙◌}
+use Rattle.std.proofs.Common.{drop, ap, sym, ◌∙◌}
 use Rattle.std.proofs.lemmas.List.{take_rest}
 use Rattle.segments.specs.Cells.{run}
 use Rattle.segments.proofs.HeldLemmas.{run_held}
@@ -9,5 +9,5 @@ returns c =
     let i = c.self.inside in
     take_rest c.deref.result.now i.start
     ∙ ap (drop i.start) c.deref.ensures.value
-    ∙ sym (run_held i.start i.taken i.front.items i.pending.items c.self.invariant)
+    ∙ sym (run_held i.start i.taken i.limit i.front.items i.window c.self.invariant)
     ∙ ap (λ h. run h.cells) c.self.view_is

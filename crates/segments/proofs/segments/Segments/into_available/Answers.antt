@@ -6,6 +6,6 @@ use Rattle.segments.proofs.segments.Segments.into_available.Goals as goal
 pub returns : goal.returns
 returns c =
     let i = c.self.inside in
-    c.drop_front.ensures
-    ∙ sym (run_held i.start i.taken i.front.items i.pending.items c.self.invariant)
+    c.drop_first.ensures
+    ∙ sym (run_held i.start i.taken i.limit i.front.items i.window c.self.invariant)
     ∙ ap (λ h. run h.cells) c.self.view_is

@@ -1,0 +1,33 @@
+-- How the bytes that wait for others are stored: place by place.
+use Rattle.std.specs.Prelude.{◌≡◌, ℕ, ◌+◌, ◌-◌, ◌^◌, ◌≤◌, Option, Some, None, [], ◌∷◌, ◌++◌, length, map, drop}
+use Rattle.segments.specs.Cells.{Bytes, Cells, Held, known, run}
+
+-- What stands at a place, or else a byte.
+abbrev pub standing : Option ℕ → ℕ → ℕ
+standing None y = y
+standing (Some x) y = x
+
+-- Bytes, but at each place the one that stands there, where one does.
+abbrev pub over : Cells → Bytes → Bytes
+over [] ys = ys
+over (c ∷ cs) [] = []
+over (c ∷ cs) (y ∷ ys) = standing c y ∷ over cs ys
+
+-- What a Window keeps.
+pub record IsCounted (begin held : ℕ) (places : Cells) : Type 0 where
+  pub begin_in : begin ≤ length places
+  pub held_is : held ≡ known (drop begin places)
+
+-- What a Segments keeps: the first place behind its front is empty, and no place is further behind it than the limit.
+pub record IsSound (start taken limit : ℕ) (front : Bytes) (window : Cells) : Type 0 where
+  pub start_in : start ≤ length front
+  pub first_empty : run window ≡ []
+  pub within : length window ≤ limit
+  pub small : taken + (length front - start) + length window ≤ 2 ^ 62
+
+abbrev pub held_cells : ℕ → Bytes → Cells → Cells
+held_cells start front window = map Some (drop start front) ++ window
+
+-- What the fields hold.
+abbrev pub held_of : ℕ → ℕ → ℕ → ℕ → Bytes → Cells → Held
+held_of first limit start taken front window = record { first = first; limit = limit; taken = taken; cells = held_cells start front window }

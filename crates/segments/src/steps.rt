@@ -1,0 +1,55 @@
+//! Calls on a stream, in any order.
+ghost use Rattle.std.specs.Prelude.{◌≡◌, ◌++◌, [], IfOk, OnOk};
+ghost use Rattle.segments.specs.Steps.{IsReplayed, handed, stepped, told};
+
+use crate::segments::{SegmentError, Segments};
+use std::alloc::Global;
+
+/// One call on a stream.
+#[derive(Drop)]
+pub enum Step<'a> {
+    /// A segment comes: the sequence number of its first byte, and its bytes.
+    Segment(u32, &'a [u8]),
+    /// At most so many of the bytes that are available are handed out.
+    Take(usize),
+}
+
+/// Takes one step; what it hands out is put behind `out`.
+fn take_step(stream: &mut Segments, step: &Step, out: &mut Vec<u8>) -> Result<(), SegmentError>
+    ensures stream { OnOk result (stream.new ≡ stepped step.now stream.old) }
+    ensures out { OnOk result (out.new.items ≡ out.old.items ++ told step.now stream.old) }
+{
+    match step {
+        Step::Segment(seq, bytes) => stream.segment(*seq, bytes),
+        Step::Take(most) => {
+            let front = stream.available();
+            let n = front.len().min(*most);
+            out.extend_from_slice(&front[..n])?;
+            stream.take(n);
+            Ok(())
+        }
+    }
+}
+
+/// What is handed out where segments come and bytes are taken in any order, and what is available after the last step.
+///
+/// The stream may have any length below 2^62; each segment begins less than 2^31 from the first byte that is missing as it comes.
+///
+/// - `TooMuch` where [`Segments::segment`] refuses a segment so.
+/// - `OutOfMemory` where memory ran out.
+pub fn replay(
+    alloc: Global,
+    first_place: u32,
+    limit: u32,
+    steps: &[Step],
+) -> Result<(Vec<u8>, Vec<u8>), SegmentError>
+    ensures front { IfOk result (λ r. IsReplayed first_place steps.now r.0.items r.1.items) }
+    ensures told { IfOk result (λ r. r.0.items ≡ handed steps.now record { first = first_place; limit = limit; taken = 0; cells = [] }) }
+{
+    let mut stream = Segments::new(alloc, first_place, limit);
+    let mut out = Vec::new(alloc);
+    for step in steps {
+        take_step(&mut stream, step, &mut out)?;
+    }
+    Ok((out, stream.into_available()))
+}
