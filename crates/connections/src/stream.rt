@@ -1,0 +1,144 @@
+//! One direction of a connection.
+use crate::segment::Segment;
+use segments::{SegmentError, Segments};
+use std::alloc::{AllocError, Global};
+
+/// How many bytes a segment may end behind the first that is missing. Where one ends further, the missing bytes count as lost.
+pub const HELD_LIMIT: u32 = 262_144;
+
+/// Half of all numbers: one that is less than this ahead of another comes behind it.
+const HALF: u32 = 0x8000_0000;
+
+/// How a direction is read.
+#[derive(Drop)]
+enum Reading {
+    /// No segment of it came.
+    Unbegun,
+    /// What came stands here.
+    Open(Segments),
+    /// It is not read any more.
+    Over,
+}
+
+/// One direction of a connection: what came of it in order.
+#[derive(Drop)]
+pub struct Stream {
+    reading: Reading,
+    // The number of the first byte that was not yet taken.
+    next: u32,
+    // The number behind the last byte that came.
+    last: u32,
+    fin: Option<u32>,
+    is_broken: bool,
+    has_gap: bool,
+}
+
+/// Whether a number comes behind another, among the numbers around it.
+fn is_behind(number: u32, other: u32) -> bool {
+    let ahead = number.wrapping_sub(other);
+    ahead > 0 && ahead < HALF
+}
+
+/// The count of a slice's bytes as a number of sequence.
+fn count(bytes: &[u8]) -> u32 {
+    (bytes.len() % 0x1_0000_0000) as u32
+}
+
+impl Stream {
+    /// One of which no segment came. It takes no memory.
+    pub fn new() -> Stream {
+        Stream {
+            reading: Reading::Unbegun,
+            next: 0,
+            last: 0,
+            fin: None,
+            is_broken: false,
+            has_gap: false,
+        }
+    }
+
+    /// It begins with its first segment.
+    fn begin(&mut self, alloc: Global, segment: &Segment<'_>) {
+        if let Reading::Unbegun = self.reading {
+            self.next = segment.first();
+            self.last = self.next;
+            self.reading = Reading::Open(Segments::new(alloc, self.next, HELD_LIMIT));
+        }
+    }
+
+    /// Puts the segment's bytes where they stand. Where it ends more than [`HELD_LIMIT`] behind the first byte that is missing,
+    /// there is a gap, and nothing further is read. `OutOfMemory` where its bytes could not be held: they are left out.
+    pub fn accept(&mut self, alloc: Global, segment: &Segment<'_>) -> Result<(), AllocError> {
+        if segment.breaks() {
+            self.is_broken = true;
+            return Ok(());
+        }
+        self.begin(alloc, segment);
+        if is_behind(segment.behind(), self.last) {
+            self.last = segment.behind();
+        }
+        if segment.ends() {
+            self.fin = Some(segment.behind());
+        }
+        if let Reading::Open(segments) = &mut self.reading {
+            match segments.segment(segment.first(), segment.payload) {
+                Ok(()) => {}
+                Err(SegmentError::TooMuch) => {
+                    self.has_gap = true;
+                    self.reading = Reading::Over;
+                }
+                Err(SegmentError::OutOfMemory) => return Err(AllocError),
+            }
+        }
+        Ok(())
+    }
+
+    /// The bytes that come next, up to the first that is missing; none where it is not read any more.
+    pub fn available(&self) -> &[u8] {
+        match &self.reading {
+            Reading::Open(segments) => segments.available(),
+            Reading::Unbegun | Reading::Over => &[],
+        }
+    }
+
+    /// Takes bytes off the front; all where fewer are there.
+    pub fn take(&mut self, n: usize) {
+        if let Reading::Open(segments) = &mut self.reading {
+            let n = n.min(segments.available().len());
+            self.next = self.next.wrapping_add((n % 0x1_0000_0000) as u32);
+            segments.take(n);
+        }
+    }
+
+    /// Reads no further: what is held and what comes is let go.
+    pub fn stop(&mut self) {
+        self.reading = Reading::Over;
+    }
+
+    /// Whether its sender said its last: it broke the connection off, or all in front of its FIN came.
+    pub fn is_closed(&self) -> bool {
+        if self.is_broken {
+            return true;
+        }
+        let Some(fin) = self.fin else {
+            return false;
+        };
+        match &self.reading {
+            Reading::Open(segments) => self.next.wrapping_add(count(segments.available())) == fin,
+            Reading::Unbegun | Reading::Over => true,
+        }
+    }
+
+    /// Whether bytes are missing in front of others, or of a FIN, that came.
+    pub fn has_gap(&self) -> bool {
+        match &self.reading {
+            Reading::Open(segments) => {
+                is_behind(
+                    self.last,
+                    self.next.wrapping_add(count(segments.available())),
+                )
+            }
+            Reading::Unbegun | Reading::Over => self.has_gap,
+        }
+    }
+}

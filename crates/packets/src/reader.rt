@@ -1,0 +1,147 @@
+//! The next packet off the front of a capture's bytes.
+use crate::section::Section;
+use capture::{Format, SECTION_HEADER, parse_block, parse_pcap_header, parse_pcap_packet};
+use std::alloc::Global;
+use std::error::Error;
+use std::fmt;
+use tls_fields::{Err, number4};
+
+/// A packet, as it was captured.
+#[derive(Clone, Copy, Debug, PartialEq)]
+pub struct Packet<'a> {
+    /// When, in nanoseconds since 1970-01-01 00:00 UTC.
+    pub time: u64,
+    /// What its bytes begin with: a LINKTYPE value of tcpdump.org.
+    pub link_type: u16,
+    /// How long it was on the wire, in bytes.
+    pub original_length: u32,
+    /// The bytes that were captured of it.
+    pub bytes: &'a [u8],
+}
+
+/// What the front of a capture's bytes is.
+#[derive(Clone, Copy, Debug, PartialEq)]
+pub enum Step<'a> {
+    /// A packet, and the bytes behind it.
+    Packet(Packet<'a>, &'a [u8]),
+    /// No packet, and the bytes behind it.
+    Other(&'a [u8]),
+    /// Further bytes are needed to say.
+    Wait,
+}
+
+/// Why no further packet is read.
+#[derive(Clone, Copy, Debug, PartialEq, Eq)]
+pub enum CaptureError {
+    /// The bytes are no capture: they begin neither as pcap nor as pcapng.
+    NoCapture,
+    /// A header or a block breaks a rule.
+    Broken,
+    /// Memory ran out.
+    OutOfMemory,
+}
+
+impl fmt::Display for CaptureError {
+    fn fmt<W: fmt::Write>(&self, f: &mut fmt::Formatter<W>) -> fmt::Result {
+        match self {
+            CaptureError::NoCapture => write!(f, "this is no capture"),
+            CaptureError::Broken => write!(f, "a header or a block breaks a rule"),
+            CaptureError::OutOfMemory => write!(f, "memory ran out"),
+        }
+    }
+}
+
+impl Error for CaptureError {}
+
+/// What is known of a capture's form.
+#[derive(Drop)]
+enum Form {
+    Unknown,
+    Pcap(Format, u16),
+    Blocks(Section),
+}
+
+/// A capture of which the front was read.
+#[derive(Drop)]
+pub struct Capture {
+    alloc: Global,
+    form: Form,
+}
+
+/// The form that the front of a capture says; `None` where further bytes are needed.
+fn form_of(alloc: Global, i: &[u8]) -> Result<Option<(Form, &[u8])>, CaptureError> {
+    match number4(i) {
+        Ok((_, SECTION_HEADER)) => return Ok(Some((Form::Blocks(Section::new(alloc)), i))),
+        Ok(_) => {}
+        Err(_) => return Ok(None),
+    }
+    match parse_pcap_header(i) {
+        Ok((rest, header)) => Ok(Some((Form::Pcap(header.format, header.link_type), rest))),
+        Err(Err::Incomplete(_)) => Ok(None),
+        Err(_) => Err(CaptureError::NoCapture),
+    }
+}
+
+/// The packet of a pcap file in front.
+fn pcap_step(i: &[u8], format: Format, link_type: u16) -> Result<Step<'_>, CaptureError> {
+    match parse_pcap_packet(i, format) {
+        Ok((rest, packet)) => Ok(Step::Packet(
+            Packet {
+                time: packet.time,
+                link_type,
+                original_length: packet.original_length,
+                bytes: packet.bytes,
+            },
+            rest,
+        )),
+        Err(Err::Incomplete(_)) => Ok(Step::Wait),
+        Err(_) => Err(CaptureError::Broken),
+    }
+}
+
+/// The block in front.
+fn block_step<'a>(section: &mut Section, i: &'a [u8]) -> Result<Step<'a>, CaptureError> {
+    match parse_block(i, section.order) {
+        Ok((rest, block)) => match section.hear(block)? {
+            Some(packet) => Ok(Step::Packet(packet, rest)),
+            None => Ok(Step::Other(rest)),
+        },
+        Err(Err::Incomplete(_)) => Ok(Step::Wait),
+        Err(_) => Err(CaptureError::Broken),
+    }
+}
+
+impl Capture {
+    /// One of which nothing was read. It takes no memory.
+    pub fn new(alloc: Global) -> Capture {
+        Capture {
+            alloc,
+            form: Form::Unknown,
+        }
+    }
+
+    /// Whether its form is known.
+    pub fn is_known(&self) -> bool {
+        !matches!(self.form, Form::Unknown)
+    }
+
+    /// What stands in front of the bytes behind all that was read.
+    ///
+    /// - `NoCapture` where the first bytes are of no form, or of a pcap file whose major version isn't 2.
+    /// - `Broken` where a packet's header or a block breaks a rule of its layout, a block is of an interface that wasn't
+    ///   described, or a time is past the year 2554.
+    /// - `OutOfMemory` where an interface could not be held.
+    pub fn step<'a>(&mut self, i: &'a [u8]) -> Result<Step<'a>, CaptureError> {
+        match &mut self.form {
+            Form::Unknown => match form_of(self.alloc, i)? {
+                Some((form, rest)) => {
+                    self.form = form;
+                    Ok(Step::Other(rest))
+                }
+                None => Ok(Step::Wait),
+            },
+            Form::Pcap(format, link_type) => pcap_step(i, *format, *link_type),
+            Form::Blocks(section) => block_step(section, i),
+        }
+    }
+}

@@ -1,0 +1,77 @@
+//! A conversation whose events are noted.
+ghost use Rattle.std.specs.Prelude.{◌≡◌, OnOk};
+ghost use Rattle.tls_conversations.specs.Events.{view_said};
+ghost use Rattle.tls_facts.specs.Facts.{view_facts};
+ghost use Rattle.tls_talks.specs.Noting.{noted};
+ghost use Rattle.tls_talks.specs.Hearing.{IsHeard};
+
+use std::alloc::{AllocError, Global};
+use tls_conversations::{Conversation, Direction, Event, Said};
+use tls_facts::Facts;
+
+/// A conversation, and what its events say of it.
+#[derive(Drop)]
+pub struct Hearer {
+    /// Both sides, as far as they were followed.
+    pub conversation: Conversation,
+    /// What they said.
+    pub facts: Facts,
+}
+
+/// Whether what follows in its direction can't be read.
+fn is_encrypted(said: &Said<'_>) -> bool {
+    match said {
+        Said::Event(Event::Encrypted(_)) | Said::Event(Event::ApplicationData(_)) => true,
+        Said::Event(_) | Said::Fault(_) => false,
+    }
+}
+
+/// Notes what one event says.
+fn note(facts: &mut Facts, alloc: Global, said: &Said<'_>) -> Result<(), AllocError>
+    ensures { OnOk result (view_facts facts.new ≡ noted (view_facts facts.old) (view_said said.now)) }
+{
+    match said {
+        Said::Event(Event::Handshake(message)) => facts.note_message(alloc, message)?,
+        Said::Event(Event::Alert(alert)) => facts.note_alert(alert.code),
+        Said::Event(Event::ChangeCipherSpec)
+        | Said::Event(Event::Heartbeat(_))
+        | Said::Event(Event::ApplicationData(_))
+        | Said::Event(Event::Encrypted(_))
+        | Said::Fault(_) => {}
+    }
+    Ok(())
+}
+
+impl Hearer {
+    /// One of which nothing came. It takes no memory.
+    pub fn new(alloc: Global) -> Hearer {
+        Hearer {
+            conversation: Conversation::new(alloc),
+            facts: Facts::new(),
+        }
+    }
+
+    /// Puts a piece behind what came of that side's stream, and follows and notes each event that the side says by it: whether one
+    /// of them is encrypted.
+    ///
+    /// `AllocError` where the piece, or a name in it, could not be held.
+    pub fn hear(&mut self, alloc: Global, side: Direction, piece: &[u8]) -> Result<bool, AllocError>
+        ensures { OnOk result (IsHeard self.old side piece.now self.new) }
+    {
+        let mut has_encrypted = false;
+        self.conversation
+            .feed(side, piece)
+            .map_err(|_e| AllocError)?;
+        for _ in 0..u64::MAX {
+            match self.conversation.front(side) {
+                Some(said) => {
+                    has_encrypted = has_encrypted || is_encrypted(&said);
+                    note(&mut self.facts, alloc, &said)?;
+                }
+                None => break,
+            }
+            self.conversation.take_front(side);
+        }
+        Ok(has_encrypted)
+    }
+}

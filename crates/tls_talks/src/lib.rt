@@ -1,0 +1,14 @@
+//! What a connection of TLS says: both sides heard, its facts noted, and how its handshake ended.
+//!
+//! [`Hearer`] follows both sides, and its facts are a fold over what they say, in the order of the capture. [`Talk`] tells from
+//! the first bytes of a side whether they are TLS, and hears a side no further once its handshake ended and it is encrypted: so
+//! nothing behind the handshake is kept.
+#![tactic(auto)]
+
+mod hearer;
+mod talk;
+#[cfg(test)]
+mod tests;
+
+pub use hearer::Hearer;
+pub use talk::Talk;
