@@ -1,0 +1,67 @@
+//! What was read, and what was left out.
+use std::io;
+
+/// What was read of a capture, and what of it was left out, each by its reason.
+#[derive(Clone, Copy, Debug, PartialEq, Eq)]
+pub struct Counts {
+    /// Packets.
+    pub packets: u64,
+    /// Packets that weren't captured whole, or break a rule of a header.
+    pub unread: u64,
+    /// Packets of a link type, or of a protocol, that isn't read.
+    pub other_protocols: u64,
+    /// Parts of datagrams that were cut.
+    pub fragments: u64,
+    /// Segments of TCP that belong to no connection.
+    pub stray_segments: u64,
+    /// Connections that aren't TLS.
+    pub other_connections: u64,
+    /// Sides of connections of TLS in which bytes are missing.
+    pub gaps: u64,
+}
+
+/// One more.
+pub fn add_one(count: &mut u64) {
+    *count = count.saturating_add(1);
+}
+
+impl Counts {
+    /// Nothing was read.
+    pub fn new() -> Counts {
+        Counts {
+            packets: 0,
+            unread: 0,
+            other_protocols: 0,
+            fragments: 0,
+            stray_segments: 0,
+            other_connections: 0,
+            gaps: 0,
+        }
+    }
+
+    /// Writes a line for each count that isn't 0, of what was left out.
+    pub fn tell<R: Eprint>(&self, rt: &R, name: &str) -> io::Result<()> {
+        let table = [
+            (
+                self.unread,
+                "packets not captured whole, or with a broken header",
+            ),
+            (
+                self.other_protocols,
+                "packets of another link or protocol than TCP",
+            ),
+            (self.fragments, "fragments of IP"),
+            (self.stray_segments, "segments of no connection"),
+            (self.other_connections, "connections that are not TLS"),
+            (self.gaps, "sides of connections with lost bytes"),
+        ];
+        let packets = self.packets;
+        eprintln!(rt; "{name}: {packets} packets; left out:")?;
+        for (count, what) in table {
+            if count > 0 {
+                eprintln!(rt; "{name}: {count} {what}")?;
+            }
+        }
+        Ok(())
+    }
+}

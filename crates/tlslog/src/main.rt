@@ -1,0 +1,70 @@
+//! Prints a line of JSON for each connection of TLS in a capture, at its end.
+//!
+//! The capture is standard input, or files that are named. The names are those of Zeek's logs. What was left out is told on
+//! standard error. The status is 0, or 1 where an input is no capture or is broken off, 2 for wrong arguments, 3 where memory ran
+//! out, or reading or writing failed.
+#![tactic(auto)]
+
+mod counts;
+mod line;
+mod log;
+mod names;
+mod program;
+
+use crate::program::{Exit, log_file, log_input};
+use clap::{Arg, ArgAction, ArgMatches, Command};
+use std::alloc::Global;
+use std::process::ExitCode;
+use std::rt::Runtime;
+
+/// The matches of the command line.
+fn matches<'a>(alloc: Global, words: &'a [String]) -> Result<ArgMatches<'a>, clap::Error> {
+    let captures = Arg::new(alloc, "captures")
+        .help("Captures, as pcap or pcapng; standard input where none is named")
+        .num_args(0..)
+        .action(ArgAction::Append);
+    Command::new(alloc, "tlslog")
+        .about("Prints a line of JSON for each connection of TLS in a capture")
+        .arg(captures)?
+        .try_get_matches_from(words)
+}
+
+/// Logs each capture that is named, or standard input.
+fn log_all<R: Runtime + AllocGlobal>(rt: &R, matches: &ArgMatches<'_>) -> Exit {
+    let Some(paths) = matches.get_strs("captures") else {
+        return log_input(rt, "standard input", &mut rt.reader());
+    };
+    let mut exit = Exit::Clean;
+    for path in paths {
+        exit = exit.max(log_file(rt, path));
+    }
+    exit
+}
+
+/// The whole run.
+fn run<R: Runtime + AllocGlobal>(rt: &R, words: &[String]) -> u8 {
+    match matches(rt.alloc(), words) {
+        Ok(matches) => u8::from(log_all(rt, &matches)),
+        Err(error) => {
+            let is_told = error.print(rt).is_ok();
+            if !is_told {
+                return 3;
+            }
+            match error.exit_code() {
+                0 => 0,
+                _ => 2,
+            }
+        }
+    }
+}
+
+fn main(rt: HostRuntime) -> ExitCode {
+    let words = match std::env::args(&rt) {
+        Ok(words) => words.collect::<Vec<String>>(rt.alloc()),
+        Err(_) => return ExitCode::from(3),
+    };
+    match words {
+        Ok(words) => ExitCode::from(run(&rt, words.as_slice())),
+        Err(_) => ExitCode::from(3),
+    }
+}

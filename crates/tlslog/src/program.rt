@@ -1,0 +1,198 @@
+//! The run over one capture.
+use crate::line::{gap_name, line_of};
+use crate::log::{Heard, Log};
+use connections::Connection;
+use packets::{Buffer, Capture, CaptureError, Packet, Step};
+use std::alloc::AllocError;
+use std::fs;
+use std::io::Read;
+use std::rt::Runtime;
+
+/// How a run ends; each has its own exit status.
+#[derive(Clone, Copy, Debug, PartialEq, Eq, PartialOrd, Ord)]
+pub enum Exit {
+    /// All was read and printed.
+    Clean,
+    /// An input is no capture, or is broken off.
+    Broken,
+    /// Memory ran out, or reading or writing failed.
+    Failed,
+}
+
+impl From<Exit> for u8 {
+    fn from(exit: Exit) -> u8 {
+        match exit {
+            Exit::Clean => 0,
+            Exit::Broken => 1,
+            Exit::Failed => 3,
+        }
+    }
+}
+
+/// Why the run over a capture ends before the capture's end.
+#[derive(Debug, Drop)]
+enum Failure {
+    /// What is read is no capture, or is broken off.
+    Capture(&'static str),
+    /// Memory ran out.
+    Memory,
+    /// A read failed.
+    Reading,
+    /// A write failed.
+    Writing,
+}
+
+impl From<AllocError> for Failure {
+    fn from(_e: AllocError) -> Failure {
+        Failure::Memory
+    }
+}
+
+impl From<CaptureError> for Failure {
+    fn from(e: CaptureError) -> Failure {
+        match e {
+            CaptureError::NoCapture => Failure::Capture("this is no capture"),
+            CaptureError::Broken => Failure::Capture("a header or a block breaks a rule"),
+            CaptureError::OutOfMemory => Failure::Memory,
+        }
+    }
+}
+
+/// Prints the line of a connection that is over, if it is TLS.
+fn print_one<R: Runtime + AllocGlobal>(
+    rt: &R,
+    log: &mut Log,
+    connection: Connection<Heard>,
+) -> Result<(), Failure> {
+    if !connection.listener.talk.is_tls() {
+        log.counts.other_connections = log.counts.other_connections.saturating_add(1);
+        return Ok(());
+    }
+    if gap_name(&connection).is_some() {
+        log.counts.gaps = log.counts.gaps.saturating_add(1);
+    }
+    let line = line_of(rt.alloc(), &connection).map_err(|_e| Failure::Memory)?;
+    println!(rt; "{line}").map_err(|_e| Failure::Writing)
+}
+
+/// Logs one packet.
+fn log_packet<R: Runtime + AllocGlobal>(
+    rt: &R,
+    log: &mut Log,
+    packet: Packet<'_>,
+) -> Result<(), Failure> {
+    let Some(segment) = log.segment(packet) else {
+        return Ok(());
+    };
+    for _ in 0..u64::MAX {
+        match log.take_over(&segment) {
+            Some(connection) => print_one(rt, log, connection)?,
+            None => break,
+        }
+    }
+    match log.accept(&segment)? {
+        Some(connection) => print_one(rt, log, connection),
+        None => Ok(()),
+    }
+}
+
+/// Logs what stands in front of the buffer, as far as it is whole.
+fn log_held<R: Runtime + AllocGlobal>(
+    rt: &R,
+    log: &mut Log,
+    capture: &mut Capture,
+    buffer: &mut Buffer,
+) -> Result<(), Failure> {
+    for _ in 0..u64::MAX {
+        let held = buffer.held();
+        let left = match capture.step(held)? {
+            Step::Packet(packet, rest) => {
+                log_packet(rt, log, packet)?;
+                rest.len()
+            }
+            Step::Other(rest) => rest.len(),
+            Step::Wait => return Ok(()),
+        };
+        let taken = held.len().saturating_sub(left);
+        buffer.take(taken);
+    }
+    Ok(())
+}
+
+/// Logs all that the reader gives.
+fn log_packets<R: Runtime + AllocGlobal, I: Read>(
+    rt: &R,
+    log: &mut Log,
+    reader: &mut I,
+) -> Result<(), Failure> {
+    let mut capture = Capture::new(rt.alloc());
+    let mut buffer = Buffer::new(rt.alloc());
+    for _ in 0..u64::MAX {
+        let n = buffer.fill(reader).map_err(|_e| Failure::Reading)?;
+        if n == 0 {
+            break;
+        }
+        log_held(rt, log, &mut capture, &mut buffer)?;
+    }
+    if !capture.is_known() {
+        return Err(Failure::Capture("this is no capture"));
+    }
+    if !buffer.held().is_empty() {
+        return Err(Failure::Capture("the capture is broken off"));
+    }
+    Ok(())
+}
+
+/// Prints the connections that are left.
+fn print_left<R: Runtime + AllocGlobal>(rt: &R, log: &mut Log) -> Result<(), Failure> {
+    for _ in 0..u64::MAX {
+        match log.take_left() {
+            Some(connection) => print_one(rt, log, connection)?,
+            None => break,
+        }
+    }
+    Ok(())
+}
+
+/// Tells why a run ended early, and which status that is.
+fn tell<R: Runtime>(rt: &R, name: &str, failure: Failure) -> Exit {
+    let (exit, text) = match failure {
+        Failure::Capture(text) => (Exit::Broken, text),
+        Failure::Memory => (Exit::Failed, "memory ran out"),
+        Failure::Reading => (Exit::Failed, "reading failed"),
+        Failure::Writing => (Exit::Failed, "writing failed"),
+    };
+    match eprintln!(rt; "{name}: {text}") {
+        Ok(()) => exit,
+        Err(_) => Exit::Failed,
+    }
+}
+
+/// Logs a capture that is read from there, under that name.
+pub fn log_input<R: Runtime + AllocGlobal, I: Read>(rt: &R, name: &str, reader: &mut I) -> Exit {
+    let mut log = match Log::new(rt.alloc()) {
+        Ok(log) => log,
+        Err(_) => return tell(rt, name, Failure::Memory),
+    };
+    let mut exit = match log_packets(rt, &mut log, reader) {
+        Ok(()) => Exit::Clean,
+        Err(failure) => tell(rt, name, failure),
+    };
+    if exit != Exit::Failed {
+        if let Err(failure) = print_left(rt, &mut log) {
+            exit = tell(rt, name, failure);
+        }
+    }
+    match log.counts.tell(rt, name) {
+        Ok(()) => exit,
+        Err(_) => Exit::Failed,
+    }
+}
+
+/// Logs the capture in a file.
+pub fn log_file<R: Runtime + AllocGlobal>(rt: &R, path: &str) -> Exit {
+    match fs::open(rt, path) {
+        Ok(mut file) => log_input(rt, path, &mut file),
+        Err(_) => tell(rt, path, Failure::Reading),
+    }
+}
