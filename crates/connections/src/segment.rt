@@ -1,5 +1,6 @@
 //! A segment of TCP, and the ends that it goes between.
-ghost use Rattle.std.specs.Prelude.{◌≡◌, ◌↔◌, IsTrue};
+ghost use Rattle.std.specs.Prelude.{◌≡◌, ◌<◌};
+ghost use Rattle.connections.specs.Segment.{has_flag as is_set, ends, begins, breaks, asks, first_of, behind_of};
 
 use std::net::IpAddr;
 
@@ -41,29 +42,47 @@ pub struct Segment<'a> {
     pub payload: &'a [u8],
 }
 
+/// Whether the flag of that weight is set.
+fn has_flag(segment: &Segment<'_>, weight: u8) -> bool
+    requires { 0 < weight }
+    ensures { result ≡ is_set weight segment.now }
+{
+    segment.flags / weight % 2 == 1
+}
+
 impl<'a> Segment<'a> {
     /// It is its sender's first: SYN is set.
-    pub fn begins(&self) -> bool {
-        self.flags & SYN != 0
+    pub fn begins(&self) -> bool
+        ensures { result ≡ begins self.now }
+    {
+        has_flag(self, SYN)
     }
 
     /// It asks for a connection: SYN is set, and ACK is not.
-    pub fn asks(&self) -> bool {
-        self.begins() && self.flags & ACK == 0
+    pub fn asks(&self) -> bool
+        ensures { result ≡ asks self.now }
+    {
+        self.begins() && !has_flag(self, ACK)
     }
 
     /// It is its sender's last: FIN is set.
-    pub fn ends(&self) -> bool {
-        self.flags & FIN != 0
+    pub fn ends(&self) -> bool
+        ensures { result ≡ ends self.now }
+    {
+        has_flag(self, FIN)
     }
 
     /// It breaks the connection off: RST is set.
-    pub fn breaks(&self) -> bool {
-        self.flags & RST != 0
+    pub fn breaks(&self) -> bool
+        ensures { result ≡ breaks self.now }
+    {
+        has_flag(self, RST)
     }
 
     /// The number of its first byte of data, in front of which a SYN counts as one.
-    pub fn first(&self) -> u32 {
+    pub fn first(&self) -> u32
+        ensures { result ≡ first_of self.now }
+    {
         if self.begins() {
             return self.sequence.wrapping_add(1);
         }
@@ -71,8 +90,9 @@ impl<'a> Segment<'a> {
     }
 
     /// The number behind its last byte of data.
-    pub fn behind(&self) -> u32 {
-        self.first()
-            .wrapping_add((self.payload.len() % 0x1_0000_0000) as u32)
+    pub fn behind(&self) -> u32
+        ensures { result ≡ behind_of self.now }
+    {
+        self.first().wrapping_add((self.payload.len() % 0x1_0000_0000) as u32)
     }
 }

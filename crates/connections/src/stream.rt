@@ -1,4 +1,9 @@
 //! One direction of a connection.
+ghost use Rattle.std.specs.Prelude.{◌≡◌, true, false, OnOk};
+ghost use Rattle.connections.specs.Segment.{breaks, first_of};
+ghost use Rattle.connections.specs.Stream.{Accepts, begun, next_bytes, behind_front};
+ghost use Rattle.connections.specs.declared.stream.Reading.TheVariants.{Unbegun, Over};
+
 use crate::segment::Segment;
 use segments::{SegmentError, Segments};
 use std::alloc::{AllocError, Global};
@@ -46,7 +51,9 @@ fn count(bytes: &[u8]) -> u32 {
 
 impl Stream {
     /// One of which no segment came. It takes no memory.
-    pub fn new() -> Stream {
+    pub fn new() -> Stream
+        ensures { result.reading ≡ Unbegun }
+    {
         Stream {
             reading: Reading::Unbegun,
             next: 0,
@@ -58,7 +65,9 @@ impl Stream {
     }
 
     /// It begins with its first segment.
-    fn begin(&mut self, alloc: Global, segment: &Segment<'_>) {
+    fn begin(&mut self, alloc: Global, segment: &Segment<'_>)
+        ensures { self.new.reading ≡ begun HELD_LIMIT (first_of segment.now) self.old.reading }
+    {
         if let Reading::Unbegun = self.reading {
             self.next = segment.first();
             self.last = self.next;
@@ -68,7 +77,11 @@ impl Stream {
 
     /// Puts the segment's bytes where they stand. Where it ends more than [`HELD_LIMIT`] behind the first byte that is missing,
     /// there is a gap, and nothing further is read. `OutOfMemory` where its bytes could not be held: they are left out.
-    pub fn accept(&mut self, alloc: Global, segment: &Segment<'_>) -> Result<(), AllocError> {
+    pub fn accept(&mut self, alloc: Global, segment: &Segment<'_>) -> Result<(), AllocError>
+        ensures bytes { OnOk result (breaks segment.now ≡ false
+            → Accepts (first_of segment.now) segment.now.payload.now (begun HELD_LIMIT (first_of segment.now) self.old.reading) self.new.reading) }
+        ensures broken { breaks segment.now ≡ true → self.new.reading ≡ self.old.reading }
+    {
         if segment.breaks() {
             self.is_broken = true;
             return Ok(());
@@ -94,7 +107,9 @@ impl Stream {
     }
 
     /// The bytes that come next, up to the first that is missing; none where it is not read any more.
-    pub fn available(&self) -> &[u8] {
+    pub fn available(&self) -> &[u8]
+        ensures { result.now ≡ next_bytes self.now.reading }
+    {
         match &self.reading {
             Reading::Open(segments) => segments.available(),
             Reading::Unbegun | Reading::Over => &[],
@@ -102,7 +117,9 @@ impl Stream {
     }
 
     /// Takes bytes off the front; all where fewer are there.
-    pub fn take(&mut self, n: usize) {
+    pub fn take(&mut self, n: usize)
+        ensures { self.new.reading ≡ behind_front n self.old.reading }
+    {
         if let Reading::Open(segments) = &mut self.reading {
             let n = n.min(segments.available().len());
             self.next = self.next.wrapping_add((n % 0x1_0000_0000) as u32);
@@ -111,7 +128,9 @@ impl Stream {
     }
 
     /// Reads no further: what is held and what comes is let go.
-    pub fn stop(&mut self) {
+    pub fn stop(&mut self)
+        ensures { self.new.reading ≡ Over }
+    {
         self.reading = Reading::Over;
     }
 

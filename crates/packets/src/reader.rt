@@ -1,4 +1,9 @@
 //! The next packet off the front of a capture's bytes.
+ghost use Rattle.std.specs.Prelude.{◌≡◌};
+ghost use Rattle.tls_fields.specs.Reading.{reading};
+ghost use Rattle.capture.specs.Pcap.{packet as packet_layout, view_format};
+ghost use Rattle.packets.specs.Front.{pcap_front, view_answer};
+
 use crate::section::Section;
 use capture::{Format, SECTION_HEADER, parse_block, parse_pcap_header, parse_pcap_packet};
 use std::alloc::Global;
@@ -83,7 +88,9 @@ fn form_of(alloc: Global, i: &[u8]) -> Result<Option<(Form, &[u8])>, CaptureErro
 }
 
 /// The packet of a pcap file in front.
-fn pcap_step(i: &[u8], format: Format, link_type: u16) -> Result<Step<'_>, CaptureError> {
+fn pcap_step(i: &[u8], format: Format, link_type: u16) -> Result<Step<'_>, CaptureError>
+    ensures { view_answer result ≡ pcap_front link_type (reading (packet_layout (view_format format)) i.now) }
+{
     match parse_pcap_packet(i, format) {
         Ok((rest, packet)) => Ok(Step::Packet(
             Packet {
