@@ -93,6 +93,7 @@ impl<'a> Segment<'a> {
     pub fn behind(&self) -> u32
         ensures { result ≡ behind_of self.now }
     {
-        self.first().wrapping_add((self.payload.len() % 0x1_0000_0000) as u32)
+        self.first()
+            .wrapping_add((self.payload.len() % 0x1_0000_0000) as u32)
     }
 }
