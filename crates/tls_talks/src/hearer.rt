@@ -1,12 +1,14 @@
 //! A conversation whose events are noted.
 ghost use Rattle.std.specs.Prelude.{◌≡◌, OnOk};
+ghost use Rattle.tls_conversations.specs.Conversations.{IsBegun};
 ghost use Rattle.tls_conversations.specs.Events.{view_said};
-ghost use Rattle.tls_facts.specs.Facts.{view_facts};
+ghost use Rattle.tls_facts.specs.Facts.{nothing, view_facts};
 ghost use Rattle.tls_talks.specs.Noting.{noted};
 ghost use Rattle.tls_talks.specs.Hearing.{IsHeard};
 
 use std::alloc::{AllocError, Global};
 use tls_conversations::{Conversation, Direction, Event, Said};
+use tls_events::DEFAULT_LIMIT;
 use tls_facts::Facts;
 
 /// A conversation, and what its events say of it.
@@ -44,7 +46,10 @@ fn note(facts: &mut Facts, alloc: Global, said: &Said<'_>) -> Result<(), AllocEr
 
 impl Hearer {
     /// One of which nothing came. It takes no memory.
-    pub fn new(alloc: Global) -> Hearer {
+    pub fn new(alloc: Global) -> Hearer
+        ensures begun { IsBegun DEFAULT_LIMIT result.conversation }
+        ensures unknown { view_facts result.facts ≡ nothing }
+    {
         Hearer {
             conversation: Conversation::new(alloc),
             facts: Facts::new(),

@@ -1,4 +1,7 @@
 //! What a connection says, as far as it is TLS.
+ghost use Rattle.std.specs.Prelude.{◌≡◌};
+ghost use Rattle.tls_flow.specs.Table.{outcome_at};
+
 use crate::hearer::Hearer;
 use std::alloc::{AllocError, Global};
 use tls_conversations::{Direction, Outcome, Stop};
@@ -52,22 +55,30 @@ impl Talk {
     }
 
     /// Whether a side's first bytes are those of TLS.
-    pub fn is_tls(&self) -> bool {
+    pub fn is_tls(&self) -> bool
+        ensures { result ≡ self.now.is_tls }
+    {
         self.is_tls
     }
 
     /// What was said.
-    pub fn facts(&self) -> &Facts {
+    pub fn facts(&self) -> &Facts
+        ensures { result.now ≡ self.now.hearer.facts }
+    {
         &self.hearer.facts
     }
 
     /// How the handshake stands.
-    pub fn outcome(&self) -> Outcome {
+    pub fn outcome(&self) -> Outcome
+        ensures { result ≡ outcome_at self.now.hearer.conversation.flow.state }
+    {
         self.hearer.conversation.outcome()
     }
 
     /// The event that ended the handshake without success, if one did.
-    pub fn stop(&self) -> Option<Stop> {
+    pub fn stop(&self) -> Option<Stop>
+        ensures { result ≡ self.now.hearer.conversation.flow.stop }
+    {
         self.hearer.conversation.flow().stop()
     }
 
