@@ -5,7 +5,7 @@ use tls_base::{NamedGroup, TlsAlertDescription, TlsCipherSuiteID, TlsVersion};
 
 /// A ClientHello that asks for the host a.b.
 const CLIENT_HELLO: &[u8] = &[
-    1, 0, 0, 53, 3, 3, 0, 1, 2, 3, 4, 5, 6, 7, 8, 9, 10, 11, 12, 13, 14, 15, 16, 17, 18, 19, 20,
+    1, 0, 0, 55, 3, 3, 0, 1, 2, 3, 4, 5, 6, 7, 8, 9, 10, 11, 12, 13, 14, 15, 16, 17, 18, 19, 20,
     21, 22, 23, 24, 25, 26, 27, 28, 29, 30, 31, 0, 0, 2, 0x13, 1, 1, 0, 0, 12, 0, 0, 0, 8, 0, 6, 0,
     0, 3, b'a', b'.', b'b',
 ];
