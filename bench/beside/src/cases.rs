@@ -176,6 +176,7 @@ fn states(all: &mut Cases) {
         ("update", ours::ours_updates),
         ("run", ours::ours_runs),
     ];
+    let flows: [(&str, Sided); 2] = [("made of messages", ours::ours_flows), ("made before", ours::ours_events)];
     for (what, with_certificate) in [("handshake", false), ("with a client's certificate", true)] {
         let (bytes, sides) = inputs::conversation(with_certificate);
         let (bytes, sides) = (leak(bytes), leak(sides));
@@ -184,9 +185,10 @@ fn states(all: &mut Cases) {
             all.add("states", name, sided(o, bytes, sides), sided(rust::rust_transitions, bytes, sides));
         }
         // Peers' handshakes have nothing beside them in Rust: they stand beside our `update`.
-        let name = format!("{what}, {} events, beside `update`", sides.len());
-        let updates = sided(ours::ours_updates, bytes, sides);
-        all.add("flows", name, sided(ours::ours_flows, bytes, sides), updates);
+        for (made, o) in flows {
+            let name = format!("{what}, {} events {made}, beside `update`", sides.len());
+            all.add("flows", name, sided(o, bytes, sides), sided(ours::ours_updates, bytes, sides));
+        }
     }
 }
 

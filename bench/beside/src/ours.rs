@@ -51,6 +51,13 @@ unsafe extern "C" {
         count: usize,
         times: usize,
     ) -> u64;
+    pub safe fn ours_events(
+        bytes: *const u8,
+        len: usize,
+        sides: *const u8,
+        count: usize,
+        times: usize,
+    ) -> u64;
     pub safe fn ours_stream(bytes: *const u8, len: usize, piece: usize) -> u64;
     pub safe fn ours_records(bytes: *const u8, len: usize, piece: usize) -> u64;
     pub safe fn ours_messages(bytes: *const u8, len: usize, piece: usize) -> u64;

@@ -66,6 +66,11 @@ abbrev pub Says : Conversation → Side → List Said → Conversation → Type 
 Says c s [] d = (says (ear c s) [] ≡ []) × (d ≡ c)
 Says c s (v ∷ vs) d = (m : Conversation) × IsBehind c s v m × Says m s vs d
 
+-- A side said these first, the latest of them in front, and d is what the conversation is behind them.
+abbrev pub IsPast : Conversation → Side → List Said → Conversation → Type 0
+IsPast c s [] d = d ≡ c
+IsPast c s (v ∷ vs) d = (m : Conversation) × IsPast c s vs m × IsBehind m s v d
+
 -- A side gets a further piece, and all is taken that it says by it.
 abbrev pub IsHeard : Conversation → Side → Bytes → Conversation → Type 0
 IsHeard c s p d = (m : Conversation) × (vs : List Said) × IsFedBy c s p m × Says m s vs d

@@ -30,16 +30,23 @@ abbrev pub message_of : Raw → Result Message Refusal
 message_of (Handshake h) = handshake_of h
 message_of (Whole m) = Ok m
 
--- The messages in the fragment of a record of that type and that length.
-abbrev pub messages_of_type : ℕ → ℕ → Bytes → List Raw
-messages_of_type content_type length b =
-    if content_type == 20 then map Whole (items_in message.change_cipher_spec b)
-    else if content_type == 21 then map Whole (items_in message.alert b)
+abbrev pub change_cipher_specs : Bytes → List Raw
+change_cipher_specs b = map Whole (items_in message.change_cipher_spec b)
+
+-- The messages in the fragment of a record of that type, another than change_cipher_spec, and that length.
+abbrev pub messages_of_other_type : ℕ → ℕ → Bytes → List Raw
+messages_of_other_type content_type length b =
+    if content_type == 21 then map Whole (items_in message.alert b)
     else if content_type == 22 then map Handshake (items_in raw_handshake b)
     else if content_type == 23 then Whole (message.ApplicationData b) ∷ []
     else if content_type == 24 then map Whole (list_read (reading (message.heartbeat length) b))
     else []
 
+-- The same of any type.
+abbrev pub messages_of_type : ℕ → ℕ → Bytes → List Raw
+messages_of_type content_type length b =
+    if content_type == 20 then change_cipher_specs b else messages_of_other_type content_type length b
+
 -- The messages that a walk has yet to come to.
 abbrev pub raw_messages : Messages → List Raw
-raw_messages m = messages_of_type m.record_type.0 m.len m.bytes.now
+raw_messages m = if m.is_change then change_cipher_specs m.bytes.now else messages_of_other_type m.record_type.0 m.len m.bytes.now

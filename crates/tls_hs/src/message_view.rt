@@ -78,6 +78,9 @@ pub enum RawMessage<'a> {
 #[derive(Clone, Copy, Debug, PartialEq)]
 pub struct Messages<'a> {
     record_type: TlsRecordType,
+    // Whether that is change_cipher_spec. A record has the most messages of that type, and this is a test that stays the same from one to
+    // the next: the compiler makes a loop of it without a jump by the type.
+    is_change: bool,
     len: u16,
     bytes: &'a [u8],
 }
@@ -93,6 +96,7 @@ impl<'a> Messages<'a> {
     {
         Messages {
             record_type,
+            is_change: record_type == TlsRecordType::ChangeCipherSpec,
             len,
             bytes,
         }
@@ -118,8 +122,7 @@ impl<'a> Iterator for Messages<'a> {
 
     #[inline(always)]
     fn next(&mut self) -> Option<RawMessage<'a>> {
-        // A record has the most messages of this type. A comparison is foretold, where a jump by the type takes longer.
-        if self.record_type == TlsRecordType::ChangeCipherSpec {
+        if self.is_change {
             let mut items: Items<ChangeCipherSpec> = Items::new(self.bytes);
             let _ = items.next()?;
             self.bytes = items.bytes();

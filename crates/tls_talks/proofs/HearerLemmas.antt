@@ -3,12 +3,12 @@ use Rattle.std.proofs.Common.{◌≡◌, ℕ, ◌+◌, ◌-◌, ◌^◌, inl, in
 use Rattle.tls_fields.specs.Bytes.{Bytes}
 use Rattle.tls_events.specs.Item.{Event as Said}
 use Rattle.tls_flow.specs.declared.letter.Direction.{Direction as Side}
-use Rattle.tls_conversations.specs.Conversations.{IsFedBy, IsTakenBy, ear}
+use Rattle.tls_conversations.specs.Conversations.{IsPast, IsFedBy, IsTakenBy, ear}
 use Rattle.tls_conversations.specs.Ears.{IsReady, first_in, front_of, says}
 use Rattle.tls_conversations.specs.declared.conversation.Conversation.{Conversation}
 use Rattle.tls_facts.specs.Facts.{view_facts}
 use Rattle.tls_talks.specs.Noting.{facts, noted}
-use Rattle.tls_talks.specs.Hearing.{IsPast, IsHeard}
+use Rattle.tls_talks.specs.Hearing.{IsHeard}
 use Rattle.tls_talks.specs.declared.hearer.Hearer.{Hearer}
 
 -- It was fed, and n events were taken off, followed and noted.

@@ -3,10 +3,10 @@ use Rattle.std.proofs.Common.{◌≡◌, ℕ, ◌+◌, ◌≤◌, ◌-◌, ◌^�
 use Rattle.tls_fields.specs.Bytes.{Bytes}
 use Rattle.tls_events.specs.Item.{Event as Said}
 use Rattle.tls_flow.specs.declared.letter.Direction.{Direction as Side}
-use Rattle.tls_conversations.specs.Conversations.{IsFedBy, IsTakenBy, ear}
+use Rattle.tls_conversations.specs.Conversations.{IsPast, IsFedBy, IsTakenBy, ear}
 use Rattle.tls_conversations.specs.Ears.{IsReady, first_in, front_of, says}
 use Rattle.tls_conversations.specs.declared.conversation.Conversation.{Conversation}
-use Rattle.tls_uses.specs.Monitor.{IsPast, IsWatched}
+use Rattle.tls_uses.specs.Monitor.{IsWatched}
 
 -- It was fed, and n events were taken off and followed.
 pub record IsOn (c : Conversation) (s : Side) (p : Bytes) (d : Conversation) (n : ℕ) : Type 0 where

@@ -1,16 +1,11 @@
 -- What a monitor makes of a piece of one side's stream.
-use Rattle.std.specs.Prelude.{◌≡◌, ℕ, ◌^◌, ◌-◌, ◌⊎◌, List, [], ◌∷◌, length}
+use Rattle.std.specs.Prelude.{◌≡◌, ℕ, ◌^◌, ◌-◌, ◌⊎◌, List, [], length}
 use Rattle.tls_fields.specs.Bytes.{Bytes}
 use Rattle.tls_events.specs.Item.{Event as Said}
 use Rattle.tls_flow.specs.declared.letter.Direction.{Direction as Side}
-use Rattle.tls_conversations.specs.Conversations.{IsBehind, IsFedBy, ear}
+use Rattle.tls_conversations.specs.Conversations.{IsPast, IsFedBy, ear}
 use Rattle.tls_conversations.specs.Ears.{says}
 use Rattle.tls_conversations.specs.declared.conversation.Conversation.{Conversation}
-
--- A side said these first, the latest of them in front, and d is what the conversation is behind them.
-abbrev pub IsPast : Conversation → Side → List Said → Conversation → Type 0
-IsPast c s [] d = d ≡ c
-IsPast c s (v ∷ vs) d = (m : Conversation) × IsPast c s vs m × IsBehind m s v d
 
 -- The side gets a further piece, and each event that it says by it is followed, in order, until it says no more; at the most as many as
 -- a u64 counts.
