@@ -1,1 +1,2 @@
 mod HearerLemmas
+mod DatagramLemmas

@@ -1,9 +1,9 @@
 //! A conversation whose events are noted.
-ghost use Rattle.std.specs.Prelude.{◌≡◌, OnOk};
+ghost use Rattle.std.specs.Prelude.{◌≡◌, IfOk, OnOk};
 ghost use Rattle.tls_conversations.specs.Conversations.{IsBegun};
 ghost use Rattle.tls_conversations.specs.Events.{view_said};
 ghost use Rattle.tls_facts.specs.Facts.{nothing, view_facts};
-ghost use Rattle.tls_talks.specs.Noting.{noted};
+ghost use Rattle.tls_talks.specs.Noting.{is_sealed, noted};
 ghost use Rattle.tls_talks.specs.Hearing.{IsHeard};
 
 use std::alloc::{AllocError, Global};
@@ -21,7 +21,9 @@ pub struct Hearer {
 }
 
 /// Whether what follows in its direction can't be read.
-fn is_encrypted(said: &Said<'_>) -> bool {
+fn is_encrypted(said: &Said<'_>) -> bool
+    ensures { result ≡ is_sealed (view_said said.now) }
+{
     match said {
         Said::Event(Event::Encrypted(_)) | Said::Event(Event::ApplicationData(_)) => true,
         Said::Event(_) | Said::Fault(_) => false,
@@ -61,7 +63,7 @@ impl Hearer {
     ///
     /// `AllocError` where the piece, or a name in it, could not be held.
     pub fn hear(&mut self, alloc: Global, side: Direction, piece: &[u8]) -> Result<bool, AllocError>
-        ensures { OnOk result (IsHeard self.old side piece.now self.new) }
+        ensures { IfOk result (λ sealed. IsHeard self.old side piece.now self.new sealed) }
     {
         let mut has_encrypted = false;
         self.conversation

@@ -5,10 +5,15 @@
 //! nothing behind the handshake is kept.
 #![tactic(auto)]
 
+mod account;
+mod datagram_talk;
+mod ends;
+mod front;
 mod hearer;
 mod talk;
 #[cfg(test)]
 mod tests;
 
+pub use datagram_talk::{DatagramTalk, talk_of};
 pub use hearer::Hearer;
 pub use talk::Talk;
