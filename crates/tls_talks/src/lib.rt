@@ -10,6 +10,8 @@ mod datagram_talk;
 mod ends;
 mod front;
 mod hearer;
+#[cfg(test)]
+mod recorded;
 mod talk;
 #[cfg(test)]
 mod tests;
