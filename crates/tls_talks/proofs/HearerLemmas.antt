@@ -68,6 +68,6 @@ on_end h i s p n b on end = record {
   fed = on.fed;
   past = on.past;
   facts = on.facts;
-  all = inr (on.count ∙ end);
+  all = inr (omega (arith, on.count, end));
   sealed = on.sealed;
 }

@@ -1,6 +1,5 @@
 -- What a talk over datagrams comes to, datagram by datagram (RFC 6347).
-use Rattle.std.specs.Prelude.{◌≡◌, ℕ, Bool, true, false, not, ◌&&◌, ◌||◌, ◌==◌, if◌then◌else◌, Option, Some, None, List, [], ◌∷◌, map}
-use Rattle.std.specs.Borrow.{Bor}
+use Rattle.std.specs.Prelude.{◌≡◌, ℕ, Bool, true, false, not, ◌&&◌, ◌||◌, ◌==◌, if◌then◌else◌, Option, Some, None, List, [], ◌∷◌}
 use Rattle.tls_fields.specs.Bytes.{Bytes}
 use Rattle.dtls_messages.specs.Messages.{Alert, ChangeCipherSpec, Encrypted, Event, Handshake, Heard, Kept, Limits, Stands, nothing as none_heard}
 use Rattle.dtls_stream.specs.Datagrams.{Step, datagram}
@@ -140,15 +139,12 @@ pub record IsSpoken (p : Spoken) (t : Speaker) : Type 0 where
   pub has_changed : t.progress.has_changed ≡ p.has_changed
   pub is_encrypted : t.progress.is_encrypted ≡ p.is_encrypted
 
-pub record Is (k : Talk) (t : DatagramTalk) : Type 0 where
+pub record IsKnown (k : Talk) (t : DatagramTalk) : Type 0 where
   pub client : IsSpoken k.client t.client
   pub server : IsSpoken k.server t.server
   pub flow : t.account.flow ≡ k.flow
   pub facts : view_facts t.account.facts ≡ k.facts
   pub is_dtls : t.is_dtls ≡ k.is_dtls
-
-abbrev pub views : List (Side × Bor (List ℕ)) → List (Side × Bytes)
-views ds = map (λ d. (d.0, d.1.now)) ds
 
 -- A side was heard.
 pub record IsStepped (s : Side) (x : Step) (t u : Told) (n : Kept) : Type 0 where

@@ -2,9 +2,10 @@
 ghost use Rattle.std.specs.Prelude.{◌≡◌, IfOk, OnOk};
 ghost use Rattle.dtls_messages.specs.Messages.{Heard, Stands};
 ghost use Rattle.dtls_stream.specs.Datagrams.{datagram as datagram_step};
+ghost use Rattle.tls_conversations.specs.Conversations.{views};
 ghost use Rattle.tls_facts.specs.Facts.{view_facts};
 ghost use Rattle.tls_flow.specs.Table.{outcome_at};
-ghost use Rattle.tls_talks.specs.Datagrams.{Is, IsSpoken, IsStepped, Talk, allowed, heard, heard_all, is_over as is_over_in, none_spoken, spoken, stepped, told_of, untold, views};
+ghost use Rattle.tls_talks.specs.Datagrams.{IsKnown, IsSpoken, IsStepped, Talk, allowed, heard, heard_all, is_over as is_over_in, none_spoken, spoken, stepped, told_of, untold};
 ghost use Rattle.tls_talks.specs.Ends.{is_established as established_by, is_resumed as resumed_by};
 
 use crate::account::{Account, Progress};
@@ -64,7 +65,7 @@ impl Speaker {
 impl DatagramTalk {
     /// One of which nothing came. It takes no memory.
     pub fn new(alloc: Global) -> DatagramTalk
-        ensures { Is untold result }
+        ensures { IsKnown untold result }
     {
         DatagramTalk {
             client: Speaker::new(alloc),
@@ -79,49 +80,49 @@ impl DatagramTalk {
 
     /// Whether a datagram began with a record of DTLS of epoch 0.
     pub fn is_dtls(&self) -> bool
-        ensures { (k : Talk) → Is k self.now → result ≡ k.is_dtls }
+        ensures { (k : Talk) → IsKnown k self.now → result ≡ k.is_dtls }
     {
         self.is_dtls
     }
 
     /// What was said.
     pub fn facts(&self) -> &Facts
-        ensures { (k : Talk) → Is k self.now → view_facts result.now ≡ k.facts }
+        ensures { (k : Talk) → IsKnown k self.now → view_facts result.now ≡ k.facts }
     {
         &self.account.facts
     }
 
     /// How the handshake stands.
     pub fn outcome(&self) -> Outcome
-        ensures { (k : Talk) → Is k self.now → result ≡ outcome_at k.flow.state }
+        ensures { (k : Talk) → IsKnown k self.now → result ≡ outcome_at k.flow.state }
     {
         self.account.flow.outcome()
     }
 
     /// The event that ended the handshake without success, if one did.
     pub fn stop(&self) -> Option<Stop>
-        ensures { (k : Talk) → Is k self.now → result ≡ k.flow.stop }
+        ensures { (k : Talk) → IsKnown k self.now → result ≡ k.flow.stop }
     {
         self.account.flow.stop()
     }
 
     /// Whether the part of the handshake that can be read came to its end.
     pub fn is_established(&self) -> bool
-        ensures { (k : Talk) → Is k self.now → result ≡ established_by (outcome_at k.flow.state) }
+        ensures { (k : Talk) → IsKnown k self.now → result ≡ established_by (outcome_at k.flow.state) }
     {
         ends::is_established(self.outcome())
     }
 
     /// Whether a session was taken up.
     pub fn is_resumed(&self) -> bool
-        ensures { (k : Talk) → Is k self.now → result ≡ resumed_by (outcome_at k.flow.state) k.facts }
+        ensures { (k : Talk) → IsKnown k self.now → result ≡ resumed_by (outcome_at k.flow.state) k.facts }
     {
         ends::is_resumed(self.outcome(), &self.account.facts)
     }
 
     /// Whether the side is heard no further: it is encrypted, and the handshake ended.
     pub fn is_over(&self, side: Direction) -> bool
-        ensures { (k : Talk) → Is k self.now → result ≡ is_over_in k side }
+        ensures { (k : Talk) → IsKnown k self.now → result ≡ is_over_in k side }
     {
         let is_encrypted = match side {
             Direction::ToServer => self.client.progress.is_encrypted,
@@ -132,7 +133,7 @@ impl DatagramTalk {
 
     /// Follows and notes what a side's datagram says.
     fn follow(&mut self, alloc: Global, side: Direction, datagram: &[u8]) -> Result<(), AllocError>
-        ensures { (k : Talk) → Is k self.old → OnOk result (Is (stepped k side (datagram_step allowed (spoken k side).heard datagram.now)) self.new) }
+        ensures { (k : Talk) → IsKnown k self.old → OnOk result (IsKnown (stepped k side (datagram_step allowed (spoken k side).heard datagram.now)) self.new) }
     {
         match side {
             Direction::ToServer => { self.client.hear(&mut self.account, alloc, side, datagram) }
@@ -150,7 +151,7 @@ impl DatagramTalk {
         side: Direction,
         datagram: &[u8],
     ) -> Result<(), AllocError>
-        ensures { (k : Talk) → Is k self.old → OnOk result (Is (heard k side datagram.now) self.new) }
+        ensures { (k : Talk) → IsKnown k self.old → OnOk result (IsKnown (heard k side datagram.now) self.new) }
     {
         let Some(epoch) = front_epoch(datagram) else {
             return Ok(());
@@ -167,7 +168,7 @@ impl DatagramTalk {
 ///
 /// `AllocError` where what they say could not be held.
 pub fn talk_of(alloc: Global, datagrams: &[(Direction, &[u8])]) -> Result<DatagramTalk, AllocError>
-    ensures { IfOk result (λ t. Is (heard_all untold (views datagrams.now)) t) }
+    ensures { IfOk result (λ t. IsKnown (heard_all untold (views datagrams.now)) t) }
 {
     let mut talk = DatagramTalk::new(alloc);
     for (side, datagram) in datagrams {

@@ -17,5 +17,5 @@ mod talk;
 mod tests;
 
 pub use datagram_talk::{DatagramTalk, talk_of};
-pub use hearer::Hearer;
+pub use hearer::{Hearer, hear_all};
 pub use talk::Talk;
