@@ -1,7 +1,7 @@
 -- What a connection's events say of it.
-use Rattle.std.specs.Prelude.{ℕ, Bool, true, false, ◌||◌, ◌&&◌, nat_le, ◌==◌, if◌then◌else◌, List, [], ◌∷◌, Option, Some, None, option_map, Result, Ok, Err}
+use Rattle.std.specs.Prelude.{ℕ, Bool, true, false, ◌||◌, ◌&&◌, nat_le, ◌==◌, if◌then◌else◌, List, ◌∷◌, Option, Some, None, option_map, Result, Ok, Err}
 use Rattle.tls_fields.specs.Bytes.{Bytes}
-use Rattle.tls_fields.specs.Layout.{number}
+use Rattle.tls_fields.specs.Layout.{Layout, number, counted, ◌>>=◌}
 use Rattle.tls_fields.specs.Meaning.{Answer, Refusal}
 use Rattle.tls_fields.specs.Reading.{reading}
 use Rattle.tls_fields.specs.Text.{held}
@@ -10,6 +10,8 @@ use Rattle.tls_base.specs.KeyExchange as exchange
 use Rattle.tls_ext.specs.InPlace.{best_version, content_of, host_name, protocol_names}
 use Rattle.tls_hs.specs.Handshake as handshakes
 use Rattle.tls_hs.specs.Message as messages
+use Rattle.tls_hs.specs.ServerHello as server
+use Rattle.tls_parser.specs.DtlsHello as datagram_hello
 use Rattle.tls_facts.specs.declared.facts.Facts as rust
 
 pub record Facts : Type 0 where
@@ -97,9 +99,16 @@ names_curve n =
     is_within 0xc001 0xc019 n || is_within 0xc023 0xc032 n || is_within 0xc048 0xc04f n || is_within 0xc05c 0xc063 n
     || is_within 0xc072 0xc079 n || is_within 0xc086 0xc08d n || is_within 0xc0ac 0xc0af n || is_within 0xcca8 0xcca9 n
 
-abbrev pub curve_suite : Option ℕ → Bool
-curve_suite (Some n) = names_curve n
-curve_suite None = false
+-- Those whose ServerKeyExchange has a hint of the key known to both in front of the parameters (RFC 5489, section 2): those of ECDHE_PSK.
+abbrev pub has_hint : ℕ → Bool
+has_hint n =
+    is_within 0xc033 0xc03b n || is_within 0xc070 0xc071 n || is_within 0xc09a 0xc09b n || n == 0xccac || is_within 0xd001 0xd005 n
+
+-- opaque psk_identity_hint<0..2^16-1>; and the parameters.
+unfoldable pub hinted_parameters : Layout exchange.ECParameters
+hinted_parameters = do
+  hint ← counted 2
+  exchange.ec_parameters
 
 abbrev pub number_of : exchange.CurveParameters → Option ℕ
 number_of (exchange.OfNamedCurve n) = Some n
@@ -109,13 +118,23 @@ abbrev pub named : Answer exchange.ECParameters → Option ℕ
 named (Ok x) = number_of x.0.parameters
 named (Err e) = None
 
+-- The curve of a ServerKeyExchange, by the suite that was chosen.
+abbrev pub of_exchange : Option ℕ → Bytes → Facts → Facts
+of_exchange None b f = f
+of_exchange (Some n) b f =
+    if names_curve n then record f { curve = named (reading exchange.ec_parameters b) }
+    else if has_hint n then record f { curve = named (reading hinted_parameters b) }
+    else f
+
+abbrev pub of_key_exchange : Bytes → Facts → Facts
+of_key_exchange b f = of_exchange f.cipher b f
+
 -- What a handshake message says: a ClientHello of the host, a ServerHello of what the server chose, a ServerKeyExchange of its curve.
 abbrev pub of_handshake : handshakes.Handshake → Facts → Facts
 of_handshake (handshakes.ClientHello h) f = asked (held h.extensions) f
 of_handshake (handshakes.ServerHello h) f = chosen h.server_version h.cipher_suite (held h.extensions) f
 of_handshake (handshakes.ServerHelloV13Draft18 h) f = chosen h.version h.cipher_suite (held h.extensions) f
-of_handshake (handshakes.ServerKeyExchange b) f =
-    if curve_suite f.cipher then record f { curve = named (reading exchange.ec_parameters b) } else f
+of_handshake (handshakes.ServerKeyExchange b) f = of_key_exchange b f
 of_handshake _ f = f
 
 abbrev pub of_message : messages.Message → Facts → Facts
@@ -129,6 +148,24 @@ of_read (Err e) f = f
 -- What a whole handshake message adds, by its bytes.
 abbrev pub of_bytes : Bytes → Facts → Facts
 of_bytes b f = of_read (reading messages.handshake b) f
+
+-- What a ClientHello and a ServerHello of DTLS add.
+abbrev pub of_client_hello : Answer datagram_hello.ClientHello → Facts → Facts
+of_client_hello (Ok x) f = asked (held x.0.hello.extensions) f
+of_client_hello (Err e) f = f
+
+abbrev pub of_server_hello : Answer server.ServerHello → Facts → Facts
+of_server_hello (Ok x) f = chosen x.0.server_version x.0.cipher_suite (held x.0.extensions) f
+of_server_hello (Err e) f = f
+
+-- What a whole handshake message of DTLS adds, by its type and its body (RFC 6347, section 4.2): its ClientHello has a cookie, and its
+-- versions are numbers of their own.
+abbrev pub of_datagram_message : ℕ → Bytes → Facts → Facts
+of_datagram_message n b f =
+    if n == 1 then of_client_hello (reading datagram_hello.client_hello b) f
+    else if n == 2 then of_server_hello (reading server.server_hello_any b) f
+    else if n == 12 then of_key_exchange b f
+    else f
 
 -- What an alert adds.
 abbrev pub of_alert : ℕ → Facts → Facts

@@ -4,20 +4,23 @@ ghost use Rattle.std.specs.Option.{option_map};
 ghost use Rattle.tls_fields.specs.Items.{told as told_by};
 ghost use Rattle.tls_fields.specs.Reading.{reading};
 ghost use Rattle.tls_fields.specs.Text.{held};
-ghost use Rattle.tls_base.specs.KeyExchange.{ec_parameters};
+ghost use Rattle.tls_fields.specs.Answers.{Gives, answer_of};
+ghost use Rattle.tls_base.specs.KeyExchange.{ec_parameters, view_ec_parameters};
 ghost use Rattle.tls_ext.specs.InPlace.{protocol_names};
 ghost use Rattle.tls_hs.specs.Handshake.{view_handshake};
 ghost use Rattle.tls_hs.specs.InPlace.{view_handshake_in_place};
-ghost use Rattle.tls_facts.specs.Facts.{asked, chosen as chosen_by, first_of, group_of, known as known_by, named, names_curve as names_curve_of, nothing, of_alert, of_bytes, of_handshake, view_facts};
+ghost use Rattle.tls_facts.specs.Facts.{asked, chosen as chosen_by, first_of, group_of, has_hint as has_hint_of, hinted_parameters as hinted_layout, known as known_by, named, names_curve as names_curve_of, nothing, of_alert, of_bytes, of_datagram_message, of_handshake, of_key_exchange, view_facts};
 
 use std::alloc::{AllocError, Global};
 use tls_base::{
-    ECParametersContent, NamedGroup, TlsAlertDescription, TlsCipherSuiteID, TlsExtensionType,
-    TlsVersion, parse_ec_parameters,
+    ECParameters, ECParametersContent, NamedGroup, TlsAlertDescription, TlsCipherSuiteID,
+    TlsExtensionType, TlsHandshakeType, TlsVersion, parse_ec_parameters,
 };
 use tls_ext::{application_protocols, best_version, extensions, first_content, server_name};
-use tls_fields::{Err, Error, InPlace};
+use tls_fields::{Err, Error, IResult, InPlace, counted2};
+use tls_hs::parts::server_hello_any;
 use tls_hs::{HandshakeView, TlsMessageHandshake};
+use tls_parser::DTLSClientHelloView;
 
 /// What is known of a connection by what both sides said in the clear.
 #[derive(Debug, PartialEq, Drop)]
@@ -70,11 +73,27 @@ fn names_curve(suite: u16) -> bool
         | 0xc072..=0xc079 | 0xc086..=0xc08d | 0xc0ac..=0xc0af | 0xcca8..=0xcca9)
 }
 
-/// The group that a ServerKeyExchange names.
-fn named_group(body: &[u8]) -> Option<NamedGroup>
-    ensures { option_map (λ g. g.0) result ≡ named (reading ec_parameters body.now) }
+/// The cipher suites whose ServerKeyExchange has a hint of the key known to both in front of the parameters: those of ECDHE_PSK.
+fn has_hint(suite: u16) -> bool
+    ensures { result ≡ has_hint_of suite }
 {
-    match parse_ec_parameters(body) {
+    matches!(suite, 0xc033..=0xc03b | 0xc070..=0xc071 | 0xc09a..=0xc09b | 0xccac | 0xd001..=0xd005)
+}
+
+/// Reads a hint, and the parameters of the curve behind it (RFC 5489, section 2).
+#[tactic(auto, using(tls_fields::proofs::OneAnswerLemmas::read_allowed), unfolding(crate::specs::Facts::hinted_parameters))]
+fn hinted_parameters(i: &[u8]) -> IResult<&[u8], ECParameters>
+    ensures { Gives view_ec_parameters hinted_layout i.now result }
+{
+    let (i, _) = counted2(i)?;
+    parse_ec_parameters(i)
+}
+
+/// The group that parameters name.
+fn named_group(answer: IResult<&[u8], ECParameters>) -> Option<NamedGroup>
+    ensures { option_map (λ g. g.0) result ≡ named (answer_of view_ec_parameters answer.entry) }
+{
+    match answer {
         Ok((_, parameters)) => match parameters.params_content {
             ECParametersContent::NamedGroup(group) => Some(group),
             ECParametersContent::ExplicitPrime(_) => None,
@@ -148,6 +167,20 @@ impl Facts {
         Ok(())
     }
 
+    /// What a server's ServerKeyExchange says.
+    fn note_key_exchange(&mut self, body: &[u8])
+        ensures { view_facts self.new ≡ of_key_exchange body.now (view_facts self.old) }
+    {
+        let Some(suite) = self.cipher else {
+            return;
+        };
+        if names_curve(suite.0) {
+            self.curve = named_group(parse_ec_parameters(body));
+        } else if has_hint(suite.0) {
+            self.curve = named_group(hinted_parameters(body));
+        }
+    }
+
     /// What a message without lists says.
     fn note_other(
         &mut self,
@@ -164,9 +197,7 @@ impl Facts {
                 self.choose(alloc, hello.version, hello.cipher, hello.ext)?
             }
             TlsMessageHandshake::ServerKeyExchange(exchange) => {
-                if self.cipher.is_some_and(|suite| names_curve(suite.0)) {
-                    self.curve = named_group(exchange.parameters);
-                }
+                self.note_key_exchange(exchange.parameters)
             }
             TlsMessageHandshake::ClientHello(hello) => self.ask(alloc, hello.ext)?,
             TlsMessageHandshake::HelloRequest
@@ -213,6 +244,35 @@ impl Facts {
         match HandshakeView::read(message) {
             Ok((_, read)) => self.note_handshake(alloc, &read),
             Err(_) => Ok(()),
+        }
+    }
+
+    /// The same of a whole handshake message of DTLS, by its type and its body (RFC 6347, section 4.2.2). A HelloVerifyRequest
+    /// says nothing; the ClientHello that answers it stands.
+    ///
+    /// `AllocError` where a name could not be held.
+    pub fn note_datagram_message(
+        &mut self,
+        alloc: Global,
+        msg_type: TlsHandshakeType,
+        body: &[u8],
+    ) -> Result<(), AllocError>
+        ensures { OnOk result (view_facts self.new ≡ of_datagram_message msg_type.0 body.now (view_facts self.old)) }
+    {
+        match msg_type {
+            TlsHandshakeType::ClientHello => match DTLSClientHelloView::parse(body) {
+                Ok((_, hello)) => self.ask(alloc, hello.ext),
+                Err(_) => Ok(()),
+            },
+            TlsHandshakeType::ServerHello => match server_hello_any(body) {
+                Ok((_, hello)) => self.choose(alloc, hello.version, hello.cipher, hello.ext),
+                Err(_) => Ok(()),
+            },
+            TlsHandshakeType::ServerKeyExchange => {
+                self.note_key_exchange(body);
+                Ok(())
+            }
+            _ => Ok(()),
         }
     }
 

@@ -1,21 +1,51 @@
 -- What is known behind a piece of one side's stream.
-use Rattle.std.specs.Prelude.{◌≡◌, ◌^◌, ◌-◌, ◌⊎◌, List, [], length}
+use Rattle.std.specs.Prelude.{◌≡◌, ◌^◌, ◌-◌, ◌⊎◌, ◌≤◌, Bool, true, false, cond, List, [], ◌∷◌, ◌++◌, ℕ, length}
 use Rattle.tls_fields.specs.Bytes.{Bytes}
 use Rattle.tls_events.specs.Item.{Event as Said}
 use Rattle.tls_flow.specs.declared.letter.Direction.{Direction as Side}
-use Rattle.tls_conversations.specs.Conversations.{IsPast, IsFedBy, ear}
+use Rattle.tls_flow.specs.declared.letter.Direction.TheVariants.{ToServer, FromServer}
+use Rattle.tls_conversations.specs.Conversations.{IsBegun, IsPast, IsFedBy, ear}
 use Rattle.tls_conversations.specs.Ears.{says}
 use Rattle.tls_conversations.specs.declared.conversation.Conversation.{Conversation}
-use Rattle.tls_facts.specs.Facts.{view_facts}
-use Rattle.tls_talks.specs.Noting.{facts}
+use Rattle.tls_facts.specs.Facts.{nothing, view_facts}
+use Rattle.tls_talks.specs.Noting.{facts, has_sealed}
 use Rattle.tls_talks.specs.declared.hearer.Hearer.{Hearer}
 
--- The side gets a further piece; each event that it says by it is followed and noted, in order, until it says no more, at the
--- most as many as a u64 counts.
-pub record IsHeard (h : Hearer) (s : Side) (p : Bytes) (i : Hearer) : Type 0 where
+-- The side gets a further piece; each event that it says by it is followed and noted, in order, until it says no more, or
+-- as many were as a u64 counts. The last says whether one of them is encrypted.
+pub record IsHeard (h : Hearer) (s : Side) (p : Bytes) (i : Hearer) (found : Bool) : Type 0 where
   pub begun : Conversation
   pub said : List Said
   pub fed : IsFedBy h.conversation s p begun
   pub past : IsPast begun s said i.conversation
   pub facts : view_facts i.facts ≡ facts (view_facts h.facts) said
-  pub all : (says (ear i.conversation s) [] ≡ []) ⊎ (length said ≡ 2 ^ 64 - 1)
+  pub all : (says (ear i.conversation s) [] ≡ []) ⊎ (2 ^ 64 - 1 ≤ length said)
+  pub sealed : found ≡ has_sealed said
+
+-- The pieces are heard one after the other, each of its side.
+abbrev pub AreHeard : Hearer → List (Side × Bytes) → Hearer → Type 0
+AreHeard h [] i = i ≡ h
+AreHeard h (p ∷ ps) i = (m : Hearer) × (found : Bool) × IsHeard h p.0 p.1 m found × AreHeard m ps i
+
+abbrev pub is_same : Side → Side → Bool
+is_same ToServer ToServer = true
+is_same FromServer FromServer = true
+is_same _ _ = false
+
+-- A piece in front of the turns is one with the first, where that is of its side.
+abbrev pub onto : Side × Bytes → List (Side × Bytes) → List (Side × Bytes)
+onto p [] = p ∷ []
+onto p (t ∷ ts) = cond (is_same p.0 t.0) ((p.0, p.1 ++ t.1) ∷ ts) (p ∷ t ∷ ts)
+
+-- What each side says until the other does: its pieces joined.
+abbrev pub turns : List (Side × Bytes) → List (Side × Bytes)
+turns [] = []
+turns (p ∷ ps) = onto p (turns ps)
+
+-- It is what was heard of these pieces from the beginning, whatever the cuts: what is said by the turns that they make is what is
+-- known.
+pub record IsHeardOf (limit : ℕ) (ps : List (Side × Bytes)) (i : Hearer) : Type 0 where
+  pub begun : Hearer
+  pub silent : IsBegun limit begun.conversation
+  pub unknown : view_facts begun.facts ≡ nothing
+  pub heard : AreHeard begun (turns ps) i

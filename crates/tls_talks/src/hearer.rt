@@ -1,10 +1,10 @@
 //! A conversation whose events are noted.
-ghost use Rattle.std.specs.Prelude.{◌≡◌, OnOk};
-ghost use Rattle.tls_conversations.specs.Conversations.{IsBegun};
+ghost use Rattle.std.specs.Prelude.{◌≡◌, IfOk, OnOk};
+ghost use Rattle.tls_conversations.specs.Conversations.{IsBegun, views};
 ghost use Rattle.tls_conversations.specs.Events.{view_said};
 ghost use Rattle.tls_facts.specs.Facts.{nothing, view_facts};
-ghost use Rattle.tls_talks.specs.Noting.{noted};
-ghost use Rattle.tls_talks.specs.Hearing.{IsHeard};
+ghost use Rattle.tls_talks.specs.Noting.{is_sealed, noted};
+ghost use Rattle.tls_talks.specs.Hearing.{IsHeard, IsHeardOf};
 
 use std::alloc::{AllocError, Global};
 use tls_conversations::{Conversation, Direction, Event, Said};
@@ -21,7 +21,9 @@ pub struct Hearer {
 }
 
 /// Whether what follows in its direction can't be read.
-fn is_encrypted(said: &Said<'_>) -> bool {
+fn is_encrypted(said: &Said<'_>) -> bool
+    ensures { result ≡ is_sealed (view_said said.now) }
+{
     match said {
         Said::Event(Event::Encrypted(_)) | Said::Event(Event::ApplicationData(_)) => true,
         Said::Event(_) | Said::Fault(_) => false,
@@ -61,7 +63,7 @@ impl Hearer {
     ///
     /// `AllocError` where the piece, or a name in it, could not be held.
     pub fn hear(&mut self, alloc: Global, side: Direction, piece: &[u8]) -> Result<bool, AllocError>
-        ensures { OnOk result (IsHeard self.old side piece.now self.new) }
+        ensures { IfOk result (λ sealed. IsHeard self.old side piece.now self.new sealed) }
     {
         let mut has_encrypted = false;
         self.conversation
@@ -79,4 +81,18 @@ impl Hearer {
         }
         Ok(has_encrypted)
     }
+}
+
+/// What is heard where these pieces come, one after the other, each of the side that speaks. It is what is heard of the turns that they
+/// make, in which a side's pieces up to the other side's next are joined: however they are cut, and the records in them.
+///
+/// `AllocError` where a piece, or a name in it, could not be held.
+pub fn hear_all(alloc: Global, pieces: &[(Direction, &[u8])]) -> Result<Hearer, AllocError>
+    ensures { IfOk result (λ h. IsHeardOf DEFAULT_LIMIT (views pieces.now) h) }
+{
+    let mut hearer = Hearer::new(alloc);
+    for (side, piece) in pieces {
+        hearer.hear(alloc, *side, piece)?;
+    }
+    Ok(hearer)
 }

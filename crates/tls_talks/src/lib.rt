@@ -1,14 +1,25 @@
-//! What a connection of TLS says: both sides heard, its facts noted, and how its handshake ended.
+//! What a connection of TLS or DTLS says: both sides heard, its facts noted, and how its handshake ended.
 //!
-//! [`Hearer`] follows both sides, and its facts are a fold over what they say, in the order of the capture. [`Talk`] tells from
-//! the first bytes of a side whether they are TLS, and hears a side no further once its handshake ended and it is encrypted: so
-//! nothing behind the handshake is kept.
+//! Over a stream, [`Hearer`] follows both sides, and its facts are a fold over what they say, in the order of the capture. [`Talk`]
+//! tells from the first bytes of a side whether they are TLS, and hears a side no further once its handshake ended and it is
+//! encrypted: so nothing behind the handshake is kept. What a [`Hearer`] knows is what the turns of both sides say, however these
+//! are cut: [`hear_all`] states it.
+//!
+//! Over datagrams, [`DatagramTalk`] does the same of DTLS up to 1.2. What it came to is a definition over the datagrams in their
+//! order: [`talk_of`] states it.
 #![tactic(auto)]
 
+mod account;
+mod datagram_talk;
+mod ends;
+mod front;
 mod hearer;
+#[cfg(test)]
+mod recorded;
 mod talk;
 #[cfg(test)]
 mod tests;
 
-pub use hearer::Hearer;
+pub use datagram_talk::{DatagramTalk, talk_of};
+pub use hearer::{Hearer, hear_all};
 pub use talk::Talk;

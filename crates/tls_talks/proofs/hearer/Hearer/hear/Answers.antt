@@ -5,6 +5,6 @@ use Rattle.tls_talks.proofs.hearer.Hearer.hear.Goals as goal
 
 pub loop-preserved : goal.loop-preserved
 loop-preserved c =
-    on_more c.args.self.now c.loop.self (record { conversation = c.take_front.new.self; facts = c.note.new.facts }) c.args.side
-    c.args.piece.now c.loop.counter (view_said c.in-Some.said) c.take_front.result c.loop.invariant (search rules)
-    c.take_front.ensures.taken c.take_front.ensures.ready (search rules)
+    on_more c.args.self.now c.loop.self _ c.args.side c.args.piece.now c.loop.counter (view_said c.in-Some.said) c.take_front.result
+    c.loop.has_encrypted _ c.loop.invariant (search rules) (search rules) (search rules) (search rules)
+    (search rules)

@@ -1,0 +1,9 @@
+-- what is still to come, heard behind what came, is all of it
+use Rattle.std.proofs.Common.{◌≡◌, drop}
+use Rattle.tls_conversations.specs.Conversations.{views}
+use Rattle.tls_talks.specs.Datagrams.{IsKnown, Talk, heard_all, untold}
+use Rattle.tls_talks.proofs.datagram_talk.talk_of.Given as goal
+
+abbrev pub invariant-loop-side : goal.invariant-loop-side
+invariant-loop-side l =
+    (k : Talk) × IsKnown k l.talk × (heard_all k (views (drop l.side-index l.datagrams)) ≡ heard_all untold (views l.datagrams))

@@ -1,0 +1,60 @@
+//! Whether bytes begin as TLS or DTLS does.
+ghost use Rattle.std.specs.Prelude.{◌≡◌};
+ghost use Rattle.tls_fields.specs.Reading.{reading};
+ghost use Rattle.tls_parser.specs.DtlsRecord as datagram;
+ghost use Rattle.tls_parser.specs.Record as stream;
+ghost use Rattle.tls_talks.specs.Front.{begins_tls as begins, epoch_in, is_front, is_front_of_datagram};
+
+use tls_parser::{
+    DTLSRecordHeader, MAX_RECORD_LEN, TlsRecordHeader, parse_dtls_record_header,
+    parse_tls_record_header,
+};
+
+/// How many bytes tell whether a side speaks TLS: the header of a record (RFC 8446, section 5.1).
+pub(crate) const HEADER_LEN: usize = 5;
+
+/// A type of records that there is, a version 3.0 to 3.4, and a length within the limit.
+fn is_header(header: &TlsRecordHeader) -> bool
+    ensures { result ≡ is_front (stream.view_header header.now) }
+{
+    header.record_type.0 >= 20
+        && header.record_type.0 <= 24
+        && header.version.0 >= 0x0300
+        && header.version.0 <= 0x0304
+        && header.len <= MAX_RECORD_LEN
+}
+
+/// Whether a stream begins with the header of a record of TLS.
+pub(crate) fn begins_tls(bytes: &[u8]) -> bool
+    ensures { result ≡ begins bytes.now }
+{
+    match parse_tls_record_header(bytes) {
+        Ok((_, header)) => is_header(&header),
+        Err(_) => false,
+    }
+}
+
+/// A type of records that there is, the version of DTLS 1.0 or 1.2, and a length that the datagram has.
+fn is_header_of_datagram(header: &DTLSRecordHeader, rest: &[u8]) -> bool
+    ensures { result ≡ is_front_of_datagram (datagram.view_header header.now) rest.now }
+{
+    header.content_type.0 >= 20
+        && header.content_type.0 <= 24
+        && (header.version.0 == 0xfeff || header.version.0 == 0xfefd)
+        && header.length as usize <= rest.len()
+}
+
+/// The epoch of the record of DTLS that a datagram begins with; `None` where it begins otherwise.
+pub(crate) fn front_epoch(bytes: &[u8]) -> Option<u16>
+    ensures { result ≡ epoch_in (reading datagram.record_header bytes.now) }
+{
+    match parse_dtls_record_header(bytes) {
+        Ok((rest, header)) => {
+            if is_header_of_datagram(&header, rest) {
+                return Some(header.epoch);
+            }
+            None
+        }
+        Err(_) => None,
+    }
+}
