@@ -1,8 +1,8 @@
 //! One direction of a connection.
-ghost use Rattle.std.specs.Prelude.{◌≡◌, true, false, OnOk};
-ghost use Rattle.connections.specs.Segment.{breaks, first_of};
-ghost use Rattle.connections.specs.Stream.{Accepts, begun, next_bytes, behind_front};
-ghost use Rattle.connections.specs.declared.stream.Reading.TheVariants.{Unbegun, Over};
+ghost use Rattle.std.specs.Prelude.{◌≡◌, ◌%◌, ◌^◌, length, OnOk};
+ghost use Rattle.connections.specs.Segment.{first_of};
+ghost use Rattle.connections.specs.Stream.{begun, next_bytes, behind_front, silent_stream, HasTaken, is_over};
+ghost use Rattle.connections.specs.declared.stream.Reading.TheVariants.{Over};
 
 use crate::segment::Segment;
 use segments::{SegmentError, Segments};
@@ -45,14 +45,16 @@ fn is_behind(number: u32, other: u32) -> bool {
 }
 
 /// The count of a slice's bytes as a number of sequence.
-fn count(bytes: &[u8]) -> u32 {
+fn count(bytes: &[u8]) -> u32
+    ensures { result ≡ length bytes.now % 2 ^ 32 }
+{
     (bytes.len() % 0x1_0000_0000) as u32
 }
 
 impl Stream {
     /// One of which no segment came. It takes no memory.
     pub fn new() -> Stream
-        ensures { result.reading ≡ Unbegun }
+        ensures { result ≡ silent_stream }
     {
         Stream {
             reading: Reading::Unbegun,
@@ -66,7 +68,9 @@ impl Stream {
 
     /// It begins with its first segment.
     fn begin(&mut self, alloc: Global, segment: &Segment<'_>)
-        ensures { self.new.reading ≡ begun HELD_LIMIT (first_of segment.now) self.old.reading }
+        ensures reading { self.new.reading ≡ begun HELD_LIMIT (first_of segment.now) self.old.reading }
+        ensures fin { self.new.fin ≡ self.old.fin }
+        ensures is_broken { self.new.is_broken ≡ self.old.is_broken }
     {
         if let Reading::Unbegun = self.reading {
             self.next = segment.first();
@@ -78,9 +82,7 @@ impl Stream {
     /// Puts the segment's bytes where they stand. Where it ends more than [`HELD_LIMIT`] behind the first byte that is missing,
     /// there is a gap, and nothing further is read. `OutOfMemory` where its bytes could not be held: they are left out.
     pub fn accept(&mut self, alloc: Global, segment: &Segment<'_>) -> Result<(), AllocError>
-        ensures bytes { OnOk result (breaks segment.now ≡ false
-            → Accepts (first_of segment.now) segment.now.payload.now (begun HELD_LIMIT (first_of segment.now) self.old.reading) self.new.reading) }
-        ensures broken { breaks segment.now ≡ true → self.new.reading ≡ self.old.reading }
+        ensures { OnOk result (HasTaken segment.now self.old self.new) }
     {
         if segment.breaks() {
             self.is_broken = true;
@@ -135,7 +137,9 @@ impl Stream {
     }
 
     /// Whether its sender said its last: it broke the connection off, or all in front of its FIN came.
-    pub fn is_closed(&self) -> bool {
+    pub fn is_closed(&self) -> bool
+        ensures { result ≡ is_over self.now }
+    {
         if self.is_broken {
             return true;
         }

@@ -1,0 +1,27 @@
+//! What stands of the two ends of a connection. Each function's contract is one law.
+ghost use Rattle.std.specs.Prelude.{◌≡◌, ◌⊎◌};
+ghost use Rattle.std.specs.Cmp.{IsPartialOrder, IsTotalOrder, Agrees};
+ghost use Rattle.connections.specs.Ends.{ends_between};
+ghost use Rattle.connections.specs.declared.ends.Protocol.{Protocol};
+ghost use Rattle.connections.specs.declared.ends.End.{End as AnEnd};
+
+use crate::ends::End;
+
+/// The order of a type is total.
+fn is_ordered<T: Ord>()
+    ensures agrees { Agrees T.partial_cmp T.cmp }
+    ensures total { IsTotalOrder T.cmp }
+    ensures partial { IsPartialOrder T.eq T.partial_cmp }
+{}
+
+/// Both directions of a connection have one pair of ends.
+pub fn both_directions_have_the_same_ends()
+    ensures { (p : Protocol) (a b : AnEnd) → ends_between p a b ≡ ends_between p b a }
+{
+    is_ordered::<End>();
+}
+
+/// Packets with the same ends have one protocol, and go between the same two, in this direction or the other.
+pub fn no_other_packets_have_these_ends()
+    ensures { (p q : Protocol) (a b c d : AnEnd) → ends_between p a b ≡ ends_between q c d → (p ≡ q) × (((a ≡ c) × (b ≡ d)) ⊎ ((a ≡ d) × (b ≡ c))) }
+{}
