@@ -1,7 +1,7 @@
 //! One direction of a connection.
 ghost use Rattle.std.specs.Prelude.{◌≡◌, ◌%◌, ◌^◌, length, OnOk};
 ghost use Rattle.connections.specs.Segment.{first_of};
-ghost use Rattle.connections.specs.Stream.{begun, next_bytes, behind_front, silent_stream, HasTaken, is_over};
+ghost use Rattle.connections.specs.Stream.{begun, next_bytes, behind_front, next_behind, number_begun, silent_stream, is_behind as comes_behind, HasTaken, is_over, lacks};
 ghost use Rattle.connections.specs.declared.stream.Reading.TheVariants.{Over};
 
 use crate::segment::Segment;
@@ -39,7 +39,9 @@ pub struct Stream {
 }
 
 /// Whether a number comes behind another, among the numbers around it.
-fn is_behind(number: u32, other: u32) -> bool {
+fn is_behind(number: u32, other: u32) -> bool
+    ensures { result ≡ comes_behind number other }
+{
     let ahead = number.wrapping_sub(other);
     ahead > 0 && ahead < HALF
 }
@@ -69,8 +71,11 @@ impl Stream {
     /// It begins with its first segment.
     fn begin(&mut self, alloc: Global, segment: &Segment<'_>)
         ensures reading { self.new.reading ≡ begun HELD_LIMIT (first_of segment.now) self.old.reading }
+        ensures next { self.new.next ≡ number_begun self.old.reading (first_of segment.now) self.old.next }
+        ensures last { self.new.last ≡ number_begun self.old.reading (first_of segment.now) self.old.last }
         ensures fin { self.new.fin ≡ self.old.fin }
         ensures is_broken { self.new.is_broken ≡ self.old.is_broken }
+        ensures has_gap { self.new.has_gap ≡ self.old.has_gap }
     {
         if let Reading::Unbegun = self.reading {
             self.next = segment.first();
@@ -120,7 +125,7 @@ impl Stream {
 
     /// Takes bytes off the front; all where fewer are there.
     pub fn take(&mut self, n: usize)
-        ensures { self.new.reading ≡ behind_front n self.old.reading }
+        ensures { self.new ≡ record self.old { reading = behind_front n self.old.reading; next = next_behind n self.old.reading self.old.next } }
     {
         if let Reading::Open(segments) = &mut self.reading {
             let n = n.min(segments.available().len());
@@ -131,7 +136,7 @@ impl Stream {
 
     /// Reads no further: what is held and what comes is let go.
     pub fn stop(&mut self)
-        ensures { self.new.reading ≡ Over }
+        ensures { self.new ≡ record self.old { reading = Over } }
     {
         self.reading = Reading::Over;
     }
@@ -153,7 +158,9 @@ impl Stream {
     }
 
     /// Whether bytes are missing in front of others, or of a FIN, that came.
-    pub fn has_gap(&self) -> bool {
+    pub fn has_gap(&self) -> bool
+        ensures { result ≡ lacks self.now self.now.reading }
+    {
         match &self.reading {
             Reading::Open(segments) => {
                 is_behind(
