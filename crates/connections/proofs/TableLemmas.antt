@@ -1,5 +1,5 @@
 -- What a table of ends holds after a step.
-use Rattle.std.proofs.Common.{◌≡◌, ℕ, zero, suc, ◌-◌, ◌≤◌, true, false, Option, Some, None, List, [], ◌∷◌, ◌++◌, length, take, slice_get, refl, sym, ap, ◌∙◌, subst, arith, rules, append_assoc}
+use Rattle.std.proofs.Common.{◌≡◌, ℕ, zero, suc, ◌-◌, ◌≤◌, true, false, Option, Some, None, List, [], ◌∷◌, ◌++◌, length, take, slice_get, refl, sym, ap, ◌∙◌, subst, arith, rules, append_assoc, Bool, cond}
 use Rattle.std.specs.Map.{lookup_entry, set_value}
 use Rattle.lru.specs.LruCache.{LruCache, promoted, put_entries, last_entry}
 use Rattle.connections.specs.Ends.{are_ends}
@@ -87,3 +87,14 @@ module _ {T : Type 0} (e : Ends) (Takes : Option (Connection T) → Connection T
 
   pub put_new : (ys : List (Ends × Connection T)) → None ≡ at e xs → Takes None its → ys ≡ (e, its) ∷ others e xs → IsPut e Takes xs ys
   put_new ys h t s = record { its = its; takes = subst (λ o. Takes o its) h t; stands = s }
+
+module _ {X : Type 0} (e f : Ends) (apart : e ≡ f → ⊥) where
+  one_more : (x : Ends × X) (xs : List (Ends × X)) (s t : Bool) → are_ends e x.0 ≡ s → are_ends f x.0 ≡ t → at f (others e xs) ≡ at f xs → at f (others e (x ∷ xs)) ≡ at f (x ∷ xs)
+  one_more x xs true true p q h = absurd (apart (the_same e x.0 p ∙ sym (the_same f x.0 q)))
+  one_more x xs true false p q h = rw (p, q)
+  one_more x xs false t p q h = rw p (ap (λ o. cond (are_ends f x.0) (Some x.1) o) h)
+
+  -- What stands under other ends stays.
+  pub at-others : (xs : List (Ends × X)) → at f (others e xs) ≡ at f xs
+  at-others [] = refl
+  at-others (x ∷ xs) = one_more x xs (are_ends e x.0) (are_ends f x.0) refl refl (at-others xs)

@@ -17,7 +17,10 @@ mod table;
 pub use connection::{Connection, Listener, Side};
 pub use datagram::Datagram;
 pub use ends::{End, Ends, Protocol};
-pub use laws::{both_directions_have_the_same_ends, no_other_packets_have_these_ends};
+pub use laws::{
+    both_directions_have_the_same_ends, no_other_packets_have_these_ends,
+    what_stands_under_other_ends_stays,
+};
 pub use segment::Segment;
 pub use stream::{HELD_LIMIT, Stream};
 pub use table::{Connections, IDLE_LIMIT, MAX_CONNECTIONS};

@@ -1,6 +1,6 @@
 //! What no clause says: that calls succeed, on packets of known connections, and in time.
 use super::*;
-use std::alloc::Global;
+use std::alloc::{AllocError, Global};
 use std::hash::RandomState;
 use std::net::{IpAddr, Ipv4Addr, Ipv6Addr};
 use std::test::Fail;
@@ -60,62 +60,86 @@ fn table(rt: &HostRuntime) -> Result<Connections<Nothing>, Fail> {
     Ok(Connections::new(rt.alloc(), RandomState::new(rt)?)?)
 }
 
+/// What becomes of a segment: the connection is replaced, one accepts it, and it is closed then.
+type Fate = (bool, bool, bool);
+
+/// It goes to a connection.
+const GOES_ON: Fate = (false, true, false);
+
+/// It replaces one.
+const REPLACES: Fate = (true, true, false);
+
+/// It ends one.
+const ENDS: Fate = (false, true, true);
+
+/// It belongs to none.
+const STRAY: Fate = (false, false, false);
+
+/// Puts the segment into the table.
+fn fate_of(
+    connections: &mut Connections<Nothing>,
+    segment: &Segment<'_>,
+) -> Result<Fate, AllocError> {
+    let is_replaced = connections.take_replaced(segment).is_some();
+    let belongs = connections.accept(segment)?;
+    let is_closed = connections.take_closed(segment)?.is_some();
+    Ok((is_replaced, belongs, is_closed))
+}
+
 #[test]
-fn a_connection_from_syn_to_fin(rt: HostRuntime) -> Result<(), Fail> {
-    let (client, server) = (end(9, 40_000), end(1, 443));
+fn segments_of_one_tuple(rt: HostRuntime) -> Result<(), Fail> {
+    let (client, server) = (end6(9, 40_000), end6(1, 443));
     let mut connections = table(&rt)?;
-    let packets = [
-        segment(client, server, 0xffff_fffe, SYN, b""),
-        segment(client, server, 0xffff_fffe, SYN, b""),
-        segment(server, client, 7, SYN | ACK, b""),
-        segment(client, server, 1, ACK, b"cd"),
-        segment(client, server, 0xffff_ffff, ACK, b"ab"),
-        segment(server, client, 8, FIN | ACK, b"x"),
+    let rows = [
+        (segment(client, server, 9, SYN, b""), GOES_ON),
+        // The same, sent once more.
+        (segment(client, server, 9, SYN, b""), GOES_ON),
+        (segment(server, client, 7, SYN | ACK, b""), GOES_ON),
+        (segment(client, server, 10, FIN | ACK, b"ab"), GOES_ON),
+        // In front of its FIN a byte is missing.
+        (segment(server, client, 9, FIN | ACK, b"y"), GOES_ON),
+        (segment(server, client, 8, ACK, b"x"), ENDS),
+        (segment(client, server, 10, ACK, b"ab"), STRAY),
+        (segment(client, server, 500, SYN, b""), GOES_ON),
+        (segment(client, server, 501, SYN, b""), REPLACES),
+        (segment(server, client, 0, RST, b""), GOES_ON),
+        (segment(client, server, 501, RST, b""), ENDS),
+        (segment(server, client, 8, RST, b""), STRAY),
+        // The ends the other way round: who asks is the originator.
+        (segment(server, client, 8, SYN, b""), GOES_ON),
+        (segment(client, server, 8, SYN, b""), REPLACES),
     ];
-    for packet in &packets {
-        assert!(rt; connections.take_replaced(packet).is_none());
-        assert!(rt; connections.accept(packet)?);
+    for (segment, fate) in &rows {
+        assert_eq!(rt; fate_of(&mut connections, segment)?, *fate);
     }
-    let fin = segment(client, server, 3, FIN | ACK, b"");
-    assert!(rt; connections.take_closed(&fin)?.is_none());
-    assert!(rt; connections.accept(&fin)?);
-    let Some(connection) = connections.take_closed(&fin)? else {
-        return Err(Fail::new("it is not closed"));
-    };
-    assert_eq!(rt; connection.originator, client);
-    assert_eq!(rt; connection.from_originator.available(), b"abcd".as_slice());
-    assert_eq!(rt; connection.from_responder.available(), b"x".as_slice());
-    // What still comes is left out, until a new one is asked for.
-    assert!(rt; !connections.accept(&packets[4])?);
-    assert!(rt; connections.take_replaced(&packets[0]).is_none());
-    assert!(rt; connections.accept(&packets[0])?);
     Ok(())
 }
 
 #[test]
-fn another_syn_and_rst_of_both(rt: HostRuntime) -> Result<(), Fail> {
-    let (client, server) = (end6(9, 40_000), end6(1, 443));
+fn what_both_sides_say(rt: HostRuntime) -> Result<(), Fail> {
+    let (client, server) = (end(9, 40_000), end(1, 443));
     let mut connections = table(&rt)?;
-    // Who answers is the responder, also where nobody was seen to ask.
-    assert!(rt; connections.accept(&segment(server, client, 7, SYN | ACK, b""))?);
-    let syn = segment(client, server, 500, SYN, b"");
-    let Some(first) = connections.take_replaced(&syn) else {
-        return Err(Fail::new("it is not replaced"));
+    let segments = [
+        // Who answers is the responder, also where nobody was seen to ask.
+        segment(server, client, 7, SYN | ACK, b""),
+        segment(client, server, 0xffff_fffe, ACK, b"ab"),
+        segment(client, server, 2, ACK, b"ef"),
+        segment(client, server, 0, ACK, b"cd"),
+        segment(server, client, 9, ACK, b"y"),
+    ];
+    for segment in &segments {
+        connections.accept(segment)?;
+    }
+    let Some(connection) = connections.get_mut(&segments[0].between()) else {
+        return Err(Fail::new("there is no connection"));
     };
-    assert_eq!(rt; first.originator, client);
-    assert!(rt; connections.accept(&syn)?);
-    assert!(rt;
-        connections
-            .take_replaced(&segment(client, server, 501, SYN, b""))
-            .is_some()
+    assert_eq!(rt; connection.side_of(client), Side::Originator);
+    assert_eq!(rt;
+        connection.from_originator.available(),
+        b"abcdef".as_slice()
     );
-    assert!(rt; connections.accept(&syn)?);
-    assert!(rt; connections.accept(&segment(server, client, 0, RST, b""))?);
-    let reset = segment(client, server, 501, RST, b"");
-    assert!(rt; connections.take_closed(&reset)?.is_none());
-    assert!(rt; connections.accept(&reset)?);
-    assert!(rt; connections.take_closed(&reset)?.is_some());
-    assert!(rt; connections.take_left().is_none());
+    assert!(rt; connection.from_responder.available().is_empty());
+    assert!(rt; connection.stream(Side::Responder).has_gap());
     Ok(())
 }
 
@@ -145,11 +169,16 @@ fn datagrams_are_an_exchange(rt: HostRuntime) -> Result<(), Fail> {
     assert_eq!(rt; exchange.side_of(answer.source), Side::Responder);
     assert_eq!(rt; (exchange.first_time, exchange.last_time), (5, 6));
     // It is over when it had no packet for more than the limit.
-    assert!(rt; connections.take_idle(IDLE_LIMIT).is_none());
-    assert!(rt; connections.take_idle(IDLE_LIMIT + 1).is_some());
-    assert!(rt; connections.take_idle(IDLE_LIMIT + 6).is_none());
-    assert!(rt; connections.take_idle(IDLE_LIMIT + 7).is_some());
-    assert!(rt; connections.take_left().is_none());
+    let rows = [
+        (IDLE_LIMIT, false),
+        (IDLE_LIMIT + 1, true),
+        (IDLE_LIMIT + 6, false),
+        (IDLE_LIMIT + 7, true),
+        (u64::MAX, false),
+    ];
+    for (time, is_over) in rows {
+        assert_eq!(rt; connections.take_idle(time).is_some(), is_over);
+    }
     Ok(())
 }
 
