@@ -1,2 +1,6 @@
+pub mod Ends
 pub mod Segment
 pub mod Stream
+pub mod Connection
+pub mod Table
+pub mod Lends

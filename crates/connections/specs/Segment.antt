@@ -1,5 +1,8 @@
 -- What a segment's header says.
-use Rattle.std.specs.Prelude.{ℕ, ◌+◌, ◌/◌, ◌%◌, ◌^◌, ◌==◌, Bool, ◌&&◌, not, if◌then◌else◌, length}
+use Rattle.std.specs.Prelude.{ℕ, ◌+◌, ◌/◌, ◌%◌, ◌^◌, ◌==◌, Bool, ◌&&◌, ◌||◌, not, if◌then◌else◌, length}
+use Rattle.connections.specs.Ends.{ends_between}
+use Rattle.connections.specs.declared.ends.Ends.{Ends}
+use Rattle.connections.specs.declared.ends.Protocol.TheVariants.{Tcp}
 use Rattle.connections.specs.declared.segment.Segment.{Segment}
 
 -- The flag of that weight is set (RFC 9293, section 3.1).
@@ -19,6 +22,18 @@ breaks = has_flag 4
 -- It asks for a connection: SYN without ACK.
 abbrev pub asks : Segment → Bool
 asks s = begins s && not (has_flag 16 s)
+
+-- It answers one that asks.
+abbrev pub answers : Segment → Bool
+answers s = begins s && has_flag 16 s
+
+-- A connection may begin with it: it asks for one, answers, or has data.
+abbrev pub begins_one : Segment → Bool
+begins_one s = not (breaks s) && (begins s || not (length s.payload.now == 0))
+
+-- Between whom it goes.
+abbrev pub ends_of : Segment → Ends
+ends_of s = ends_between Tcp s.source s.destination
 
 -- The number of the first byte of data: a SYN has one of its own, in front of it.
 abbrev pub first_of : Segment → ℕ

@@ -1,78 +1,116 @@
-//! A connection of TCP.
-ghost use Rattle.std.specs.Prelude.{◌≡◌};
+//! A connection of TCP, or an exchange over UDP.
+ghost use Rattle.std.specs.Prelude.{◌≡◌, OnOk};
+ghost use Rattle.connections.specs.Connection.{silent, IsBegunBy, Accepts, side_of, stream_of, is_closed, is_another};
+ghost use Rattle.connections.specs.declared.ends.Protocol.TheVariants.{Udp};
 
-use crate::segment::{End, Segment};
+use crate::datagram::Datagram;
+use crate::ends::{End, Protocol};
+use crate::segment::Segment;
 use crate::stream::Stream;
 use std::alloc::{AllocError, Global};
 
 /// A value of a caller that goes with a connection.
 pub trait Listener: Drop {
     /// That of a connection of which nothing came.
-    fn begin(alloc: Global) -> Self;
+    fn begin(alloc: Global, protocol: Protocol) -> Self;
 }
 
-/// Which end sent a segment.
+/// Which end sent a packet.
 #[derive(Clone, Copy, Debug, PartialEq, Eq)]
 pub enum Side {
-    /// The one that asked for the connection; where that wasn't captured, the one that sent its first segment.
+    /// The one that asked for the connection; where that wasn't captured, the one that sent its first packet.
     Originator,
     /// The other.
     Responder,
 }
 
-/// A connection, as far as it was captured.
+/// A connection of TCP, or an exchange of datagrams over UDP, as far as it was captured.
 #[derive(Drop)]
 pub struct Connection<T> {
-    /// The end that asked for it; where that wasn't captured, the one that sent its first segment.
+    /// What carries it.
+    pub protocol: Protocol,
+    /// The end that asked for it; where that wasn't captured, and over UDP, the one that sent its first packet.
     pub originator: End,
     /// The other end.
     pub responder: End,
-    /// When its first segment was captured, in nanoseconds since 1970-01-01 00:00 UTC.
+    /// When its first packet was captured, in nanoseconds since 1970-01-01 00:00 UTC.
     pub first_time: u64,
     /// The same of its last.
     pub last_time: u64,
     // The number of the first byte behind the SYN that asked for it, if one was captured.
     asked: Option<u32>,
-    /// What the originator says.
+    /// What the originator says over TCP.
     pub from_originator: Stream,
-    /// What the responder says.
+    /// What the responder says over TCP.
     pub from_responder: Stream,
     /// The caller's own.
     pub listener: T,
 }
 
 impl<T: Listener> Connection<T> {
-    /// One that this segment begins; it is not put into a stream.
-    pub(crate) fn new(alloc: Global, segment: &Segment<'_>) -> Connection<T> {
-        let answers = segment.begins() && !segment.asks();
-        let (originator, responder) = if answers {
+    /// One of which nothing came, between these ends.
+    fn new(
+        alloc: Global,
+        protocol: Protocol,
+        originator: End,
+        responder: End,
+        time: u64,
+    ) -> Connection<T>
+        ensures { result ≡ silent protocol originator responder time result.listener }
+    {
+        Connection {
+            protocol,
+            originator,
+            responder,
+            first_time: time,
+            last_time: time,
+            asked: None,
+            from_originator: Stream::new(),
+            from_responder: Stream::new(),
+            listener: T::begin(alloc, protocol),
+        }
+    }
+
+    /// One that this segment begins; it is not put into a stream. Who answers is the responder.
+    pub(crate) fn of_segment(alloc: Global, segment: &Segment<'_>) -> Connection<T>
+        ensures { IsBegunBy segment.now result }
+    {
+        let (originator, responder) = if segment.answers() {
             (segment.destination, segment.source)
         } else {
             (segment.source, segment.destination)
         };
-        Connection {
-            originator,
-            responder,
-            first_time: segment.time,
-            last_time: segment.time,
-            asked: None,
-            from_originator: Stream::new(),
-            from_responder: Stream::new(),
-            listener: T::begin(alloc),
-        }
+        Connection::new(alloc, Protocol::Tcp, originator, responder, segment.time)
     }
 
-    /// Who sent a segment of it.
-    pub fn side_of(&self, segment: &Segment<'_>) -> Side {
-        if segment.source == self.originator {
+    /// One that this datagram begins.
+    pub(crate) fn of_datagram(alloc: Global, datagram: &Datagram<'_>) -> Connection<T>
+        ensures { result ≡ silent Udp datagram.now.source datagram.now.destination datagram.now.time result.listener }
+    {
+        Connection::new(
+            alloc,
+            Protocol::Udp,
+            datagram.source,
+            datagram.destination,
+            datagram.time,
+        )
+    }
+
+    /// Which side a sender of its packets is.
+    pub fn side_of(&self, sender: End) -> Side
+        ensures { result ≡ side_of self.now sender }
+    {
+        if sender == self.originator {
             Side::Originator
         } else {
             Side::Responder
         }
     }
 
-    /// What that side says.
-    pub fn stream(&self, side: Side) -> &Stream {
+    /// What that side says over TCP.
+    pub fn stream(&self, side: Side) -> &Stream
+        ensures { result.now ≡ stream_of side self.now }
+    {
         match side {
             Side::Originator => &self.from_originator,
             Side::Responder => &self.from_responder,
@@ -80,24 +118,26 @@ impl<T: Listener> Connection<T> {
     }
 
     /// Whether the segment asks for another connection between its ends.
-    pub(crate) fn is_other(&self, segment: &Segment<'_>) -> bool {
+    pub(crate) fn is_another(&self, segment: &Segment<'_>) -> bool
+        ensures { result ≡ is_another segment.now self.now }
+    {
         if !segment.asks() {
             return false;
         }
         match self.asked {
-            Some(begun) => self.side_of(segment) != Side::Originator || segment.first() != begun,
+            Some(first) => {
+                self.side_of(segment.source) != Side::Originator || segment.first() != first
+            }
             None => true,
         }
     }
 
-    /// Puts the segment into its stream. `AllocError` where its bytes could not be held: they are left out.
-    pub(crate) fn accept(
-        &mut self,
-        alloc: Global,
-        segment: &Segment<'_>,
-    ) -> Result<(), AllocError> {
+    /// Puts the segment into its sender's stream. `AllocError` where its bytes could not be held: they are left out.
+    pub(crate) fn accept(&mut self, alloc: Global, segment: &Segment<'_>) -> Result<(), AllocError>
+        ensures { OnOk result (Accepts segment.now self.old self.new) }
+    {
         self.last_time = segment.time;
-        match self.side_of(segment) {
+        match self.side_of(segment.source) {
             Side::Originator => {
                 if segment.asks() {
                     self.asked = Some(segment.first());
@@ -108,24 +148,10 @@ impl<T: Listener> Connection<T> {
         }
     }
 
-    /// Takes bytes off the front of what that side says; all where fewer are there.
-    pub fn take(&mut self, side: Side, n: usize) {
-        match side {
-            Side::Originator => self.from_originator.take(n),
-            Side::Responder => self.from_responder.take(n),
-        }
-    }
-
-    /// Reads that side no further.
-    pub fn stop(&mut self, side: Side) {
-        match side {
-            Side::Originator => self.from_originator.stop(),
-            Side::Responder => self.from_responder.stop(),
-        }
-    }
-
     /// Whether both sides said their last.
-    pub fn is_closed(&self) -> bool {
+    pub fn is_closed(&self) -> bool
+        ensures { result ≡ is_closed self.now }
+    {
         self.from_originator.is_closed() && self.from_responder.is_closed()
     }
 }

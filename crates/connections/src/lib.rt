@@ -1,16 +1,29 @@
-//! Connections of TCP, from the packets of a capture.
+//! Connections of TCP and exchanges over UDP, from the packets of a capture.
 //!
-//! [`Connections`] is a table by both ends. Each [`Segment`] goes to its connection, where it is put into its direction's stream;
-//! what is there in order is handed out, and a caller's own value ([`Listener`]) goes with the connection. It ends by FIN or RST
-//! of both sides, by a new SYN, after [`IDLE_LIMIT`] without packets, or with the capture.
+//! [`Connections`] is a table by protocol and both ends. Each [`Segment`] goes to its connection, where it is put into its
+//! direction's stream; what is there in order is handed out, and a caller's own value ([`Listener`]) goes with the connection.
+//! It ends by FIN or RST of both sides, by a new SYN, after [`IDLE_LIMIT`] without packets, or with the capture. A [`Datagram`]
+//! goes to the exchange between its ends, which ends after [`IDLE_LIMIT`] without packets, or with the capture.
 #![tactic(auto)]
 
 mod connection;
+mod datagram;
+mod ends;
+mod laws;
 mod segment;
 mod stream;
 mod table;
 
 pub use connection::{Connection, Listener, Side};
-pub use segment::{End, Segment};
+pub use datagram::Datagram;
+pub use ends::{End, Ends, Protocol};
+pub use laws::{
+    both_directions_have_the_same_ends, no_other_packets_have_these_ends,
+    what_stands_under_other_ends_stays,
+};
+pub use segment::Segment;
 pub use stream::{HELD_LIMIT, Stream};
 pub use table::{Connections, IDLE_LIMIT, MAX_CONNECTIONS};
+
+#[cfg(test)]
+mod tests;

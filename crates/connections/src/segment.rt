@@ -1,8 +1,8 @@
-//! A segment of TCP, and the ends that it goes between.
+//! A segment of TCP.
 ghost use Rattle.std.specs.Prelude.{◌≡◌, ◌<◌};
-ghost use Rattle.connections.specs.Segment.{has_flag as is_set, ends, begins, breaks, asks, first_of, behind_of};
+ghost use Rattle.connections.specs.Segment.{has_flag as is_set, ends, begins, breaks, asks, answers, first_of, behind_of, ends_of, begins_one};
 
-use std::net::IpAddr;
+use crate::ends::{End, Ends, Protocol};
 
 /// The sender's last segment (RFC 9293, section 3.1).
 const FIN: u8 = 0x01;
@@ -15,15 +15,6 @@ const RST: u8 = 0x04;
 
 /// The segment acknowledges one.
 const ACK: u8 = 0x10;
-
-/// One end of a connection.
-#[derive(Clone, Copy, Debug, PartialEq, Eq, PartialOrd, Ord, Hash)]
-pub struct End {
-    /// Its address.
-    pub address: IpAddr,
-    /// Its port.
-    pub port: u16,
-}
 
 /// A segment of TCP as it was captured.
 #[derive(Clone, Copy, Debug)]
@@ -51,6 +42,13 @@ fn has_flag(segment: &Segment<'_>, weight: u8) -> bool
 }
 
 impl<'a> Segment<'a> {
+    /// Between whom it goes.
+    pub fn between(&self) -> Ends
+        ensures { result ≡ ends_of self.now }
+    {
+        Ends::between(Protocol::Tcp, self.source, self.destination)
+    }
+
     /// It is its sender's first: SYN is set.
     pub fn begins(&self) -> bool
         ensures { result ≡ begins self.now }
@@ -65,6 +63,13 @@ impl<'a> Segment<'a> {
         self.begins() && !has_flag(self, ACK)
     }
 
+    /// It answers one that asks: SYN and ACK are set.
+    pub fn answers(&self) -> bool
+        ensures { result ≡ answers self.now }
+    {
+        self.begins() && has_flag(self, ACK)
+    }
+
     /// It is its sender's last: FIN is set.
     pub fn ends(&self) -> bool
         ensures { result ≡ ends self.now }
@@ -77,6 +82,13 @@ impl<'a> Segment<'a> {
         ensures { result ≡ breaks self.now }
     {
         has_flag(self, RST)
+    }
+
+    /// A connection may begin with it: it asks for one, answers, or has data.
+    pub(crate) fn begins_one(&self) -> bool
+        ensures { result ≡ begins_one self.now }
+    {
+        !self.breaks() && (self.begins() || !self.payload.is_empty())
     }
 
     /// The number of its first byte of data, in front of which a SYN counts as one.

@@ -1,8 +1,8 @@
 //! One direction of a connection.
-ghost use Rattle.std.specs.Prelude.{◌≡◌, true, false, OnOk};
-ghost use Rattle.connections.specs.Segment.{breaks, first_of};
-ghost use Rattle.connections.specs.Stream.{Accepts, begun, next_bytes, behind_front};
-ghost use Rattle.connections.specs.declared.stream.Reading.TheVariants.{Unbegun, Over};
+ghost use Rattle.std.specs.Prelude.{◌≡◌, ◌%◌, ◌^◌, length, OnOk};
+ghost use Rattle.connections.specs.Segment.{first_of};
+ghost use Rattle.connections.specs.Stream.{begun, next_bytes, behind_front, next_behind, number_begun, silent_stream, is_behind as comes_behind, HasTaken, is_over, lacks};
+ghost use Rattle.connections.specs.declared.stream.Reading.TheVariants.{Over};
 
 use crate::segment::Segment;
 use segments::{SegmentError, Segments};
@@ -39,20 +39,24 @@ pub struct Stream {
 }
 
 /// Whether a number comes behind another, among the numbers around it.
-fn is_behind(number: u32, other: u32) -> bool {
+fn is_behind(number: u32, other: u32) -> bool
+    ensures { result ≡ comes_behind number other }
+{
     let ahead = number.wrapping_sub(other);
     ahead > 0 && ahead < HALF
 }
 
 /// The count of a slice's bytes as a number of sequence.
-fn count(bytes: &[u8]) -> u32 {
+fn count(bytes: &[u8]) -> u32
+    ensures { result ≡ length bytes.now % 2 ^ 32 }
+{
     (bytes.len() % 0x1_0000_0000) as u32
 }
 
 impl Stream {
     /// One of which no segment came. It takes no memory.
     pub fn new() -> Stream
-        ensures { result.reading ≡ Unbegun }
+        ensures { result ≡ silent_stream }
     {
         Stream {
             reading: Reading::Unbegun,
@@ -66,7 +70,12 @@ impl Stream {
 
     /// It begins with its first segment.
     fn begin(&mut self, alloc: Global, segment: &Segment<'_>)
-        ensures { self.new.reading ≡ begun HELD_LIMIT (first_of segment.now) self.old.reading }
+        ensures reading { self.new.reading ≡ begun HELD_LIMIT (first_of segment.now) self.old.reading }
+        ensures next { self.new.next ≡ number_begun self.old.reading (first_of segment.now) self.old.next }
+        ensures last { self.new.last ≡ number_begun self.old.reading (first_of segment.now) self.old.last }
+        ensures fin { self.new.fin ≡ self.old.fin }
+        ensures is_broken { self.new.is_broken ≡ self.old.is_broken }
+        ensures has_gap { self.new.has_gap ≡ self.old.has_gap }
     {
         if let Reading::Unbegun = self.reading {
             self.next = segment.first();
@@ -78,9 +87,7 @@ impl Stream {
     /// Puts the segment's bytes where they stand. Where it ends more than [`HELD_LIMIT`] behind the first byte that is missing,
     /// there is a gap, and nothing further is read. `OutOfMemory` where its bytes could not be held: they are left out.
     pub fn accept(&mut self, alloc: Global, segment: &Segment<'_>) -> Result<(), AllocError>
-        ensures bytes { OnOk result (breaks segment.now ≡ false
-            → Accepts (first_of segment.now) segment.now.payload.now (begun HELD_LIMIT (first_of segment.now) self.old.reading) self.new.reading) }
-        ensures broken { breaks segment.now ≡ true → self.new.reading ≡ self.old.reading }
+        ensures { OnOk result (HasTaken segment.now self.old self.new) }
     {
         if segment.breaks() {
             self.is_broken = true;
@@ -118,7 +125,7 @@ impl Stream {
 
     /// Takes bytes off the front; all where fewer are there.
     pub fn take(&mut self, n: usize)
-        ensures { self.new.reading ≡ behind_front n self.old.reading }
+        ensures { self.new ≡ record self.old { reading = behind_front n self.old.reading; next = next_behind n self.old.reading self.old.next } }
     {
         if let Reading::Open(segments) = &mut self.reading {
             let n = n.min(segments.available().len());
@@ -129,13 +136,15 @@ impl Stream {
 
     /// Reads no further: what is held and what comes is let go.
     pub fn stop(&mut self)
-        ensures { self.new.reading ≡ Over }
+        ensures { self.new ≡ record self.old { reading = Over } }
     {
         self.reading = Reading::Over;
     }
 
     /// Whether its sender said its last: it broke the connection off, or all in front of its FIN came.
-    pub fn is_closed(&self) -> bool {
+    pub fn is_closed(&self) -> bool
+        ensures { result ≡ is_over self.now }
+    {
         if self.is_broken {
             return true;
         }
@@ -149,7 +158,9 @@ impl Stream {
     }
 
     /// Whether bytes are missing in front of others, or of a FIN, that came.
-    pub fn has_gap(&self) -> bool {
+    pub fn has_gap(&self) -> bool
+        ensures { result ≡ lacks self.now self.now.reading }
+    {
         match &self.reading {
             Reading::Open(segments) => {
                 is_behind(

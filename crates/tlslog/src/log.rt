@@ -1,9 +1,10 @@
 //! What a capture's packets add to the log.
 use crate::counts::{Counts, add_one};
 use capture::{Address, Content, Datagram, TcpSegment, parse_packet};
-use connections::{Connection, Connections, End, Listener, Segment, Side, Stream};
+use connections::{Connection, Connections, End, Listener, Protocol, Segment, Side, Stream};
 use packets::Packet;
 use std::alloc::{AllocError, Global};
+use std::hash::RandomState;
 use std::net::{IpAddr, Ipv4Addr, Ipv6Addr};
 use tls_flow::Direction;
 use tls_talks::Talk;
@@ -17,7 +18,7 @@ pub struct Heard {
 }
 
 impl Listener for Heard {
-    fn begin(alloc: Global) -> Heard {
+    fn begin(alloc: Global, _protocol: Protocol) -> Heard {
         Heard {
             alloc,
             talk: Talk::new(alloc),
@@ -93,10 +94,10 @@ fn hear(connection: &mut Connection<Heard>, side: Side) -> Result<(), AllocError
 }
 
 impl Log {
-    /// That of a capture of which nothing was read.
-    pub fn new(alloc: Global) -> Result<Log, AllocError> {
+    /// That of a capture of which nothing was read, with keys for the hashes of its table.
+    pub fn new(alloc: Global, keys: RandomState) -> Result<Log, AllocError> {
         Ok(Log {
-            connections: Connections::new(alloc)?,
+            connections: Connections::new(alloc, keys)?,
             counts: Counts::new(),
         })
     }
@@ -141,16 +142,14 @@ impl Log {
         &mut self,
         segment: &Segment<'_>,
     ) -> Result<Option<Connection<Heard>>, AllocError> {
-        match self.connections.accept(segment)? {
-            Some(connection) => {
-                let side = connection.side_of(segment);
-                hear(connection, side)?;
-                if !connection.is_closed() {
-                    return Ok(None);
-                }
-            }
-            None => {
-                add_one(&mut self.counts.stray_segments);
+        if !self.connections.accept(segment)? {
+            add_one(&mut self.counts.stray_segments);
+            return Ok(None);
+        }
+        if let Some(connection) = self.connections.get_mut(&segment.between()) {
+            let side = connection.side_of(segment.source);
+            hear(connection, side)?;
+            if !connection.is_closed() {
                 return Ok(None);
             }
         }

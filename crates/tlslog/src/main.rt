@@ -15,6 +15,7 @@ use crate::program::{Exit, log_file, log_input};
 use clap::{Arg, ArgAction, ArgMatches, Command};
 use std::alloc::Global;
 use std::process::ExitCode;
+use std::random::RandomSource;
 use std::rt::Runtime;
 
 /// The matches of the command line.
@@ -30,7 +31,7 @@ fn matches<'a>(alloc: Global, words: &'a [String]) -> Result<ArgMatches<'a>, cla
 }
 
 /// Logs each capture that is named, or standard input.
-fn log_all<R: Runtime + AllocGlobal>(rt: &R, matches: &ArgMatches<'_>) -> Exit {
+fn log_all<R: Runtime + AllocGlobal + RandomSource>(rt: &R, matches: &ArgMatches<'_>) -> Exit {
     let Some(paths) = matches.get_strs("captures") else {
         return log_input(rt, "standard input", &mut rt.reader());
     };
@@ -42,7 +43,7 @@ fn log_all<R: Runtime + AllocGlobal>(rt: &R, matches: &ArgMatches<'_>) -> Exit {
 }
 
 /// The whole run.
-fn run<R: Runtime + AllocGlobal>(rt: &R, words: &[String]) -> u8 {
+fn run<R: Runtime + AllocGlobal + RandomSource>(rt: &R, words: &[String]) -> u8 {
     match matches(rt.alloc(), words) {
         Ok(matches) => u8::from(log_all(rt, &matches)),
         Err(error) => {

@@ -5,7 +5,9 @@ use connections::Connection;
 use packets::{Buffer, Capture, CaptureError, Packet, Step};
 use std::alloc::AllocError;
 use std::fs;
+use std::hash::RandomState;
 use std::io::Read;
+use std::random::RandomSource;
 use std::rt::Runtime;
 
 /// How a run ends; each has its own exit status.
@@ -169,8 +171,15 @@ fn tell<R: Runtime>(rt: &R, name: &str, failure: Failure) -> Exit {
 }
 
 /// Logs a capture that is read from there, under that name.
-pub fn log_input<R: Runtime + AllocGlobal, I: Read>(rt: &R, name: &str, reader: &mut I) -> Exit {
-    let mut log = match Log::new(rt.alloc()) {
+pub fn log_input<R: Runtime + AllocGlobal + RandomSource, I: Read>(
+    rt: &R,
+    name: &str,
+    reader: &mut I,
+) -> Exit {
+    let Ok(keys) = RandomState::new(rt) else {
+        return tell(rt, name, Failure::Reading);
+    };
+    let mut log = match Log::new(rt.alloc(), keys) {
         Ok(log) => log,
         Err(_) => return tell(rt, name, Failure::Memory),
     };
@@ -190,7 +199,7 @@ pub fn log_input<R: Runtime + AllocGlobal, I: Read>(rt: &R, name: &str, reader: 
 }
 
 /// Logs the capture in a file.
-pub fn log_file<R: Runtime + AllocGlobal>(rt: &R, path: &str) -> Exit {
+pub fn log_file<R: Runtime + AllocGlobal + RandomSource>(rt: &R, path: &str) -> Exit {
     match fs::open(rt, path) {
         Ok(mut file) => log_input(rt, path, &mut file),
         Err(_) => tell(rt, path, Failure::Reading),

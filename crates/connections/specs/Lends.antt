@@ -1,0 +1,14 @@
+-- What the table ends as, once the connection that it lent is given back.
+use Rattle.std.specs.Prelude.{Option}
+use Rattle.std.specs.Map.{set_value}
+use Rattle.std.specs.Borrow.{Fml, RattleType, MutBor, LendsIf}
+use Rattle.connections.specs.Ends.{are_ends}
+use Rattle.connections.specs.Table.{Table}
+use Rattle.connections.specs.declared.ends.Ends.{Ends}
+use Rattle.connections.specs.declared.connection.Connection.{Connection}
+use Rattle.connections.specs.contracts.connection.Connection as connection
+use Rattle.connections.specs.contracts.table.Connections as table
+
+-- What was written to it stands under its ends; all else stays, and all where there is none.
+abbrev pub lends_connection : (T : RattleType) → MutBor (Table T.Denot) → Ends → Option (MutBor (Connection T.Denot)) → Fml
+lends_connection T t e r = LendsIf (table.the_row T) (connection.the_row T) t r (λ w. record t.now { live = set_value (are_ends e) t.now.live w }) t.now

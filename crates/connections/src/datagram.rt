@@ -1,0 +1,28 @@
+//! A datagram of UDP.
+ghost use Rattle.std.specs.Prelude.{◌≡◌};
+ghost use Rattle.connections.specs.Ends.{ends_between};
+ghost use Rattle.connections.specs.declared.ends.Protocol.TheVariants.{Udp};
+
+use crate::ends::{End, Ends, Protocol};
+
+/// A datagram of UDP as it was captured (RFC 768).
+#[derive(Clone, Copy, Debug)]
+pub struct Datagram<'a> {
+    /// When, in nanoseconds since 1970-01-01 00:00 UTC.
+    pub time: u64,
+    /// Who sent it.
+    pub source: End,
+    /// To whom.
+    pub destination: End,
+    /// The data.
+    pub payload: &'a [u8],
+}
+
+impl<'a> Datagram<'a> {
+    /// Between whom it goes.
+    pub fn between(&self) -> Ends
+        ensures { result ≡ ends_between Udp self.now.source self.now.destination }
+    {
+        Ends::between(Protocol::Udp, self.source, self.destination)
+    }
+}
