@@ -1,2 +1,4 @@
 pub mod BufferLemmas
 pub mod LayoutLemmas
+pub mod FrontLemmas
+pub mod PacketsLemmas
