@@ -28,8 +28,8 @@ pub read_behind : (start h n len : ℕ) (front buf post x new : List ℕ) → le
     → drop start new ≡ drop start front ++ take n buf
 read_behind start h n len front buf post x new e within fits le is =
     ap (drop start) (is ∙ take_within (h + n) len ((front ++ (buf ++ post)) ++ x) fits
-        ∙ ap (take (h + n)) (append_assoc front (buf ++ post) x ∙ ap (λ t. front ++ t) (append_assoc buf post x))
-        ∙ front_kept h n front buf (post ++ x) e within)
+    ∙ ap (take (h + n)) (append_assoc front (buf ++ post) x ∙ ap (λ t. front ++ t) (append_assoc buf post x))
+    ∙ front_kept h n front buf (post ++ x) e within)
     ∙ drop-append-le start front (take n buf) (omega (arith, e, le))
 
 -- what stood there before room was made

@@ -1,16 +1,18 @@
 -- What stands in front of a capture's bytes, where further bytes follow.
-use Rattle.std.proofs.Common.{◌≡◌, ℕ, ◌+◌, ◌<◌, ◌++◌, length, Ok, Err, Some, None, Bool, true, false, cond, refl, ap, subst, sym, arith}
-use Rattle.std.specs.Prelude.{◌==◌, ⊤, if◌then◌else◌}
+use Rattle.std.proofs.Common.{◌≡◌, ℕ, ◌+◌, ◌-◌, ◌<◌, [], ◌++◌, drop, length, Ok, Err, Some, None, Bool, true, false, cond, refl, ap, subst, sym, ◌∙◌, arith}
+use Rattle.std.specs.Prelude.{◌==◌, ⊤}
+use Rattle.std.proofs.lemmas.List.{length-append}
+use Rattle.std.proofs.Math.Seq.{drop-append_seam}
 use Rattle.tls_fields.specs.Bytes.{Bytes}
 use Rattle.tls_fields.specs.Layout.{number}
-use Rattle.tls_fields.specs.Meaning.{Refusal, Broken, Lacks, Answer}
+use Rattle.tls_fields.specs.Meaning.{Broken, Lacks, Answer, EndsWith}
 use Rattle.tls_fields.specs.Reading.{reading}
 use Rattle.tls_fields.proofs.StableLemmas.{Stays, stays}
 use Rattle.capture.specs.Pcap as pcap
 use Rattle.capture.specs.Pcapng.{Block, SECTION, next_block}
 use Rattle.packets.specs.Section.{Section, Heard, beginning, hear}
 use Rattle.packets.specs.Front.{State, Unknown, Pcap, Blocks, Captured, Other, Wait, Said, header_front, form_front, pcap_front, heard_front, block_front, front}
-use Rattle.packets.proofs.LayoutLemmas.{LeavesLess, header_stable, packet_stable, next_block_stays, header_less, packet_less, next_block_less}
+use Rattle.packets.proofs.LayoutLemmas.{LeavesEnd, LeavesLess, leaves, next_block_leaves, header_stable, packet_stable, next_block_stays, header_less, packet_less, next_block_less}
 
 -- With x behind the bytes the same stands in front, unless they are too few to say.
 abbrev pub Longer : Bytes → Said → Said → Type 0
@@ -151,3 +153,52 @@ pub front_waits : (s : State) (b : Bytes) → Waits s (front s b)
 front_waits Unknown b = form_waits b (reading (number 4) b)
 front_waits (Pcap format link) b = pcap_waits format link (reading (pcap.packet format) b)
 front_waits (Blocks s) b = block_waits s (reading (next_block s.order) b)
+
+-- What follows is an end of the bytes.
+abbrev pub Ends : Bytes → Said → Type 0
+Ends b (Ok (Captured p r, s)) = EndsWith b r
+Ends b (Ok (Other r, s)) = EndsWith b r
+Ends b (Ok (Wait, s)) = ⊤
+Ends b (Err e) = ⊤
+
+header_ends : (b : Bytes) (a : Answer pcap.Header) → LeavesEnd b a → Ends b (header_front a)
+header_ends b (Ok v) end = end
+header_ends b (Err (Broken k)) end = tt
+header_ends b (Err (Lacks n)) end = tt
+
+form_ends_picked : (t : Bool) (b : Bytes) → Ends b
+    (cond t (Ok (Other b, Blocks beginning)) (header_front (reading pcap.header b)))
+form_ends_picked true b = ([], refl)
+form_ends_picked false b = header_ends b (reading pcap.header b) (leaves pcap.header header_stable b)
+
+form_ends : (b : Bytes) (a : Answer ℕ) → Ends b (form_front a b)
+form_ends b (Ok v) = form_ends_picked (v.0 == SECTION) b
+form_ends b (Err k) = tt
+
+pcap_ends : (format : pcap.Format) (link : ℕ) (b : Bytes) (a : Answer pcap.Packet) → LeavesEnd b a
+    → Ends b (pcap_front format link a)
+pcap_ends format link b (Ok v) end = end
+pcap_ends format link b (Err (Broken k)) end = tt
+pcap_ends format link b (Err (Lacks n)) end = tt
+
+heard_ends : (b r : Bytes) (h : Heard) → EndsWith b r → Ends b (heard_front r h)
+heard_ends b r (Ok (Some p, s)) end = end
+heard_ends b r (Ok (None, s)) end = end
+heard_ends b r (Err e) end = tt
+
+block_ends : (s : Section) (b : Bytes) (a : Answer Block) → LeavesEnd b a → Ends b (block_front s a)
+block_ends s b (Ok v) end = heard_ends b v.1 (hear s v.0) end
+block_ends s b (Err (Broken k)) end = tt
+block_ends s b (Err (Lacks n)) end = tt
+
+pub front_ends : (s : State) (b : Bytes) → Ends b (front s b)
+front_ends Unknown b = form_ends b (reading (number 4) b)
+front_ends (Pcap format link) b =
+    pcap_ends format link b (reading (pcap.packet format) b) (leaves (pcap.packet format) (packet_stable format) b)
+front_ends (Blocks s) b = block_ends s b (reading (next_block s.order) b) (next_block_leaves s.order b)
+
+-- an end of the bytes is what is left of them by its length
+pub last_bytes : (b r : Bytes) → EndsWith b r → drop (length b - length r) b ≡ r
+last_bytes b r (front, e) =
+    let counted : length b - length r ≡ length front = omega (arith, ap length e, length-append front r) in
+    ap (λ n. drop n b) counted ∙ ap (drop (length front)) e ∙ drop-append_seam front r

@@ -1,11 +1,11 @@
 -- What the layouts of a capture leave of the bytes, and what stands of their answers where further bytes follow.
-use Rattle.std.proofs.Common.{◌≡◌, ℕ, ◌-◌, ◌<◌, ◌≤◌, [], ◌∷◌, ◌++◌, length, take, drop, Ok, Err, Bool, true, false, cond, ltb, refl, sym, ◌∙◌, ap, subst, arith}
+use Rattle.std.proofs.Common.{◌≡◌, ℕ, ◌-◌, ◌<◌, ◌≤◌, [], ◌∷◌, ◌++◌, length, take, drop, Ok, Err, Bool, true, false, cond, ltb, refl, sym, ap, subst, arith}
 use Rattle.std.specs.Prelude.{◌==◌, ⊤}
 use Rattle.std.proofs.lemmas.List.{take-append-drop, length-append, length-drop}
 use Rattle.std.proofs.lemmas.Bool.{ltb-false}
 use Rattle.tls_fields.specs.Bytes.{Bytes, number_of}
 use Rattle.tls_fields.specs.Layout.{Layout, done, refuse, number, ignored, block, left, tag, window, list, maybe, either, complete, look, chain, test, choose}
-use Rattle.tls_fields.specs.Meaning.{Refusal, Broken, Lacks, Answer, EndsWith}
+use Rattle.tls_fields.specs.Meaning.{Broken, Lacks, Answer, EndsWith}
 use Rattle.tls_fields.specs.Reading.{split_at, number_at, ignored_at, tag_at, reading, ◌and_then◌}
 use Rattle.tls_fields.specs.Stable.{IsStable}
 use Rattle.tls_fields.specs.declared.result.ErrorKind.{ErrorKind}
@@ -16,7 +16,7 @@ use Rattle.capture.specs.Order.{number_by, little}
 use Rattle.capture.specs.declared.order.Order.{Order}
 use Rattle.capture.specs.declared.order.Order.TheVariants.{Big, Little}
 use Rattle.capture.specs.Pcap as pcap
-use Rattle.capture.specs.Pcapng.{Block, SECTION, block_by, next_block, order_next, order_of, section_order}
+use Rattle.capture.specs.Pcapng.{SECTION, block_by, next_block, order_next, order_of, section_order}
 
 -- What is left is an end of the bytes.
 abbrev pub LeavesEnd : {A : Type 0} → Bytes → Answer A → Type 0
@@ -83,7 +83,7 @@ same_rest : {A : Type 0} (b r : Bytes) → EndsWith b r → (a : Answer A) → L
 same_rest b r e (Ok x) = e
 same_rest b r e (Err x) = tt
 
-leaves : {A : Type 0} (l : Layout A) → IsStable l → (b : Bytes) → LeavesEnd b (reading l b)
+pub leaves : {A : Type 0} (l : Layout A) → IsStable l → (b : Bytes) → LeavesEnd b (reading l b)
 unfolding number_at ignored_at
 leaves (done a) h b = ([], refl)
 leaves (refuse k) h b = tt
@@ -157,23 +157,57 @@ format_stable magic =
 
 pub header_stable : IsStable pcap.header
 unfolding pcap.header
-header_stable = (tt, λ magic. (
-  format_stable magic,
-  λ format. (number_by_stable format.order 2, λ major. (test_stable (major == 2) _, λ u. (tt, λ v.
-      (number_by_stable format.order 4, λ snap. (number_by_stable format.order 4, λ link. tt)))))))
+header_stable = (
+  tt,
+  λ magic. (
+    format_stable magic,
+    λ format. (
+      number_by_stable format.order 2,
+      λ major. (
+        test_stable (major == 2) _,
+        λ u. (
+          tt,
+          λ v.
+              (number_by_stable format.order 4, λ snap. (number_by_stable format.order 4, λ link. tt)),
+        ),
+      ),
+    ),
+  ),
+)
 
 pub packet_stable : (format : pcap.Format) → IsStable (pcap.packet format)
 unfolding pcap.packet
-packet_stable format =
-    (number_by_stable format.order 4, λ seconds. (number_by_stable format.order 4, λ fraction.
-    (number_by_stable format.order 4, λ captured. (number_by_stable format.order 4, λ original.
-    (test_stable _ _, λ u. (tt, λ bytes. tt))))))
+packet_stable format = (
+  number_by_stable format.order 4,
+  λ seconds. (
+    number_by_stable format.order 4,
+    λ fraction. (
+      number_by_stable format.order 4,
+      λ captured. (
+        number_by_stable format.order 4,
+        λ original.
+            (test_stable _ _, λ u. (tt, λ bytes. tt)),
+      ),
+    ),
+  ),
+)
 
 block_by_stable : (o : Order) → IsStable (block_by o)
 unfolding block_by
-block_by_stable o =
-    (number_by_stable o 4, λ kind. (number_by_stable o 4, λ total. (test_stable _ _, λ u. (test_stable _ _, λ v.
-    (tt, λ body. (number_by_stable o 4, λ again. (test_stable _ _, λ w. tt)))))))
+block_by_stable o = (
+  number_by_stable o 4,
+  λ kind. (
+    number_by_stable o 4,
+    λ total. (
+      test_stable _ _,
+      λ u. (
+        test_stable _ _,
+        λ v.
+            (tt, λ body. (number_by_stable o 4, λ again. (test_stable _ _, λ w. tt))),
+      ),
+    ),
+  ),
+)
 
 pub header_less : (b : Bytes) → LeavesLess b (reading pcap.header b)
 unfolding pcap.header
@@ -248,3 +282,9 @@ next_block_less o b = behind (reading (order_next o) b) (order_next_leaves o b)
     behind : (a : Answer Order) → LeavesEnd b a → LeavesLess b (a and_then λ x. reading (block_by x.0) x.1)
     behind (Ok x) e = less_behind b x.1 (reading (block_by x.0) x.1) e (block_by_less x.0 x.1)
     behind (Err x) e = tt
+
+pub next_block_leaves : (o : Order) (b : Bytes) → LeavesEnd b (reading (next_block o) b)
+unfolding next_block
+next_block_leaves o b =
+    leaves_then b (λ x. reading (block_by x.0) x.1) (λ x. leaves (block_by x.0) (block_by_stable x.0) x.1)
+    (reading (order_next o) b) (order_next_leaves o b)

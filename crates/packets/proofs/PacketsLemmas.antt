@@ -1,9 +1,9 @@
 -- The packets of a capture, step by step.
-use Rattle.std.proofs.Common.{◌≡◌, ℕ, zero, suc, ◌+◌, ◌<◌, ◌≤◌, [], ◌∷◌, ◌++◌, length, Ok, Err, refl, sym, ◌∙◌, ap, arith}
+use Rattle.std.proofs.Common.{◌≡◌, ℕ, zero, suc, ◌<◌, ◌≤◌, [], ◌∷◌, ◌++◌, length, Ok, Err, refl, ◌∙◌, ap, arith}
 use Rattle.std.specs.Prelude.{⊤}
 use Rattle.tls_fields.specs.Bytes.{Bytes}
 use Rattle.packets.specs.Front.{State, Unknown, Pcap, Blocks, Captured, Other, Wait, Said, front}
-use Rattle.packets.specs.Packets.{Packets, Refused, end_of, followed, packets_in, packets_from}
+use Rattle.packets.specs.Packets.{Packets, Refused, followed, packets_in, packets_from}
 use Rattle.packets.proofs.FrontLemmas.{Longer, Takes, steps, front_longer, front_takes}
 
 followed_same : (a : Said) (b : Bytes) (n : ℕ) (f g : State → Bytes → Packets) → Takes n a
@@ -33,7 +33,7 @@ unfolding packets_in packets_from
 one_step s b =
     followed_same (front s b) b (steps s b) (packets_in (suc (length b))) packets_from (front_takes s b)
     (λ t r less. enough (suc (length b)) (suc (suc (length r))) t r (omega (arith, few_steps s b, less))
-        (omega (arith, few_steps t r)))
+    (omega (arith, few_steps t r)))
 
 -- The packets of all bytes, by what stands in front of the first of them.
 abbrev pub Stands : Bytes → Packets → Said → Type 0

@@ -2,6 +2,7 @@ pub mod Section
 pub mod Front
 pub mod Held
 pub mod Packets
+pub mod Visit
 pub use Rattle.tls_fields.specs.Bytes
 pub use Rattle.tls_fields.specs.Reading
 pub use Rattle.tls_fields.specs.Meaning

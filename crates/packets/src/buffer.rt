@@ -1,5 +1,5 @@
 //! Bytes of a source that are not yet read.
-ghost use Rattle.std.specs.Prelude.{◌≡◌, ◌≤◌, List, [], ℕ, drop, length, IfOk, OnErr};
+ghost use Rattle.std.specs.Prelude.{◌≡◌, ◌≤◌, ◌-◌, List, [], ℕ, drop, length, IfOk, OnErr};
 ghost use Rattle.std.specs.Io.KnownBytes.{Keeps};
 ghost use Rattle.packets.specs.Held.{Came};
 
@@ -44,12 +44,12 @@ impl Buffer {
         &self.bytes[self.start..]
     }
 
-    /// Takes `n` bytes off the front; all where it holds fewer.
-    pub fn take(&mut self, n: usize)
-        ensures { self.new ≡ drop n self.old }
+    /// Takes bytes off the front until `n` are left; none where it holds fewer.
+    pub fn keep_last(&mut self, n: usize)
+        ensures { self.new ≡ drop (length self.old - n) self.old }
     {
         let held = self.bytes.len() - self.start;
-        self.start += n.min(held);
+        self.start += held - n.min(held);
     }
 
     /// Moves what is held to the front, so that what was taken off takes no memory.

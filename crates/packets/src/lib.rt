@@ -7,6 +7,8 @@
 mod buffer;
 mod reader;
 mod section;
+mod visit;
 
 pub use buffer::Buffer;
 pub use reader::{Capture, CaptureError, Packet, Step};
+pub use visit::{PacketVisitor, VisitError, visit_packets};

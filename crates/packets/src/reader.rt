@@ -6,7 +6,18 @@ ghost use Rattle.capture.specs.Pcap.{packet as packet_layout, view_format};
 ghost use Rattle.capture.specs.Pcapng.{next_block};
 ghost use Rattle.packets.specs.Section.{view_section};
 ghost use Rattle.packets.specs.Front.{
-    Answers, Blocks, IsForm, Pcap, State, Unknown, block_front, form_front, front, pcap_front, view_form, view_step,
+  Answers,
+  Blocks,
+  IsForm,
+  Pcap,
+  State,
+  Unknown,
+  block_front,
+  form_front,
+  front,
+  pcap_front,
+  view_form,
+  view_step,
 };
 
 use crate::section::Section;

@@ -3,13 +3,25 @@ ghost use Rattle.std.specs.Prelude.{◌≡◌, slice_get, Option, Some, None};
 ghost use Rattle.std.specs.Option.{option_map};
 ghost use Rattle.tls_fields.specs.Reading.{reading};
 ghost use Rattle.capture.specs.Pcapng.{
-    enhanced_packet, interface as interface_layout, obsolete_packet, view_block, view_interface,
-    view_packet as view_block_packet,
+  enhanced_packet,
+  interface as interface_layout,
+  obsolete_packet,
+  view_block,
+  view_interface,
+  view_packet as view_block_packet,
 };
 ghost use Rattle.packets.specs.Front.{Answers};
 ghost use Rattle.packets.specs.Section.{
-    beginning, begun, described, hear, heard_by_kind, simple, timed, timed_of, view_packet,
-    view_section,
+  beginning,
+  begun,
+  described,
+  hear,
+  heard_by_kind,
+  simple,
+  timed,
+  timed_of,
+  view_packet,
+  view_section,
 };
 
 use crate::reader::{CaptureError, Packet};

@@ -1,4 +1,4 @@
-use Rattle.std.proofs.Common.{◌≡◌, ◌+◌, ◌≤◌, ◌<◌, take, drop, length, ◌∙◌, sym, ap, arith, ◌++◌}
+use Rattle.std.proofs.Common.{◌≡◌, ◌+◌, ◌≤◌, take, drop, length, ◌∙◌, sym, ap, arith, ◌++◌}
 use Rattle.std.proofs.lemmas.List.{length-take, length-drop}
 use Rattle.packets.proofs.BufferLemmas.{read_behind, room_made}
 use Rattle.packets.proofs.buffer.Buffer.fill.Goals as goal
@@ -13,11 +13,11 @@ returns-in-Ok-clause-ok g c =
     let whole : c.in-Some.whole ≡ held + 262144 = grind (arith, c.in-Some.ensures) in
     let len : length c.deref_mut.result.now ≡ c.in-Some.whole = c.deref_mut.ensures.len ∙ c.in_ok-resize.ensures.len in
     let room : length c.read.new.buf ≡ 262144 =
-        grind (arith, c.read.auto.buf, length-take, length-drop, len, whole) in
+    grind (arith, c.read.auto.buf, length-take, length-drop, len, whole) in
     let kept : take held c.deref_mut.result.now ≡ c.self.inside.bytes.items =
-        ap (take held) c.deref_mut.ensures.value
-        ∙ room_made held c.in-Some.whole c.self.inside.bytes.items _ c.resize.new.self.items (sym counted) (omega (arith, whole))
-        c.in_ok-resize.ensures.items in
+    ap (take held) c.deref_mut.ensures.value
+    ∙ room_made held c.in-Some.whole c.self.inside.bytes.items _ c.resize.new.self.items (sym counted) (omega (arith, whole))
+    c.in_ok-resize.ensures.items in
     record {
       bytes = take n c.read.new.buf;
       count = grind (arith, c.in-Ok.ensures.bound.1);
