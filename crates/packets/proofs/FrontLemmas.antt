@@ -11,15 +11,8 @@ use Rattle.tls_fields.proofs.StableLemmas.{Stays, stays}
 use Rattle.capture.specs.Pcap as pcap
 use Rattle.capture.specs.Pcapng.{Block, SECTION, next_block}
 use Rattle.packets.specs.Section.{Section, Heard, beginning, hear}
-use Rattle.packets.specs.Front.{State, Unknown, Pcap, Blocks, Captured, Other, Wait, Said, header_front, form_front, pcap_front, heard_front, block_front, front}
+use Rattle.packets.specs.Front.{Longer, State, Unknown, Pcap, Blocks, Captured, Other, Wait, Said, header_front, form_front, pcap_front, heard_front, block_front, front}
 use Rattle.packets.proofs.LayoutLemmas.{LeavesEnd, LeavesLess, leaves, next_block_leaves, header_stable, packet_stable, next_block_stays, header_less, packet_less, next_block_less}
-
--- With x behind the bytes the same stands in front, unless they are too few to say.
-abbrev pub Longer : Bytes → Said → Said → Type 0
-Longer x (Ok (Captured p r, s)) y = y ≡ Ok (Captured p (r ++ x), s)
-Longer x (Ok (Other r, s)) y = y ≡ Ok (Other (r ++ x), s)
-Longer x (Ok (Wait, s)) y = ⊤
-Longer x (Err e) y = y ≡ Err e
 
 header_longer : (x : Bytes) (a b : Answer pcap.Header) → Stays x a b → Longer x (header_front a) (header_front b)
 header_longer x (Ok v) b e = ap header_front e

@@ -2,9 +2,9 @@
 use Rattle.std.proofs.Common.{◌≡◌, ℕ, zero, suc, ◌<◌, ◌≤◌, [], ◌∷◌, ◌++◌, length, Ok, Err, refl, ◌∙◌, ap, arith}
 use Rattle.std.specs.Prelude.{⊤}
 use Rattle.tls_fields.specs.Bytes.{Bytes}
-use Rattle.packets.specs.Front.{State, Unknown, Pcap, Blocks, Captured, Other, Wait, Said, front}
+use Rattle.packets.specs.Front.{Longer, State, Unknown, Pcap, Blocks, Captured, Other, Wait, Said, front}
 use Rattle.packets.specs.Packets.{Packets, Refused, followed, packets_in, packets_from}
-use Rattle.packets.proofs.FrontLemmas.{Longer, Takes, steps, front_longer, front_takes}
+use Rattle.packets.proofs.FrontLemmas.{Takes, steps, front_longer, front_takes}
 
 followed_same : (a : Said) (b : Bytes) (n : ℕ) (f g : State → Bytes → Packets) → Takes n a
     → ((s : State) (r : Bytes) → steps s r < n → f s r ≡ g s r) → followed a b f ≡ followed a b g

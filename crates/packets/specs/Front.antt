@@ -1,5 +1,5 @@
 -- What stands in front of a capture's bytes.
-use Rattle.std.specs.Prelude.{◌≡◌, ℕ, ◌==◌, if◌then◌else◌, Option, Some, None, Result, Ok, Err, List}
+use Rattle.std.specs.Prelude.{◌≡◌, ℕ, ◌==◌, if◌then◌else◌, Option, Some, None, Result, Ok, Err, List, ◌++◌, ⊤}
 use Rattle.std.specs.Borrow.{Bor}
 use Rattle.tls_fields.specs.Bytes.{Bytes}
 use Rattle.tls_fields.specs.Layout.{number}
@@ -84,6 +84,14 @@ abbrev pub front : State → Bytes → Said
 front Unknown b = form_front (reading (number 4) b) b
 front (Pcap format link) b = pcap_front format link (reading (pcap.packet format) b)
 front (Blocks s) b = block_front s (reading (next_block s.order) b)
+
+-- Where x follows the bytes, the same stands in front of them, and x at the end of what follows; unless they were too few
+-- to say.
+abbrev pub Longer : Bytes → Said → Said → Type 0
+Longer x (Ok (Captured p r, s)) y = y ≡ Ok (Captured p (r ++ x), s)
+Longer x (Ok (Other r, s)) y = y ≡ Ok (Other (r ++ x), s)
+Longer x (Ok (Wait, s)) y = ⊤
+Longer x (Err e) y = y ≡ Err e
 
 -- A call answers what a definition says, or that memory ran out; where it answers an error, nothing changed.
 abbrev pub Answers : {X Y S : Type 0} → (X → Y) → Result (Y × S) CaptureError → S → Result X CaptureError → S → Type 0

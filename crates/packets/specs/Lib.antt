@@ -3,6 +3,7 @@ pub mod Front
 pub mod Held
 pub mod Packets
 pub mod Visit
+pub mod Kept
 pub use Rattle.tls_fields.specs.Bytes
 pub use Rattle.tls_fields.specs.Reading
 pub use Rattle.tls_fields.specs.Meaning
