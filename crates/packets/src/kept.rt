@@ -1,6 +1,6 @@
 //! All packets of a capture that lies in memory.
-ghost use Rattle.std.specs.Prelude.{◌≡◌, Some, IfOk, OnOk, map};
-ghost use Rattle.packets.specs.Kept.{kept, view_kept};
+ghost use Rattle.std.specs.Prelude.{◌≡◌, Some, IfErr, IfOk, OnOk};
+ghost use Rattle.packets.specs.Kept.{IsEndOf, kept};
 ghost use Rattle.packets.specs.Packets.{Whole, packets_of};
 
 use crate::reader::Packet;
@@ -58,6 +58,7 @@ pub fn read_packets(
 ) -> Result<Vec<KeptPacket>, VisitError<AllocError>>
     ensures packets { IfOk result (λ v. kept v ≡ (packets_of capture.now).0) }
     ensures whole { OnOk result ((packets_of capture.now).1 ≡ Whole) }
+    ensures cause { IfErr result (λ e. IsEndOf (packets_of capture.now) e) }
 {
     let mut keeper = Keeper {
         alloc,
