@@ -1,20 +1,30 @@
 -- What stands in front of a capture's bytes.
-use Rattle.std.specs.Prelude.{ℕ, Result, Ok, Err}
+use Rattle.std.specs.Prelude.{◌≡◌, ℕ, ◌==◌, if◌then◌else◌, Option, Some, None, Result, Ok, Err, List, ◌++◌, ⊤}
+use Rattle.std.specs.Borrow.{Bor}
 use Rattle.tls_fields.specs.Bytes.{Bytes}
+use Rattle.tls_fields.specs.Layout.{number}
 use Rattle.tls_fields.specs.Meaning.{Answer, Lacks, Broken}
+use Rattle.tls_fields.specs.Reading.{reading}
 use Rattle.capture.specs.Pcap as pcap
-use Rattle.packets.specs.declared.reader.Packet as lent
+use Rattle.capture.specs.Pcapng.{Block, SECTION, next_block}
+use Rattle.packets.specs.Section.{Packet, Section, Heard, view_packet, view_section, beginning, hear}
+use Rattle.packets.specs.declared.reader.Form as stored
+use Rattle.packets.specs.declared.reader.Form.TheVariants as form
 use Rattle.packets.specs.declared.reader.Step as rust
 use Rattle.packets.specs.declared.reader.Step.TheVariants as step
 use Rattle.packets.specs.declared.reader.CaptureError.{CaptureError}
 use Rattle.packets.specs.declared.reader.CaptureError.TheVariants as error
 
--- A packet, apart from where it lies in memory.
-pub record Packet : Type 0 where
-  pub time : ℕ
-  pub link_type : ℕ
-  pub original_length : ℕ
-  pub bytes : Bytes
+-- What is known of a capture: nothing yet; the form of a pcap file's packets, and their link type; a section.
+pub data State : Type 0 where
+  Unknown : State
+  Pcap : pcap.Format → ℕ → State
+  Blocks : Section → State
+
+abbrev pub view_form : stored.Form → State
+view_form form.Unknown = Unknown
+view_form (form.Pcap format link) = Pcap (pcap.view_format format) link
+view_form (form.Blocks section) = Blocks (view_section section)
 
 -- A packet and what follows it, something else and what follows it, or too few bytes to say.
 pub data Front : Type 0 where
@@ -22,20 +32,75 @@ pub data Front : Type 0 where
   Other : Bytes → Front
   Wait : Front
 
-abbrev pub view_packet : lent.Packet → Packet
-view_packet p = record { time = p.time; link_type = p.link_type; original_length = p.original_length; bytes = p.bytes.now }
-
 abbrev pub view_step : rust.Step → Front
 view_step (step.Packet p rest) = Captured (view_packet p) rest.now
 view_step (step.Other rest) = Other rest.now
 view_step step.Wait = Wait
 
-abbrev pub view_answer : Result rust.Step CaptureError → Result Front CaptureError
-view_answer (Ok s) = Ok (view_step s)
-view_answer (Err e) = Err e
+-- What stands in front, and what is known behind it; or why nothing can.
+abbrev pub Said : Type 0
+Said = Result (Front × State) CaptureError
 
--- A packet of a pcap file, by its layout; the link type is that of the file.
-abbrev pub pcap_front : ℕ → Answer pcap.Packet → Result Front CaptureError
-pcap_front link (Ok x) = Ok (Captured (record { time = x.0.time; link_type = link; original_length = x.0.original_length; bytes = x.0.bytes }) x.1)
-pcap_front link (Err (Lacks n)) = Ok Wait
-pcap_front link (Err (Broken kind)) = Err error.Broken
+-- The header of a pcap file.
+abbrev pub header_front : Answer pcap.Header → Said
+header_front (Ok x) = Ok (Other x.1, Pcap x.0.format x.0.link_type)
+header_front (Err (Lacks n)) = Ok (Wait, Unknown)
+header_front (Err (Broken kind)) = Err error.NoCapture
+
+-- A capture in blocks begins with the type of a Section Header Block, which is left for its section to read; another
+-- with the header of a pcap file.
+abbrev pub form_front : Answer ℕ → Bytes → Said
+form_front (Err e) b = Ok (Wait, Unknown)
+form_front (Ok x) b = if x.0 == SECTION then Ok (Other b, Blocks beginning) else header_front (reading pcap.header b)
+
+-- A packet of a pcap file.
+abbrev pub pcap_front : pcap.Format → ℕ → Answer pcap.Packet → Said
+pcap_front format link (Ok x) = Ok (
+  Captured (record {
+    time = x.0.time;
+    link_type = link;
+    original_length = x.0.original_length;
+    bytes = x.0.bytes;
+  }) x.1,
+  Pcap format link,
+)
+pcap_front format link (Err (Lacks n)) = Ok (Wait, Pcap format link)
+pcap_front format link (Err (Broken kind)) = Err error.Broken
+
+-- What a block says, and the bytes behind it.
+abbrev pub heard_front : Bytes → Heard → Said
+heard_front rest (Ok (Some p, s)) = Ok (Captured p rest, Blocks s)
+heard_front rest (Ok (None, s)) = Ok (Other rest, Blocks s)
+heard_front rest (Err e) = Err e
+
+-- A block of a section.
+abbrev pub block_front : Section → Answer Block → Said
+block_front s (Ok x) = heard_front x.1 (hear s x.0)
+block_front s (Err (Lacks n)) = Ok (Wait, Blocks s)
+block_front s (Err (Broken kind)) = Err error.Broken
+
+-- What stands in front of these bytes, by what is known of the bytes before them.
+abbrev pub front : State → Bytes → Said
+front Unknown b = form_front (reading (number 4) b) b
+front (Pcap format link) b = pcap_front format link (reading (pcap.packet format) b)
+front (Blocks s) b = block_front s (reading (next_block s.order) b)
+
+-- Where x follows the bytes, the same stands in front of them, and x at the end of what follows; unless they were too few
+-- to say.
+abbrev pub Longer : Bytes → Said → Said → Type 0
+Longer x (Ok (Captured p r, s)) y = y ≡ Ok (Captured p (r ++ x), s)
+Longer x (Ok (Other r, s)) y = y ≡ Ok (Other (r ++ x), s)
+Longer x (Ok (Wait, s)) y = ⊤
+Longer x (Err e) y = y ≡ Err e
+
+-- A call answers what a definition says, or that memory ran out; where it answers an error, nothing changed.
+abbrev pub Answers : {X Y S : Type 0} → (X → Y) → Result (Y × S) CaptureError → S → Result X CaptureError → S → Type 0
+Answers view said old (Ok x) new = said ≡ Ok (view x, new)
+Answers view said old (Err error.OutOfMemory) new = new ≡ old
+Answers view said old (Err e) new = (said ≡ Err e) × (new ≡ old)
+
+-- The form that begins there, and what follows; none where bytes are missing.
+abbrev pub IsForm : Said → Result (Option (stored.Form × Bor (List ℕ))) CaptureError → Type 0
+IsForm said (Ok (Some x)) = said ≡ Ok (Other x.1.now, view_form x.0)
+IsForm said (Ok None) = said ≡ Ok (Wait, Unknown)
+IsForm said (Err e) = said ≡ Err e

@@ -1,1 +1,11 @@
+pub mod Section
 pub mod Front
+pub mod Held
+pub mod Packets
+pub mod Visit
+pub mod Kept
+pub use Rattle.tls_fields.specs.Bytes
+pub use Rattle.tls_fields.specs.Reading
+pub use Rattle.tls_fields.specs.Meaning
+pub use Rattle.capture.specs.Pcap
+pub use Rattle.capture.specs.Pcapng

@@ -1,22 +1,36 @@
 //! Bytes of a source that are not yet read.
-ghost use Rattle.std.specs.Prelude.{◌≤◌, vec_len};
+ghost use Rattle.std.specs.Prelude.{◌≡◌, ◌≤◌, ◌-◌, List, [], ℕ, drop, length, IfOk, OnErr};
+ghost use Rattle.std.specs.Io.KnownBytes.{Keeps};
+ghost use Rattle.packets.specs.Held.{Came};
 
 use std::io::{self, Read};
+use std::marker::Model;
 
 /// How many bytes are asked of a source at once.
 const PIECE: usize = 262_144;
 
 /// Bytes that came from a source, of which some were taken off the front.
+///
+/// Its value in a contract is what is left of them, in order.
 #[derive(Drop)]
 pub struct Buffer {
     bytes: Vec<u8>,
     start: usize,
-    ghost within: { start ≤ vec_len bytes },
+}
+
+impl Model for Buffer {
+    ghost Value = { List ℕ };
+
+    ghost view = { λ b. drop b.start b.bytes.items };
+
+    ghost invariant = { λ b. b.start ≤ length b.bytes.items };
 }
 
 impl Buffer {
     /// One that holds nothing, and takes no memory.
-    pub fn new(alloc: std::alloc::Global) -> Buffer {
+    pub fn new(alloc: std::alloc::Global) -> Buffer
+        ensures { result ≡ [] }
+    {
         Buffer {
             bytes: Vec::new(alloc),
             start: 0,
@@ -24,18 +38,24 @@ impl Buffer {
     }
 
     /// What it holds.
-    pub fn held(&self) -> &[u8] {
+    pub fn held(&self) -> &[u8]
+        ensures { result.now ≡ self.now }
+    {
         &self.bytes[self.start..]
     }
 
-    /// Takes `n` bytes off the front; all where it holds fewer.
-    pub fn take(&mut self, n: usize) {
+    /// Takes bytes off the front until `n` are left; none where it holds fewer.
+    pub fn keep_last(&mut self, n: usize)
+        ensures { self.new ≡ drop (length self.old - n) self.old }
+    {
         let held = self.bytes.len() - self.start;
-        self.start += n.min(held);
+        self.start += held - n.min(held);
     }
 
     /// Moves what is held to the front, so that what was taken off takes no memory.
-    fn make_room(&mut self) {
+    fn make_room(&mut self)
+        ensures { self.new ≡ self.old }
+    {
         if self.start > 0 {
             let held = self.bytes.len() - self.start;
             self.bytes.copy_within(self.start.., 0);
@@ -47,19 +67,26 @@ impl Buffer {
     /// Reads once from the source, and puts what it gave behind what is held: how many bytes; 0 at its end.
     ///
     /// It fails as the read does, or where memory runs out; what is held stays.
-    pub fn fill<R: Read>(&mut self, reader: &mut R) -> io::Result<usize> {
+    pub fn fill<R: Read>(&mut self, reader: &mut R) -> io::Result<usize>
+        ensures ok { IfOk result (λ n. Came self.old self.new (R.remaining reader.old) (R.remaining reader.new) n) }
+        ensures held { OnErr result (self.new ≡ self.old) }
+        ensures kept { OnErr result (Keeps (R.remaining reader.old) (R.remaining reader.new)) }
+    {
         self.make_room();
         let held = self.bytes.len();
         let Some(whole) = held.checked_add(PIECE) else {
             return Err(io::ErrorKind::OutOfMemory.into());
         };
         self.bytes.resize(whole, 0)?;
-        let read = reader.read(&mut self.bytes[held..]);
-        let n = match &read {
-            Ok(n) => *n,
-            Err(_) => 0,
-        };
-        self.bytes.truncate(held.saturating_add(n));
-        read
+        match reader.read(&mut self.bytes[held..]) {
+            Ok(n) => {
+                self.bytes.truncate(held + n);
+                Ok(n)
+            }
+            Err(e) => {
+                self.bytes.truncate(held);
+                Err(e)
+            }
+        }
     }
 }

@@ -1,14 +1,31 @@
 //! The next packet off the front of a capture's bytes.
-ghost use Rattle.std.specs.Prelude.{◌≡◌};
+ghost use Rattle.std.specs.Prelude.{◌≡◌, ◌↔◌, ◌≢◌, true, Option, Some, None, Result, Ok, Err};
+ghost use Rattle.tls_fields.specs.Layout.{number};
 ghost use Rattle.tls_fields.specs.Reading.{reading};
 ghost use Rattle.capture.specs.Pcap.{packet as packet_layout, view_format};
-ghost use Rattle.packets.specs.Front.{pcap_front, view_answer};
+ghost use Rattle.capture.specs.Pcapng.{next_block};
+ghost use Rattle.packets.specs.Section.{view_section};
+ghost use Rattle.packets.specs.Front.{
+  Answers,
+  Blocks,
+  IsForm,
+  Pcap,
+  State,
+  Unknown,
+  block_front,
+  form_front,
+  front,
+  pcap_front,
+  view_form,
+  view_step,
+};
 
 use crate::section::Section;
 use capture::{Format, SECTION_HEADER, parse_block, parse_pcap_header, parse_pcap_packet};
 use std::alloc::Global;
 use std::error::Error;
 use std::fmt;
+use std::marker::Model;
 use tls_fields::{Err, number4};
 
 /// A packet, as it was captured.
@@ -67,14 +84,24 @@ enum Form {
 }
 
 /// A capture of which the front was read.
+///
+/// Its value in a contract is what is known of it.
 #[derive(Drop)]
 pub struct Capture {
     alloc: Global,
     form: Form,
 }
 
+impl Model for Capture {
+    ghost Value = { State };
+
+    ghost view = { λ c. view_form c.form };
+}
+
 /// The form that the front of a capture says; `None` where further bytes are needed.
-fn form_of(alloc: Global, i: &[u8]) -> Result<Option<(Form, &[u8])>, CaptureError> {
+fn form_of(alloc: Global, i: &[u8]) -> Result<Option<(Form, &[u8])>, CaptureError>
+    ensures { IsForm (form_front (reading (number 4) i.now) i.now) result }
+{
     match number4(i) {
         Ok((_, SECTION_HEADER)) => return Ok(Some((Form::Blocks(Section::new(alloc)), i))),
         Ok(_) => {}
@@ -89,7 +116,8 @@ fn form_of(alloc: Global, i: &[u8]) -> Result<Option<(Form, &[u8])>, CaptureErro
 
 /// The packet of a pcap file in front.
 fn pcap_step(i: &[u8], format: Format, link_type: u16) -> Result<Step<'_>, CaptureError>
-    ensures { view_answer result ≡ pcap_front link_type (reading (packet_layout (view_format format)) i.now) }
+    ensures { let s = Pcap (view_format format) link_type in
+        Answers view_step (pcap_front (view_format format) link_type (reading (packet_layout (view_format format)) i.now)) s result s }
 {
     match parse_pcap_packet(i, format) {
         Ok((rest, packet)) => Ok(Step::Packet(
@@ -107,7 +135,10 @@ fn pcap_step(i: &[u8], format: Format, link_type: u16) -> Result<Step<'_>, Captu
 }
 
 /// The block in front.
-fn block_step<'a>(section: &mut Section, i: &'a [u8]) -> Result<Step<'a>, CaptureError> {
+fn block_step<'a>(section: &mut Section, i: &'a [u8]) -> Result<Step<'a>, CaptureError>
+    ensures { let s = view_section section.old in
+        Answers view_step (block_front s (reading (next_block s.order) i.now)) (Blocks s) result (Blocks (view_section section.new)) }
+{
     match parse_block(i, section.order) {
         Ok((rest, block)) => match section.hear(block)? {
             Some(packet) => Ok(Step::Packet(packet, rest)),
@@ -120,7 +151,9 @@ fn block_step<'a>(section: &mut Section, i: &'a [u8]) -> Result<Step<'a>, Captur
 
 impl Capture {
     /// One of which nothing was read. It takes no memory.
-    pub fn new(alloc: Global) -> Capture {
+    pub fn new(alloc: Global) -> Capture
+        ensures { result ≡ Unknown }
+    {
         Capture {
             alloc,
             form: Form::Unknown,
@@ -128,7 +161,9 @@ impl Capture {
     }
 
     /// Whether its form is known.
-    pub fn is_known(&self) -> bool {
+    pub fn is_known(&self) -> bool
+        ensures { (result ≡ true) ↔ (self.now ≢ Unknown) }
+    {
         !matches!(self.form, Form::Unknown)
     }
 
@@ -138,7 +173,11 @@ impl Capture {
     /// - `Broken` where a packet's header or a block breaks a rule of its layout, a block is of an interface that wasn't
     ///   described, or a time is past the year 2554.
     /// - `OutOfMemory` where an interface could not be held.
-    pub fn step<'a>(&mut self, i: &'a [u8]) -> Result<Step<'a>, CaptureError> {
+    ///
+    /// Behind an error all is as it was before.
+    pub fn step<'a>(&mut self, i: &'a [u8]) -> Result<Step<'a>, CaptureError>
+        ensures { Answers view_step (front self.old i.now) self.old result self.new }
+    {
         match &mut self.form {
             Form::Unknown => match form_of(self.alloc, i)? {
                 Some((form, rest)) => {

@@ -1,4 +1,29 @@
 //! A section of a capture in blocks (draft-ietf-opsawg-pcapng).
+ghost use Rattle.std.specs.Prelude.{◌≡◌, slice_get, Option, Some, None};
+ghost use Rattle.std.specs.Option.{option_map};
+ghost use Rattle.tls_fields.specs.Reading.{reading};
+ghost use Rattle.capture.specs.Pcapng.{
+  enhanced_packet,
+  interface as interface_layout,
+  obsolete_packet,
+  view_block,
+  view_interface,
+  view_packet as view_block_packet,
+};
+ghost use Rattle.packets.specs.Front.{Answers};
+ghost use Rattle.packets.specs.Section.{
+  beginning,
+  begun,
+  described,
+  hear,
+  heard_by_kind,
+  simple,
+  timed,
+  timed_of,
+  view_packet,
+  view_section,
+};
+
 use crate::reader::{CaptureError, Packet};
 use capture::{
     Block, BlockPacket, Interface, Order, SECTION_HEADER, parse_enhanced_packet, parse_interface,
@@ -27,8 +52,23 @@ pub(crate) struct Section {
     time: u64,
 }
 
+/// That packet of an interface, at that time.
+fn packet_of<'a>(interface: Interface, packet: BlockPacket<'a>, time: u64) -> Packet<'a>
+    ensures { result ≡ record { time = time; link_type = interface.link_type; original_length = packet.entry.original_length; bytes = packet.entry.bytes } }
+{
+    Packet {
+        time,
+        link_type: interface.link_type,
+        original_length: packet.original_length,
+        bytes: packet.bytes,
+    }
+}
+
 impl Section {
-    pub(crate) fn new(alloc: Global) -> Section {
+    /// One of which nothing was read. It takes no memory.
+    pub(crate) fn new(alloc: Global) -> Section
+        ensures { view_section result ≡ beginning }
+    {
         Section {
             order: Order::Big,
             interfaces: Vec::new(alloc),
@@ -36,72 +76,103 @@ impl Section {
         }
     }
 
-    /// The packet of its interface. One without a time has that of the packet before it.
-    fn packet<'a>(
-        &mut self,
-        packet: BlockPacket<'a>,
-        is_timed: bool,
-    ) -> Result<Packet<'a>, CaptureError> {
-        let Some(interface) = self.interfaces.get(packet.interface as usize) else {
+    /// Keeps the interface that a block describes.
+    fn describe(&mut self, block: Block<'_>) -> Result<(), CaptureError>
+        ensures { Answers (λ _. None)
+            (described (view_section self.old) (reading (interface_layout block.entry.order) block.entry.body.now))
+            (view_section self.old) result (view_section self.new) }
+    {
+        let Ok((_, interface)) = parse_interface(block.body, block.order) else {
             return Err(CaptureError::Broken);
         };
-        if is_timed {
-            match interface.nanoseconds(packet.units) {
-                Some(time) => self.time = time,
-                None => return Err(CaptureError::Broken),
-            }
+        match self.interfaces.push(interface) {
+            Ok(()) => Ok(()),
+            Err(_) => Err(CaptureError::OutOfMemory),
         }
-        Ok(Packet {
-            time: self.time,
-            link_type: interface.link_type,
-            original_length: packet.original_length,
-            bytes: packet.bytes,
-        })
     }
 
-    /// What a block says: a packet, or what is kept for the packets to come.
-    pub(crate) fn hear<'a>(
-        &mut self,
-        block: Block<'a>,
-    ) -> Result<Option<Packet<'a>>, CaptureError> {
-        self.order = block.order;
+    /// The packet, whose time is in units of the interface that it names.
+    fn timed<'a>(&mut self, packet: BlockPacket<'a>) -> Result<Packet<'a>, CaptureError>
+        ensures { Answers (λ p. Some (view_packet p))
+            (let s = view_section self.old in timed_of s (view_block_packet packet.entry) (slice_get s.interfaces packet.entry.interface))
+            (view_section self.old) result (view_section self.new) }
+    {
+        let Some(interface) = self.interfaces.get(packet.interface as usize).copied() else {
+            return Err(CaptureError::Broken);
+        };
+        let Some(time) = interface.nanoseconds(packet.units) else {
+            return Err(CaptureError::Broken);
+        };
+        self.time = time;
+        Ok(packet_of(interface, packet, time))
+    }
+
+    /// The packet of an Enhanced Packet Block.
+    fn enhanced<'a>(&mut self, block: Block<'a>) -> Result<Packet<'a>, CaptureError>
+        ensures { Answers (λ p. Some (view_packet p))
+            (timed (view_section self.old) (reading (enhanced_packet block.entry.order) block.entry.body.now))
+            (view_section self.old) result (view_section self.new) }
+    {
+        match parse_enhanced_packet(block.body, block.order) {
+            Ok((_, packet)) => self.timed(packet),
+            Err(_) => Err(CaptureError::Broken),
+        }
+    }
+
+    /// The packet of a Packet Block.
+    fn obsolete<'a>(&mut self, block: Block<'a>) -> Result<Packet<'a>, CaptureError>
+        ensures { Answers (λ p. Some (view_packet p))
+            (timed (view_section self.old) (reading (obsolete_packet block.entry.order) block.entry.body.now))
+            (view_section self.old) result (view_section self.new) }
+    {
+        match parse_obsolete_packet(block.body, block.order) {
+            Ok((_, packet)) => self.timed(packet),
+            Err(_) => Err(CaptureError::Broken),
+        }
+    }
+
+    /// The packet of a Simple Packet Block, which has the time of the packet before it.
+    fn simple<'a>(&self, block: Block<'a>) -> Result<Packet<'a>, CaptureError>
+        ensures { let s = view_section self.now in
+            Answers (λ p. Some (view_packet p)) (simple s block.entry.order block.entry.body.now (slice_get s.interfaces 0)) s result s }
+    {
+        let Some(interface) = self.interfaces.first().copied() else {
+            return Err(CaptureError::Broken);
+        };
+        match parse_simple_packet(block.body, block.order, interface.snap_length) {
+            Ok((_, packet)) => Ok(packet_of(interface, packet, self.time)),
+            Err(_) => Err(CaptureError::Broken),
+        }
+    }
+
+    /// What a block says by its type: a packet, or what is kept for the packets to come.
+    fn hear_by_kind<'a>(&mut self, block: Block<'a>) -> Result<Option<Packet<'a>>, CaptureError>
+        ensures { Answers (option_map view_packet) (heard_by_kind (view_section self.old) (view_block block.entry))
+            (view_section self.old) result (view_section self.new) }
+    {
         match block.kind {
             SECTION_HEADER => {
                 self.interfaces.clear();
                 Ok(None)
             }
             INTERFACE => {
-                let (_, interface) = parse_interface(block.body, self.order).map_err(
-                    |_e| CaptureError::Broken,
-                )?;
-                self.interfaces
-                    .push(interface)
-                    .map_err(|_e| CaptureError::OutOfMemory)?;
+                self.describe(block)?;
                 Ok(None)
             }
-            OBSOLETE_PACKET => {
-                let (_, packet) = parse_obsolete_packet(block.body, self.order).map_err(
-                    |_e| CaptureError::Broken,
-                )?;
-                Ok(Some(self.packet(packet, true)?))
-            }
-            ENHANCED_PACKET => {
-                let (_, packet) = parse_enhanced_packet(block.body, self.order).map_err(
-                    |_e| CaptureError::Broken,
-                )?;
-                Ok(Some(self.packet(packet, true)?))
-            }
-            SIMPLE_PACKET => {
-                let limit = match self.interfaces.first() {
-                    Some(interface) => interface.snap_length,
-                    None => return Err(CaptureError::Broken),
-                };
-                let (_, packet) = parse_simple_packet(block.body, self.order, limit).map_err(
-                    |_e| CaptureError::Broken,
-                )?;
-                Ok(Some(self.packet(packet, false)?))
-            }
+            OBSOLETE_PACKET => Ok(Some(self.obsolete(block)?)),
+            SIMPLE_PACKET => Ok(Some(self.simple(block)?)),
+            ENHANCED_PACKET => Ok(Some(self.enhanced(block)?)),
             _ => Ok(None),
         }
+    }
+
+    /// What a block says. Behind an error all is as it was before.
+    pub(crate) fn hear<'a>(&mut self, block: Block<'a>) -> Result<Option<Packet<'a>>, CaptureError>
+        ensures { Answers (option_map view_packet) (hear (view_section self.old) (view_block block.entry))
+            (view_section self.old) result (view_section self.new) }
+    {
+        let packet = self.hear_by_kind(block)?;
+        self.order = block.order;
+        Ok(packet)
     }
 }

@@ -2,7 +2,7 @@
 use crate::line::{gap_name, line_of};
 use crate::log::{Heard, Log};
 use connections::Connection;
-use packets::{Buffer, Capture, CaptureError, Packet, Step};
+use packets::{CaptureError, Packet, PacketVisitor, VisitError, visit_packets};
 use std::alloc::AllocError;
 use std::fs;
 use std::hash::RandomState;
@@ -60,6 +60,18 @@ impl From<CaptureError> for Failure {
     }
 }
 
+impl From<VisitError<Failure>> for Failure {
+    fn from(e: VisitError<Failure>) -> Failure {
+        match e {
+            VisitError::Capture(e) => Failure::from(e),
+            VisitError::BrokenOff => Failure::Capture("the capture is broken off"),
+            VisitError::Reading(_) => Failure::Reading,
+            VisitError::Endless => Failure::Capture("the capture has no end"),
+            VisitError::Visitor(failure) => failure,
+        }
+    }
+}
+
 /// Prints the line of a connection that is over, if it is TLS.
 fn print_one<R: Runtime + AllocGlobal>(
     rt: &R,
@@ -98,27 +110,19 @@ fn log_packet<R: Runtime + AllocGlobal>(
     }
 }
 
-/// Logs what stands in front of the buffer, as far as it is whole.
-fn log_held<R: Runtime + AllocGlobal>(
-    rt: &R,
-    log: &mut Log,
-    capture: &mut Capture,
-    buffer: &mut Buffer,
-) -> Result<(), Failure> {
-    for _ in 0..u64::MAX {
-        let held = buffer.held();
-        let left = match capture.step(held)? {
-            Step::Packet(packet, rest) => {
-                log_packet(rt, log, packet)?;
-                rest.len()
-            }
-            Step::Other(rest) => rest.len(),
-            Step::Wait => return Ok(()),
-        };
-        let taken = held.len().saturating_sub(left);
-        buffer.take(taken);
+/// Logs each packet that it visits.
+#[derive(Drop)]
+struct Logger<'a, R> {
+    rt: &'a R,
+    log: &'a mut Log,
+}
+
+impl<'a, R: Runtime + AllocGlobal> PacketVisitor for Logger<'a, R> {
+    type Error = Failure;
+
+    fn visit(&mut self, packet: Packet<'_>) -> Result<(), Failure> {
+        log_packet(self.rt, self.log, packet)
     }
-    Ok(())
 }
 
 /// Logs all that the reader gives.
@@ -127,22 +131,11 @@ fn log_packets<R: Runtime + AllocGlobal, I: Read>(
     log: &mut Log,
     reader: &mut I,
 ) -> Result<(), Failure> {
-    let mut capture = Capture::new(rt.alloc());
-    let mut buffer = Buffer::new(rt.alloc());
-    for _ in 0..u64::MAX {
-        let n = buffer.fill(reader).map_err(|_e| Failure::Reading)?;
-        if n == 0 {
-            break;
-        }
-        log_held(rt, log, &mut capture, &mut buffer)?;
+    let mut logger = Logger { rt, log };
+    match visit_packets(rt.alloc(), reader, &mut logger) {
+        Ok(()) => Ok(()),
+        Err(e) => Err(Failure::from(e)),
     }
-    if !capture.is_known() {
-        return Err(Failure::Capture("this is no capture"));
-    }
-    if !buffer.held().is_empty() {
-        return Err(Failure::Capture("the capture is broken off"));
-    }
-    Ok(())
 }
 
 /// Prints the connections that are left.

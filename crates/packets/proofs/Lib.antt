@@ -1,0 +1,5 @@
+pub mod BufferLemmas
+pub mod LayoutLemmas
+pub mod FrontLemmas
+pub mod PacketsLemmas
+pub mod VisitLemmas

@@ -1,0 +1,13 @@
+-- What a read of a source adds to the bytes that are held.
+use Rattle.std.specs.Prelude.{◌≡◌, ℕ, ◌++◌, length, List, Option}
+use Rattle.std.specs.Io.KnownBytes.{Consumes, IsAtEnd}
+use Rattle.tls_fields.specs.Bytes.{Bytes}
+
+-- n bytes came off the front of those that the source has left, where these are known, and stand behind what was held;
+-- none came only at the source's end.
+pub record Came (held held' : Bytes) (known known' : Option (List ℕ)) (n : ℕ) : Type 0 where
+  pub bytes : Bytes
+  pub count : length bytes ≡ n
+  pub holds : held' ≡ held ++ bytes
+  pub gave : Consumes known known' bytes
+  pub ended : n ≡ 0 → IsAtEnd known'

@@ -1,0 +1,114 @@
+//! All packets that a source gives.
+ghost use Rattle.std.specs.Prelude.{◌≡◌, List, Option, None, IfSome, IfErr, OnOk};
+ghost use Rattle.std.specs.Io.KnownBytes.{IsAtEnd};
+ghost use Rattle.packets.specs.Section.{Packet as PacketValue, view_packet};
+ghost use Rattle.packets.specs.Front.{front};
+ghost use Rattle.packets.specs.Packets.{Whole, end_of, packets_of};
+ghost use Rattle.packets.specs.Visit.{AddsAll, Goes, IsCause, IsEnd, Visits};
+
+use crate::buffer::Buffer;
+use crate::reader::{Capture, CaptureError, Packet, Step};
+use std::alloc::Global;
+use std::io::{self, Read};
+
+/// Who takes the packets of a capture, one after the other.
+pub trait PacketVisitor {
+    /// Why it takes no further packet.
+    type Error;
+
+    // The packets that it took, where a contract is to know them.
+    ghost taken: { Self → Option (List PacketValue) } = { λ _. None };
+
+    /// Takes the next packet. Where it refuses one, that one isn't taken, and the visit ends.
+    fn visit(&mut self, packet: Packet<'_>) -> Result<(), Self::Error>
+        ensures { Visits (taken self.old) (taken self.new) result (view_packet packet.entry) };
+}
+
+/// Why a visit ended before the end of a capture.
+#[derive(Debug, Drop)]
+pub enum VisitError<E> {
+    /// It isn't a capture, a rule is broken, or memory ran out.
+    Capture(CaptureError),
+    /// The bytes end within a packet or a block.
+    BrokenOff,
+    /// A read failed, or there was no memory for what it would give.
+    Reading(io::Error),
+    /// There was no end in 2^64 - 1 steps, each a packet, a block or a read.
+    Endless,
+    /// The visitor takes no further packet.
+    Visitor(E),
+}
+
+/// Visits what stands in front of the buffer, and takes it off: true. False where it isn't all there.
+fn visit_front<V: PacketVisitor>(
+    capture: &mut Capture,
+    buffer: &mut Buffer,
+    visitor: &mut V,
+) -> Result<bool, VisitError<V::Error>>
+    ensures { Goes (front capture.old buffer.old) (V.taken visitor.old) (V.taken visitor.new) capture.old capture.new
+        buffer.old buffer.new result }
+{
+    match capture.step(buffer.held()) {
+        Ok(Step::Packet(packet, rest)) => {
+            let left = rest.len();
+            match visitor.visit(packet) {
+                Ok(()) => {
+                    buffer.keep_last(left);
+                    Ok(true)
+                }
+                Err(e) => Err(VisitError::Visitor(e)),
+            }
+        }
+        Ok(Step::Other(rest)) => {
+            let left = rest.len();
+            buffer.keep_last(left);
+            Ok(true)
+        }
+        Ok(Step::Wait) => Ok(false),
+        Err(e) => Err(VisitError::Capture(e)),
+    }
+}
+
+/// How a capture ends, with these bytes behind all that was read.
+fn end_in<E>(capture: &Capture, held: &[u8]) -> Result<(), VisitError<E>>
+    ensures { IsEnd (end_of capture.now held.now) result }
+{
+    if !capture.is_known() {
+        return Err(VisitError::Capture(CaptureError::NoCapture));
+    }
+    if !held.is_empty() {
+        return Err(VisitError::BrokenOff);
+    }
+    Ok(())
+}
+
+/// Reads a source to its end, and hands each packet of the capture to the visitor, in order.
+///
+/// However the reads cut its bytes, the packets are those of all of them together, and their end is told where a read
+/// gave none.
+pub fn visit_packets<R: Read, V: PacketVisitor>(
+    alloc: Global,
+    reader: &mut R,
+    visitor: &mut V,
+) -> Result<(), VisitError<V::Error>>
+    // All packets of all bytes were visited, and the source is at its end.
+    ensures all { OnOk result (IfSome (R.remaining reader.old) (λ x.
+        AddsAll (V.taken visitor.old) (V.taken visitor.new) (packets_of x) Whole × IsAtEnd (R.remaining reader.new))) }
+    ensures cause { IfErr result (λ e. IfSome (R.remaining reader.old) (λ x.
+        IsCause (packets_of x) (V.taken visitor.old) (V.taken visitor.new) (R.remaining reader.new) e)) }
+{
+    let mut capture = Capture::new(alloc);
+    let mut buffer = Buffer::new(alloc);
+    'steps: for _ in 0..u64::MAX {
+        match visit_front(&mut capture, &mut buffer, visitor) {
+            Ok(true) => continue,
+            Ok(false) => match buffer.fill(reader) {
+                Ok(0) => return end_in(&capture, buffer.held()),
+                Ok(_) => continue,
+                Err(e) => return Err(VisitError::Reading(e)),
+            },
+            Err(e) => return Err(e),
+        }
+    }
+    Err(VisitError::Endless)
+}
