@@ -1,20 +1,21 @@
-"""Captures of TCP as the checks of tlslog turn them over: read, cut, put into other orders, and written in each form."""
+"""Captures of TCP and UDP as the checks of tlslog turn them over: read, cut, put into other orders, and written in each form."""
 
 import struct
 from dataclasses import dataclass, replace
 
 ETHERNET = 1
 FIN, SYN, RST, PSH = 1, 2, 4, 8
-FILE_HEADER, PACKET_HEADER, LINK_HEADER = 24, 16, 14
+FILE_HEADER, PACKET_HEADER, LINK_HEADER, UDP_HEADER = 24, 16, 14, 8
+UDP = 17
 
 
 @dataclass(frozen=True)
 class Segment:
-    """A packet of Ethernet with a segment of TCP. The time is in microseconds."""
+    """A packet of Ethernet with a segment of TCP, or a datagram of UDP. The time is in microseconds."""
 
     time: int
     front: bytes  # The link's header and that of IP.
-    tcp: bytes  # The header of TCP, with its options.
+    tcp: bytes  # The header of TCP, with its options; or that of UDP.
     payload: bytes
 
     @property
@@ -38,8 +39,12 @@ class Segment:
         return int.from_bytes(self.tcp[4:8], "big")
 
     @property
+    def is_udp(self):
+        return len(self.tcp) == UDP_HEADER
+
+    @property
     def flags(self):
-        return self.tcp[13]
+        return 0 if self.is_udp else self.tcp[13]
 
     def says_nothing(self):
         """It only acknowledges."""
@@ -63,8 +68,10 @@ class Segment:
 
 
 def segment(time, frame):
-    ip = LINK_HEADER + (40 if frame[LINK_HEADER] >> 4 == 6 else 4 * (frame[LINK_HEADER] & 15))
-    tcp = ip + 4 * (frame[ip + 12] >> 4)
+    is_v6 = frame[LINK_HEADER] >> 4 == 6
+    ip = LINK_HEADER + (40 if is_v6 else 4 * (frame[LINK_HEADER] & 15))
+    is_udp = frame[LINK_HEADER + (6 if is_v6 else 9)] == UDP
+    tcp = ip + (UDP_HEADER if is_udp else 4 * (frame[ip + 12] >> 4))
     return Segment(time, frame[:ip], frame[ip:tcp], frame[tcp:])
 
 
