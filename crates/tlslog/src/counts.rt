@@ -39,7 +39,7 @@ impl Counts {
         }
     }
 
-    /// Writes a line for each count that isn't 0, of what was left out.
+    /// Writes how many packets there were, and a line for each count of what was left out that isn't 0.
     pub fn tell<R: Eprint>(&self, rt: &R, name: &str) -> io::Result<()> {
         let table = [
             (
@@ -51,15 +51,15 @@ impl Counts {
                 "packets of another link or protocol than TCP",
             ),
             (self.fragments, "fragments of IP"),
-            (self.stray_segments, "segments of no connection"),
+            (self.stray_segments, "segments of no open connection"),
             (self.other_connections, "connections that are not TLS"),
             (self.gaps, "sides of connections with lost bytes"),
         ];
         let packets = self.packets;
-        eprintln!(rt; "{name}: {packets} packets; left out:")?;
+        eprintln!(rt; "{name}: {packets} packets")?;
         for (count, what) in table {
             if count > 0 {
-                eprintln!(rt; "{name}: {count} {what}")?;
+                eprintln!(rt; "{name}: left out: {count} {what}")?;
             }
         }
         Ok(())

@@ -10,8 +10,10 @@ mod line;
 mod log;
 mod names;
 mod program;
+mod progress;
 
-use crate::program::{Exit, log_file, log_input};
+use crate::program::{Exit, log_file, log_standard_input};
+use clap::error::ErrorKind;
 use clap::{Arg, ArgAction, ArgMatches, Command};
 use std::alloc::Global;
 use std::process::ExitCode;
@@ -33,7 +35,7 @@ fn matches<'a>(alloc: Global, words: &'a [String]) -> Result<ArgMatches<'a>, cla
 /// Logs each capture that is named, or standard input.
 fn log_all<R: Runtime + AllocGlobal + RandomSource>(rt: &R, matches: &ArgMatches<'_>) -> Exit {
     let Some(paths) = matches.get_strs("captures") else {
-        return log_input(rt, "standard input", &mut rt.reader());
+        return log_standard_input(rt);
     };
     let mut exit = Exit::Clean;
     for path in paths {
@@ -48,12 +50,11 @@ fn run<R: Runtime + AllocGlobal + RandomSource>(rt: &R, words: &[String]) -> u8 
         Ok(matches) => u8::from(log_all(rt, &matches)),
         Err(error) => {
             let is_told = error.print(rt).is_ok();
-            if !is_told {
-                return 3;
-            }
-            match error.exit_code() {
-                0 => 0,
-                _ => 2,
+            match error.kind() {
+                ErrorKind::DisplayHelp if is_told => 0,
+                ErrorKind::DisplayHelp | ErrorKind::OutOfMemory => 3,
+                _ if is_told => 2,
+                _ => 3,
             }
         }
     }

@@ -1,6 +1,7 @@
 //! The run over one capture.
 use crate::line::{gap_name, line_of};
 use crate::log::{Heard, Log};
+use crate::progress::{STANDARD_INPUT, Watched};
 use connections::Connection;
 use packets::{CaptureError, Packet, PacketVisitor, VisitError, visit_packets};
 use std::alloc::AllocError;
@@ -191,10 +192,20 @@ pub fn log_input<R: Runtime + AllocGlobal + RandomSource, I: Read>(
     }
 }
 
-/// Logs the capture in a file.
+/// Logs the capture in a file, of which the progress is told where someone looks.
 pub fn log_file<R: Runtime + AllocGlobal + RandomSource>(rt: &R, path: &str) -> Exit {
     match fs::open(rt, path) {
-        Ok(mut file) => log_input(rt, path, &mut file),
+        Ok(file) => log_input(rt, path, &mut Watched::new(rt, path, path, file)),
         Err(_) => tell(rt, path, Failure::Reading),
     }
+}
+
+/// The same of the capture that is standard input.
+pub fn log_standard_input<R: Runtime + AllocGlobal>(rt: &R) -> Exit {
+    let name = "standard input";
+    log_input(
+        rt,
+        name,
+        &mut Watched::new(rt, name, STANDARD_INPUT, rt.reader()),
+    )
 }

@@ -1,0 +1,161 @@
+"""The lines that are wanted of a capture, from tshark's fields."""
+
+import re
+import subprocess
+
+FIELDS = """
+    handshake.type handshake.version handshake.random handshake.extensions.supported_version handshake.ciphersuite
+    handshake.extensions_key_share_group handshake.extensions_key_share_selected_group handshake.server_named_curve
+    handshake.extensions_server_name handshake.extensions_alpn_str handshake.extension.type record.content_type
+    alert_message.level alert_message.desc
+""".split()
+OUTER = ["frame.time_epoch", "ip.src", "ipv6.src", "ip.dst", "ipv6.dst"]
+OF_TCP = ["tcp.stream", "tcp.srcport", "tcp.dstport", "tcp.flags.fin", "tcp.flags.reset"]
+OF_UDP = ["udp.stream", "udp.srcport", "udp.dstport"]
+VERSIONS = {
+    0x300: "SSLv3", 0x301: "TLSv10", 0x302: "TLSv11", 0x303: "TLSv12", 0x304: "TLSv13",
+    0xFEFF: "DTLSv10", 0xFEFD: "DTLSv12", 0xFEFC: "DTLSv13",
+}
+GROUPS = {
+    23: "secp256r1", 24: "secp384r1", 25: "secp521r1", 29: "x25519", 30: "x448", 256: "ffdhe2048", 257: "ffdhe3072", 258: "ffdhe4096",
+    4588: "X25519MLKEM768",
+}
+ALERTS = {
+    0: "close_notify", 10: "unexpected_message", 20: "bad_record_mac", 22: "record_overflow", 40: "handshake_failure", 42: "bad_certificate",
+    43: "unsupported_certificate", 44: "certificate_revoked", 45: "certificate_expired", 46: "certificate_unknown", 47: "illegal_parameter",
+    48: "unknown_ca", 49: "access_denied", 50: "decode_error", 51: "decrypt_error", 70: "protocol_version", 71: "insufficient_security",
+    80: "internal_error", 86: "inappropriate_fallback", 90: "user_canceled", 100: "no_renegotiation", 109: "missing_extension",
+    110: "unsupported_extension", 112: "unrecognized_name", 116: "certificate_required", 120: "no_application_protocol",
+}
+# The random of a ServerHello that is a HelloRetryRequest (RFC 8446, section 4.1.3).
+RETRY = "cf21ad74e59a6111be1d8c021e65b891c2a211167abb8c5e079e09e2c8a8339c"
+CLIENT_HELLO, SERVER_HELLO, KEY_EXCHANGE, SERVER_DONE = "1", "2", "12", "14"
+CHANGE, PRE_SHARED_KEY = "20", "41"
+ORDER = """
+    ts id.orig_h id.orig_p id.resp_h id.resp_p proto duration version cipher curve server_name next_protocol resumed established
+    last_alert outcome stop gap
+""".split()
+
+
+def lines(capture, port=None, udp=False):
+    """The lines in the order of the connections' ends: those of TLS, or of DTLS. tshark takes a port for TLS by its number; `port` is
+    another one. Each connection is over with the FIN or RST of both of its sides, or at the end; a capture in which one is idle
+    for 300 seconds, or segments come out of order, isn't for this."""
+    talks, ended = {}, []
+    for row in rows(capture, port, udp):
+        stream = row["udp.stream" if udp else "tcp.stream"][0]
+        talk = talks.setdefault(stream, Talk(row, "udp" if udp else "tcp"))
+        if talk.is_over():
+            continue
+        talk.note(row)
+        if talk.is_over():
+            ended.append(talk)
+    left = sorted((talk for talk in talks.values() if not talk.is_over()), key=lambda talk: talk.last)
+    return [talk.line() for talk in ended + left if talk.is_tls]
+
+
+def rows(capture, port, udp):
+    """tshark's fields of each packet of that protocol, as dictionaries of lists."""
+    layer, prefix = ("udp", "dtls") if udp else ("tcp", "tls")
+    fields = [*OUTER, *(OF_UDP if udp else OF_TCP), *(f"{prefix}.{field}" for field in FIELDS)]
+    command = ["tshark", "-r", str(capture), "-T", "fields", "-E", "separator=|", "-E", "occurrence=a", "-Y", layer]
+    command += ["-o", "tcp.reassemble_out_of_order:TRUE"]
+    if port:
+        command += ["-d", f"{layer}.port=={port},{prefix}"]
+    for field in fields:
+        command += ["-e", field]
+    names = [re.sub("^d?tls[.]", "", field) for field in fields]
+    text = subprocess.run(command, stdout=subprocess.PIPE, stderr=subprocess.DEVNULL, text=True, check=True).stdout
+    for line in text.splitlines():
+        yield {name: [v for v in part.split(",") if v] for name, part in zip(names, line.split("|"))}
+
+
+def first(row, *fields):
+    for field in fields:
+        if row[field]:
+            return row[field][0]
+    return None
+
+
+def group(number):
+    return GROUPS.get(number, f"0x{number:04x}")
+
+
+class Talk:
+    """What one connection says."""
+
+    def __init__(self, row, layer):
+        self.layer = layer
+        self.begun = self.last = float(first(row, "frame.time_epoch"))
+        self.ends = self.source(row), (first(row, "ip.dst", "ipv6.dst"), int(first(row, f"{layer}.dstport")))
+        self.is_tls, self.said, self.messages = False, {}, 0
+        self.closed, self.changed, self.has_done, self.is_13 = set(), [], False, False
+        self.stop = None
+
+    def source(self, row):
+        return first(row, "ip.src", "ipv6.src"), int(first(row, f"{self.layer}.srcport"))
+
+    def is_over(self):
+        return len(self.closed) == 2
+
+    def note(self, row):
+        self.last = float(first(row, "frame.time_epoch"))
+        side = self.source(row) == self.ends[0]
+        types = row["handshake.type"]
+        self.is_tls |= bool(types or row["alert_message.desc"] or row["record.content_type"])
+        if CLIENT_HELLO in types:
+            self.said["server_name"] = first(row, "handshake.extensions_server_name")
+        if SERVER_HELLO in types:
+            self.note_server(row)
+        if KEY_EXCHANGE in types and row["handshake.server_named_curve"]:
+            self.said["curve"] = group(int(row["handshake.server_named_curve"][0], 16))
+        self.has_done |= SERVER_DONE in types
+        self.messages += len(types)
+        for kind in row["record.content_type"]:
+            self.note_record(kind, side)
+        self.note_alerts(row, side)
+        if self.layer == "tcp" and {*row["tcp.flags.fin"], *row["tcp.flags.reset"]} & {"1", "True"}:
+            self.closed.add(side)
+
+    def note_record(self, kind, side):
+        """Counts a ChangeCipherSpec, and a record behind that of its side, which is encrypted."""
+        if kind == CHANGE or (side in self.changed and not self.is_13):
+            self.messages += 1
+        if kind == CHANGE:
+            self.changed.append(side)
+
+    def note_server(self, row):
+        version = int(first(row, "handshake.extensions.supported_version", "handshake.version"), 16)
+        self.said["version"] = VERSIONS[version]
+        self.said["cipher"] = first(row, "handshake.ciphersuite")
+        share = first(row, "handshake.extensions_key_share_group", "handshake.extensions_key_share_selected_group")
+        self.said["curve"] = group(int(share)) if share else None
+        self.said["next_protocol"] = first(row, "handshake.extensions_alpn_str")
+        is_13 = version in (0x304, 0xFEFC)
+        self.said["resumed"] = is_13 and PRE_SHARED_KEY in row["handshake.extension.type"]
+        self.is_13 |= is_13 and first(row, "handshake.random").replace(":", "") != RETRY
+
+    def note_alerts(self, row, side):
+        # Where the bytes of an encrypted one happen to be a level and a name, tshark takes them for these.
+        if side in self.changed and not self.is_13:
+            return
+        for level, name in zip(row["alert_message.level"], row["alert_message.desc"]):
+            self.said["last_alert"] = ALERTS[int(name)]
+            if level == "2" and not self.stop and not self.is_established():
+                self.stop = {"message": "alert", "sender": "client" if side else "server", "messages_before": self.messages}
+            self.messages += 1
+
+    def is_established(self):
+        """A ServerHello of TLS 1.3, or a ChangeCipherSpec of each side (RFC 5246, section 7.3)."""
+        return self.is_13 or {*self.changed} == {True, False}
+
+    def line(self):
+        is_short = self.is_established() and not self.is_13 and not self.has_done
+        outcome = "tls13" if self.is_13 else "resumed" if is_short else "full" if self.is_established() else "broken_off" if self.stop else "waiting"
+        known = {
+            "ts": round(self.begun, 6), "proto": self.layer, "duration": round(self.last - self.begun, 6),
+            "id.orig_h": self.ends[0][0], "id.orig_p": self.ends[0][1], "id.resp_h": self.ends[1][0], "id.resp_p": self.ends[1][1],
+            **self.said, "resumed": is_short or (self.is_13 and self.said["resumed"]),
+            "established": self.is_established(), "outcome": outcome, "stop": self.stop,
+        }
+        return {field: known[field] for field in ORDER if known.get(field) is not None}
