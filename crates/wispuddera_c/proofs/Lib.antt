@@ -1,2 +1,3 @@
 pub mod StatusLemmas
 pub mod PlaceLemmas
+pub mod FoundLemmas

@@ -4,10 +4,12 @@ use Rattle.std.specs.Option.{is_some}
 use Rattle.tls_fields.specs.Bytes.{Bytes}
 use Rattle.tls_fields.specs.Layout.{number}
 use Rattle.tls_fields.specs.Text.{held}
+use Rattle.tls_parser.specs.DtlsHello as hello
 use Rattle.tls_parser.specs.DtlsRecord as dtls
 use Rattle.tls_parser.specs.DtlsInPlace as in_place
 use Rattle.tls_parser.specs.DtlsInPlace.{is_part}
 use Rattle.wispuddera_c.specs.declared.dtls.DtlsRecord.{DtlsRecord}
+use Rattle.wispuddera_c.specs.declared.dtls.DtlsClientHello.{DtlsClientHello}
 use Rattle.wispuddera_c.specs.declared.dtls.DtlsMessage.{DtlsMessage}
 use Rattle.wispuddera_c.specs.Place.{StandsAt, Follows}
 
@@ -30,4 +32,14 @@ pub record ShowsDtlsMessage (b : Bytes) (c : DtlsMessage) (v : in_place.RawHands
   pub fragment_length : c.fragment_length ≡ v.fragment_length
   pub is_part : c.is_part ≡ in_place.is_part v
   pub body : StandsAt b c.body v.body
+  pub next : Follows b c.next r
+
+-- The numbers show the ClientHello v in b, and r behind it; its lists have no place.
+pub record ShowsDtlsClientHello (b : Bytes) (c : DtlsClientHello) (v : hello.ClientHello) (r : Bytes) : Type 0 where
+  pub version : c.version ≡ v.hello.client_version
+  pub random : StandsAt b c.random v.hello.random
+  pub session_id : StandsAt b c.session_id (held v.hello.session_id)
+  pub cookie : StandsAt b c.cookie v.cookie
+  pub has_extensions : c.has_extensions ≡ is_some v.hello.extensions
+  pub extensions : StandsAt b c.extensions (held v.hello.extensions)
   pub next : Follows b c.next r

@@ -1,13 +1,15 @@
 //! Records and handshake messages of DTLS.
+ghost use Rattle.tls_fields.specs.Reading.{reading};
+ghost use Rattle.tls_parser.specs.DtlsHello.{client_hello};
 ghost use Rattle.tls_parser.specs.DtlsInPlace.{raw_handshake};
 ghost use Rattle.tls_parser.specs.DtlsRecord.{raw_record};
-ghost use Rattle.wispuddera_c.specs.Dtls.{ShowsDtlsMessage, ShowsDtlsRecord};
-ghost use Rattle.wispuddera_c.specs.Status.{IsAnsweredAt};
+ghost use Rattle.wispuddera_c.specs.Dtls.{ShowsDtlsClientHello, ShowsDtlsMessage, ShowsDtlsRecord};
+ghost use Rattle.wispuddera_c.specs.Status.{IsAnswered, IsAnsweredAt};
 
-use crate::place::{Place, bytes_from, in_c, offset_of};
+use crate::place::{Place, bytes_from, held_in_c, in_c, offset_of};
 use crate::status::{OUTSIDE, READ, Refusal};
 use tls_parser::DTLSRawHandshake;
-use tls_places::frame_at;
+use tls_places::{dtls_client_hello_with_places, frame_at};
 
 /// A record of DTLS (RFC 6347, section 4.1): its header, where its fragment stands, and the offset of what follows it.
 #[repr(C)]
@@ -36,6 +38,20 @@ pub struct DtlsMessage {
     pub message_seq: u16,
     pub kind: u8,
     pub is_part: bool,
+}
+
+/// A ClientHello of DTLS (RFC 6347, section 4.2.1): its version, and where its parts stand in its body.
+#[repr(C)]
+#[derive(Clone, Copy)]
+pub struct DtlsClientHello {
+    pub missing: usize,
+    pub random: Place,
+    pub session_id: Place,
+    pub cookie: Place,
+    pub extensions: Place,
+    pub next: usize,
+    pub version: u16,
+    pub has_extensions: bool,
 }
 
 /// Reads the record of DTLS that begins at that offset of a datagram.
@@ -100,6 +116,34 @@ pub extern "C" fn wispuddera_read_dtls_message(
                 message_seq: message.message_seq,
                 kind: message.msg_type.0,
                 is_part: message.is_fragment(),
+            };
+            READ
+        }
+        Err(e) => {
+            let refusal = Refusal::of(e);
+            out.missing = refusal.missing;
+            refusal.status
+        }
+    }
+}
+
+/// Reads the body of a ClientHello of DTLS.
+#[tactic(auto, using(tls_fields::proofs::OneAnswerLemmas::read_allowed, tls_fields::proofs::PlaceLemmas::ends_here, tls_fields::proofs::PlaceLemmas::ends_read))]
+#[unsafe(no_mangle)]
+pub extern "C" fn wispuddera_read_dtls_client_hello(bytes: &[u8], out: &mut DtlsClientHello) -> u32
+    ensures { IsAnswered (ShowsDtlsClientHello bytes.now out.new) (reading client_hello bytes.now) result out.new.missing }
+{
+    match dtls_client_hello_with_places(bytes) {
+        Ok((rest, (hello, places))) => {
+            *out = DtlsClientHello {
+                missing: 0,
+                random: in_c(places.random),
+                session_id: held_in_c(places.session_id),
+                cookie: in_c(places.cookie),
+                extensions: held_in_c(places.ext),
+                next: offset_of(bytes, rest),
+                version: hello.version.0,
+                has_extensions: hello.ext.is_some(),
             };
             READ
         }

@@ -3,7 +3,7 @@ ghost use Rattle.std.specs.Prelude.{◌≡◌};
 ghost use Rattle.wispuddera_c.specs.Layout.{size_of_struct};
 
 use crate::client_hello::ClientHello;
-use crate::dtls::{DtlsMessage, DtlsRecord};
+use crate::dtls::{DtlsClientHello, DtlsMessage, DtlsRecord};
 use crate::found::Found;
 use crate::number::Number;
 use crate::part::Part;
@@ -14,7 +14,7 @@ use std::mem::size_of;
 
 /// How many bytes a struct takes: of the header's list of structs, the one at that index; 0 behind its end.
 #[unsafe(no_mangle)]
-pub extern "C" fn wispuddera_size(index: usize) -> usize
+pub extern "C" fn wispuddera_struct_size(index: usize) -> usize
     ensures { result ≡ size_of_struct index }
 {
     match index {
@@ -27,6 +27,7 @@ pub extern "C" fn wispuddera_size(index: usize) -> usize
         6 => size_of::<Number>(),
         7 => size_of::<DtlsRecord>(),
         8 => size_of::<DtlsMessage>(),
+        9 => size_of::<DtlsClientHello>(),
         _ => 0,
     }
 }

@@ -9,7 +9,7 @@ use crate::place::{Place, bytes_from, in_c, offset_of};
 use crate::status::{OUTSIDE, READ, Refusal};
 use tls_ext::{KeyShareEntry, RawExtension};
 use tls_fields::Counted1;
-use tls_hs::RawHandshake;
+use tls_hs::{RawCertificate, RawHandshake};
 use tls_places::frame_at;
 
 /// A part: its kind, where its content stands, and the offset of what follows it.
@@ -121,6 +121,34 @@ pub extern "C" fn wispuddera_read_protocol(bytes: &[u8], offset: usize, out: &mu
             *out = Part {
                 missing: 0,
                 content: in_c(name),
+                next: offset_of(bytes, rest),
+                kind: 0,
+            };
+            READ
+        }
+        Err(e) => {
+            let refusal = Refusal::of(e);
+            out.missing = refusal.missing;
+            refusal.status
+        }
+    }
+}
+
+/// Reads the certificate that begins at that offset of a list of them (RFC 5246, section 7.4.2).
+#[tactic(auto, using(tls_fields::proofs::OneAnswerLemmas::read_allowed, crate::proofs::StatusLemmas::told, crate::proofs::StatusLemmas::refused, crate::proofs::StatusLemmas::behind))]
+#[unsafe(no_mangle)]
+pub extern "C" fn wispuddera_read_certificate(bytes: &[u8], offset: usize, out: &mut Part) -> u32
+    ensures { IsAnsweredAt (counted 3) (ShowsBytes bytes.now out.new) bytes.now offset result out.new.missing }
+{
+    let Some(i) = bytes_from(bytes, offset) else {
+        out.missing = 0;
+        return OUTSIDE;
+    };
+    match frame_at::<RawCertificate>(bytes, i) {
+        Ok((rest, (_, certificate))) => {
+            *out = Part {
+                missing: 0,
+                content: in_c(certificate),
                 next: offset_of(bytes, rest),
                 kind: 0,
             };
