@@ -251,6 +251,25 @@ uint32_t wispuddera_group_at(const uint8_t *bytes, size_t count, size_t index, w
  * supported_versions that isn't one of GREASE (RFC 8701), or where there is none of these, its own. `count` isn't set. */
 uint32_t wispuddera_best_version(const uint8_t *bytes, size_t count, uint16_t version, wispuddera_number *out);
 
+/* ---- A stream that comes in pieces ----
+ *
+ * A buffer of the caller's holds what isn't read yet, at a place that the caller keeps: {0, 0} at first. One buffer and place a
+ * direction holds its records; another its handshake messages, whose pieces are the fragments of records. A buffer of 16645 bytes
+ * has room for each record that isn't refused; a message may have up to 16777219, and the caller says by its buffer how many are
+ * read. WISPUDDERA_OUTSIDE, and nothing changed, where `held` lies outside of the buffer. */
+
+/* Puts as much of the piece as there is room for behind the bytes that the buffer holds, which are moved to its front. `taken`
+ * is how many bytes that is: 0 where the buffer is full. */
+uint32_t wispuddera_feed(uint8_t *buffer, size_t capacity, wispuddera_place *held, const uint8_t *piece, size_t count, size_t *taken);
+
+/* Takes the record in front off the bytes that the buffer holds (RFC 5246, section 6.2.1), whose places are counted from the
+ * buffer's front, and stay up to the next wispuddera_feed. WISPUDDERA_INCOMPLETE where it isn't whole, WISPUDDERA_TOO_LARGE where its
+ * length is above 16640: the buffer holds then what it held. */
+uint32_t wispuddera_next_record(const uint8_t *buffer, size_t capacity, wispuddera_place *held, wispuddera_record *out);
+
+/* The same, of a handshake message (RFC 5246, section 7.4). */
+uint32_t wispuddera_next_message(const uint8_t *buffer, size_t capacity, wispuddera_place *held, wispuddera_part *out);
+
 /* ---- This header and the library ----
  *
  * How many bytes a struct takes in the library: of place, record, part, client_hello, server_hello, found, number, dtls_record,

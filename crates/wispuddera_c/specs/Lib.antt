@@ -7,3 +7,4 @@ pub mod Found
 pub mod Number
 pub mod Dtls
 pub mod Layout
+pub mod Stream

@@ -15,3 +15,4 @@ mod place;
 mod record;
 mod server_hello;
 mod status;
+mod stream;
