@@ -326,12 +326,12 @@ def _protocol(given: _Given, offset: int) -> _Item:
     return _Item(given.part(out.content), out.next)
 
 
-def protocols(block: Data) -> Optional[tuple[bytes, ...]]:
-    """The names of protocols in a block of extensions (RFC 7301, section 3.1)."""
+def protocols(block: Data) -> Optional[Iterator[bytes]]:
+    """The names of protocols in a block of extensions (RFC 7301, section 3.1); `Incomplete` ends the walk at one that isn't whole."""
     given, out = _Given(block), _room.found
     if not _is_found(_c.find_protocols(given.address, given.count, out), out.missing):
         return None
-    return tuple(bytes(name.content) for name in _walk(_protocol, _Given(given.part(out.place))))
+    return (bytes(it.content) for it in _walk(_protocol, _Given(given.part(out.place))))
 
 
 def _certificate(given: _Given, offset: int) -> _Item:
@@ -340,11 +340,12 @@ def _certificate(given: _Given, offset: int) -> _Item:
     return _Item(given.part(out.content), out.next)
 
 
-def certificates(body: Data) -> tuple[memoryview, ...]:
-    """The certificates, in DER, in the body of a Certificate up to TLS 1.2 (RFC 5246, section 7.4.2)."""
+def certificates(body: Data) -> Iterator[memoryview]:
+    """The certificates, in DER, in the body of a Certificate up to TLS 1.2 (RFC 5246, section 7.4.2); `Incomplete` ends the walk at one
+    that isn't whole."""
     given, out = _Given(body), _room.found
     _check(_c.find_certificates(given.address, given.count, out), out.missing)
-    return tuple(it.content for it in _walk(_certificate, _Given(given.part(out.place))))
+    return (it.content for it in _walk(_certificate, _Given(given.part(out.place))))
 
 
 def _numbers(given: _Given, at: Callable) -> tuple[int, ...]:
