@@ -1,29 +1,8 @@
 -- Places in C's numbers.
-use Rattle.std.proofs.Common.{
-  ◌≡◌,
-  ℕ,
-  ◌-◌,
-  ◌+◌,
-  ◌≤◌,
-  List,
-  [],
-  length,
-  take,
-  drop,
-  min,
-  Option,
-  Some,
-  None,
-  refl,
-  sym,
-  subst,
-  ◌∙◌,
-  ap,
-  arith,
-}
+use Rattle.std.proofs.Common.{◌≡◌, ℕ, ◌-◌, List, [], length, take, drop, min, Option, Some, None, refl, sym, subst, ◌∙◌, ap, arith}
 use Rattle.std.specs.Borrow.{Bor}
 use Rattle.std.specs.Option.{option_map}
-use Rattle.std.proofs.lemmas.List.{take-append-drop, take_min, drop_min, length-drop}
+use Rattle.std.proofs.lemmas.List.{take-append-drop, length-drop}
 use Rattle.tls_fields.specs.Bytes.{Bytes}
 use Rattle.tls_fields.specs.Meaning.{EndsWith}
 use Rattle.tls_fields.specs.Place.{bytes_at}

@@ -2,7 +2,7 @@
 use Rattle.std.proofs.Common.{◌≡◌, ℕ, ◌≤◌, ◌<◌, length, drop, Ok, Err, refl, sym, subst, ◌∙◌, ap, arith}
 use Rattle.tls_fields.specs.Bytes.{Bytes}
 use Rattle.tls_fields.specs.Layout.{Layout}
-use Rattle.tls_fields.specs.Meaning.{Refusal, Answer}
+use Rattle.tls_fields.specs.Meaning.{Refusal}
 use Rattle.tls_fields.specs.Reading.{reading}
 use Rattle.wispuddera_c.specs.Status.{IsRefused, IsAnswered, IsAnsweredAt}
 

@@ -1,23 +1,5 @@
 -- What a buffer holds.
-use Rattle.std.proofs.Common.{
-  ◌≡◌,
-  ◌-◌,
-  ◌+◌,
-  ◌≤◌,
-  ◌++◌,
-  ℕ,
-  length,
-  drop,
-  take,
-  min,
-  refl,
-  sym,
-  subst,
-  ◌∙◌,
-  ap,
-  ap₂,
-  arith,
-}
+use Rattle.std.proofs.Common.{◌≡◌, ◌-◌, ◌+◌, ◌≤◌, ◌++◌, ℕ, length, drop, take, subst, ◌∙◌, ap, ap₂, arith}
 use Rattle.std.proofs.Math.Seq.{paste}
 use Rattle.std.proofs.lemmas.List.{take_all, length-take-le, length-drop}
 use Rattle.std.proofs.lemmas.List.Edits.{take-paste, length-paste}

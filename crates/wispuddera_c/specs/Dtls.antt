@@ -2,7 +2,6 @@
 use Rattle.std.specs.Prelude.{◌≡◌}
 use Rattle.std.specs.Option.{is_some}
 use Rattle.tls_fields.specs.Bytes.{Bytes}
-use Rattle.tls_fields.specs.Layout.{number}
 use Rattle.tls_fields.specs.Text.{held}
 use Rattle.tls_parser.specs.DtlsHello as hello
 use Rattle.tls_parser.specs.DtlsRecord as dtls

@@ -1,5 +1,5 @@
 -- The numbers that a call answers with, and what they tell.
-use Rattle.std.specs.Prelude.{◌≡◌, ℕ, ◌≤◌, ◌<◌, length, drop, Result, Ok, Err}
+use Rattle.std.specs.Prelude.{◌≡◌, ℕ, ◌≤◌, ◌<◌, length, drop, Ok, Err}
 use Rattle.tls_fields.specs.Bytes.{Bytes}
 use Rattle.tls_fields.specs.Layout.{Layout}
 use Rattle.tls_fields.specs.Meaning.{Refusal, Broken, Lacks, Answer}
