@@ -210,22 +210,24 @@ class _Given:
     __slots__ = ("address", "count", "view")
 
     def __init__(self, data: Data) -> None:
-        self.view = memoryview(data)
-        if not self.view.c_contiguous or self.view.format != "B" or self.view.ndim != 1:
+        self.view = view = memoryview(data)
+        self.count = view.nbytes
+        if type(data) is bytes:
+            self.address = data
+            return
+        if not view.c_contiguous or view.format != "B" or view.ndim != 1:
             raise TypeError("bytes are wanted, each behind the one before")
-        if not isinstance(data, bytes):
-            if self.view.readonly:
-                data = bytes(data)
-                self.view = memoryview(data)
-            elif self.view.nbytes:
-                data = ctypes.byref(ctypes.c_ubyte.from_buffer(data))
-            else:
-                data = b""
-        self.address = data
-        self.count = self.view.nbytes
+        if not self.count:
+            self.address = b""
+        elif view.readonly:
+            self.address = bytes(data)
+            self.view = memoryview(self.address)
+        else:
+            self.address = ctypes.byref(ctypes.c_ubyte.from_buffer(data))
 
     def part(self, place: _c.Place) -> memoryview:
-        return self.view[place.offset : place.offset + place.length]
+        offset = place.offset
+        return self.view[offset : offset + place.length]
 
 
 def _check(status: int, missing: int) -> None:
