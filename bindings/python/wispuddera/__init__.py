@@ -1,0 +1,548 @@
+"""TLS and DTLS read in place, by the proved library behind wispuddera.h.
+
+Bytes go in as `bytes`, or as a writable buffer (`bytearray`, or a `memoryview` of one), which are taken without a copy; any other
+buffer is copied. What comes out are numbers, and `memoryview`s of the bytes that were read. `Incomplete` is raised where bytes are
+missing, `Refused` where they break a rule, and `Outside` where an offset lies behind their end; what isn't there is `None`.
+
+Calls may run in several threads at once. A `bytearray` can't be resized while a view of it is kept.
+"""
+
+from __future__ import annotations
+
+import ctypes
+import struct
+import threading
+from collections.abc import Callable, Iterator
+from dataclasses import dataclass
+from typing import Optional, Union
+
+from . import _library as _c
+
+Data = Union[bytes, bytearray, memoryview]
+
+__all__ = [
+    "Certificate",
+    "ClientHello",
+    "Data",
+    "DtlsClientHello",
+    "DtlsMessage",
+    "DtlsRecord",
+    "Extension",
+    "Incomplete",
+    "KeyShare",
+    "Message",
+    "MessageStream",
+    "Outside",
+    "Record",
+    "RecordStream",
+    "Refused",
+    "ServerHello",
+    "best_version",
+    "certificates",
+    "client_hello",
+    "dtls_client_hello",
+    "dtls_message",
+    "dtls_messages",
+    "dtls_record",
+    "dtls_records",
+    "extension",
+    "extensions",
+    "find_body",
+    "find_extension",
+    "groups",
+    "key_share",
+    "key_shares",
+    "message",
+    "messages",
+    "protocols",
+    "record",
+    "records",
+    "server_hello",
+    "server_name",
+    "server_name_of_hello",
+    "server_name_of_record",
+    "versions",
+]
+
+
+class Incomplete(ValueError):
+    """`missing` further bytes are needed for the part that is being read; behind these there may be more."""
+
+    def __init__(self, missing: int) -> None:
+        super().__init__(f"{missing} more bytes are needed")
+        self.missing = missing
+
+
+class Refused(ValueError):
+    """The bytes break a rule, whose kind is `kind`: TooLarge, LengthValue, Verify, Switch, Tag or Complete."""
+
+    def __init__(self, kind: str) -> None:
+        super().__init__(_c.TEXTS[kind])
+        self.kind = kind
+
+
+class Outside(IndexError):
+    """An offset lies behind the end of the bytes."""
+
+
+@dataclass(frozen=True)
+class Record:
+    """A record (RFC 5246, section 6.2.1); what follows it begins at the offset `next`."""
+
+    content_type: int
+    version: int
+    fragment: memoryview
+    next: int
+
+
+@dataclass(frozen=True)
+class Message:
+    """A handshake message (RFC 5246, section 7.4): its HandshakeType and its body."""
+
+    kind: int
+    body: memoryview
+    next: int
+
+
+@dataclass(frozen=True)
+class Extension:
+    """An extension (RFC 8446, section 4.2): its ExtensionType and its content."""
+
+    kind: int
+    content: memoryview
+    next: int
+
+
+@dataclass(frozen=True)
+class KeyShare:
+    """A key share (RFC 8446, section 4.2.8): its NamedGroup and the public value."""
+
+    group: int
+    value: memoryview
+    next: int
+
+
+@dataclass(frozen=True)
+class ClientHello:
+    """The body of a ClientHello (RFC 5246, section 7.4.1.2). No bytes are no session id, `None` no block of extensions."""
+
+    version: int
+    random: memoryview
+    session_id: memoryview
+    cipher_suites: tuple[int, ...]
+    compression_methods: tuple[int, ...]
+    extensions: Optional[memoryview]
+    next: int
+
+
+@dataclass(frozen=True)
+class ServerHello:
+    """The body of a ServerHello (RFC 5246, section 7.4.1.3). No bytes are no session id, `None` no block of extensions."""
+
+    version: int
+    random: memoryview
+    session_id: memoryview
+    cipher_suite: int
+    compression_method: int
+    extensions: Optional[memoryview]
+    next: int
+
+
+@dataclass(frozen=True)
+class DtlsRecord:
+    """A record of DTLS (RFC 6347, section 4.1)."""
+
+    content_type: int
+    version: int
+    epoch: int
+    sequence_number: int
+    fragment: memoryview
+    next: int
+
+
+@dataclass(frozen=True)
+class DtlsMessage:
+    """A handshake message of DTLS, or a fragment of one (RFC 6347, section 4.2.2)."""
+
+    kind: int
+    length: int
+    message_seq: int
+    fragment_offset: int
+    is_part: bool
+    body: memoryview
+    next: int
+
+
+@dataclass(frozen=True)
+class DtlsClientHello:
+    """The body of a ClientHello of DTLS (RFC 6347, section 4.2.1); its lists aren't told."""
+
+    version: int
+    random: memoryview
+    session_id: memoryview
+    cookie: memoryview
+    extensions: Optional[memoryview]
+    next: int
+
+
+@dataclass(frozen=True)
+class _Item:
+    content: memoryview
+    next: int
+
+
+class _Room(threading.local):
+    """The structs that calls write, kept for each thread."""
+
+    def __init__(self) -> None:
+        self.record, self.part, self.found, self.number = _c.Record(), _c.Part(), _c.Found(), _c.Number()
+        self.client_hello, self.server_hello = _c.ClientHello(), _c.ServerHello()
+        self.dtls_record, self.dtls_message = _c.DtlsRecord(), _c.DtlsMessage()
+        self.dtls_client_hello = _c.DtlsClientHello()
+
+
+_room = _Room()
+
+
+class _Given:
+    """Bytes as a call takes them: an address, how many there are, and a view of them."""
+
+    __slots__ = ("address", "count", "view")
+
+    def __init__(self, data: Data) -> None:
+        self.view = view = memoryview(data)
+        self.count = view.nbytes
+        if type(data) is bytes:
+            self.address = data
+            return
+        if not view.c_contiguous or view.format != "B" or view.ndim != 1:
+            raise TypeError("bytes are wanted, each behind the one before")
+        if not self.count:
+            self.address = b""
+        elif view.readonly:
+            self.address = bytes(data)
+            self.view = memoryview(self.address)
+        else:
+            self.address = ctypes.byref(ctypes.c_ubyte.from_buffer(data))
+
+    def part(self, place: _c.Place) -> memoryview:
+        offset = place.offset
+        return self.view[offset : offset + place.length]
+
+
+def _check(status: int, missing: int) -> None:
+    if status == _c.READ:
+        return
+    if status == _c.INCOMPLETE:
+        raise Incomplete(missing)
+    if status == _c.OUTSIDE:
+        raise Outside("the offset lies behind the end of the bytes")
+    raise Refused(_c.KINDS[status])
+
+
+def _is_found(status: int, missing: int) -> bool:
+    if status == _c.NONE:
+        return False
+    _check(status, missing)
+    return True
+
+
+def _walk(read: Callable, given: _Given) -> Iterator:
+    """What is read from the front to the end."""
+    offset = 0
+    while offset < given.count:
+        item = read(given, offset)
+        yield item
+        offset = item.next
+
+
+def _record(given: _Given, offset: int) -> Record:
+    out = _room.record
+    _check(_c.read_record(given.address, given.count, offset, out), out.missing)
+    return Record(out.content_type, out.version, given.part(out.fragment), out.next)
+
+
+def record(data: Data, offset: int = 0) -> Record:
+    """The record at that offset (RFC 5246, section 6.2.1)."""
+    return _record(_Given(data), offset)
+
+
+def records(data: Data) -> Iterator[Record]:
+    """The records from the front to the end; where the last isn't whole, `Incomplete` ends the walk."""
+    return _walk(_record, _Given(data))
+
+
+def _message(given: _Given, offset: int) -> Message:
+    out = _room.part
+    _check(_c.read_message(given.address, given.count, offset, out), out.missing)
+    return Message(out.kind, given.part(out.content), out.next)
+
+
+def message(fragment: Data, offset: int = 0) -> Message:
+    """The handshake message at that offset of a record's fragment (RFC 5246, section 7.4)."""
+    return _message(_Given(fragment), offset)
+
+
+def messages(fragment: Data) -> Iterator[Message]:
+    """The handshake messages of a record's fragment."""
+    return _walk(_message, _Given(fragment))
+
+
+def _extension(given: _Given, offset: int) -> Extension:
+    out = _room.part
+    _check(_c.read_extension(given.address, given.count, offset, out), out.missing)
+    return Extension(out.kind, given.part(out.content), out.next)
+
+
+def extension(block: Data, offset: int = 0) -> Extension:
+    """The extension at that offset of a block of extensions (RFC 8446, section 4.2)."""
+    return _extension(_Given(block), offset)
+
+
+def extensions(block: Data) -> Iterator[Extension]:
+    """The extensions of a block of them."""
+    return _walk(_extension, _Given(block))
+
+
+def _key_share(given: _Given, offset: int) -> KeyShare:
+    out = _room.part
+    _check(_c.read_key_share(given.address, given.count, offset, out), out.missing)
+    return KeyShare(out.kind, given.part(out.content), out.next)
+
+
+def key_share(content: Data) -> KeyShare:
+    """The key share in the content of a ServerHello's key_share (RFC 8446, section 4.2.8)."""
+    return _key_share(_Given(content), 0)
+
+
+def key_shares(content: Data) -> Iterator[KeyShare]:
+    """The key shares in the content of a ClientHello's key_share (RFC 8446, section 4.2.8)."""
+    given, out = _Given(content), _room.found
+    _check(_c.find_key_shares(given.address, given.count, out), out.missing)
+    return _walk(_key_share, _Given(given.part(out.place)))
+
+
+def _protocol(given: _Given, offset: int) -> _Item:
+    out = _room.part
+    _check(_c.read_protocol(given.address, given.count, offset, out), out.missing)
+    return _Item(given.part(out.content), out.next)
+
+
+def protocols(block: Data) -> Optional[Iterator[bytes]]:
+    """The names of protocols in a block of extensions (RFC 7301, section 3.1); `Incomplete` ends the walk at one that isn't whole."""
+    given, out = _Given(block), _room.found
+    if not _is_found(_c.find_protocols(given.address, given.count, out), out.missing):
+        return None
+    return (bytes(it.content) for it in _walk(_protocol, _Given(given.part(out.place))))
+
+
+def _certificate(given: _Given, offset: int) -> _Item:
+    out = _room.part
+    _check(_c.read_certificate(given.address, given.count, offset, out), out.missing)
+    return _Item(given.part(out.content), out.next)
+
+
+def certificates(body: Data) -> Iterator[memoryview]:
+    """The certificates, in DER, in the body of a Certificate up to TLS 1.2 (RFC 5246, section 7.4.2); `Incomplete` ends the walk at one
+    that isn't whole."""
+    given, out = _Given(body), _room.found
+    _check(_c.find_certificates(given.address, given.count, out), out.missing)
+    return (it.content for it in _walk(_certificate, _Given(given.part(out.place))))
+
+
+def _numbers(given: _Given, at: Callable) -> tuple[int, ...]:
+    numbers, out = [], _room.number
+    while _is_found(at(given.address, given.count, len(numbers), out), out.missing):
+        numbers.append(out.value)
+    return tuple(numbers)
+
+
+def versions(content: Data) -> tuple[int, ...]:
+    """The versions in the content of a supported_versions of either hello (RFC 8446, section 4.2.1)."""
+    return _numbers(_Given(content), _c.version_at)
+
+
+def groups(content: Data) -> tuple[int, ...]:
+    """The groups in the content of a supported_groups (RFC 8446, section 4.2.7)."""
+    return _numbers(_Given(content), _c.group_at)
+
+
+def best_version(version: int, block: Optional[Data]) -> Optional[int]:
+    """The best version of a hello with that version and that block of extensions (RFC 8446, section 4.2.1)."""
+    given, out = _Given(block or b""), _room.number
+    status = _c.best_version(given.address, given.count, version, out)
+    return out.value if _is_found(status, out.missing) else None
+
+
+def find_extension(block: Data, kind: int) -> Optional[memoryview]:
+    """The content of the first extension of that ExtensionType in a block of extensions (RFC 8446, section 4.2)."""
+    given, out = _Given(block), _room.found
+    status = _c.find_extension(given.address, given.count, kind, out)
+    return given.part(out.place) if _is_found(status, out.missing) else None
+
+
+def find_body(fragment: Data, kind: int) -> Optional[memoryview]:
+    """The body of the first handshake message of that HandshakeType in a record's fragment (RFC 5246, section 7.4)."""
+    given, out = _Given(fragment), _room.found
+    status = _c.find_body(given.address, given.count, kind, out)
+    return given.part(out.place) if _is_found(status, out.missing) else None
+
+
+def _name(find: Callable, data: Data) -> Optional[bytes]:
+    given, out = _Given(data), _room.found
+    status = find(given.address, given.count, out)
+    return bytes(given.part(out.place)) if _is_found(status, out.missing) else None
+
+
+def server_name(block: Data) -> Optional[bytes]:
+    """The name of the host that a client asks for, in its block of extensions (RFC 6066, section 3)."""
+    return _name(_c.find_server_name, block)
+
+
+def server_name_of_hello(body: Data) -> Optional[bytes]:
+    """The same, in the body of its ClientHello."""
+    return _name(_c.find_server_name_in_hello, body)
+
+
+def server_name_of_record(data: Data) -> Optional[bytes]:
+    """The same, in the first ClientHello of the record in front."""
+    return _name(_c.find_server_name_in_record, data)
+
+
+def client_hello(body: Data) -> ClientHello:
+    """The body of a ClientHello (RFC 5246, section 7.4.1.2)."""
+    given, out = _Given(body), _room.client_hello
+    _check(_c.read_client_hello(given.address, given.count, out), out.missing)
+    suites = given.part(out.cipher_suites)
+    return ClientHello(
+        out.version,
+        given.part(out.random),
+        given.part(out.session_id),
+        struct.unpack(f">{len(suites) // 2}H", suites),
+        tuple(given.part(out.compression_methods)),
+        given.part(out.extensions) if out.has_extensions else None,
+        out.next,
+    )
+
+
+def server_hello(body: Data) -> ServerHello:
+    """The body of a ServerHello (RFC 5246, section 7.4.1.3)."""
+    given, out = _Given(body), _room.server_hello
+    _check(_c.read_server_hello(given.address, given.count, out), out.missing)
+    return ServerHello(
+        out.version,
+        given.part(out.random),
+        given.part(out.session_id),
+        out.cipher_suite,
+        out.compression_method,
+        given.part(out.extensions) if out.has_extensions else None,
+        out.next,
+    )
+
+
+def _dtls_record(given: _Given, offset: int) -> DtlsRecord:
+    out = _room.dtls_record
+    _check(_c.read_dtls_record(given.address, given.count, offset, out), out.missing)
+    return DtlsRecord(out.content_type, out.version, out.epoch, out.sequence_number, given.part(out.fragment), out.next)
+
+
+def dtls_record(datagram: Data, offset: int = 0) -> DtlsRecord:
+    """The record of DTLS at that offset of a datagram (RFC 6347, section 4.1)."""
+    return _dtls_record(_Given(datagram), offset)
+
+
+def dtls_records(datagram: Data) -> Iterator[DtlsRecord]:
+    """The records of DTLS in a datagram."""
+    return _walk(_dtls_record, _Given(datagram))
+
+
+def _dtls_message(given: _Given, offset: int) -> DtlsMessage:
+    out = _room.dtls_message
+    _check(_c.read_dtls_message(given.address, given.count, offset, out), out.missing)
+    body = given.part(out.body)
+    return DtlsMessage(out.kind, out.length, out.message_seq, out.fragment_offset, out.is_part, body, out.next)
+
+
+def dtls_message(fragment: Data, offset: int = 0) -> DtlsMessage:
+    """The handshake message of DTLS, or the fragment of one, at that offset of a record's fragment (RFC 6347, section 4.2.2)."""
+    return _dtls_message(_Given(fragment), offset)
+
+
+def dtls_messages(fragment: Data) -> Iterator[DtlsMessage]:
+    """The handshake messages of DTLS, and fragments of them, in a record's fragment."""
+    return _walk(_dtls_message, _Given(fragment))
+
+
+def dtls_client_hello(body: Data) -> DtlsClientHello:
+    """The body of a ClientHello of DTLS (RFC 6347, section 4.2.1)."""
+    given, out = _Given(body), _room.dtls_client_hello
+    _check(_c.read_dtls_client_hello(given.address, given.count, out), out.missing)
+    return DtlsClientHello(
+        out.version,
+        given.part(out.random),
+        given.part(out.session_id),
+        given.part(out.cookie),
+        given.part(out.extensions) if out.has_extensions else None,
+        out.next,
+    )
+
+
+class _Stream:
+    """What comes in pieces, of which `capacity` bytes are held at most."""
+
+    def __init__(self, capacity: int) -> None:
+        self._buffer = (ctypes.c_ubyte * capacity)()
+        self._view = memoryview(self._buffer).cast("B")
+        self._held = _c.Place()
+        self._refusal: Optional[Refused] = None
+
+    @property
+    def held(self) -> int:
+        """How many bytes are held that nothing whole was read of yet."""
+        return self._held.length
+
+    def _feed(self, piece: Data, take: Callable, out: ctypes.Structure, shown: Callable) -> list:
+        """What is whole with the piece. What is refused behind it is raised at the next call, and from then on."""
+        rest, taken, whole = _Given(piece), ctypes.c_size_t(), []
+        while self._refusal is None and rest.count:
+            _c.feed(self._buffer, len(self._buffer), self._held, rest.address, rest.count, taken)
+            while (status := take(self._buffer, len(self._buffer), self._held, out)) == _c.READ:
+                whole.append(shown(out))
+            if status != _c.INCOMPLETE or taken.value == 0:
+                self._refusal = Refused("TooLarge" if status == _c.INCOMPLETE else _c.KINDS[status])
+            rest = _Given(rest.view[taken.value :])
+        if self._refusal is not None and not whole:
+            raise self._refusal
+        return whole
+
+    def _copied(self, place: _c.Place) -> memoryview:
+        return memoryview(bytes(self._view[place.offset : place.offset + place.length]))
+
+
+class RecordStream(_Stream):
+    """One direction's records, however its bytes come."""
+
+    def __init__(self) -> None:
+        super().__init__(16645)
+
+    def feed(self, piece: Data) -> list[Record]:
+        """The records that are whole with this piece; their `next` says nothing. `Refused` is raised at a record that is too large, once
+        those before it were answered, and by each call from then on."""
+        return self._feed(piece, _c.next_record, _room.record, self._shown)
+
+    def _shown(self, out: _c.Record) -> Record:
+        return Record(out.content_type, out.version, self._copied(out.fragment), 0)
+
+
+class MessageStream(_Stream):
+    """Handshake messages, joined over the fragments of records; one of more than `capacity` bytes is refused."""
+
+    def __init__(self, capacity: int = 65540) -> None:
+        super().__init__(capacity)
+
+    def feed(self, fragment: Data) -> list[Message]:
+        """The messages that are whole with this fragment; their `next` says nothing. `Refused` as at `RecordStream`."""
+        return self._feed(fragment, _c.next_message, _room.part, self._shown)
+
+    def _shown(self, out: _c.Part) -> Message:
+        return Message(out.kind, self._copied(out.content), 0)

@@ -1,0 +1,167 @@
+"""The functions and structs of wispuddera.h."""
+
+import ctypes
+import os
+
+_PATH = os.environ.get("WISPUDDERA_LIBRARY") or os.path.join(os.path.dirname(__file__), "libwispuddera.so")
+# It keeps the interpreter's lock, right for calls as short as these.
+_library = ctypes.PyDLL(_PATH)
+
+READ, INCOMPLETE, NONE, OUTSIDE = 0, 1, 8, 9
+KINDS = {2: "TooLarge", 3: "LengthValue", 4: "Verify", 5: "Switch", 6: "Tag", 7: "Complete"}
+TEXTS = {
+    "TooLarge": "a length is too large",
+    "LengthValue": "a length doesn't fit what it counts",
+    "Verify": "a value breaks its rule",
+    "Switch": "a type that isn't read",
+    "Tag": "a fixed tag differs",
+    "Complete": "bytes are missing where no further bytes could help",
+}
+
+_SIZE, _U8, _U16, _U32, _U64, _BOOL = (
+    ctypes.c_size_t,
+    ctypes.c_uint8,
+    ctypes.c_uint16,
+    ctypes.c_uint32,
+    ctypes.c_uint64,
+    ctypes.c_bool,
+)
+
+
+class Place(ctypes.Structure):
+    _fields_ = [("offset", _SIZE), ("length", _SIZE)]
+
+
+class Record(ctypes.Structure):
+    _fields_ = [
+        ("missing", _SIZE),
+        ("fragment", Place),
+        ("next", _SIZE),
+        ("version", _U16),
+        ("length", _U16),
+        ("content_type", _U8),
+    ]
+
+
+class Part(ctypes.Structure):
+    _fields_ = [("missing", _SIZE), ("content", Place), ("next", _SIZE), ("kind", _U16)]
+
+
+class ClientHello(ctypes.Structure):
+    _fields_ = [
+        ("missing", _SIZE),
+        ("random", Place),
+        ("session_id", Place),
+        ("cipher_suites", Place),
+        ("compression_methods", Place),
+        ("extensions", Place),
+        ("next", _SIZE),
+        ("version", _U16),
+        ("has_extensions", _BOOL),
+    ]
+
+
+class ServerHello(ctypes.Structure):
+    _fields_ = [
+        ("missing", _SIZE),
+        ("random", Place),
+        ("session_id", Place),
+        ("extensions", Place),
+        ("next", _SIZE),
+        ("version", _U16),
+        ("cipher_suite", _U16),
+        ("compression_method", _U8),
+        ("has_extensions", _BOOL),
+    ]
+
+
+class Found(ctypes.Structure):
+    _fields_ = [("missing", _SIZE), ("place", Place)]
+
+
+class Number(ctypes.Structure):
+    _fields_ = [("missing", _SIZE), ("count", _SIZE), ("value", _U16)]
+
+
+class DtlsRecord(ctypes.Structure):
+    _fields_ = [
+        ("missing", _SIZE),
+        ("fragment", Place),
+        ("next", _SIZE),
+        ("sequence_number", _U64),
+        ("version", _U16),
+        ("epoch", _U16),
+        ("length", _U16),
+        ("content_type", _U8),
+    ]
+
+
+class DtlsMessage(ctypes.Structure):
+    _fields_ = [
+        ("missing", _SIZE),
+        ("body", Place),
+        ("next", _SIZE),
+        ("length", _U32),
+        ("fragment_offset", _U32),
+        ("fragment_length", _U32),
+        ("message_seq", _U16),
+        ("kind", _U8),
+        ("is_part", _BOOL),
+    ]
+
+
+class DtlsClientHello(ctypes.Structure):
+    _fields_ = [
+        ("missing", _SIZE),
+        ("random", Place),
+        ("session_id", Place),
+        ("cookie", Place),
+        ("extensions", Place),
+        ("next", _SIZE),
+        ("version", _U16),
+        ("has_extensions", _BOOL),
+    ]
+
+
+def _function(name, *arguments):
+    function = getattr(_library, f"wispuddera_{name}")
+    function.argtypes = arguments
+    function.restype = _U32
+    return function
+
+
+# `bytes` as they lie, or the address of a writable buffer.
+_BYTES, _OUT = ctypes.c_void_p, ctypes.POINTER
+
+read_record = _function("read_record", _BYTES, _SIZE, _SIZE, _OUT(Record))
+read_message = _function("read_message", _BYTES, _SIZE, _SIZE, _OUT(Part))
+read_extension = _function("read_extension", _BYTES, _SIZE, _SIZE, _OUT(Part))
+read_key_share = _function("read_key_share", _BYTES, _SIZE, _SIZE, _OUT(Part))
+read_protocol = _function("read_protocol", _BYTES, _SIZE, _SIZE, _OUT(Part))
+read_certificate = _function("read_certificate", _BYTES, _SIZE, _SIZE, _OUT(Part))
+read_dtls_record = _function("read_dtls_record", _BYTES, _SIZE, _SIZE, _OUT(DtlsRecord))
+read_dtls_message = _function("read_dtls_message", _BYTES, _SIZE, _SIZE, _OUT(DtlsMessage))
+read_client_hello = _function("read_client_hello", _BYTES, _SIZE, _OUT(ClientHello))
+read_server_hello = _function("read_server_hello", _BYTES, _SIZE, _OUT(ServerHello))
+read_dtls_client_hello = _function("read_dtls_client_hello", _BYTES, _SIZE, _OUT(DtlsClientHello))
+find_server_name_in_record = _function("find_server_name_in_record", _BYTES, _SIZE, _OUT(Found))
+find_server_name_in_hello = _function("find_server_name_in_hello", _BYTES, _SIZE, _OUT(Found))
+find_server_name = _function("find_server_name", _BYTES, _SIZE, _OUT(Found))
+find_protocols = _function("find_protocols", _BYTES, _SIZE, _OUT(Found))
+find_extension = _function("find_extension", _BYTES, _SIZE, _U16, _OUT(Found))
+find_body = _function("find_body", _BYTES, _SIZE, _U8, _OUT(Found))
+find_key_shares = _function("find_key_shares", _BYTES, _SIZE, _OUT(Found))
+find_certificates = _function("find_certificates", _BYTES, _SIZE, _OUT(Found))
+number_at = _function("number_at", _BYTES, _SIZE, _SIZE, _OUT(Number))
+version_at = _function("version_at", _BYTES, _SIZE, _SIZE, _OUT(Number))
+group_at = _function("group_at", _BYTES, _SIZE, _SIZE, _OUT(Number))
+best_version = _function("best_version", _BYTES, _SIZE, _U16, _OUT(Number))
+feed = _function("feed", _BYTES, _SIZE, _OUT(Place), _BYTES, _SIZE, _OUT(_SIZE))
+next_record = _function("next_record", _BYTES, _SIZE, _OUT(Place), _OUT(Record))
+next_message = _function("next_message", _BYTES, _SIZE, _OUT(Place), _OUT(Part))
+
+# The structs, as the header lists them for `wispuddera_struct_size`.
+STRUCTS = (Place, Record, Part, ClientHello, ServerHello, Found, Number, DtlsRecord, DtlsMessage, DtlsClientHello)
+struct_size = _library.wispuddera_struct_size
+struct_size.argtypes = (_SIZE,)
+struct_size.restype = _SIZE

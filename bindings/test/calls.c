@@ -1,0 +1,269 @@
+/* Each function once on bytes whose places were counted by hand: each field of each struct has a value of its own here, so that one
+ * that stands elsewhere in the library's struct is seen. The bytes are those of RFC 8446's and RFC 6347's structs. */
+#include "wispuddera.h"
+
+#include <stdio.h>
+#include <string.h>
+
+static int failures = 0;
+
+static void is(int line, unsigned long long found, unsigned long long wanted) {
+    if (found != wanted) {
+        printf("calls.c:%d: %llu in place of %llu\n", line, found, wanted);
+        failures++;
+    }
+}
+
+#define IS(found, wanted) is(__LINE__, (unsigned long long)(found), (unsigned long long)(wanted))
+#define PLACE(found, begin, count) (IS((found).offset, begin), IS((found).length, count))
+
+/* A record of 102 bytes: 5 of header, 4 of the message's header, and the body of a ClientHello. */
+static const uint8_t record[] = {
+    0x16, 0x03, 0x01, 0x00, 0x61,                                                             /* 0: the header */
+    0x01, 0x00, 0x00, 0x5d,                                                                   /* 5: the message's */
+    0x03, 0x03,                                                                               /* 9: the version */
+    1, 2, 3, 4, 5, 6, 7, 8, 9, 10, 11, 12, 13, 14, 15, 16, 17, 18, 19, 20, 21, 22, 23, 24, 25, 26, 27, 28, 29, 30, 31, 32, /* 11 */
+    0x02, 0xa1, 0xa2,                                                                         /* 43: the session id */
+    0x00, 0x06, 0x13, 0x01, 0x13, 0x02, 0xc0, 0x2f,                                           /* 46: suites */
+    0x01, 0x00,                                                                               /* 54: methods */
+    0x00, 0x2c,                                                                               /* 56: extensions */
+    0x00, 0x00, 0x00, 0x08, 0x00, 0x06, 0x00, 0x00, 0x03, 'a', '.', 'b',                      /* 58: server_name */
+    0x00, 0x10, 0x00, 0x05, 0x00, 0x03, 0x02, 'h', '2',                                       /* 70: protocols */
+    0x00, 0x2b, 0x00, 0x05, 0x04, 0x03, 0x04, 0x03, 0x03,                                     /* 79: versions */
+    0x00, 0x33, 0x00, 0x08, 0x00, 0x06, 0x00, 0x1d, 0x00, 0x02, 0xb1, 0xb2,                   /* 88: key shares */
+    0x00, 0x15,                                                                               /* 100: cut off below */
+};
+
+enum { WHOLE = 102, BODY = 9, BODY_LENGTH = 93, BLOCK = 58, BLOCK_LENGTH = 44 };
+
+static void test_layout(void) {
+    static const size_t sizes[] = {sizeof(wispuddera_place),         sizeof(wispuddera_record),       sizeof(wispuddera_part),
+                                   sizeof(wispuddera_client_hello),  sizeof(wispuddera_server_hello), sizeof(wispuddera_found),
+                                   sizeof(wispuddera_number),        sizeof(wispuddera_dtls_record),  sizeof(wispuddera_dtls_message),
+                                   sizeof(wispuddera_dtls_client_hello)};
+    size_t i;
+    for (i = 0; i < sizeof sizes / sizeof *sizes; i++) {
+        IS(wispuddera_struct_size(i), sizes[i]);
+    }
+    IS(wispuddera_struct_size(i), 0);
+}
+
+static void test_record(void) {
+    wispuddera_record r = WISPUDDERA_EMPTY;
+    IS(wispuddera_read_record(record, WHOLE, 0, &r), WISPUDDERA_READ);
+    IS(r.missing, 0);
+    PLACE(r.fragment, 5, 97);
+    IS(r.next, 102);
+    IS(r.version, 0x0301);
+    IS(r.length, 97);
+    IS(r.content_type, 22);
+    IS(wispuddera_read_record(record, 60, 0, &r), WISPUDDERA_INCOMPLETE);
+    IS(r.missing, 42);
+    IS(wispuddera_read_record(record, WHOLE, 102, &r), WISPUDDERA_INCOMPLETE);
+    IS(r.missing, 1);
+    IS(wispuddera_read_record(record, WHOLE, 103, &r), WISPUDDERA_OUTSIDE);
+    IS(r.missing, 0);
+    IS(wispuddera_read_record(NULL, 0, 0, &r), WISPUDDERA_INCOMPLETE);
+    IS(wispuddera_read_record((const uint8_t *)"\x16\x03\x01\x41\x01", 5, 0, &r), WISPUDDERA_TOO_LARGE);
+}
+
+static void test_parts(void) {
+    wispuddera_part p = WISPUDDERA_EMPTY;
+    IS(wispuddera_read_message(record, WHOLE, 5, &p), WISPUDDERA_READ);
+    PLACE(p.content, BODY, BODY_LENGTH);
+    IS(p.next, 102);
+    IS(p.kind, 1);
+    IS(wispuddera_read_extension(record, WHOLE, 70, &p), WISPUDDERA_READ);
+    PLACE(p.content, 74, 5);
+    IS(p.next, 79);
+    IS(p.kind, 16);
+    IS(wispuddera_read_key_share(record, WHOLE, 94, &p), WISPUDDERA_READ);
+    PLACE(p.content, 98, 2);
+    IS(p.next, 100);
+    IS(p.kind, 29);
+    IS(wispuddera_read_protocol(record, WHOLE, 76, &p), WISPUDDERA_READ);
+    PLACE(p.content, 77, 2);
+    IS(p.next, 79);
+    IS(p.kind, 0);
+    IS(wispuddera_read_certificate((const uint8_t *)"\xff\x00\x00\x02\x30\x00", 6, 1, &p), WISPUDDERA_READ);
+    PLACE(p.content, 4, 2);
+    IS(p.next, 6);
+    IS(wispuddera_read_extension(record, WHOLE, 100, &p), WISPUDDERA_INCOMPLETE);
+    IS(p.missing, 2);
+}
+
+static void test_client_hello(void) {
+    wispuddera_client_hello h = WISPUDDERA_EMPTY;
+    IS(wispuddera_read_client_hello(record + BODY, BODY_LENGTH, &h), WISPUDDERA_READ);
+    IS(h.missing, 0);
+    IS(h.version, 0x0303);
+    PLACE(h.random, 2, 32);
+    PLACE(h.session_id, 35, 2);
+    PLACE(h.cipher_suites, 39, 6);
+    PLACE(h.compression_methods, 46, 1);
+    PLACE(h.extensions, 49, BLOCK_LENGTH);
+    IS(h.has_extensions, 1);
+    IS(h.next, BODY_LENGTH);
+    /* Without its last byte the block of extensions isn't whole, and is none. */
+    IS(wispuddera_read_client_hello(record + BODY, BODY_LENGTH - 1, &h), WISPUDDERA_READ);
+    IS(h.has_extensions, 0);
+    IS(h.extensions.length, 0);
+    IS(h.next, 47);
+    IS(wispuddera_read_client_hello(record + BODY, 33, &h), WISPUDDERA_INCOMPLETE);
+    IS(h.missing, 1);
+}
+
+static void test_server_hello(void) {
+    uint8_t body[48] = {0x03, 0x03};
+    wispuddera_server_hello h = WISPUDDERA_EMPTY;
+    const uint8_t tail[] = {0x01, 0xc1, 0x13, 0x02, 0x01, 0x00, 0x04, 0x00, 0x17, 0x00, 0x00};
+    memcpy(body + 34, tail, sizeof tail);
+    IS(wispuddera_read_server_hello(body, sizeof body, &h), WISPUDDERA_READ);
+    PLACE(h.random, 2, 32);
+    PLACE(h.session_id, 35, 1);
+    PLACE(h.extensions, 41, 4);
+    IS(h.next, 45);
+    IS(h.version, 0x0303);
+    IS(h.cipher_suite, 0x1302);
+    IS(h.compression_method, 1);
+    IS(h.has_extensions, 1);
+    body[34] = 33;
+    IS(wispuddera_read_server_hello(body, sizeof body, &h), WISPUDDERA_VERIFY);
+    body[0] = 9;
+    IS(wispuddera_read_server_hello(body, sizeof body, &h), WISPUDDERA_TAG);
+}
+
+static void test_found(void) {
+    wispuddera_found f = WISPUDDERA_EMPTY;
+    IS(wispuddera_find_server_name_in_record(record, WHOLE, &f), WISPUDDERA_READ);
+    PLACE(f.place, 67, 3);
+    IS(wispuddera_find_server_name_in_hello(record + BODY, BODY_LENGTH, &f), WISPUDDERA_READ);
+    PLACE(f.place, 58, 3);
+    IS(wispuddera_find_server_name(record + BLOCK, BLOCK_LENGTH, &f), WISPUDDERA_READ);
+    PLACE(f.place, 9, 3);
+    IS(wispuddera_find_server_name(record + 70, 30, &f), WISPUDDERA_NONE);
+    IS(wispuddera_find_server_name(record + 70, 29, &f), WISPUDDERA_INCOMPLETE);
+    IS(f.missing, 1);
+    IS(wispuddera_find_protocols(record + BLOCK, BLOCK_LENGTH, &f), WISPUDDERA_READ);
+    PLACE(f.place, 18, 3);
+    IS(wispuddera_find_extension(record + BLOCK, BLOCK_LENGTH, 43, &f), WISPUDDERA_READ);
+    PLACE(f.place, 25, 5);
+    IS(wispuddera_find_extension(record + BLOCK, 42, 44, &f), WISPUDDERA_NONE);
+    IS(wispuddera_find_body(record + 5, 97, 1, &f), WISPUDDERA_READ);
+    PLACE(f.place, 4, BODY_LENGTH);
+    IS(wispuddera_find_key_shares(record + 92, 8, &f), WISPUDDERA_READ);
+    PLACE(f.place, 2, 6);
+    IS(wispuddera_find_certificates((const uint8_t *)"\x00\x00\x05\x00\x00\x02\x30\x00", 8, &f), WISPUDDERA_READ);
+    PLACE(f.place, 3, 5);
+}
+
+static void test_numbers(void) {
+    wispuddera_number n = WISPUDDERA_EMPTY;
+    IS(wispuddera_number_at(record + 48, 6, 2, &n), WISPUDDERA_READ);
+    IS(n.value, 0xc02f);
+    IS(n.count, 3);
+    IS(wispuddera_number_at(record + 48, 6, 3, &n), WISPUDDERA_NONE);
+    IS(wispuddera_version_at(record + 83, 5, 1, &n), WISPUDDERA_READ);
+    IS(n.value, 0x0303);
+    IS(n.count, 2);
+    IS(wispuddera_version_at(record + 83, 4, 1, &n), WISPUDDERA_LENGTH_VALUE);
+    IS(wispuddera_group_at((const uint8_t *)"\x00\x04\x00\x1d\x00\x17", 6, 1, &n), WISPUDDERA_READ);
+    IS(n.value, 23);
+    IS(wispuddera_group_at((const uint8_t *)"\x00\x04\x00\x1d\x00\x17", 5, 1, &n), WISPUDDERA_INCOMPLETE);
+    IS(n.missing, 1);
+    IS(wispuddera_best_version(record + BLOCK, 42, 0x0303, &n), WISPUDDERA_READ);
+    IS(n.value, 0x0304);
+    IS(wispuddera_best_version(NULL, 0, 0x0302, &n), WISPUDDERA_READ);
+    IS(n.value, 0x0302);
+}
+
+static void test_dtls(void) {
+    /* A record with a fragment of a message, and the body of a ClientHello. */
+    static const uint8_t datagram[] = {0x16, 0xfe, 0xfd, 0x00, 0x01, 0x00, 0x00, 0x00, 0x00, 0x12, 0x34, 0x00, 0x0e, /* 0 */
+                                       0x0b, 0x00, 0x00, 0x09, 0x00, 0x05, 0x00, 0x00, 0x03, 0x00, 0x00, 0x02, 0xd1, 0xd2};
+    uint8_t body[48] = {0xfe, 0xfd};
+    const uint8_t tail[] = {0x00, 0x02, 0xe1, 0xe2, 0x00, 0x02, 0xc0, 0x2f, 0x01, 0x00, 0x00, 0x00};
+    wispuddera_dtls_record r = WISPUDDERA_EMPTY;
+    wispuddera_dtls_message m = WISPUDDERA_EMPTY;
+    wispuddera_dtls_client_hello h = WISPUDDERA_EMPTY;
+    IS(wispuddera_read_dtls_record(datagram, sizeof datagram, 0, &r), WISPUDDERA_READ);
+    PLACE(r.fragment, 13, 14);
+    IS(r.next, 27);
+    IS(r.sequence_number, 0x1234);
+    IS(r.version, 0xfefd);
+    IS(r.epoch, 1);
+    IS(r.length, 14);
+    IS(r.content_type, 22);
+    IS(wispuddera_read_dtls_message(datagram, sizeof datagram, 13, &m), WISPUDDERA_READ);
+    PLACE(m.body, 25, 2);
+    IS(m.next, 27);
+    IS(m.length, 9);
+    IS(m.fragment_offset, 3);
+    IS(m.fragment_length, 2);
+    IS(m.message_seq, 5);
+    IS(m.kind, 11);
+    IS(m.is_part, 1);
+    IS(wispuddera_read_dtls_message(datagram, 26, 13, &m), WISPUDDERA_INCOMPLETE);
+    IS(m.missing, 1);
+    memcpy(body + 34, tail, sizeof tail);
+    IS(wispuddera_read_dtls_client_hello(body, 46, &h), WISPUDDERA_READ);
+    PLACE(h.random, 2, 32);
+    IS(h.session_id.length, 0);
+    PLACE(h.cookie, 36, 2);
+    PLACE(h.extensions, 46, 0);
+    IS(h.next, 46);
+    IS(h.version, 0xfefd);
+    IS(h.has_extensions, 1);
+}
+
+static void test_stream(void) {
+    static uint8_t buffer[110], joined[97];
+    wispuddera_place held = WISPUDDERA_EMPTY, messages = WISPUDDERA_EMPTY;
+    wispuddera_record r = WISPUDDERA_EMPTY;
+    wispuddera_part m = WISPUDDERA_EMPTY;
+    size_t taken = 0, i, fed = 0;
+    for (i = 0; i < 2 * WHOLE; i++) {
+        uint32_t status = WISPUDDERA_READ;
+        IS(wispuddera_feed(buffer, sizeof buffer, &held, record + i % WHOLE, 1, &taken), WISPUDDERA_READ);
+        IS(taken, 1);
+        status = wispuddera_next_record(buffer, sizeof buffer, &held, &r);
+        IS(status, i % WHOLE == WHOLE - 1 ? WISPUDDERA_READ : WISPUDDERA_INCOMPLETE);
+        if (status == WISPUDDERA_READ) {
+            PLACE(r.fragment, 5, 97);
+            IS(memcmp(buffer, record, WHOLE), 0);
+            PLACE(held, 102, 0);
+            fed++;
+        }
+    }
+    IS(fed, 2);
+    IS(wispuddera_feed(joined, sizeof joined, &messages, record + 5, 97, &taken), WISPUDDERA_READ);
+    IS(wispuddera_feed(joined, sizeof joined, &messages, record, 1, &taken), WISPUDDERA_READ);
+    IS(taken, 0);
+    IS(wispuddera_next_message(joined, sizeof joined, &messages, &m), WISPUDDERA_READ);
+    PLACE(m.content, 4, BODY_LENGTH);
+    IS(m.kind, 1);
+    PLACE(messages, 97, 0);
+    messages.length = 1;
+    IS(wispuddera_next_message(joined, sizeof joined, &messages, &m), WISPUDDERA_OUTSIDE);
+    IS(wispuddera_feed(joined, sizeof joined, &messages, record, 1, &taken), WISPUDDERA_OUTSIDE);
+    PLACE(messages, 97, 1);
+}
+
+int main(void) {
+    uint32_t status;
+    for (status = 0; status <= WISPUDDERA_OUTSIDE; status++) {
+        IS(strcmp(wispuddera_status_text(status), "no status") != 0, 1);
+    }
+    IS(strcmp(wispuddera_status_text(status), "no status"), 0);
+    test_layout();
+    test_record();
+    test_parts();
+    test_client_hello();
+    test_server_hello();
+    test_found();
+    test_numbers();
+    test_dtls();
+    test_stream();
+    printf(failures == 0 ? "calls: as counted by hand\n" : "calls: not as counted by hand\n");
+    return failures != 0;
+}

@@ -1,0 +1,156 @@
+/* Calls on mutated bytes, in blocks of exactly as many bytes as are passed: mutated [CALLS]
+ *
+ * Each call's answer is a status, and each place of what was read lies within the bytes. Under valgrind it is seen that no byte
+ * outside of the block is read; the sanitizers don't see into the library. */
+#include "wispuddera.h"
+
+#include <stdio.h>
+#include <stdlib.h>
+#include <string.h>
+
+static const uint8_t hello[] = {0x16, 0x03, 0x01, 0x00, 0x61, 0x01, 0x00, 0x00, 0x5d, 0x03, 0x03, 1,    2,    3,    4,    5,    6,
+                                7,    8,    9,    10,   11,   12,   13,   14,   15,   16,   17,   18,   19,   20,   21,   22,   23,
+                                24,   25,   26,   27,   28,   29,   30,   31,   32,   0x02, 0xa1, 0xa2, 0x00, 0x06, 0x13, 0x01, 0x13,
+                                0x02, 0xc0, 0x2f, 0x01, 0x00, 0x00, 0x2a, 0x00, 0x00, 0x00, 0x08, 0x00, 0x06, 0x00, 0x00, 0x03, 'a',
+                                '.',  'b',  0x00, 0x10, 0x00, 0x05, 0x00, 0x03, 0x02, 'h',  '2',  0x00, 0x2b, 0x00, 0x05, 0x04, 0x03,
+                                0x04, 0x03, 0x03, 0x00, 0x33, 0x00, 0x08, 0x00, 0x06, 0x00, 0x1d, 0x00, 0x02, 0xb1, 0xb2};
+
+static uint32_t seed = 1;
+
+static uint32_t next_random(void) {
+    seed = seed * 1664525u + 1013904223u;
+    return seed >> 8;
+}
+
+static void lies(size_t count, wispuddera_place p) {
+    if (p.offset > count || p.length > count - p.offset) {
+        printf("mutated: a place lies outside: %zu and %zu in %zu\n", p.offset, p.length, count);
+        exit(1);
+    }
+}
+
+/* `missing` is read behind the call. */
+static int is_read(uint32_t status, const size_t *missing) {
+    if (status > WISPUDDERA_OUTSIDE || (status == WISPUDDERA_INCOMPLETE) != (*missing > 0)) {
+        printf("mutated: status %u with %zu missing\n", (unsigned)status, *missing);
+        exit(1);
+    }
+    return status == WISPUDDERA_READ;
+}
+
+typedef uint32_t (*part_reader)(const uint8_t *, size_t, size_t, wispuddera_part *);
+typedef uint32_t (*finder)(const uint8_t *, size_t, wispuddera_found *);
+typedef uint32_t (*number_reader)(const uint8_t *, size_t, size_t, wispuddera_number *);
+
+static void call_parts(const uint8_t *b, size_t n, size_t at) {
+    static const part_reader readers[] = {wispuddera_read_message, wispuddera_read_extension, wispuddera_read_key_share,
+                                          wispuddera_read_protocol, wispuddera_read_certificate};
+    static const finder finders[] = {wispuddera_find_server_name_in_record, wispuddera_find_server_name_in_hello,
+                                     wispuddera_find_server_name, wispuddera_find_protocols, wispuddera_find_key_shares,
+                                     wispuddera_find_certificates};
+    static const number_reader numbers[] = {wispuddera_number_at, wispuddera_version_at, wispuddera_group_at};
+    size_t i;
+    for (i = 0; i < sizeof readers / sizeof *readers; i++) {
+        wispuddera_part p = WISPUDDERA_EMPTY;
+        if (is_read(readers[i](b, n, at, &p), &p.missing)) {
+            wispuddera_place rest = {p.next, 0};
+            lies(n, p.content);
+            lies(n, rest);
+        }
+    }
+    for (i = 0; i < sizeof finders / sizeof *finders; i++) {
+        wispuddera_found f = WISPUDDERA_EMPTY;
+        if (is_read(finders[i](b, n, &f), &f.missing)) {
+            lies(n, f.place);
+        }
+    }
+    for (i = 0; i < sizeof numbers / sizeof *numbers; i++) {
+        wispuddera_number v = WISPUDDERA_EMPTY;
+        is_read(numbers[i](b, n, at, &v), &v.missing);
+    }
+}
+
+static void call_others(const uint8_t *b, size_t n, size_t at) {
+    wispuddera_record r = WISPUDDERA_EMPTY;
+    wispuddera_dtls_record d = WISPUDDERA_EMPTY;
+    wispuddera_dtls_message m = WISPUDDERA_EMPTY;
+    wispuddera_client_hello c = WISPUDDERA_EMPTY;
+    wispuddera_server_hello s = WISPUDDERA_EMPTY;
+    wispuddera_dtls_client_hello h = WISPUDDERA_EMPTY;
+    wispuddera_found f = WISPUDDERA_EMPTY;
+    wispuddera_number v = WISPUDDERA_EMPTY;
+    if (is_read(wispuddera_read_record(b, n, at, &r), &r.missing)) {
+        lies(n, r.fragment);
+    }
+    if (is_read(wispuddera_read_dtls_record(b, n, at, &d), &d.missing)) {
+        lies(n, d.fragment);
+    }
+    if (is_read(wispuddera_read_dtls_message(b, n, at, &m), &m.missing)) {
+        lies(n, m.body);
+    }
+    if (is_read(wispuddera_read_client_hello(b, n, &c), &c.missing)) {
+        lies(n, c.random);
+        lies(n, c.session_id);
+        lies(n, c.cipher_suites);
+        lies(n, c.compression_methods);
+        lies(n, c.extensions);
+    }
+    if (is_read(wispuddera_read_server_hello(b, n, &s), &s.missing)) {
+        lies(n, s.random);
+        lies(n, s.session_id);
+        lies(n, s.extensions);
+    }
+    if (is_read(wispuddera_read_dtls_client_hello(b, n, &h), &h.missing)) {
+        lies(n, h.random);
+        lies(n, h.cookie);
+        lies(n, h.extensions);
+    }
+    is_read(wispuddera_find_extension(b, n, (uint16_t)at, &f), &f.missing);
+    is_read(wispuddera_find_body(b, n, (uint8_t)at, &f), &f.missing);
+    is_read(wispuddera_best_version(b, n, (uint16_t)at, &v), &v.missing);
+}
+
+static void call_streams(const uint8_t *b, size_t n, size_t at) {
+    uint8_t *buffer = (uint8_t *)malloc(n + 1);
+    wispuddera_place held = {at, n / 2};
+    wispuddera_record r = WISPUDDERA_EMPTY;
+    wispuddera_part p = WISPUDDERA_EMPTY;
+    const size_t none = 0;
+    size_t taken = 0;
+    if (buffer == NULL) {
+        exit(2);
+    }
+    memset(buffer, 0x16, n + 1);
+    is_read(wispuddera_feed(buffer, n + 1, &held, b, n, &taken), &none);
+    is_read(wispuddera_next_record(buffer, n + 1, &held, &r), &r.missing);
+    is_read(wispuddera_next_message(buffer, n + 1, &held, &p), &p.missing);
+    free(buffer);
+}
+
+int main(int argc, char **argv) {
+    const long wanted = argc > 1 ? atol(argv[1]) : 10000;
+    static const size_t begins[] = {0, 5, 9, 58, 92};
+    long calls = 0;
+    while (calls < wanted) {
+        const size_t begin = begins[next_random() % 5];
+        const size_t count = next_random() % (sizeof hello - begin + 1);
+        const size_t at = next_random() % 4 == 0 ? next_random() % (count + 3) : 0;
+        uint32_t changes = next_random() % 4;
+        uint8_t *block = count == 0 ? NULL : (uint8_t *)malloc(count);
+        if (block != NULL) {
+            memcpy(block, hello + begin, count);
+        } else if (count != 0) {
+            return 2;
+        }
+        for (; changes > 0 && count > 0; changes--) {
+            block[next_random() % count] = (uint8_t)next_random();
+        }
+        call_parts(block, count, at);
+        call_others(block, count, at);
+        call_streams(block, count, at);
+        calls += 26;
+        free(block);
+    }
+    printf("mutated: %ld calls, each with a status and its places within the bytes\n", calls);
+    return 0;
+}

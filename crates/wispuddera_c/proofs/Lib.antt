@@ -1,0 +1,4 @@
+pub mod StatusLemmas
+pub mod PlaceLemmas
+pub mod FoundLemmas
+pub mod StreamLemmas

@@ -1,0 +1,49 @@
+-- Places in C's numbers.
+use Rattle.std.proofs.Common.{◌≡◌, ℕ, ◌-◌, List, [], length, take, drop, min, Option, Some, None, refl, sym, subst, ◌∙◌, ap, arith}
+use Rattle.std.specs.Borrow.{Bor}
+use Rattle.std.specs.Option.{option_map}
+use Rattle.std.proofs.lemmas.List.{take-append-drop, length-drop}
+use Rattle.tls_fields.specs.Bytes.{Bytes}
+use Rattle.tls_fields.specs.Meaning.{EndsWith}
+use Rattle.tls_fields.specs.Place.{bytes_at}
+use Rattle.tls_fields.specs.Text.{held}
+use Rattle.tls_fields.specs.declared.places.Place.{Place}
+use Rattle.tls_hs.specs.Places.{StandsAt as MayStandAt}
+use Rattle.tls_places.specs.Place.{Stands, Lies, MayStand, IsEnd}
+use Rattle.tls_places.proofs.PlaceLemmas.{is_end, cut_there}
+use Rattle.wispuddera_c.specs.Place.{Follows}
+
+nothing : (b : Bytes) → Stands b (record { offset = 0; length = 0 }) []
+nothing b = record { is = refl; within = omega arith }
+
+-- what may be there, or no bytes
+pub held_some : (b : Bytes) (p q : Place) (x : Option Bytes) → q ≡ p → MayStand b (Some p) x → Stands b q (held x)
+held_some b p q (Some x) same s = subst (λ z. Stands b z x) (sym same) s
+held_some b p q None same s = absurd s
+
+pub held_none : (b : Bytes) (x : Option Bytes) → MayStand b None x → Stands b (record { offset = 0; length = 0 }) (held x)
+held_none b None s = nothing b
+held_none b (Some x) s = absurd s
+
+pub cut_some : (b : Bytes) (p q : Place) (x : Option (Bor (List ℕ))) → bytes_at b q ≡ bytes_at b p → Lies b q
+    → MayStandAt b (Some p) x → Stands b q (held (option_map (λ y. y.now) x))
+cut_some b p q (Some x) same lies s = record { is = same ∙ s; within = lies }
+cut_some b p q None same lies s = absurd s
+
+pub cut_none : (b : Bytes) (x : Option (Bor (List ℕ))) → MayStandAt b None x
+    → Stands b (record { offset = 0; length = 0 }) (held (option_map (λ y. y.now) x))
+cut_none b None s = nothing b
+cut_none b (Some x) s = absurd s
+
+-- a place that is cut to the bytes
+pub cut_is : (b : Bytes) (o n m k : ℕ) → m ≡ min o (length b) → k ≡ min n (length b - m)
+    → take k (drop m b) ≡ take n (drop o b)
+cut_is b o n m k em ek =
+    cut_there b (take k (drop m b)) o n m k em (ek ∙ ap (min n) (sym (length-drop m b))) refl
+
+-- the bytes from an offset on
+pub ends_from : (b : Bytes) (offset : ℕ) → EndsWith b (drop offset b)
+ends_from b offset = (take offset b, sym (take-append-drop offset b))
+
+pub rest_follows : (b r : Bytes) → EndsWith b r → Follows b (length b - length r) r
+rest_follows b r e = let end : IsEnd b r = is_end b r e in record { is = end.is; within = omega arith }

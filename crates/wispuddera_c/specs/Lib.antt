@@ -1,0 +1,10 @@
+pub mod Status
+pub mod Place
+pub mod Record
+pub mod Part
+pub mod Hello
+pub mod Found
+pub mod Number
+pub mod Dtls
+pub mod Layout
+pub mod Stream

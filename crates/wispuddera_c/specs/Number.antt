@@ -1,0 +1,33 @@
+-- One of the numbers of a list, in C's numbers.
+use Rattle.std.specs.Prelude.{◌≡◌, ℕ, List, length, Option, Some, None, Result, Ok, Err, slice_get}
+use Rattle.tls_fields.specs.Meaning.{Refusal}
+use Rattle.tls_ext.specs.Extension as ext
+use Rattle.tls_ext.specs.Extension.{Extension}
+use Rattle.wispuddera_c.specs.declared.number.Number.{Number}
+use Rattle.wispuddera_c.specs.Status.{none, IsRefused}
+
+-- The number is that one; or the list ends in front of it.
+abbrev pub IsOne : Option ℕ → ℕ → Number → Type 0
+IsOne (Some x) status c = (status ≡ 0) × (c.value ≡ x)
+IsOne None status c = status ≡ none
+
+-- The number is the one at that index of the list, and the list's length is told.
+pub record IsNumberOf (xs : List ℕ) (index status : ℕ) (c : Number) : Type 0 where
+  pub one : IsOne (slice_get xs index) status c
+  pub count : c.count ≡ length xs
+  pub missing : c.missing ≡ 0
+
+-- The same of a list that bytes say; or their refusal is told.
+abbrev pub IsNumberIn : Result (Option (List ℕ)) Refusal → ℕ → ℕ → Number → Type 0
+IsNumberIn (Ok (Some xs)) index status c = IsNumberOf xs index status c
+IsNumberIn (Ok None) index status c = status ≡ none
+IsNumberIn (Err e) index status c = IsRefused e status c.missing
+
+abbrev pub listed_groups : Extension → Option (List ℕ)
+listed_groups (ext.supported_groups groups) = Some groups
+listed_groups e = None
+
+-- The number is the one that is answered; or there is none, or a refusal is told.
+abbrev pub IsAnsweredNumber : Result (Option ℕ) Refusal → ℕ → Number → Type 0
+IsAnsweredNumber (Ok x) status c = IsOne x status c × (c.missing ≡ 0)
+IsAnsweredNumber (Err e) status c = IsRefused e status c.missing

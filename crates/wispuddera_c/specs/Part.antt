@@ -1,0 +1,17 @@
+-- Handshake messages, extensions and key shares in C's numbers.
+use Rattle.std.specs.Prelude.{◌≡◌}
+use Rattle.tls_fields.specs.Bytes.{Bytes}
+use Rattle.tls_fields.specs.Framed.{Framed}
+use Rattle.wispuddera_c.specs.declared.part.Part.{Part}
+use Rattle.wispuddera_c.specs.Place.{StandsAt, Follows}
+
+-- The numbers show the part v in b, and r behind it.
+pub record ShowsPart (b : Bytes) (c : Part) (v : Framed) (r : Bytes) : Type 0 where
+  pub kind : c.kind ≡ v.kind
+  pub content : StandsAt b c.content v.content
+  pub next : Follows b c.next r
+
+-- The numbers show bytes behind their length, and r behind them.
+pub record ShowsBytes (b : Bytes) (c : Part) (v : Bytes) (r : Bytes) : Type 0 where
+  pub content : StandsAt b c.content v
+  pub next : Follows b c.next r

@@ -1,0 +1,35 @@
+-- A stream that comes in pieces, of which a buffer of the caller's holds what isn't read yet.
+use Rattle.std.specs.Prelude.{◌≡◌, ℕ, ◌-◌, ◌++◌, length, take, min}
+use Rattle.tls_fields.specs.Bytes.{Bytes}
+use Rattle.tls_fields.specs.Framed.{Framed}
+use Rattle.tls_fields.specs.Place.{bytes_at}
+use Rattle.tls_parser.specs.Record.{RawRecord}
+use Rattle.wispuddera_c.specs.declared.place.Place.{Place}
+use Rattle.wispuddera_c.specs.declared.record.Record.{Record}
+use Rattle.wispuddera_c.specs.declared.part.Part.{Part}
+use Rattle.wispuddera_c.specs.Place.{StandsAt, place_of}
+
+-- The bytes that the buffer holds.
+abbrev pub bytes_held : Bytes → Place → Bytes
+bytes_held buffer held = bytes_at buffer (place_of held)
+
+-- The buffer holds what it held, and then as much of the piece as there is room for.
+pub record IsFed (old new : Bytes) (was is : Place) (piece : Bytes) (taken : ℕ) : Type 0 where
+  pub all_there_is_room_for : taken ≡ min (length piece) (length old - was.length)
+  pub holds : StandsAt new is (bytes_held old was ++ take taken piece)
+
+-- The numbers show the record v in the buffer b, which holds r from then on.
+pub record TakesRecord (b : Bytes) (held : Place) (c : Record) (v : RawRecord) (r : Bytes) : Type 0 where
+  pub content_type : c.content_type ≡ v.header.content_type
+  pub version : c.version ≡ v.header.version
+  pub length : c.length ≡ v.header.length
+  pub fragment : StandsAt b c.fragment v.fragment
+  pub next : c.next ≡ held.offset
+  pub holds : StandsAt b held r
+
+-- The numbers show the message v in the buffer b, which holds r from then on.
+pub record TakesPart (b : Bytes) (held : Place) (c : Part) (v : Framed) (r : Bytes) : Type 0 where
+  pub kind : c.kind ≡ v.kind
+  pub content : StandsAt b c.content v.content
+  pub next : c.next ≡ held.offset
+  pub holds : StandsAt b held r

@@ -1,0 +1,53 @@
+//! ClientHellos.
+ghost use Rattle.tls_fields.specs.Reading.{reading};
+ghost use Rattle.tls_hs.specs.Hello.{client_hello};
+ghost use Rattle.wispuddera_c.specs.Hello.{ShowsClientHello};
+ghost use Rattle.wispuddera_c.specs.Status.{IsAnswered};
+
+use crate::place::{Place, held_within, offset_of, within};
+use crate::status::{READ, Refusal};
+use tls_hs::ClientHelloView;
+
+/// A ClientHello (RFC 5246, section 7.4.1.2): its version, where its parts stand in its body, and the offset of what follows it.
+#[repr(C)]
+#[derive(Clone, Copy)]
+pub struct ClientHello {
+    pub missing: usize,
+    pub random: Place,
+    pub session_id: Place,
+    pub cipher_suites: Place,
+    pub compression_methods: Place,
+    pub extensions: Place,
+    pub next: usize,
+    pub version: u16,
+    pub has_extensions: bool,
+}
+
+/// Reads the body of a ClientHello.
+#[tactic(auto, using(tls_fields::proofs::OneAnswerLemmas::read_allowed, tls_fields::proofs::PlaceLemmas::ends_here, tls_fields::proofs::PlaceLemmas::ends_read))]
+#[unsafe(no_mangle)]
+pub extern "C" fn wispuddera_read_client_hello(bytes: &[u8], out: &mut ClientHello) -> u32
+    ensures { IsAnswered (ShowsClientHello bytes.now out.new) (reading client_hello bytes.now) result out.new.missing }
+{
+    match ClientHelloView::parse_with_places(bytes) {
+        Ok((rest, (hello, places))) => {
+            *out = ClientHello {
+                missing: 0,
+                random: within(bytes, places.random),
+                session_id: held_within(bytes, places.session_id),
+                cipher_suites: within(bytes, places.ciphers),
+                compression_methods: within(bytes, places.comp),
+                extensions: held_within(bytes, places.ext),
+                next: offset_of(bytes, rest),
+                version: hello.version.0,
+                has_extensions: hello.ext.is_some(),
+            };
+            READ
+        }
+        Err(e) => {
+            let refusal = Refusal::of(e);
+            out.missing = refusal.missing;
+            refusal.status
+        }
+    }
+}

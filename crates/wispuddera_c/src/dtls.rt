@@ -1,0 +1,156 @@
+//! Records and handshake messages of DTLS.
+ghost use Rattle.tls_fields.specs.Reading.{reading};
+ghost use Rattle.tls_parser.specs.DtlsHello.{client_hello};
+ghost use Rattle.tls_parser.specs.DtlsInPlace.{raw_handshake};
+ghost use Rattle.tls_parser.specs.DtlsRecord.{raw_record};
+ghost use Rattle.wispuddera_c.specs.Dtls.{ShowsDtlsClientHello, ShowsDtlsMessage, ShowsDtlsRecord};
+ghost use Rattle.wispuddera_c.specs.Status.{IsAnswered, IsAnsweredAt};
+
+use crate::place::{Place, bytes_from, held_in_c, in_c, offset_of};
+use crate::status::{OUTSIDE, READ, Refusal};
+use tls_parser::DTLSRawHandshake;
+use tls_places::{dtls_client_hello_with_places, frame_at};
+
+/// A record of DTLS (RFC 6347, section 4.1): its header, where its fragment stands, and the offset of what follows it.
+#[repr(C)]
+#[derive(Clone, Copy)]
+pub struct DtlsRecord {
+    pub missing: usize,
+    pub fragment: Place,
+    pub next: usize,
+    pub sequence_number: u64,
+    pub version: u16,
+    pub epoch: u16,
+    pub length: u16,
+    pub content_type: u8,
+}
+
+/// A handshake message of DTLS, or a fragment of one (RFC 6347, section 4.2.2).
+#[repr(C)]
+#[derive(Clone, Copy)]
+pub struct DtlsMessage {
+    pub missing: usize,
+    pub body: Place,
+    pub next: usize,
+    pub length: u32,
+    pub fragment_offset: u32,
+    pub fragment_length: u32,
+    pub message_seq: u16,
+    pub kind: u8,
+    pub is_part: bool,
+}
+
+/// A ClientHello of DTLS (RFC 6347, section 4.2.1): its version, and where its parts stand in its body.
+#[repr(C)]
+#[derive(Clone, Copy)]
+pub struct DtlsClientHello {
+    pub missing: usize,
+    pub random: Place,
+    pub session_id: Place,
+    pub cookie: Place,
+    pub extensions: Place,
+    pub next: usize,
+    pub version: u16,
+    pub has_extensions: bool,
+}
+
+/// Reads the record of DTLS that begins at that offset of a datagram.
+#[tactic(auto, using(tls_fields::proofs::OneAnswerLemmas::read_allowed, crate::proofs::StatusLemmas::told, crate::proofs::StatusLemmas::refused, crate::proofs::StatusLemmas::behind))]
+#[unsafe(no_mangle)]
+pub extern "C" fn wispuddera_read_dtls_record(
+    bytes: &[u8],
+    offset: usize,
+    out: &mut DtlsRecord,
+) -> u32
+    ensures { IsAnsweredAt raw_record (ShowsDtlsRecord bytes.now out.new) bytes.now offset result out.new.missing }
+{
+    let Some(i) = bytes_from(bytes, offset) else {
+        out.missing = 0;
+        return OUTSIDE;
+    };
+    match frame_at::<tls_places::DtlsRecord>(bytes, i) {
+        Ok((rest, (record, fragment))) => {
+            *out = DtlsRecord {
+                missing: 0,
+                fragment: in_c(fragment),
+                next: offset_of(bytes, rest),
+                sequence_number: record.header.sequence_number,
+                version: record.header.version.0,
+                epoch: record.header.epoch,
+                length: record.header.length,
+                content_type: record.header.content_type.0,
+            };
+            READ
+        }
+        Err(e) => {
+            let refusal = Refusal::of(e);
+            out.missing = refusal.missing;
+            refusal.status
+        }
+    }
+}
+
+/// Reads the handshake message, or the fragment of one, that begins at that offset of a record's fragment.
+#[tactic(auto, using(tls_fields::proofs::OneAnswerLemmas::read_allowed, crate::proofs::StatusLemmas::told, crate::proofs::StatusLemmas::refused, crate::proofs::StatusLemmas::behind))]
+#[unsafe(no_mangle)]
+pub extern "C" fn wispuddera_read_dtls_message(
+    bytes: &[u8],
+    offset: usize,
+    out: &mut DtlsMessage,
+) -> u32
+    ensures { IsAnsweredAt raw_handshake (ShowsDtlsMessage bytes.now out.new) bytes.now offset result out.new.missing }
+{
+    let Some(i) = bytes_from(bytes, offset) else {
+        out.missing = 0;
+        return OUTSIDE;
+    };
+    match frame_at::<DTLSRawHandshake>(bytes, i) {
+        Ok((rest, (message, body))) => {
+            *out = DtlsMessage {
+                missing: 0,
+                body: in_c(body),
+                next: offset_of(bytes, rest),
+                length: message.length,
+                fragment_offset: message.fragment_offset,
+                fragment_length: message.fragment_length,
+                message_seq: message.message_seq,
+                kind: message.msg_type.0,
+                is_part: message.is_fragment(),
+            };
+            READ
+        }
+        Err(e) => {
+            let refusal = Refusal::of(e);
+            out.missing = refusal.missing;
+            refusal.status
+        }
+    }
+}
+
+/// Reads the body of a ClientHello of DTLS.
+#[tactic(auto, using(tls_fields::proofs::OneAnswerLemmas::read_allowed, tls_fields::proofs::PlaceLemmas::ends_here, tls_fields::proofs::PlaceLemmas::ends_read))]
+#[unsafe(no_mangle)]
+pub extern "C" fn wispuddera_read_dtls_client_hello(bytes: &[u8], out: &mut DtlsClientHello) -> u32
+    ensures { IsAnswered (ShowsDtlsClientHello bytes.now out.new) (reading client_hello bytes.now) result out.new.missing }
+{
+    match dtls_client_hello_with_places(bytes) {
+        Ok((rest, (hello, places))) => {
+            *out = DtlsClientHello {
+                missing: 0,
+                random: in_c(places.random),
+                session_id: held_in_c(places.session_id),
+                cookie: in_c(places.cookie),
+                extensions: held_in_c(places.ext),
+                next: offset_of(bytes, rest),
+                version: hello.version.0,
+                has_extensions: hello.ext.is_some(),
+            };
+            READ
+        }
+        Err(e) => {
+            let refusal = Refusal::of(e);
+            out.missing = refusal.missing;
+            refusal.status
+        }
+    }
+}

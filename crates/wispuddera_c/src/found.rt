@@ -1,0 +1,149 @@
+//! What is found in records, hellos and extensions: names, lists, contents.
+ghost use Rattle.std.specs.Prelude.{◌≡◌, Option, Result, List};
+ghost use Rattle.std.specs.Option.{option_map};
+ghost use Rattle.tls_ext.specs.InPlace.{client_shares, content_of, host_name, key_share_entry, protocol_names};
+ghost use Rattle.tls_fields.specs.Bytes.{Bytes};
+ghost use Rattle.tls_fields.specs.Items.{IsTold, Tells, items_in};
+ghost use Rattle.tls_fields.specs.Layout.{counted};
+ghost use Rattle.tls_fields.specs.Meaning.{Refusal as Refused};
+ghost use Rattle.tls_fields.specs.Place.{bytes_at};
+ghost use Rattle.tls_fields.specs.Reading.{reading};
+ghost use Rattle.tls_hs.specs.Certificate.{certificate};
+ghost use Rattle.tls_hs.specs.Hello.{client_hello};
+ghost use Rattle.tls_parser.specs.InPlace.{body_of_type, host_name_of_record, name_in_hello};
+ghost use Rattle.tls_places.specs.Place.{IsWithin};
+ghost use Rattle.wispuddera_c.specs.Found.{AreFound, IsFound};
+ghost use Rattle.wispuddera_c.specs.Place.{ItemsStandAt};
+ghost use Rattle.wispuddera_c.specs.Status.{IsAnswered};
+
+use crate::place::{Place, in_c};
+use crate::status::{NONE, READ, Refusal};
+use tls_base::{TlsExtensionType, TlsHandshakeType};
+use tls_fields::{Counted2, Err, Error, Place as Within};
+use tls_hs::RawCertificate;
+use tls_places::{
+    body_place, content_place, frame_at, host_name_place, host_name_place_of_hello,
+    host_name_place_of_record, protocol_names_place,
+};
+
+/// Where what was asked for stands.
+#[repr(C)]
+#[derive(Clone, Copy)]
+pub struct Found {
+    pub missing: usize,
+    pub place: Place,
+}
+
+/// What the library found, in C's numbers.
+#[inline(always)]
+fn tell(found: Result<Option<Within>, Err<Error<&[u8]>>>, out: &mut Found) -> u32
+    requires { IsTold found }
+    ensures part { (b : Bytes) (a : Result (Option Bytes) Refused) → Tells (option_map (bytes_at b)) a found.entry → IsWithin b found.entry → IsFound b a result out.new }
+    ensures names { (b : Bytes) (a : Result (Option (List Bytes)) Refused) → Tells (option_map (λ p. items_in (counted 1) (bytes_at b p))) a found.entry → IsWithin b found.entry → AreFound (counted 1) b a result out.new }
+{
+    out.missing = 0;
+    match found {
+        Ok(Some(place)) => {
+            out.place = in_c(place);
+            READ
+        }
+        Ok(None) => NONE,
+        Err(e) => {
+            let refusal = Refusal::of(e);
+            out.missing = refusal.missing;
+            refusal.status
+        }
+    }
+}
+
+/// Finds the name of the host that the first ClientHello of the record in front asks for.
+#[unsafe(no_mangle)]
+pub extern "C" fn wispuddera_find_server_name_in_record(bytes: &[u8], out: &mut Found) -> u32
+    ensures { IsFound bytes.now (host_name_of_record bytes.now) result out.new }
+{
+    tell(host_name_place_of_record(bytes), out)
+}
+
+/// Finds the name of the host that a ClientHello asks for, in its body.
+#[unsafe(no_mangle)]
+pub extern "C" fn wispuddera_find_server_name_in_hello(bytes: &[u8], out: &mut Found) -> u32
+    ensures { IsFound bytes.now (name_in_hello (reading client_hello bytes.now)) result out.new }
+{
+    tell(host_name_place_of_hello(bytes), out)
+}
+
+/// Finds the name of the host in a block of extensions (RFC 6066, section 3).
+#[unsafe(no_mangle)]
+pub extern "C" fn wispuddera_find_server_name(bytes: &[u8], out: &mut Found) -> u32
+    ensures { IsFound bytes.now (host_name bytes.now) result out.new }
+{
+    tell(host_name_place(bytes), out)
+}
+
+/// Finds the list of names of protocols in a block of extensions (RFC 7301, section 3.1).
+#[unsafe(no_mangle)]
+pub extern "C" fn wispuddera_find_protocols(bytes: &[u8], out: &mut Found) -> u32
+    ensures { AreFound (counted 1) bytes.now (protocol_names bytes.now) result out.new }
+{
+    tell(protocol_names_place(bytes), out)
+}
+
+/// Finds the content of the first extension of that type in a block of extensions (RFC 8446, section 4.2).
+#[unsafe(no_mangle)]
+pub extern "C" fn wispuddera_find_extension(bytes: &[u8], kind: u16, out: &mut Found) -> u32
+    ensures { IsFound bytes.now (content_of kind bytes.now) result out.new }
+{
+    tell(content_place(bytes, TlsExtensionType(kind)), out)
+}
+
+/// Finds the body of the first handshake message of that type in a fragment (RFC 5246, section 7.4).
+#[unsafe(no_mangle)]
+pub extern "C" fn wispuddera_find_body(bytes: &[u8], kind: u8, out: &mut Found) -> u32
+    ensures { IsFound bytes.now (body_of_type kind bytes.now) result out.new }
+{
+    tell(body_place(bytes, TlsHandshakeType(kind)), out)
+}
+
+/// Finds the list of key shares in the content of a ClientHello's key_share (RFC 8446, section 4.2.8).
+#[tactic(auto, using(tls_fields::proofs::OneAnswerLemmas::read_allowed, tls_fields::proofs::PlaceLemmas::ends_here))]
+#[unsafe(no_mangle)]
+pub extern "C" fn wispuddera_find_key_shares(bytes: &[u8], out: &mut Found) -> u32
+    ensures { IsAnswered (λ v _. ItemsStandAt key_share_entry bytes.now out.new.place v) (reading client_shares bytes.now) result out.new.missing }
+{
+    match frame_at::<Counted2>(bytes, bytes) {
+        Ok((_, (_, place))) => {
+            *out = Found {
+                missing: 0,
+                place: in_c(place),
+            };
+            READ
+        }
+        Err(e) => {
+            let refusal = Refusal::of(e);
+            out.missing = refusal.missing;
+            refusal.status
+        }
+    }
+}
+
+/// Finds the list of certificates in the body of a Certificate up to TLS 1.2 (RFC 5246, section 7.4.2).
+#[tactic(auto, using(tls_fields::proofs::OneAnswerLemmas::read_allowed, tls_fields::proofs::PlaceLemmas::ends_here), unfolding(tls_hs::specs::Certificate::certificate))]
+#[unsafe(no_mangle)]
+pub extern "C" fn wispuddera_find_certificates(bytes: &[u8], out: &mut Found) -> u32
+    ensures { IsAnswered (λ v _. ItemsStandAt (counted 3) bytes.now out.new.place v) (reading certificate bytes.now) result out.new.missing }
+{
+    match frame_at::<RawCertificate>(bytes, bytes) {
+        Ok((_, (_, place))) => {
+            *out = Found {
+                missing: 0,
+                place: in_c(place),
+            };
+            READ
+        }
+        Err(e) => {
+            let refusal = Refusal::of(e);
+            out.missing = refusal.missing;
+            refusal.status
+        }
+    }
+}

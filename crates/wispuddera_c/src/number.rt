@@ -1,0 +1,95 @@
+//! Numbers of lists by their index: cipher suites, versions, groups.
+ghost use Rattle.tls_ext.specs.Content as content;
+ghost use Rattle.tls_ext.specs.InPlace.{best_version as best_version_in, listed_versions, picked};
+ghost use Rattle.tls_fields.specs.Items.{items_in};
+ghost use Rattle.tls_fields.specs.Layout.{number};
+ghost use Rattle.tls_fields.specs.Reading.{reading};
+ghost use Rattle.wispuddera_c.specs.Number.{IsAnsweredNumber, IsNumberIn, IsNumberOf, listed_groups};
+
+use crate::status::{NONE, READ, Refusal};
+use tls_base::{NamedGroup, TlsVersion};
+use tls_ext::{best_version, supported_groups, supported_versions};
+use tls_fields::Items;
+
+/// A number of a list, and how many the list has.
+#[repr(C)]
+#[derive(Clone, Copy)]
+pub struct Number {
+    pub missing: usize,
+    pub count: usize,
+    pub value: u16,
+}
+
+/// The number at that index of a list.
+#[inline(always)]
+fn tell(numbers: Items<u16>, index: usize, out: &mut Number) -> u32
+    ensures { IsNumberOf (items_in (number 2) numbers.entry.bytes.now) index result out.new }
+{
+    out.missing = 0;
+    out.count = numbers.len();
+    match numbers.get(index) {
+        Some(value) => {
+            out.value = value;
+            READ
+        }
+        None => NONE,
+    }
+}
+
+/// Finds the number at that index of numbers of 2 bytes each, as the cipher suites of a ClientHello.
+#[unsafe(no_mangle)]
+pub extern "C" fn wispuddera_number_at(bytes: &[u8], index: usize, out: &mut Number) -> u32
+    ensures { IsNumberOf (items_in (number 2) bytes.now) index result out.new }
+{
+    tell(Items::new(bytes), index, out)
+}
+
+/// Finds the version at that index of the content of a supported_versions (RFC 8446, section 4.2.1).
+#[unsafe(no_mangle)]
+pub extern "C" fn wispuddera_version_at(bytes: &[u8], index: usize, out: &mut Number) -> u32
+    ensures { IsNumberIn (picked listed_versions (reading content.supported_versions bytes.now)) index result out.new }
+{
+    match supported_versions(bytes) {
+        Ok((_, versions)) => tell(Items::new(versions.bytes()), index, out),
+        Err(e) => {
+            let refusal = Refusal::of(e);
+            out.missing = refusal.missing;
+            refusal.status
+        }
+    }
+}
+
+/// Finds the group at that index of the content of a supported_groups (RFC 8446, section 4.2.7).
+#[unsafe(no_mangle)]
+pub extern "C" fn wispuddera_group_at(bytes: &[u8], index: usize, out: &mut Number) -> u32
+    ensures { IsNumberIn (picked listed_groups (reading content.supported_groups bytes.now)) index result out.new }
+{
+    match supported_groups(bytes) {
+        Ok((_, groups)) => tell(Items::new(groups.bytes()), index, out),
+        Err(e) => {
+            let refusal = Refusal::of(e);
+            out.missing = refusal.missing;
+            refusal.status
+        }
+    }
+}
+
+/// Finds the best version of a hello that has that version and these extensions (RFC 8446, section 4.2.1).
+#[unsafe(no_mangle)]
+pub extern "C" fn wispuddera_best_version(bytes: &[u8], version: u16, out: &mut Number) -> u32
+    ensures { IsAnsweredNumber (best_version_in version bytes.now) result out.new }
+{
+    out.missing = 0;
+    match best_version(TlsVersion(version), Some(bytes)) {
+        Ok(Some(best)) => {
+            out.value = best.0;
+            READ
+        }
+        Ok(None) => NONE,
+        Err(e) => {
+            let refusal = Refusal::of(e);
+            out.missing = refusal.missing;
+            refusal.status
+        }
+    }
+}

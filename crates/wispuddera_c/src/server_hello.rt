@@ -1,0 +1,53 @@
+//! ServerHellos.
+ghost use Rattle.tls_fields.specs.Reading.{reading};
+ghost use Rattle.tls_hs.specs.ServerHello.{server_hello};
+ghost use Rattle.wispuddera_c.specs.Hello.{ShowsServerHello};
+ghost use Rattle.wispuddera_c.specs.Status.{IsAnswered};
+
+use crate::place::{Place, held_in_c, in_c, offset_of};
+use crate::status::{READ, Refusal};
+use tls_places::server_hello_with_places;
+
+/// A ServerHello (RFC 5246, section 7.4.1.3): its numbers, where its parts stand in its body, and the offset of what follows it.
+#[repr(C)]
+#[derive(Clone, Copy)]
+pub struct ServerHello {
+    pub missing: usize,
+    pub random: Place,
+    pub session_id: Place,
+    pub extensions: Place,
+    pub next: usize,
+    pub version: u16,
+    pub cipher_suite: u16,
+    pub compression_method: u8,
+    pub has_extensions: bool,
+}
+
+/// Reads the body of a ServerHello.
+#[tactic(auto, using(tls_fields::proofs::OneAnswerLemmas::read_allowed, tls_fields::proofs::PlaceLemmas::ends_here, tls_fields::proofs::PlaceLemmas::ends_read))]
+#[unsafe(no_mangle)]
+pub extern "C" fn wispuddera_read_server_hello(bytes: &[u8], out: &mut ServerHello) -> u32
+    ensures { IsAnswered (ShowsServerHello bytes.now out.new) (reading server_hello bytes.now) result out.new.missing }
+{
+    match server_hello_with_places(bytes) {
+        Ok((rest, (hello, places))) => {
+            *out = ServerHello {
+                missing: 0,
+                random: in_c(places.random),
+                session_id: held_in_c(places.session_id),
+                extensions: held_in_c(places.ext),
+                next: offset_of(bytes, rest),
+                version: hello.version.0,
+                cipher_suite: hello.cipher.0,
+                compression_method: hello.compression.0,
+                has_extensions: hello.ext.is_some(),
+            };
+            READ
+        }
+        Err(e) => {
+            let refusal = Refusal::of(e);
+            out.missing = refusal.missing;
+            refusal.status
+        }
+    }
+}

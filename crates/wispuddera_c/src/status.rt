@@ -1,0 +1,60 @@
+//! The numbers that stand for answers.
+ghost use Rattle.std.specs.Prelude.{◌≡◌};
+ghost use Rattle.tls_fields.specs.Answers.{IsRefusal as StandsForRefusal, refusal_of};
+ghost use Rattle.wispuddera_c.specs.Status.{IsRefused, kind_status};
+
+use tls_fields::{Err, Error, ErrorKind, Needed};
+
+/// A value was read.
+pub const READ: u32 = 0;
+/// Bytes are missing, as many as `missing` says.
+pub const INCOMPLETE: u32 = 1;
+/// There is none.
+pub const NONE: u32 = 8;
+/// The offset lies behind the end of the bytes.
+pub const OUTSIDE: u32 = 9;
+
+/// Why no value was read: a status, and how many bytes are missing, 0 where none could help.
+#[derive(Clone, Copy)]
+pub struct Refusal {
+    pub status: u32,
+    pub missing: usize,
+}
+
+#[inline(always)]
+fn status_of(kind: ErrorKind) -> u32
+    ensures { result ≡ kind_status kind }
+{
+    match kind {
+        ErrorKind::TooLarge => 2,
+        ErrorKind::LengthValue => 3,
+        ErrorKind::Verify => 4,
+        ErrorKind::Switch => 5,
+        ErrorKind::Tag => 6,
+        ErrorKind::Complete => 7,
+    }
+}
+
+impl Refusal {
+    /// The numbers of a refusal.
+    #[inline(always)]
+    pub fn of(e: Err<Error<&[u8]>>) -> Refusal
+        requires { StandsForRefusal e }
+        ensures { IsRefused (refusal_of e.entry) result.status result.missing }
+    {
+        match e {
+            Err::Incomplete(Needed::Size(missing)) => Refusal {
+                status: INCOMPLETE,
+                missing,
+            },
+            Err::Error(e) => Refusal {
+                status: status_of(e.code),
+                missing: 0,
+            },
+            _ => Refusal {
+                status: status_of(ErrorKind::Complete),
+                missing: 0,
+            },
+        }
+    }
+}

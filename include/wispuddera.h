@@ -1,0 +1,283 @@
+/* Reading TLS and DTLS without memory: the proved library, for C99 and C++.
+ *
+ * Bytes come as a pointer and a count, what is read goes into a struct of the caller's, and the answer is a status. Nothing is
+ * allocated and nothing is kept between calls, so calls may run in several threads at once. Each function is proved in
+ * crates/wispuddera_c; nothing checks that a caller keeps the following:
+ *
+ * - The pointer leads to `count` bytes that nobody writes during the call. NULL with a count of 0 is no bytes.
+ * - `out` isn't NULL, overlaps nothing else that is passed, and was given a value before: write `= WISPUDDERA_EMPTY`.
+ *
+ * Places and offsets are counted in bytes from the front of the bytes that were passed, and lie within them where a value was
+ * read. `next` is the offset of what follows: pass it as `offset` to read that. Where the status isn't WISPUDDERA_READ, only
+ * `missing` has a meaning (and `count`, where a struct has it and nothing was refused).
+ *
+ * WISPUDDERA_INCOMPLETE tells in `missing` how many bytes the part that is being read lacks, at least 1; with these there may
+ * lack more, as the fragment behind a header. Each other status sets `missing` to 0. */
+#ifndef WISPUDDERA_H
+#define WISPUDDERA_H
+
+#include <stddef.h>
+#include <stdint.h>
+
+#ifdef __cplusplus
+extern "C" {
+#define WISPUDDERA_EMPTY {}
+#else
+#include <stdbool.h>
+#define WISPUDDERA_EMPTY {0}
+#endif
+
+/* What a call answers. */
+enum {
+    WISPUDDERA_READ = 0,         /* a value was read */
+    WISPUDDERA_INCOMPLETE = 1,   /* as many bytes are missing as the field `missing` says */
+    WISPUDDERA_TOO_LARGE = 2,    /* a length is above what its record may have */
+    WISPUDDERA_LENGTH_VALUE = 3, /* a length doesn't fit what it counts */
+    WISPUDDERA_VERIFY = 4,       /* a value breaks its rule */
+    WISPUDDERA_SWITCH = 5,       /* no form is read for a type */
+    WISPUDDERA_TAG = 6,          /* a fixed tag differs */
+    WISPUDDERA_COMPLETE = 7,     /* bytes are missing where no further bytes could help */
+    WISPUDDERA_NONE = 8,         /* what was asked for isn't there */
+    WISPUDDERA_OUTSIDE = 9       /* the offset lies behind the end of the bytes */
+};
+
+/* A status in words. */
+static inline const char *wispuddera_status_text(uint32_t status) {
+    static const char *const texts[] = {"a value was read",
+                                        "more bytes are needed",
+                                        "a length is too large",
+                                        "a length doesn't fit what it counts",
+                                        "a value breaks its rule",
+                                        "a type that isn't read",
+                                        "a fixed tag differs",
+                                        "bytes are missing where no further bytes could help",
+                                        "there is none",
+                                        "the offset lies behind the end of the bytes"};
+    return status < sizeof texts / sizeof *texts ? texts[status] : "no status";
+}
+
+/* Where bytes stand. */
+typedef struct {
+    size_t offset; /* how many bytes stand in front */
+    size_t length; /* how many bytes stand there */
+} wispuddera_place;
+
+/* A record (RFC 5246, section 6.2.1). */
+typedef struct {
+    size_t missing;
+    wispuddera_place fragment;
+    size_t next;
+    uint16_t version;
+    uint16_t length; /* that of the fragment, in bytes */
+    uint8_t content_type;
+} wispuddera_record;
+
+/* A part that has a length: a handshake message, an extension, a key share, a protocol's name, a certificate. */
+typedef struct {
+    size_t missing;
+    wispuddera_place content; /* without kind and length */
+    size_t next;
+    uint16_t kind; /* 0 where such parts have none */
+} wispuddera_part;
+
+/* The body of a ClientHello (RFC 5246, section 7.4.1.2; RFC 8446, section 4.1.2). */
+typedef struct {
+    size_t missing;
+    wispuddera_place random;              /* 32 bytes */
+    wispuddera_place session_id;          /* of no bytes where there is none */
+    wispuddera_place cipher_suites;       /* 2 bytes each: wispuddera_number_at */
+    wispuddera_place compression_methods; /* 1 byte each */
+    wispuddera_place extensions;          /* without their length; of no bytes where there are none */
+    size_t next;
+    uint16_t version; /* 0x0303 in TLS 1.3: wispuddera_best_version */
+    bool has_extensions;
+} wispuddera_client_hello;
+
+/* The body of a ServerHello (RFC 5246, section 7.4.1.3; RFC 8446, section 4.1.3). */
+typedef struct {
+    size_t missing;
+    wispuddera_place random;     /* 32 bytes */
+    wispuddera_place session_id; /* of no bytes where there is none */
+    wispuddera_place extensions; /* without their length; of no bytes where there are none */
+    size_t next;
+    uint16_t version; /* 0x0303 in TLS 1.3: wispuddera_best_version */
+    uint16_t cipher_suite;
+    uint8_t compression_method;
+    bool has_extensions;
+} wispuddera_server_hello;
+
+/* Where what was asked for stands. */
+typedef struct {
+    size_t missing;
+    wispuddera_place place;
+} wispuddera_found;
+
+/* A number of a list. */
+typedef struct {
+    size_t missing;
+    size_t count; /* how many numbers the list has */
+    uint16_t value;
+} wispuddera_number;
+
+/* A record of DTLS (RFC 6347, section 4.1). */
+typedef struct {
+    size_t missing;
+    wispuddera_place fragment;
+    size_t next;
+    uint64_t sequence_number; /* below 2^48 */
+    uint16_t version;
+    uint16_t epoch;
+    uint16_t length; /* that of the fragment, in bytes */
+    uint8_t content_type;
+} wispuddera_dtls_record;
+
+/* A handshake message of DTLS, or a fragment of one (RFC 6347, section 4.2.2). */
+typedef struct {
+    size_t missing;
+    wispuddera_place body;
+    size_t next;
+    uint32_t length;          /* that of the whole body, in bytes */
+    uint32_t fragment_offset; /* where the fragment begins in the whole body */
+    uint32_t fragment_length;
+    uint16_t message_seq;
+    uint8_t kind;
+    bool is_part; /* the body is a part of the whole one */
+} wispuddera_dtls_message;
+
+/* The body of a ClientHello of DTLS (RFC 6347, section 4.2.1). */
+typedef struct {
+    size_t missing;
+    wispuddera_place random;     /* 32 bytes */
+    wispuddera_place session_id; /* of no bytes where there is none */
+    wispuddera_place cookie;     /* without its length */
+    wispuddera_place extensions; /* without their length; of no bytes where there are none */
+    size_t next;
+    uint16_t version;
+    bool has_extensions;
+} wispuddera_dtls_client_hello;
+
+/* ---- What stands at an offset ----
+ *
+ * Each reads one part of `bytes` that begins at `offset`. WISPUDDERA_OUTSIDE where `offset` is above `count`;
+ * WISPUDDERA_INCOMPLETE where the part isn't whole, as at `offset` == `count`. */
+
+/* A record (RFC 5246, section 6.2.1). WISPUDDERA_TOO_LARGE where its length is above 16640. */
+uint32_t wispuddera_read_record(const uint8_t *bytes, size_t count, size_t offset, wispuddera_record *out);
+
+/* A handshake message in the fragment of a record (RFC 5246, section 7.4); `kind` is its HandshakeType. */
+uint32_t wispuddera_read_message(const uint8_t *bytes, size_t count, size_t offset, wispuddera_part *out);
+
+/* An extension in a block of extensions (RFC 8446, section 4.2); `kind` is its ExtensionType. */
+uint32_t wispuddera_read_extension(const uint8_t *bytes, size_t count, size_t offset, wispuddera_part *out);
+
+/* A key share in a list of them (RFC 8446, section 4.2.8), or in the content of a ServerHello's key_share; `kind` is its
+ * NamedGroup. */
+uint32_t wispuddera_read_key_share(const uint8_t *bytes, size_t count, size_t offset, wispuddera_part *out);
+
+/* A protocol's name in a list of them (RFC 7301, section 3.1). */
+uint32_t wispuddera_read_protocol(const uint8_t *bytes, size_t count, size_t offset, wispuddera_part *out);
+
+/* A certificate, in DER, in a list of them up to TLS 1.2 (RFC 5246, section 7.4.2). */
+uint32_t wispuddera_read_certificate(const uint8_t *bytes, size_t count, size_t offset, wispuddera_part *out);
+
+/* A record of DTLS in a datagram (RFC 6347, section 4.1). WISPUDDERA_TOO_LARGE where its length is above 16640. */
+uint32_t wispuddera_read_dtls_record(const uint8_t *bytes, size_t count, size_t offset, wispuddera_dtls_record *out);
+
+/* A handshake message of DTLS, or a fragment of one, in the fragment of a record (RFC 6347, section 4.2.2). */
+uint32_t wispuddera_read_dtls_message(const uint8_t *bytes, size_t count, size_t offset, wispuddera_dtls_message *out);
+
+/* ---- Bodies of handshake messages ----
+ *
+ * Each reads the body in front of `bytes`. WISPUDDERA_INCOMPLETE where it isn't whole; WISPUDDERA_VERIFY where a session id has
+ * more than 32 bytes; WISPUDDERA_LENGTH_VALUE where a list of a ClientHello has more bytes than follow, or cipher suites have an
+ * odd number of bytes. A block of extensions that isn't whole is none. */
+
+/* A ClientHello (RFC 5246, section 7.4.1.2). */
+uint32_t wispuddera_read_client_hello(const uint8_t *bytes, size_t count, wispuddera_client_hello *out);
+
+/* A ServerHello (RFC 5246, section 7.4.1.3). WISPUDDERA_TAG where its version is none of SSL 3.0 to TLS 1.2, as TLS 1.3's
+ * hello also says (RFC 8446, section 4.1.3). */
+uint32_t wispuddera_read_server_hello(const uint8_t *bytes, size_t count, wispuddera_server_hello *out);
+
+/* A ClientHello of DTLS (RFC 6347, section 4.2.1). */
+uint32_t wispuddera_read_dtls_client_hello(const uint8_t *bytes, size_t count, wispuddera_dtls_client_hello *out);
+
+/* ---- What is found ----
+ *
+ * WISPUDDERA_NONE where what was asked for isn't there, and all bytes were seen; a refusal where bytes on the way to it, or its
+ * own, are refused. */
+
+/* The name of the host that the first ClientHello of the record in front asks for (RFC 6066, section 3). WISPUDDERA_NONE too
+ * where the record isn't one of handshakes. */
+uint32_t wispuddera_find_server_name_in_record(const uint8_t *bytes, size_t count, wispuddera_found *out);
+
+/* The same, of the body of a ClientHello. */
+uint32_t wispuddera_find_server_name_in_hello(const uint8_t *bytes, size_t count, wispuddera_found *out);
+
+/* The same, of a block of extensions: the first name in its first server_name. */
+uint32_t wispuddera_find_server_name(const uint8_t *bytes, size_t count, wispuddera_found *out);
+
+/* The list of protocols' names in a block of extensions (RFC 7301, section 3.1), without its length: wispuddera_read_protocol. */
+uint32_t wispuddera_find_protocols(const uint8_t *bytes, size_t count, wispuddera_found *out);
+
+/* The content of the first extension of that ExtensionType in a block of extensions (RFC 8446, section 4.2). */
+uint32_t wispuddera_find_extension(const uint8_t *bytes, size_t count, uint16_t kind, wispuddera_found *out);
+
+/* The body of the first handshake message of that HandshakeType in the fragment of a record (RFC 5246, section 7.4). */
+uint32_t wispuddera_find_body(const uint8_t *bytes, size_t count, uint8_t kind, wispuddera_found *out);
+
+/* The list of key shares in the content of a ClientHello's key_share (RFC 8446, section 4.2.8), without its length:
+ * wispuddera_read_key_share. WISPUDDERA_INCOMPLETE where the content has fewer bytes than it says. */
+uint32_t wispuddera_find_key_shares(const uint8_t *bytes, size_t count, wispuddera_found *out);
+
+/* The list of certificates in the body of a Certificate up to TLS 1.2 (RFC 5246, section 7.4.2), without its length:
+ * wispuddera_read_certificate. WISPUDDERA_INCOMPLETE where the body has fewer bytes than it says. */
+uint32_t wispuddera_find_certificates(const uint8_t *bytes, size_t count, wispuddera_found *out);
+
+/* ---- Numbers by their index, counted from 0 ----
+ *
+ * WISPUDDERA_NONE where the list has no number at the index; `count` tells how many it has. */
+
+/* Of numbers of 2 bytes each, as the cipher suites of a ClientHello. Nothing is refused; a last odd byte is left out. */
+uint32_t wispuddera_number_at(const uint8_t *bytes, size_t count, size_t index, wispuddera_number *out);
+
+/* Of the versions in the content of a supported_versions of either hello (RFC 8446, section 4.2.1). */
+uint32_t wispuddera_version_at(const uint8_t *bytes, size_t count, size_t index, wispuddera_number *out);
+
+/* Of the groups in the content of a supported_groups (RFC 8446, section 4.2.7). */
+uint32_t wispuddera_group_at(const uint8_t *bytes, size_t count, size_t index, wispuddera_number *out);
+
+/* The best version of a hello with that version and that block of extensions (RFC 8446, section 4.2.1): the highest in its first
+ * supported_versions that isn't one of GREASE (RFC 8701), or where there is none of these, its own. `count` isn't set. */
+uint32_t wispuddera_best_version(const uint8_t *bytes, size_t count, uint16_t version, wispuddera_number *out);
+
+/* ---- A stream that comes in pieces ----
+ *
+ * A buffer of the caller's holds what isn't read yet, at a place that the caller keeps: {0, 0} at first. One buffer and place a
+ * direction holds its records; another its handshake messages, whose pieces are the fragments of records. A buffer of 16645 bytes
+ * has room for each record that isn't refused; a message may have up to 16777219, and the caller says by its buffer how many are
+ * read. WISPUDDERA_OUTSIDE, and nothing changed, where `held` lies outside of the buffer. */
+
+/* Puts as much of the piece as there is room for behind the bytes that the buffer holds, which are moved to its front. `taken`
+ * is how many bytes that is: 0 where the buffer is full. */
+uint32_t wispuddera_feed(uint8_t *buffer, size_t capacity, wispuddera_place *held, const uint8_t *piece, size_t count, size_t *taken);
+
+/* Takes the record in front off the bytes that the buffer holds (RFC 5246, section 6.2.1), whose places are counted from the
+ * buffer's front, and stay up to the next wispuddera_feed. WISPUDDERA_INCOMPLETE where it isn't whole, WISPUDDERA_TOO_LARGE where its
+ * length is above 16640: the buffer holds then what it held. */
+uint32_t wispuddera_next_record(const uint8_t *buffer, size_t capacity, wispuddera_place *held, wispuddera_record *out);
+
+/* The same, of a handshake message (RFC 5246, section 7.4). */
+uint32_t wispuddera_next_message(const uint8_t *buffer, size_t capacity, wispuddera_place *held, wispuddera_part *out);
+
+/* ---- This header and the library ----
+ *
+ * How many bytes a struct takes in the library: of place, record, part, client_hello, server_hello, found, number, dtls_record,
+ * dtls_message, dtls_client_hello the one at that index; 0 behind the last. */
+size_t wispuddera_struct_size(size_t index);
+
+#ifdef __cplusplus
+}
+#endif
+
+#endif
