@@ -8,10 +8,7 @@ use tls_facts::Facts;
 
 /// The bytes of a piece.
 fn bytes(alloc: Global, digits: &str) -> Result<Vec<u8>, AllocError> {
-    match hex::decode(alloc, digits) {
-        Ok(bytes) => Ok(bytes),
-        Err(_) => Ok(Vec::new(alloc)),
-    }
+    hex::decode(alloc, digits).map_err(|_e| AllocError)
 }
 
 fn is_same(known: &Option<Vec<u8>>, wanted: Option<&[u8]>) -> bool {
