@@ -1,9 +1,10 @@
 -- What a table of ends holds after a step.
-use Rattle.std.proofs.Common.{◌≡◌, ℕ, zero, suc, ◌-◌, ◌≤◌, true, false, Option, Some, None, List, [], ◌∷◌, ◌++◌, length, take, slice_get, refl, sym, ap, ◌∙◌, subst, arith, rules, append_assoc, Bool, cond}
+use Rattle.std.proofs.Common.{◌≡◌, ℕ, zero, suc, ◌-◌, ◌≤◌, true, false, Option, Some, None, List, [], ◌∷◌, ◌++◌, length, take, slice_get, refl, sym, ap, ◌∙◌, subst, arith, rules, Bool, cond}
 use Rattle.std.specs.Map.{lookup_entry, set_value}
 use Rattle.lru.specs.LruCache.{LruCache, promoted, put_entries, last_entry}
 use Rattle.connections.specs.Ends.{are_ends}
-use Rattle.connections.specs.Table.{at, others, WasLast, IsFront, IsPut}
+use Rattle.connections.specs.Table.{at, others, WasLast, IsOver, IsForgotten, IsPut}
+use Rattle.connections.specs.Table.IsForgotten.{one}
 use Rattle.connections.specs.declared.ends.Ends.{Ends}
 use Rattle.connections.specs.declared.connection.Connection.{Connection}
 
@@ -73,12 +74,10 @@ module _ {X : Type 0} where
   pub same_last : (o : Option (Ends × X)) (e f : Ends) (x y : X) → Some (e, x) ≡ o → Some (f, y) ≡ o → x ≡ y
   same_last o e f x y h k = let both : ◌≡◌ {A = Option (Ends × X)} (Some (e, x)) (Some (f, y)) = h ∙ sym k in let same : ◌≡◌ {A = Ends × X} (e, x) (f, y) = cc in ap (λ p. p.1) same
 
-  -- A front stays one when its last is popped.
-  pub front_popped : (xs ys : List (Ends × X)) (p : Ends × X) → IsFront xs ys → Some p ≡ last_entry ys → IsFront xs (take (length ys - 1) ys)
-  front_popped xs ys p f h = record {
-    rest = p ∷ f.rest;
-    stood = f.stood ∙ ap (λ l. l ++ f.rest) (front_and_last ys p (sym h)) ∙ append_assoc (take (length ys - 1) ys) (p ∷ []) f.rest;
-  }
+-- One more is forgotten.
+pub last_forgotten : (time : ℕ) (xs ys : List (Ends × ℕ)) (e : Ends) (t : ℕ) → IsForgotten time xs ys → Some (e, t) ≡ last_entry ys → IsOver time ys t
+    → IsForgotten time xs (take (length ys - 1) ys)
+last_forgotten time xs ys e t f h o = one ys (take (length ys - 1) ys) (e, t) f (front_and_last ys (e, t) (sym h)) o
 
 module _ {T : Type 0} (e : Ends) (Takes : Option (Connection T) → Connection T → Type 0) (xs : List (Ends × Connection T)) (its : Connection T) where
   -- Written to the one that is found, and put in where none is.

@@ -1,5 +1,5 @@
 -- The table of connections: each by its ends, the one with the latest packet first.
-use Rattle.std.specs.Prelude.{◌≡◌, ℕ, ◌-◌, ◌<◌, ◌≤◌, ◌⊎◌, Bool, true, false, ◌&&◌, ◌||◌, not, is_some, if◌then◌else◌, Option, Some, None, IfSome, List, [], ◌∷◌, ◌++◌, length}
+use Rattle.std.specs.Prelude.{◌≡◌, ℕ, ◌-◌, ◌<◌, ◌⊎◌, Bool, true, false, ◌&&◌, ◌||◌, not, is_some, if◌then◌else◌, Option, Some, None, IfSome, List, [], ◌∷◌, ◌++◌, length}
 use Rattle.std.specs.Option.{option_and_then}
 use Rattle.std.specs.Map.{lookup, remove_entry}
 use Rattle.lru.specs.LruCache.{last_entry}
@@ -34,10 +34,14 @@ module _ {X : Type 0} where
     pub ends : Ends
     pub stood : xs ≡ ys ++ (ends, x) ∷ []
 
-  -- Only of those behind some were taken out.
-  pub record IsFront (xs ys : List (Ends × X)) : Type 0 where
-    pub rest : List (Ends × X)
-    pub stood : xs ≡ ys ++ rest
+  -- One with this last time had no packet for more than the limit, or there are too many.
+  abbrev pub IsOver : ℕ → List (Ends × X) → ℕ → Type 0
+  IsOver time xs last = (IDLE_LIMIT < time - last) ⊎ (MAX_CONNECTIONS < length xs)
+
+-- From the end on, those were taken out that were over then.
+pub data IsForgotten (time : ℕ) (xs : List (Ends × ℕ)) : List (Ends × ℕ) → Type 0 where
+  none : IsForgotten time xs xs
+  one : (ys zs : List (Ends × ℕ)) (e : Ends × ℕ) → IsForgotten time xs ys → ys ≡ zs ++ e ∷ [] → IsOver time ys e.1 → IsForgotten time xs zs
 
 module _ {T : Type 0} where
   -- What goes to these ends goes to the one connection there, which stands first then. The others stay.
@@ -64,15 +68,9 @@ module _ {T : Type 0} where
   Puts true s old new = IsPut (ends_of s) (TakesSegment s) old.live new.live
   Puts false s old new = new ≡ old
 
-  -- It is the one that was longest without a packet, by more than the limit, or there are too many.
-  abbrev pub IsIdle : ℕ → Connection T → Type 0
-  IsIdle time c = IDLE_LIMIT < time - c.last_time
-
-  abbrev pub IsOver : ℕ → List (Ends × Connection T) → Connection T → Type 0
-  IsOver time xs c = IsIdle time c ⊎ (MAX_CONNECTIONS < length xs)
-
+  -- The one that was longest without a packet isn't over.
   abbrev pub NoneIsOver : ℕ → List (Ends × Connection T) → Type 0
-  NoneIsOver time xs = (length xs ≤ MAX_CONNECTIONS) × IfSome (last_entry xs) (λ e. ¬ IsIdle time e.1)
+  NoneIsOver time xs = IfSome (last_entry xs) (λ e. ¬ IsOver time xs e.1.last_time)
 
   -- The connection between the segment's ends, where the segment asks for another one, and where both sides said their last.
   abbrev pub replaced : Segment → Table T → Option (Connection T)

@@ -3,7 +3,7 @@ ghost use Rattle.std.specs.Prelude.{◌≡◌, ◌-◌, ◌^◌, ◌≤◌, leng
 ghost use Rattle.std.specs.Borrow.{sem};
 ghost use Rattle.std.specs.Option.{option_copied_mut};
 ghost use Rattle.connections.specs.Segment.{ends_of};
-ghost use Rattle.connections.specs.Table.{at, others, belongs, Puts, IsPut, TakesDatagram, WasLast, IsFront, IsOver, NoneIsOver, replaced, without_replaced, ended, without_ended};
+ghost use Rattle.connections.specs.Table.{at, others, belongs, Puts, IsPut, TakesDatagram, WasLast, IsForgotten, IsOver, NoneIsOver, replaced, without_replaced, ended, without_ended};
 ghost use Rattle.connections.specs.Ends.{ends_between};
 ghost use Rattle.connections.specs.declared.ends.Protocol.TheVariants.{Udp};
 ghost use Rattle.connections.specs.Lends.{lends_connection};
@@ -61,7 +61,7 @@ fn put_under<X: Drop>(
 
 /// Forgets those that had no packet for more than [`IDLE_LIMIT`], and the oldest where there are more than [`MAX_CONNECTIONS`].
 fn forget_idle(closed: &mut LruCache<Ends, u64, RandomState>, time: u64)
-    ensures front { IsFront closed.old.entries closed.new.entries }
+    ensures forgotten { IsForgotten time closed.old.entries closed.new.entries }
     ensures cap { closed.new.cap ≡ closed.old.cap }
 {
     while let Some((_, last_time)) = closed.peek_lru() {
@@ -139,9 +139,9 @@ impl<T: Listener> Connections<T> {
     /// Takes out the connection that was longest without a packet, where it is over at this time: it had none for more than
     /// [`IDLE_LIMIT`], or there are more than [`MAX_CONNECTIONS`]. To be called until there is none.
     pub fn take_idle(&mut self, time: u64) -> Option<Connection<T>>
-        ensures taken { IfSome result (λ c. WasLast self.old.live self.new.live c × IsOver time self.old.live c) }
+        ensures taken { IfSome result (λ c. WasLast self.old.live self.new.live c × IsOver time self.old.live c.last_time) }
         ensures none { IfNone result ((self.new.live ≡ self.old.live) × NoneIsOver time self.old.live) }
-        ensures closed { IsFront self.old.closed self.new.closed }
+        ensures closed { IsForgotten time self.old.closed self.new.closed }
     {
         forget_idle(&mut self.closed, time);
         let (_, oldest) = self.live.peek_lru()?;
