@@ -122,7 +122,8 @@ impl<'a, R: Runtime + AllocGlobal> PacketVisitor for Logger<'a, R> {
     type Error = Failure;
 
     fn visit(&mut self, packet: Packet<'_>) -> Result<(), Failure> {
-        log_packet(self.rt, self.log, packet)
+        log_packet(self.rt, self.log, packet)?;
+        Ok(())
     }
 }
 
