@@ -270,10 +270,75 @@ uint32_t wispuddera_next_record(const uint8_t *buffer, size_t capacity, wispudde
 /* The same, of a handshake message (RFC 5246, section 7.4). */
 uint32_t wispuddera_next_message(const uint8_t *buffer, size_t capacity, wispuddera_place *held, wispuddera_part *out);
 
+/* ---- How a conversation stands ----
+ *
+ * A conversation is told as events: what a side said, in the order in which it came, in an array of the caller's. Handshakes of TLS 1.0
+ * to 1.3 and of DTLS 1.0 to 1.2 have some twenty; behind an outcome other than WISPUDDERA_WAITING no event changes it. */
+
+/* Kinds of events. Those of handshake messages and alerts are told by the three functions below. */
+enum {
+    WISPUDDERA_EVENT_HELLO_REQUEST = 0,
+    WISPUDDERA_EVENT_CLIENT_HELLO = 1,
+    WISPUDDERA_EVENT_HELLO_VERIFY_REQUEST = 2,
+    WISPUDDERA_EVENT_SERVER_HELLO = 3,         /* below TLS 1.3 */
+    WISPUDDERA_EVENT_HELLO_RETRY_REQUEST = 4,  /* a ServerHello of a random of its own (RFC 8446, section 4.1.3) */
+    WISPUDDERA_EVENT_SERVER_HELLO_13 = 5,      /* of TLS 1.3 or a draft of it */
+    WISPUDDERA_EVENT_NEW_SESSION_TICKET = 6,
+    WISPUDDERA_EVENT_CERTIFICATE = 7,
+    WISPUDDERA_EVENT_SERVER_KEY_EXCHANGE = 8,
+    WISPUDDERA_EVENT_CERTIFICATE_REQUEST = 9,
+    WISPUDDERA_EVENT_SERVER_DONE = 10,
+    WISPUDDERA_EVENT_CERTIFICATE_VERIFY = 11,
+    WISPUDDERA_EVENT_CLIENT_KEY_EXCHANGE = 12,
+    WISPUDDERA_EVENT_CERTIFICATE_STATUS = 13,
+    WISPUDDERA_EVENT_CHANGE_CIPHER_SPEC = 14,  /* a record of type 20 */
+    WISPUDDERA_EVENT_ENCRYPTED = 15,           /* a record behind its sender's ChangeCipherSpec, or one of type 23 */
+    WISPUDDERA_EVENT_WARNING = 16,
+    WISPUDDERA_EVENT_NO_CERTIFICATE = 17,
+    WISPUDDERA_EVENT_FATAL = 18,
+    WISPUDDERA_EVENT_HEARTBEAT = 19,           /* a record of type 24 */
+    WISPUDDERA_EVENT_OTHER = 20,
+    WISPUDDERA_EVENT_UNKNOWN = 21              /* and any higher number: a record or message that is refused */
+};
+
+/* What a side said. */
+typedef struct {
+    uint8_t kind;
+    bool to_server;
+} wispuddera_event;
+
+/* The kind of event that a whole handshake message of TLS is, in the clear, of the HandshakeType `kind`; its body tells one
+ * ServerHello from another. */
+uint8_t wispuddera_event_of_message(const uint8_t *body, size_t count, uint8_t kind);
+
+/* The same, of DTLS up to 1.2, once for all fragments of a message. */
+uint8_t wispuddera_event_of_dtls_message(uint8_t kind);
+
+/* The kind of event that an alert in the clear is (RFC 5246, section 7.2). */
+uint8_t wispuddera_event_of_alert(uint8_t level, uint8_t description);
+
+/* Outcomes. */
+enum {
+    WISPUDDERA_WAITING = 0,             /* a handshake is under way, or nothing was said */
+    WISPUDDERA_FULL = 1,                /* a full handshake was done */
+    WISPUDDERA_RESUMED = 2,             /* a session was resumed */
+    WISPUDDERA_BROKEN_OFF = 3,          /* a fatal alert broke off a handshake that was under way */
+    WISPUDDERA_UNKNOWN = 4,             /* a message that isn't known came in one that was under way */
+    WISPUDDERA_NO_HANDSHAKE = 5,        /* what was said is no handshake, and can't become one */
+    WISPUDDERA_TLS13 = 6,               /* TLS 1.3 is spoken, up to its ServerHello */
+    WISPUDDERA_TLS13_RETRIED = 7,       /* the same, behind a HelloRetryRequest */
+    WISPUDDERA_TLS13_EARLY = 8,         /* the same, and the client sent early data */
+    WISPUDDERA_TLS13_RETRIED_EARLY = 9  /* both */
+};
+
+/* How a conversation of these events stands (RFC 5246, section 7.3; RFC 8446, section 2; RFC 6347, section 4.2): one of the outcomes.
+ * Nothing is refused. */
+uint32_t wispuddera_outcome(const wispuddera_event *events, size_t count);
+
 /* ---- This header and the library ----
  *
  * How many bytes a struct takes in the library: of place, record, part, client_hello, server_hello, found, number, dtls_record,
- * dtls_message, dtls_client_hello the one at that index; 0 behind the last. */
+ * dtls_message, dtls_client_hello, event the one at that index; 0 behind the last. */
 size_t wispuddera_struct_size(size_t index);
 
 #ifdef __cplusplus

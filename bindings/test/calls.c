@@ -40,7 +40,7 @@ static void test_layout(void) {
     static const size_t sizes[] = {sizeof(wispuddera_place),         sizeof(wispuddera_record),       sizeof(wispuddera_part),
                                    sizeof(wispuddera_client_hello),  sizeof(wispuddera_server_hello), sizeof(wispuddera_found),
                                    sizeof(wispuddera_number),        sizeof(wispuddera_dtls_record),  sizeof(wispuddera_dtls_message),
-                                   sizeof(wispuddera_dtls_client_hello)};
+                                   sizeof(wispuddera_dtls_client_hello), sizeof(wispuddera_event)};
     size_t i;
     for (i = 0; i < sizeof sizes / sizeof *sizes; i++) {
         IS(wispuddera_struct_size(i), sizes[i]);
@@ -249,6 +249,44 @@ static void test_stream(void) {
     PLACE(messages, 97, 1);
 }
 
+/* Handshakes as RFC 5246 (section 7.3) and RFC 8446 (section 2) draw them. */
+static void test_outcome(void) {
+    static const uint8_t messages[] = {1, 2, 11, 12, 14, 16};
+    static const bool to_server[] = {true, false, false, false, false, true};
+    uint8_t hello[46] = {0x03, 0x03};
+    const uint8_t versions[] = {0x00, 0x13, 0x01, 0x00, 0x00, 0x06, 0x00, 0x2b, 0x00, 0x02, 0x03, 0x04};
+    wispuddera_event events[10];
+    size_t i;
+    IS(wispuddera_outcome(NULL, 0), WISPUDDERA_WAITING);
+    for (i = 0; i < 6; i++) {
+        const uint8_t *body = messages[i] == 2 ? hello : record + BODY;
+        events[i].kind = wispuddera_event_of_message(body, messages[i] == 2 ? 38 : BODY_LENGTH, messages[i]);
+        events[i].to_server = to_server[i];
+        IS(events[i].kind != WISPUDDERA_EVENT_UNKNOWN, 1);
+        IS(wispuddera_outcome(events, i + 1), WISPUDDERA_WAITING);
+    }
+    IS(events[1].kind, WISPUDDERA_EVENT_SERVER_HELLO);
+    for (; i < 10; i++) {
+        events[i].kind = i % 2 == 0 ? WISPUDDERA_EVENT_CHANGE_CIPHER_SPEC : WISPUDDERA_EVENT_ENCRYPTED;
+        events[i].to_server = i < 8;
+    }
+    IS(wispuddera_outcome(events, 7), WISPUDDERA_WAITING);
+    IS(wispuddera_outcome(events, 10), WISPUDDERA_FULL);
+    events[2].kind = wispuddera_event_of_alert(2, 40);
+    IS(events[2].kind, WISPUDDERA_EVENT_FATAL);
+    IS(wispuddera_outcome(events, 10), WISPUDDERA_BROKEN_OFF);
+    events[2].kind = 200;
+    IS(wispuddera_outcome(events, 10), WISPUDDERA_UNKNOWN);
+    events[2].kind = WISPUDDERA_EVENT_CLIENT_HELLO;
+    IS(wispuddera_outcome(events, 10), WISPUDDERA_NO_HANDSHAKE);
+    memcpy(hello + 34, versions, sizeof versions);
+    events[1].kind = wispuddera_event_of_message(hello, sizeof hello, 2);
+    IS(events[1].kind, WISPUDDERA_EVENT_SERVER_HELLO_13);
+    IS(wispuddera_outcome(events, 2), WISPUDDERA_TLS13);
+    IS(wispuddera_event_of_dtls_message(3), WISPUDDERA_EVENT_HELLO_VERIFY_REQUEST);
+    IS(wispuddera_event_of_alert(1, 90), WISPUDDERA_EVENT_WARNING);
+}
+
 int main(void) {
     uint32_t status;
     for (status = 0; status <= WISPUDDERA_OUTSIDE; status++) {
@@ -264,6 +302,7 @@ int main(void) {
     test_numbers();
     test_dtls();
     test_stream();
+    test_outcome();
     printf(failures == 0 ? "calls: as counted by hand\n" : "calls: not as counted by hand\n");
     return failures != 0;
 }

@@ -107,6 +107,10 @@ static void call_others(const uint8_t *b, size_t n, size_t at) {
     }
     is_read(wispuddera_find_extension(b, n, (uint16_t)at, &f), &f.missing);
     is_read(wispuddera_find_body(b, n, (uint8_t)at, &f), &f.missing);
+    if (wispuddera_event_of_message(b, n, (uint8_t)(at % 4)) > WISPUDDERA_EVENT_UNKNOWN) {
+        printf("mutated: no kind of event\n");
+        exit(1);
+    }
     is_read(wispuddera_best_version(b, n, (uint16_t)at, &v), &v.missing);
 }
 
@@ -148,7 +152,7 @@ int main(int argc, char **argv) {
         call_parts(block, count, at);
         call_others(block, count, at);
         call_streams(block, count, at);
-        calls += 26;
+        calls += 27;
         free(block);
     }
     printf("mutated: %ld calls, each with a status and its places within the bytes\n", calls);

@@ -96,6 +96,16 @@ def test_dtls():
     assert hello.random == RANDOM and hello.cookie == b"\xe1\xe2" and hello.extensions == b""
 
 
+def test_outcome():
+    kind, to_server = w.EventKind, {1: True, 16: True}
+    hello = w.event_of_message(2, b"\x03\x03" + RANDOM + bytes.fromhex("00 c02f 00"))
+    said = [(w.event_of_message(1, BODY), True), (hello, False), *((w.event_of_message(k, b""), k in to_server) for k in (11, 12, 14, 16))]
+    said += [(kind.CHANGE_CIPHER_SPEC, True), (kind.ENCRYPTED, True), (kind.CHANGE_CIPHER_SPEC, False), (kind.ENCRYPTED, False)]
+    assert w.outcome([]) == w.outcome(said[:7]) == w.Outcome.WAITING and w.outcome(iter(said)) == w.Outcome.FULL
+    assert w.outcome([*said[:2], (w.event_of_alert(2, 40), True)]) == w.Outcome.BROKEN_OFF
+    assert w.event_of_dtls_message(3) == kind.HELLO_VERIFY_REQUEST
+
+
 def test_threads():
     wrong = []
 

@@ -10,9 +10,10 @@ Calls may run in several threads at once. A `bytearray` can't be resized while a
 from __future__ import annotations
 
 import ctypes
+import enum
 import struct
 import threading
-from collections.abc import Callable, Iterator
+from collections.abc import Callable, Iterable, Iterator
 from dataclasses import dataclass
 from typing import Optional, Union
 
@@ -27,11 +28,13 @@ __all__ = [
     "DtlsClientHello",
     "DtlsMessage",
     "DtlsRecord",
+    "EventKind",
     "Extension",
     "Incomplete",
     "KeyShare",
     "Message",
     "MessageStream",
+    "Outcome",
     "Outside",
     "Record",
     "RecordStream",
@@ -45,6 +48,9 @@ __all__ = [
     "dtls_messages",
     "dtls_record",
     "dtls_records",
+    "event_of_alert",
+    "event_of_dtls_message",
+    "event_of_message",
     "extension",
     "extensions",
     "find_body",
@@ -54,6 +60,7 @@ __all__ = [
     "key_shares",
     "message",
     "messages",
+    "outcome",
     "protocols",
     "record",
     "records",
@@ -546,3 +553,67 @@ class MessageStream(_Stream):
 
     def _shown(self, out: _c.Part) -> Message:
         return Message(out.kind, self._copied(out.content), 0)
+
+
+class EventKind(enum.IntEnum):
+    """What a side said, as far as the outcome of a conversation looks at it."""
+
+    HELLO_REQUEST = 0
+    CLIENT_HELLO = 1
+    HELLO_VERIFY_REQUEST = 2
+    SERVER_HELLO = 3
+    HELLO_RETRY_REQUEST = 4
+    SERVER_HELLO_13 = 5
+    NEW_SESSION_TICKET = 6
+    CERTIFICATE = 7
+    SERVER_KEY_EXCHANGE = 8
+    CERTIFICATE_REQUEST = 9
+    SERVER_DONE = 10
+    CERTIFICATE_VERIFY = 11
+    CLIENT_KEY_EXCHANGE = 12
+    CERTIFICATE_STATUS = 13
+    CHANGE_CIPHER_SPEC = 14
+    ENCRYPTED = 15
+    WARNING = 16
+    NO_CERTIFICATE = 17
+    FATAL = 18
+    HEARTBEAT = 19
+    OTHER = 20
+    UNKNOWN = 21
+
+
+class Outcome(enum.IntEnum):
+    """How a conversation stands; the header says what each is."""
+
+    WAITING = 0
+    FULL = 1
+    RESUMED = 2
+    BROKEN_OFF = 3
+    UNKNOWN = 4
+    NO_HANDSHAKE = 5
+    TLS13 = 6
+    TLS13_RETRIED = 7
+    TLS13_EARLY = 8
+    TLS13_RETRIED_EARLY = 9
+
+
+def event_of_message(kind: int, body: Data) -> EventKind:
+    """The kind of event that a whole handshake message of TLS is, in the clear, of that HandshakeType and body."""
+    given = _Given(body)
+    return EventKind(_c.event_of_message(given.address, given.count, kind))
+
+
+def event_of_dtls_message(kind: int) -> EventKind:
+    """The same, of DTLS up to 1.2, once for all fragments of a message."""
+    return EventKind(_c.event_of_dtls_message(kind))
+
+
+def event_of_alert(level: int, description: int) -> EventKind:
+    """The kind of event that an alert in the clear is (RFC 5246, section 7.2)."""
+    return EventKind(_c.event_of_alert(level, description))
+
+
+def outcome(events: Iterable[tuple[EventKind, bool]]) -> Outcome:
+    """How a conversation of these events stands: what was said, and whether it goes to the server, in the order in which it came."""
+    told = [_c.Event(kind, to_server) for kind, to_server in events]
+    return Outcome(_c.outcome((_c.Event * len(told))(*told), len(told)))

@@ -123,10 +123,14 @@ class DtlsClientHello(ctypes.Structure):
     ]
 
 
-def _function(name, *arguments):
+class Event(ctypes.Structure):
+    _fields_ = [("kind", _U8), ("to_server", _BOOL)]
+
+
+def _function(name, *arguments, answer=_U32):
     function = getattr(_library, f"wispuddera_{name}")
     function.argtypes = arguments
-    function.restype = _U32
+    function.restype = answer
     return function
 
 
@@ -160,8 +164,11 @@ feed = _function("feed", _BYTES, _SIZE, _OUT(Place), _BYTES, _SIZE, _OUT(_SIZE))
 next_record = _function("next_record", _BYTES, _SIZE, _OUT(Place), _OUT(Record))
 next_message = _function("next_message", _BYTES, _SIZE, _OUT(Place), _OUT(Part))
 
+event_of_message = _function("event_of_message", _BYTES, _SIZE, _U8, answer=_U8)
+event_of_dtls_message = _function("event_of_dtls_message", _U8, answer=_U8)
+event_of_alert = _function("event_of_alert", _U8, _U8, answer=_U8)
+outcome = _function("outcome", _OUT(Event), _SIZE)
+struct_size = _function("struct_size", _SIZE, answer=_SIZE)
+
 # The structs, as the header lists them for `wispuddera_struct_size`.
-STRUCTS = (Place, Record, Part, ClientHello, ServerHello, Found, Number, DtlsRecord, DtlsMessage, DtlsClientHello)
-struct_size = _library.wispuddera_struct_size
-struct_size.argtypes = (_SIZE,)
-struct_size.restype = _SIZE
+STRUCTS = (Place, Record, Part, ClientHello, ServerHello, Found, Number, DtlsRecord, DtlsMessage, DtlsClientHello, Event)

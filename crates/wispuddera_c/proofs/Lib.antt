@@ -2,3 +2,4 @@ pub mod StatusLemmas
 pub mod PlaceLemmas
 pub mod FoundLemmas
 pub mod StreamLemmas
+pub mod OutcomeLemmas

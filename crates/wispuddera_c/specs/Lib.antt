@@ -8,3 +8,4 @@ pub mod Number
 pub mod Dtls
 pub mod Layout
 pub mod Stream
+pub mod Outcome

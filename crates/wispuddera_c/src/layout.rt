@@ -6,6 +6,7 @@ use crate::client_hello::ClientHello;
 use crate::dtls::{DtlsClientHello, DtlsMessage, DtlsRecord};
 use crate::found::Found;
 use crate::number::Number;
+use crate::outcome::Event;
 use crate::part::Part;
 use crate::place::Place;
 use crate::record::Record;
@@ -28,6 +29,7 @@ pub extern "C" fn wispuddera_struct_size(index: usize) -> usize
         7 => size_of::<DtlsRecord>(),
         8 => size_of::<DtlsMessage>(),
         9 => size_of::<DtlsClientHello>(),
+        10 => size_of::<Event>(),
         _ => 0,
     }
 }

@@ -10,6 +10,7 @@ mod dtls;
 mod found;
 mod layout;
 mod number;
+mod outcome;
 mod part;
 mod place;
 mod record;
