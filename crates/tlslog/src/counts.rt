@@ -14,7 +14,7 @@ pub struct Counts {
     pub fragments: u64,
     /// Segments of TCP that belong to no connection.
     pub stray_segments: u64,
-    /// Connections that aren't TLS.
+    /// Connections that are neither TLS nor DTLS.
     pub other_connections: u64,
     /// Sides of connections of TLS in which bytes are missing.
     pub gaps: u64,
@@ -48,11 +48,14 @@ impl Counts {
             ),
             (
                 self.other_protocols,
-                "packets of another link or protocol than TCP",
+                "packets of another link or protocol than TCP and UDP",
             ),
             (self.fragments, "fragments of IP"),
             (self.stray_segments, "segments of no open connection"),
-            (self.other_connections, "connections that are not TLS"),
+            (
+                self.other_connections,
+                "connections that are neither TLS nor DTLS",
+            ),
             (self.gaps, "sides of connections with lost bytes"),
         ];
         let packets = self.packets;

@@ -1,7 +1,7 @@
 //! The line of a connection.
-use crate::log::Heard;
+use crate::heard::Heard;
 use crate::names::{alert_name, group_name, kind_name, outcome_name, sender_name, version_name};
-use connections::{Connection, Side};
+use connections::{Connection, Protocol, Side};
 use serde::Serialize;
 use serde_json::Error;
 use std::alloc::{AllocError, Global};
@@ -113,6 +113,14 @@ fn stop_line(stop: Option<Stop>) -> Option<StopLine> {
     })
 }
 
+/// What carries a connection, as Zeek writes it.
+fn proto_name(protocol: Protocol) -> &'static str {
+    match protocol {
+        Protocol::Tcp => "tcp",
+        Protocol::Udp => "udp",
+    }
+}
+
 /// Which sides have lost bytes.
 pub fn gap_name(connection: &Connection<Heard>) -> Option<&'static str> {
     let by_originator = connection.stream(Side::Originator).has_gap();
@@ -127,26 +135,26 @@ pub fn gap_name(connection: &Connection<Heard>) -> Option<&'static str> {
 
 /// The line of a connection, without its line break.
 pub fn line_of(alloc: Global, connection: &Connection<Heard>) -> Result<String, Error> {
-    let talk = &connection.listener.talk;
-    let facts = talk.facts();
+    let heard = &connection.listener;
+    let facts = heard.facts();
     let line = Line {
         ts: seconds(connection.first_time),
         originator: connection.originator.address.to_string(alloc)?,
         originator_port: connection.originator.port,
         responder: connection.responder.address.to_string(alloc)?,
         responder_port: connection.responder.port,
-        proto: "tcp",
+        proto: proto_name(connection.protocol),
         duration: seconds(connection.last_time.saturating_sub(connection.first_time)),
         version: version_text(alloc, facts)?,
         cipher: cipher_text(alloc, facts)?,
         curve: curve_text(alloc, facts)?,
         server_name: text(alloc, &facts.server_name)?,
         next_protocol: text(alloc, &facts.next_protocol)?,
-        resumed: talk.is_resumed(),
-        established: talk.is_established(),
+        resumed: heard.is_resumed(),
+        established: heard.is_established(),
         last_alert: alert_text(alloc, facts)?,
-        outcome: outcome_name(talk.outcome()),
-        stop: stop_line(talk.stop()),
+        outcome: outcome_name(heard.outcome()),
+        stop: stop_line(heard.stop()),
         gap: gap_name(connection),
     };
     serde_json::to_string(alloc, &line)

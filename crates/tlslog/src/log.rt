@@ -1,30 +1,13 @@
 //! What a capture's packets add to the log.
 use crate::counts::{Counts, add_one};
-use capture::{Address, Content, Datagram, TcpSegment, parse_packet};
-use connections::{Connection, Connections, End, Listener, Protocol, Segment, Side, Stream};
+use crate::heard::Heard;
+use capture::{Address, Content, TcpSegment, UdpDatagram, parse_packet};
+use connections::{Connection, Connections, Datagram, End, Segment, Side};
 use packets::Packet;
 use std::alloc::{AllocError, Global};
 use std::hash::RandomState;
 use std::net::{IpAddr, Ipv4Addr, Ipv6Addr};
 use tls_flow::Direction;
-use tls_talks::Talk;
-
-/// What goes with a connection: what its sides said.
-#[derive(Drop)]
-pub struct Heard {
-    alloc: Global,
-    /// Both sides.
-    pub talk: Talk,
-}
-
-impl Listener for Heard {
-    fn begin(alloc: Global, _protocol: Protocol) -> Heard {
-        Heard {
-            alloc,
-            talk: Talk::new(alloc),
-        }
-    }
-}
 
 /// The log of one capture: its open connections.
 #[derive(Drop)]
@@ -45,7 +28,11 @@ fn address(address: Address) -> IpAddr {
 }
 
 /// A segment with its ends and its time.
-fn segment_of<'a>(time: u64, datagram: &Datagram<'a>, tcp: &TcpSegment<'a>) -> Segment<'a> {
+fn segment_of<'a>(
+    time: u64,
+    datagram: &capture::Datagram<'a>,
+    tcp: &TcpSegment<'a>,
+) -> Segment<'a> {
     Segment {
         time,
         source: End {
@@ -62,35 +49,60 @@ fn segment_of<'a>(time: u64, datagram: &Datagram<'a>, tcp: &TcpSegment<'a>) -> S
     }
 }
 
-/// Lets the listener hear what a side says next.
-fn hear_stream(
-    heard: &mut Heard,
-    stream: &mut Stream,
-    direction: Direction,
-) -> Result<(), AllocError> {
-    let n = heard.talk.hear(heard.alloc, direction, stream.available())?;
-    stream.take(n);
-    if heard.talk.is_over(direction) {
-        stream.stop();
+/// A datagram with its ends and its time.
+fn datagram_of<'a>(
+    time: u64,
+    datagram: &capture::Datagram<'a>,
+    udp: &UdpDatagram<'a>,
+) -> Datagram<'a> {
+    Datagram {
+        time,
+        source: End {
+            address: address(datagram.source),
+            port: udp.source,
+        },
+        destination: End {
+            address: address(datagram.destination),
+            port: udp.destination,
+        },
+        payload: udp.payload,
     }
-    Ok(())
 }
 
-/// The same of the side of a connection; the originator is the client.
-fn hear(connection: &mut Connection<Heard>, side: Side) -> Result<(), AllocError> {
-    let heard = &mut connection.listener;
-    match side {
-        Side::Originator => hear_stream(
-            heard,
-            &mut connection.from_originator,
-            Direction::ToServer,
-        ),
-        Side::Responder => hear_stream(
-            heard,
-            &mut connection.from_responder,
-            Direction::FromServer,
-        ),
+/// What a packet brings to a connection.
+#[derive(Clone, Copy, Debug)]
+pub enum Arrival<'a> {
+    /// A segment of TCP.
+    Segment(Segment<'a>),
+    /// A datagram of UDP.
+    Datagram(Datagram<'a>),
+}
+
+impl<'a> Arrival<'a> {
+    /// When it was captured.
+    fn time(&self) -> u64 {
+        match self {
+            Arrival::Segment(segment) => segment.time,
+            Arrival::Datagram(datagram) => datagram.time,
+        }
     }
+}
+
+/// The direction of what a side says; the originator is the client.
+fn direction_of(side: Side) -> Direction {
+    match side {
+        Side::Originator => Direction::ToServer,
+        Side::Responder => Direction::FromServer,
+    }
+}
+
+/// Lets the listener hear what the side's stream says next.
+fn hear(connection: &mut Connection<Heard>, side: Side) -> Result<(), AllocError> {
+    let stream = match side {
+        Side::Originator => &mut connection.from_originator,
+        Side::Responder => &mut connection.from_responder,
+    };
+    connection.listener.hear_stream(stream, direction_of(side))
 }
 
 impl Log {
@@ -102,8 +114,8 @@ impl Log {
         })
     }
 
-    /// The segment of TCP that a packet holds; `None` where it holds none that can be read, which is counted.
-    pub fn segment<'a>(&mut self, packet: Packet<'a>) -> Option<Segment<'a>> {
+    /// The segment or the datagram that a packet holds; `None` where it holds none that can be read, which is counted.
+    pub fn arrival<'a>(&mut self, packet: Packet<'a>) -> Option<Arrival<'a>> {
         add_one(&mut self.counts.packets);
         let datagram = match parse_packet(packet.bytes, packet.link_type) {
             Ok((_, Some(datagram))) => datagram,
@@ -117,8 +129,9 @@ impl Log {
             }
         };
         match &datagram.content {
-            Content::Tcp(tcp) => Some(segment_of(packet.time, &datagram, tcp)),
-            Content::Udp(_) | Content::Other(_) => {
+            Content::Tcp(tcp) => Some(Arrival::Segment(segment_of(packet.time, &datagram, tcp))),
+            Content::Udp(udp) => Some(Arrival::Datagram(datagram_of(packet.time, &datagram, udp))),
+            Content::Other(_) => {
                 add_one(&mut self.counts.other_protocols);
                 None
             }
@@ -129,16 +142,33 @@ impl Log {
         }
     }
 
-    /// Takes out a connection that is over before the segment. To be called until there is none.
-    pub fn take_over(&mut self, segment: &Segment<'_>) -> Option<Connection<Heard>> {
-        match self.connections.take_idle(segment.time) {
-            Some(connection) => Some(connection),
-            None => self.connections.take_replaced(segment),
+    /// Takes out a connection that is over before the arrival. To be called until there is none.
+    pub fn take_over(&mut self, arrival: &Arrival<'_>) -> Option<Connection<Heard>> {
+        if let Some(connection) = self.connections.take_idle(arrival.time()) {
+            return Some(connection);
+        }
+        match arrival {
+            Arrival::Segment(segment) => self.connections.take_replaced(segment),
+            Arrival::Datagram(_) => None,
         }
     }
 
-    /// Puts the segment into its connection, lets that hear what is there then, and takes the connection out where it is over.
+    /// Puts what arrives into its connection, lets that hear what is there then, and takes the connection out where it is over.
     pub fn accept(
+        &mut self,
+        arrival: &Arrival<'_>,
+    ) -> Result<Option<Connection<Heard>>, AllocError> {
+        match arrival {
+            Arrival::Segment(segment) => self.accept_segment(segment),
+            Arrival::Datagram(datagram) => {
+                self.accept_datagram(datagram)?;
+                Ok(None)
+            }
+        }
+    }
+
+    /// The same of a segment of TCP.
+    fn accept_segment(
         &mut self,
         segment: &Segment<'_>,
     ) -> Result<Option<Connection<Heard>>, AllocError> {
@@ -154,6 +184,18 @@ impl Log {
             }
         }
         self.connections.take_closed(segment)
+    }
+
+    /// The same of a datagram of UDP, which ends no exchange.
+    fn accept_datagram(&mut self, datagram: &Datagram<'_>) -> Result<(), AllocError> {
+        self.connections.accept_datagram(datagram)?;
+        if let Some(exchange) = self.connections.get_mut(&datagram.between()) {
+            let direction = direction_of(exchange.side_of(datagram.source));
+            exchange
+                .listener
+                .hear_datagram(direction, datagram.payload)?;
+        }
+        Ok(())
     }
 
     /// Takes out a connection that is left. To be called at the capture's end, until there is none.

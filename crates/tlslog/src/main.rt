@@ -1,4 +1,4 @@
-//! Prints a line of JSON for each connection of TLS in a capture, at its end.
+//! Prints a line of JSON for each connection of TLS or DTLS in a capture, at its end.
 //!
 //! The capture is standard input, or files that are named. The names are those of Zeek's logs. What was left out is told on
 //! standard error. The status is 0, or 1 where an input is no capture or is broken off, 2 for wrong arguments, 3 where memory ran
@@ -6,6 +6,7 @@
 #![tactic(auto)]
 
 mod counts;
+mod heard;
 mod line;
 mod log;
 mod names;
@@ -27,7 +28,7 @@ fn matches<'a>(alloc: Global, words: &'a [String]) -> Result<ArgMatches<'a>, cla
         .num_args(0..)
         .action(ArgAction::Append);
     Command::new(alloc, "tlslog")
-        .about("Prints a line of JSON for each connection of TLS in a capture")
+        .about("Prints a line of JSON for each connection of TLS or DTLS in a capture")
         .arg(captures)?
         .try_get_matches_from(words)
 }

@@ -1,6 +1,7 @@
 //! The run over one capture.
+use crate::heard::Heard;
 use crate::line::{gap_name, line_of};
-use crate::log::{Heard, Log};
+use crate::log::Log;
 use crate::progress::{STANDARD_INPUT, Watched};
 use connections::Connection;
 use packets::{CaptureError, Packet, PacketVisitor, VisitError, visit_packets};
@@ -73,13 +74,13 @@ impl From<VisitError<Failure>> for Failure {
     }
 }
 
-/// Prints the line of a connection that is over, if it is TLS.
+/// Prints the line of a connection that is over, if it is TLS or DTLS.
 fn print_one<R: Runtime + AllocGlobal>(
     rt: &R,
     log: &mut Log,
     connection: Connection<Heard>,
 ) -> Result<(), Failure> {
-    if !connection.listener.talk.is_tls() {
+    if !connection.listener.is_spoken() {
         log.counts.other_connections = log.counts.other_connections.saturating_add(1);
         return Ok(());
     }
@@ -96,16 +97,16 @@ fn log_packet<R: Runtime + AllocGlobal>(
     log: &mut Log,
     packet: Packet<'_>,
 ) -> Result<(), Failure> {
-    let Some(segment) = log.segment(packet) else {
+    let Some(arrival) = log.arrival(packet) else {
         return Ok(());
     };
     for _ in 0..u64::MAX {
-        match log.take_over(&segment) {
+        match log.take_over(&arrival) {
             Some(connection) => print_one(rt, log, connection)?,
             None => break,
         }
     }
-    match log.accept(&segment)? {
+    match log.accept(&arrival)? {
         Some(connection) => print_one(rt, log, connection),
         None => Ok(()),
     }
@@ -202,7 +203,7 @@ pub fn log_file<R: Runtime + AllocGlobal + RandomSource>(rt: &R, path: &str) -> 
 }
 
 /// The same of the capture that is standard input.
-pub fn log_standard_input<R: Runtime + AllocGlobal>(rt: &R) -> Exit {
+pub fn log_standard_input<R: Runtime + AllocGlobal + RandomSource>(rt: &R) -> Exit {
     let name = "standard input";
     log_input(
         rt,

@@ -1,0 +1,111 @@
+//! What is heard of a connection, by what carries it.
+use connections::{Listener, Protocol, Stream};
+use std::alloc::{AllocError, Global};
+use tls_facts::Facts;
+use tls_flow::{Direction, Outcome, Stop};
+use tls_talks::{DatagramTalk, Talk};
+
+/// What both sides of a connection said.
+#[derive(Drop)]
+enum Said {
+    /// Over TCP, as TLS.
+    Stream(Talk),
+    /// Over UDP, as DTLS.
+    Datagrams(DatagramTalk),
+}
+
+/// What goes with a connection: what its sides said.
+#[derive(Drop)]
+pub struct Heard {
+    alloc: Global,
+    said: Said,
+}
+
+impl Listener for Heard {
+    fn begin(alloc: Global, protocol: Protocol) -> Heard {
+        let said = match protocol {
+            Protocol::Tcp => Said::Stream(Talk::new(alloc)),
+            Protocol::Udp => Said::Datagrams(DatagramTalk::new(alloc)),
+        };
+        Heard { alloc, said }
+    }
+}
+
+impl Heard {
+    /// Whether it is TLS or DTLS.
+    pub fn is_spoken(&self) -> bool {
+        match &self.said {
+            Said::Stream(talk) => talk.is_tls(),
+            Said::Datagrams(talk) => talk.is_dtls(),
+        }
+    }
+
+    /// What is known of it.
+    pub fn facts(&self) -> &Facts {
+        match &self.said {
+            Said::Stream(talk) => talk.facts(),
+            Said::Datagrams(talk) => talk.facts(),
+        }
+    }
+
+    /// How the handshake stands.
+    pub fn outcome(&self) -> Outcome {
+        match &self.said {
+            Said::Stream(talk) => talk.outcome(),
+            Said::Datagrams(talk) => talk.outcome(),
+        }
+    }
+
+    /// The event that ended the handshake without success, if one did.
+    pub fn stop(&self) -> Option<Stop> {
+        match &self.said {
+            Said::Stream(talk) => talk.stop(),
+            Said::Datagrams(talk) => talk.stop(),
+        }
+    }
+
+    /// Whether the part of the handshake that can be read came to its end.
+    pub fn is_established(&self) -> bool {
+        match &self.said {
+            Said::Stream(talk) => talk.is_established(),
+            Said::Datagrams(talk) => talk.is_established(),
+        }
+    }
+
+    /// Whether a session was taken up.
+    pub fn is_resumed(&self) -> bool {
+        match &self.said {
+            Said::Stream(talk) => talk.is_resumed(),
+            Said::Datagrams(talk) => talk.is_resumed(),
+        }
+    }
+
+    /// Hears what a side's stream says next.
+    pub fn hear_stream(
+        &mut self,
+        stream: &mut Stream,
+        direction: Direction,
+    ) -> Result<(), AllocError> {
+        let Said::Stream(talk) = &mut self.said else {
+            return Ok(());
+        };
+        let n = talk.hear(self.alloc, direction, stream.available())?;
+        stream.take(n);
+        if talk.is_over(direction) {
+            stream.stop();
+        }
+        Ok(())
+    }
+
+    /// Hears a side's datagram.
+    pub fn hear_datagram(
+        &mut self,
+        direction: Direction,
+        payload: &[u8],
+    ) -> Result<(), AllocError> {
+        match &mut self.said {
+            Said::Stream(_) => Ok(()),
+            Said::Datagrams(talk) => talk.hear(self.alloc, direction, payload),
+        }
+    }
+}
