@@ -12,14 +12,23 @@ use tls_hs::ClientHelloView;
 #[repr(C)]
 #[derive(Clone, Copy)]
 pub struct ClientHello {
+    /// How many bytes are missing, where the status says that some are; else 0.
     pub missing: usize,
+    /// The 32 bytes of the random.
     pub random: Place,
+    /// The session id, without its length; of no bytes where there is none.
     pub session_id: Place,
+    /// The cipher suites, 2 bytes each, without their length.
     pub cipher_suites: Place,
+    /// The compression methods, 1 byte each, without their length.
     pub compression_methods: Place,
+    /// The extensions, without their length; of no bytes where no whole block follows.
     pub extensions: Place,
+    /// The offset of what follows.
     pub next: usize,
+    /// The version, as it stands there.
     pub version: u16,
+    /// Whether a whole block of extensions follows.
     pub has_extensions: bool,
 }
 

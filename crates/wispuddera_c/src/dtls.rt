@@ -15,13 +15,21 @@ use tls_places::{dtls_client_hello_with_places, frame_at};
 #[repr(C)]
 #[derive(Clone, Copy)]
 pub struct DtlsRecord {
+    /// How many bytes are missing, where the status says that some are; else 0.
     pub missing: usize,
+    /// Where the fragment stands.
     pub fragment: Place,
+    /// The offset of what follows.
     pub next: usize,
+    /// The number of the record in its epoch, below 2^48.
     pub sequence_number: u64,
+    /// The version, as it stands there.
     pub version: u16,
+    /// How often the sender has changed its cipher.
     pub epoch: u16,
+    /// The length of the fragment, in bytes.
     pub length: u16,
+    /// What the fragment holds.
     pub content_type: u8,
 }
 
@@ -29,14 +37,23 @@ pub struct DtlsRecord {
 #[repr(C)]
 #[derive(Clone, Copy)]
 pub struct DtlsMessage {
+    /// How many bytes are missing, where the status says that some are; else 0.
     pub missing: usize,
+    /// Where the body, or the part of it, stands.
     pub body: Place,
+    /// The offset of what follows.
     pub next: usize,
+    /// The length of the whole body, in bytes.
     pub length: u32,
+    /// Where the fragment begins in the whole body, in bytes.
     pub fragment_offset: u32,
+    /// The length of the fragment, in bytes.
     pub fragment_length: u32,
+    /// The place of the message among those of its sender.
     pub message_seq: u16,
+    /// What the body is.
     pub kind: u8,
+    /// Whether the body is a part of the whole one.
     pub is_part: bool,
 }
 
@@ -44,13 +61,21 @@ pub struct DtlsMessage {
 #[repr(C)]
 #[derive(Clone, Copy)]
 pub struct DtlsClientHello {
+    /// How many bytes are missing, where the status says that some are; else 0.
     pub missing: usize,
+    /// The 32 bytes of the random.
     pub random: Place,
+    /// The session id, without its length; of no bytes where there is none.
     pub session_id: Place,
+    /// The cookie, without its length.
     pub cookie: Place,
+    /// The extensions, without their length; of no bytes where no whole block follows.
     pub extensions: Place,
+    /// The offset of what follows.
     pub next: usize,
+    /// The version, as it stands there.
     pub version: u16,
+    /// Whether a whole block of extensions follows.
     pub has_extensions: bool,
 }
 

@@ -30,7 +30,9 @@ use tls_places::{
 #[repr(C)]
 #[derive(Clone, Copy)]
 pub struct Found {
+    /// How many bytes are missing, where the status says that some are; else 0.
     pub missing: usize,
+    /// Where it stands.
     pub place: Place,
 }
 

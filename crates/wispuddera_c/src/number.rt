@@ -15,8 +15,11 @@ use tls_fields::Items;
 #[repr(C)]
 #[derive(Clone, Copy)]
 pub struct Number {
+    /// How many bytes are missing, where the status says that some are; else 0.
     pub missing: usize,
+    /// How many numbers the list has.
     pub count: usize,
+    /// The number.
     pub value: u16,
 }
 

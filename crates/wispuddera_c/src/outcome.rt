@@ -16,7 +16,9 @@ use tls_flow::{Direction, Event as FlowEvent, Flow, Kind, Outcome};
 #[repr(C)]
 #[derive(Clone, Copy)]
 pub struct Event {
+    /// The number of its kind.
     pub kind: u8,
+    /// Whether it goes to the server.
     pub to_server: bool,
 }
 

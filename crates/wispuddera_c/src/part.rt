@@ -16,9 +16,13 @@ use tls_places::frame_at;
 #[repr(C)]
 #[derive(Clone, Copy)]
 pub struct Part {
+    /// How many bytes are missing, where the status says that some are; else 0.
     pub missing: usize,
+    /// Where its content stands, without kind and length.
     pub content: Place,
+    /// The offset of what follows.
     pub next: usize,
+    /// Its number; 0 where such parts have none.
     pub kind: u16,
 }
 

@@ -11,11 +11,17 @@ use tls_places::frame_at;
 #[repr(C)]
 #[derive(Clone, Copy)]
 pub struct Record {
+    /// How many bytes are missing, where the status says that some are; else 0.
     pub missing: usize,
+    /// Where the fragment stands.
     pub fragment: Place,
+    /// The offset of what follows.
     pub next: usize,
+    /// The version, as it stands there.
     pub version: u16,
+    /// The length of the fragment, in bytes.
     pub length: u16,
+    /// What the fragment holds.
     pub content_type: u8,
 }
 

@@ -12,14 +12,23 @@ use tls_places::server_hello_with_places;
 #[repr(C)]
 #[derive(Clone, Copy)]
 pub struct ServerHello {
+    /// How many bytes are missing, where the status says that some are; else 0.
     pub missing: usize,
+    /// The 32 bytes of the random.
     pub random: Place,
+    /// The session id, without its length; of no bytes where there is none.
     pub session_id: Place,
+    /// The extensions, without their length; of no bytes where no whole block follows.
     pub extensions: Place,
+    /// The offset of what follows.
     pub next: usize,
+    /// The version, as it stands there.
     pub version: u16,
+    /// The cipher suite that the server picks.
     pub cipher_suite: u16,
+    /// The compression method that the server picks.
     pub compression_method: u8,
+    /// Whether a whole block of extensions follows.
     pub has_extensions: bool,
 }
 

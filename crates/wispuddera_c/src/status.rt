@@ -17,7 +17,9 @@ pub const OUTSIDE: u32 = 9;
 /// Why no value was read: a status, and how many bytes are missing, 0 where none could help.
 #[derive(Clone, Copy)]
 pub struct Refusal {
+    /// Which refusal it is.
     pub status: u32,
+    /// How many bytes are missing, where the status says that some are; else 0.
     pub missing: usize,
 }
 
