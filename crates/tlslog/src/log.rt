@@ -98,11 +98,11 @@ fn direction_of(side: Side) -> Direction {
 
 /// Lets the listener hear what the side's stream says next.
 fn hear(connection: &mut Connection<Heard>, side: Side) -> Result<(), AllocError> {
-    let stream = match side {
-        Side::Originator => &mut connection.from_originator,
-        Side::Responder => &mut connection.from_responder,
-    };
-    connection.listener.hear_stream(stream, direction_of(side))
+    let heard = &mut connection.listener;
+    match side {
+        Side::Originator => heard.hear_stream(&mut connection.from_originator, Direction::ToServer),
+        Side::Responder => heard.hear_stream(&mut connection.from_responder, Direction::FromServer),
+    }
 }
 
 impl Log {
