@@ -24,6 +24,3 @@ pub use laws::{
 pub use segment::Segment;
 pub use stream::{HELD_LIMIT, Stream};
 pub use table::{Connections, IDLE_LIMIT, MAX_CONNECTIONS};
-
-#[cfg(test)]
-mod tests;

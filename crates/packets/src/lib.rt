@@ -10,8 +10,6 @@ mod kept;
 pub mod laws;
 mod reader;
 mod section;
-#[cfg(test)]
-mod tests;
 mod visit;
 
 pub use buffer::Buffer;

@@ -35,6 +35,3 @@ mod window;
 pub use segments::{SegmentError, Segments};
 pub use steps::{Step, replay};
 pub use whole::reassemble;
-
-#[cfg(test)]
-mod tests;

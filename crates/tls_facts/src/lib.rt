@@ -4,7 +4,5 @@
 #![tactic(auto, using(tls_fields::proofs::OneAnswerLemmas::read_allowed))]
 
 mod facts;
-#[cfg(test)]
-mod tests;
 
 pub use facts::Facts;

@@ -14,11 +14,7 @@ mod datagram_talk;
 mod ends;
 mod front;
 mod hearer;
-#[cfg(test)]
-mod recorded;
 mod talk;
-#[cfg(test)]
-mod tests;
 
 pub use datagram_talk::{DatagramTalk, talk_of};
 pub use hearer::{Hearer, hear_all};

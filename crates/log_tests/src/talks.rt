@@ -1,10 +1,10 @@
 //! What is known of recorded conversations, however they were cut, and where datagrams come twice.
 use crate::recorded::{DATAGRAMS, Recorded, STREAMS};
-use crate::{DatagramTalk, Talk};
 use std::alloc::{AllocError, Global};
 use std::test::Fail;
 use tls_conversations::Direction;
 use tls_facts::Facts;
+use tls_talks::{DatagramTalk, Talk};
 
 /// The bytes of a piece.
 fn bytes(alloc: Global, digits: &str) -> Result<Vec<u8>, AllocError> {

@@ -1,7 +1,7 @@
 //! A hello of each side, and an alert, laid out by RFC 8446, section 4.1; and a recorded key exchange.
-use crate::Facts;
 use std::test::Fail;
 use tls_base::{NamedGroup, TlsAlertDescription, TlsCipherSuiteID, TlsVersion};
+use tls_facts::Facts;
 
 /// A ClientHello that asks for the host a.b.
 const CLIENT_HELLO: &[u8] = &[

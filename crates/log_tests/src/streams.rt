@@ -1,5 +1,5 @@
 //! What no clause says: that calls succeed, on streams that are known beforehand, and in time.
-use super::*;
+use segments::{SegmentError, Segments, Step, reassemble, replay};
 
 /// How many segments come from the last to the first.
 const COUNT: u32 = 16_384;

@@ -1,7 +1,7 @@
 //! Packets of captures whose fields were told by tshark 4. The bytes are laid out by the formats' documents.
-use crate::kept::{KeptPacket, read_packets};
-use crate::reader::{CaptureError, Packet};
-use crate::visit::{PacketVisitor, VisitError, visit_packets};
+use packets::{
+    CaptureError, KeptPacket, Packet, PacketVisitor, VisitError, read_packets, visit_packets,
+};
 use std::alloc::Global;
 use std::io;
 use std::io::Read;

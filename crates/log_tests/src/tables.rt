@@ -1,5 +1,5 @@
 //! What no clause says: that calls succeed, on packets of known connections, and in time.
-use super::*;
+use connections::{Connections, Datagram, End, IDLE_LIMIT, Listener, Protocol, Segment, Side};
 use std::alloc::{AllocError, Global};
 use std::hash::RandomState;
 use std::net::{IpAddr, Ipv4Addr, Ipv6Addr};
