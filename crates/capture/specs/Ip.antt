@@ -7,6 +7,7 @@ use Rattle.capture.specs.Transport.{Content, Fragment, view_content, transport}
 use Rattle.capture.specs.declared.ip.Address.{Address as StoredAddress}
 use Rattle.capture.specs.declared.ip.Address.TheVariants as address
 use Rattle.capture.specs.declared.ip.Datagram.{Datagram as LentDatagram}
+use Rattle.capture.specs.declared.ip.FieldsV4.{FieldsV4 as LentFieldsV4}
 use Rattle.capture.specs.declared.ip.Step.{Step}
 use Rattle.capture.specs.declared.ip.Step.TheVariants.{Next, Part, Last}
 
@@ -40,18 +41,31 @@ is_fragment_v4 flags = nat_le 1 (flags % 16384)
 unfoldable pub content_v4 : ℕ → ℕ → Layout Content
 content_v4 flags protocol = choose (is_fragment_v4 flags) (done Fragment) (transport protocol)
 
--- Version and length of the header in words of 4 bytes; type of service; total length; identification; flags and
--- fragment offset; time to live; protocol; checksum; source; destination; options up to the header's length (RFC 791,
--- section 3.1). What the datagram holds ends where its total length says: what follows is padding of the link, and no
--- part of it.
-unfoldable pub ipv4 : Layout Datagram
-ipv4 = do
+-- Version and length of the header in words of 4 bytes; type of service; total length (RFC 791, section 3.1): the two lengths, in
+-- bytes.
+unfoldable pub lengths_v4 : Layout (ℕ × ℕ)
+lengths_v4 = do
   first ← number 1
   test (first / 16 == 4) Verify
   test (nat_le 5 (first % 16)) LengthValue
   block 1
   total ← number 2
   test (nat_le (first % 16 * 4) total) LengthValue
+  done (first % 16 * 4, total)
+
+-- What of a header's further fields is kept.
+pub record FieldsV4 : Type 0 where
+  pub flags : ℕ
+  pub protocol : ℕ
+  pub source : ℕ
+  pub destination : ℕ
+
+abbrev pub view_fields_v4 : LentFieldsV4 → FieldsV4
+view_fields_v4 f = record { flags = f.flags; protocol = f.protocol; source = f.source; destination = f.destination }
+
+-- Identification; flags and fragment offset; time to live; protocol; checksum; source; destination.
+unfoldable pub fields_v4 : Layout FieldsV4
+fields_v4 = do
   block 2
   flags ← number 2
   block 1
@@ -59,9 +73,17 @@ ipv4 = do
   block 2
   source ← number 4
   destination ← number 4
-  block (first % 16 * 4 - 20)
-  content ← window (total - first % 16 * 4) (complete (content_v4 flags protocol))
-  done (record { source = V4 source; destination = V4 destination; content = content })
+  done (record { flags = flags; protocol = protocol; source = source; destination = destination })
+
+-- The header, with options up to its length, and what the datagram holds, which ends where its total length says: what follows is
+-- padding of the link, and no part of it.
+unfoldable pub ipv4 : Layout Datagram
+ipv4 = do
+  lengths ← lengths_v4
+  fields ← fields_v4
+  block (lengths.0 - 20)
+  content ← window (lengths.1 - lengths.0) (complete (content_v4 fields.flags fields.protocol))
+  done (record { source = V4 fields.source; destination = V4 fields.destination; content = content })
 
 -- Hop-by-Hop Options, Routing, Destination Options, Mobility: 8 bytes, and as many times 8 as the header says (RFC
 -- 8200, section 4).

@@ -3,6 +3,7 @@ use Rattle.std.specs.Prelude.{ℕ, ◌-◌, ◌*◌, ◌/◌, ◌==◌, nat_le}
 use Rattle.tls_fields.specs.Bytes.{Bytes}
 use Rattle.tls_fields.specs.Layout.{Layout, done, number, block, rest, test, choose, mapped, ◌>>=◌, ◌>>◌}
 use Rattle.tls_fields.specs.declared.result.ErrorKind.TheVariants.{LengthValue}
+use Rattle.capture.specs.declared.transport.Numbers.{Numbers as LentNumbers}
 use Rattle.capture.specs.declared.transport.TcpSegment.{TcpSegment}
 use Rattle.capture.specs.declared.transport.UdpDatagram.{UdpDatagram}
 use Rattle.capture.specs.declared.transport.Content.{Content as LentContent}
@@ -27,26 +28,52 @@ view_segment s = record {
   payload = s.payload.now;
 }
 
--- Ports, sequence number, acknowledgment number, data offset in the upper 4 bits, flags; window, checksum, urgent
--- pointer; options up to the data offset, in words of 4 bytes; and the data (RFC 9293, section 3.1).
-unfoldable pub tcp : Layout Segment
-tcp = do
+pub record Numbers : Type 0 where
+  pub source : ℕ
+  pub destination : ℕ
+  pub sequence : ℕ
+  pub acknowledgment : ℕ
+
+abbrev pub view_numbers : LentNumbers → Numbers
+view_numbers n = record {
+  source = n.source;
+  destination = n.destination;
+  sequence = n.sequence;
+  acknowledgment = n.acknowledgment;
+}
+
+-- Ports, sequence number, acknowledgment number (RFC 9293, section 3.1).
+unfoldable pub numbers : Layout Numbers
+numbers = do
   source ← number 2
   destination ← number 2
   sequence ← number 4
   acknowledgment ← number 4
+  done (record { source = source; destination = destination; sequence = sequence; acknowledgment = acknowledgment })
+
+-- Data offset in the upper 4 bits, in words of 4 bytes; flags; window, checksum, urgent pointer: the header's length in bytes, and
+-- the flags.
+unfoldable pub control : Layout (ℕ × ℕ)
+control = do
   offset ← number 1
   flags ← number 1
   block 6
   test (nat_le 5 (offset / 16)) LengthValue
-  block (offset / 16 * 4 - 20)
+  done (offset / 16 * 4, flags)
+
+-- The header, with options up to the data offset, and the data.
+unfoldable pub tcp : Layout Segment
+tcp = do
+  n ← numbers
+  c ← control
+  block (c.0 - 20)
   payload ← rest
   done (record {
-    source = source;
-    destination = destination;
-    sequence = sequence;
-    acknowledgment = acknowledgment;
-    flags = flags;
+    source = n.source;
+    destination = n.destination;
+    sequence = n.sequence;
+    acknowledgment = n.acknowledgment;
+    flags = c.1;
     payload = payload;
   })
 

@@ -1,12 +1,12 @@
 //! Datagrams of the Internet Protocol (RFC 791; RFC 8200).
 #![tactic(auto, using(tls_fields::proofs::OneAnswerLemmas::read_allowed), unfolding(crate::specs::Ip::content_v4, crate::specs::Ip::skipped, crate::specs::Ip::fragment_header, crate::specs::Ip::step, crate::specs::Ip::address_v6))]
 
-ghost use Rattle.std.specs.Prelude.{◌≡◌, ◌<◌};
+ghost use Rattle.std.specs.Prelude.{◌≡◌, ◌<◌, ◌≤◌, IfOk};
 ghost use Rattle.tls_fields.specs.Layout.{complete};
 ghost use Rattle.tls_fields.specs.Answers.{Gives};
 ghost use Rattle.capture.specs.Transport.{view_content};
 ghost use Rattle.capture.specs.Ip.{content_v4 as content_v4_layout, ipv4, ipv6, view_datagram, view_address};
-ghost use Rattle.capture.specs.Ip.{skipped as skipped_layout};
+ghost use Rattle.capture.specs.Ip.{skipped as skipped_layout, lengths_v4 as lengths_v4_layout, fields_v4 as fields_v4_layout, view_fields_v4};
 ghost use Rattle.capture.specs.Ip.{address_v6 as address_v6_layout, headers as headers_layout, step as step_layout};
 ghost use Rattle.capture.specs.Ip.{fragment_header as fragment_header_layout, is_extension as is_extension_number};
 
@@ -31,6 +31,19 @@ pub struct Datagram<'a> {
     pub destination: Address,
     /// What it holds.
     pub content: Content<'a>,
+}
+
+/// What of a header of IPv4 is kept, but for its lengths.
+#[derive(Clone, Copy)]
+struct FieldsV4 {
+    /// The flags and the fragment offset.
+    flags: u16,
+    /// The number of the protocol.
+    protocol: u8,
+    /// Where the datagram comes from.
+    source: u32,
+    /// Where it goes to.
+    destination: u32,
 }
 
 /// What a header of IPv6 leads to.
@@ -64,18 +77,12 @@ fn whole_v4(i: &[u8], flags: u16, protocol: u8) -> IResult<&[u8], Content>
     }
 }
 
-/// Reads a datagram of IPv4 (RFC 791, section 3.1): its header of 20 bytes and options, and what it holds, which ends
-/// where its total length says. What follows is padding.
-///
-/// - `Incomplete` of what is missing of the header, or of the bytes that the total length counts: it wasn't captured
-///   whole.
-/// - `Error` of kind `Verify` where the version isn't 4.
-/// - `Error` of kind `LengthValue` where the header's length is below 5 words or above the total length; or where the
-///   data offset of a segment is below 5 words, or the length of a user datagram below 8.
-/// - `Error` of kind `Complete` where a segment or user datagram doesn't fit in the total length.
-#[tactic(auto, using(tls_fields::proofs::OneAnswerLemmas::read_allowed), unfolding(crate::specs::Ip::ipv4))]
-pub fn parse_ipv4(i: &[u8]) -> IResult<&[u8], Datagram>
-    ensures { Gives view_datagram ipv4 i.now result }
+/// The lengths of a header of IPv4 and of its datagram, in bytes.
+#[tactic(auto, using(tls_fields::proofs::OneAnswerLemmas::read_allowed), unfolding(crate::specs::Ip::lengths_v4))]
+#[inline]
+fn lengths_v4(i: &[u8]) -> IResult<&[u8], (usize, usize)>
+    ensures gives { Gives (λ v. v) lengths_v4_layout i.now result }
+    ensures fits { IfOk result (λ x. (20 ≤ x.1.0) × (x.1.0 ≤ x.1.1)) }
 {
     let (i, first) = number1(i)?;
     if first / 16 != 4 {
@@ -90,6 +97,15 @@ pub fn parse_ipv4(i: &[u8]) -> IResult<&[u8], Datagram>
     if header > total as usize {
         return refused(i, ErrorKind::LengthValue);
     }
+    Ok((i, (header, total as usize)))
+}
+
+/// The fields of a header of IPv4 behind its lengths.
+#[tactic(auto, using(tls_fields::proofs::OneAnswerLemmas::read_allowed), unfolding(crate::specs::Ip::fields_v4))]
+#[inline]
+fn fields_v4(i: &[u8]) -> IResult<&[u8], FieldsV4>
+    ensures { Gives view_fields_v4 fields_v4_layout i.now result }
+{
     let (i, _) = block(i, 2)?;
     let (i, flags) = number2(i)?;
     let (i, _) = block(i, 1)?;
@@ -97,12 +113,36 @@ pub fn parse_ipv4(i: &[u8]) -> IResult<&[u8], Datagram>
     let (i, _) = block(i, 2)?;
     let (i, source) = number4(i)?;
     let (i, destination) = number4(i)?;
+    let fields = FieldsV4 {
+        flags,
+        protocol,
+        source,
+        destination,
+    };
+    Ok((i, fields))
+}
+
+/// Reads a datagram of IPv4 (RFC 791, section 3.1): its header of 20 bytes and options, and what it holds, which ends
+/// where its total length says. What follows is padding.
+///
+/// - `Incomplete` of what is missing of the header, or of the bytes that the total length counts: it wasn't captured
+///   whole.
+/// - `Error` of kind `Verify` where the version isn't 4.
+/// - `Error` of kind `LengthValue` where the header's length is below 5 words or above the total length; or where the
+///   data offset of a segment is below 5 words, or the length of a user datagram below 8.
+/// - `Error` of kind `Complete` where a segment or user datagram doesn't fit in the total length.
+#[tactic(auto, using(tls_fields::proofs::OneAnswerLemmas::read_allowed), unfolding(crate::specs::Ip::ipv4))]
+pub fn parse_ipv4(i: &[u8]) -> IResult<&[u8], Datagram>
+    ensures { Gives view_datagram ipv4 i.now result }
+{
+    let (i, (header, total)) = lengths_v4(i)?;
+    let (i, fields) = fields_v4(i)?;
     let (i, _) = block(i, header - 20)?;
-    let (i, held) = block(i, total as usize - header)?;
-    let (_, content) = whole_v4(held, flags, protocol)?;
+    let (i, held) = block(i, total - header)?;
+    let (_, content) = whole_v4(held, fields.flags, fields.protocol)?;
     let datagram = Datagram {
-        source: Address::V4(source),
-        destination: Address::V4(destination),
+        source: Address::V4(fields.source),
+        destination: Address::V4(fields.destination),
         content,
     };
     Ok((i, datagram))

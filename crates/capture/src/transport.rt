@@ -1,9 +1,20 @@
 //! What stands in a datagram of the Internet Protocol.
+ghost use Rattle.std.specs.Prelude.{◌≤◌, IfOk};
 ghost use Rattle.tls_fields.specs.Answers.{Gives};
 ghost use Rattle.capture.specs.Transport.{tcp as tcp_layout, view_segment, udp as udp_layout, view_datagram};
+ghost use Rattle.capture.specs.Transport.{numbers as numbers_layout, view_numbers, control as control_layout};
 ghost use Rattle.capture.specs.Transport.{transport as transport_layout, view_content};
 
 use tls_fields::{ErrorKind, IResult, block, number1, number2, number4, refused, rest};
+
+/// The numbers in front of a segment's header.
+#[derive(Clone, Copy)]
+struct Numbers {
+    source: u16,
+    destination: u16,
+    sequence: u32,
+    acknowledgment: u32,
+}
 
 /// A segment of TCP (RFC 9293, section 3.1).
 #[derive(Clone, Copy, Debug, PartialEq)]
@@ -46,6 +57,42 @@ pub enum Content<'a> {
     Other(u8),
 }
 
+/// Reads the ports and numbers in front of a segment of TCP.
+#[tactic(auto, using(tls_fields::proofs::OneAnswerLemmas::read_allowed), unfolding(crate::specs::Transport::numbers))]
+#[inline]
+fn read_numbers(i: &[u8]) -> IResult<&[u8], Numbers>
+    ensures { Gives view_numbers numbers_layout i.now result }
+{
+    let (i, source) = number2(i)?;
+    let (i, destination) = number2(i)?;
+    let (i, sequence) = number4(i)?;
+    let (i, acknowledgment) = number4(i)?;
+    let numbers = Numbers {
+        source,
+        destination,
+        sequence,
+        acknowledgment,
+    };
+    Ok((i, numbers))
+}
+
+/// Reads the header's length in bytes, and its flags.
+#[tactic(auto, using(tls_fields::proofs::OneAnswerLemmas::read_allowed), unfolding(crate::specs::Transport::control))]
+#[inline]
+fn control(i: &[u8]) -> IResult<&[u8], (usize, u8)>
+    ensures gives { Gives (λ v. v) control_layout i.now result }
+    ensures fits { IfOk result (λ x. 20 ≤ x.1.0) }
+{
+    let (i, offset) = number1(i)?;
+    let (i, flags) = number1(i)?;
+    let (i, _) = block(i, 6)?;
+    let words = (offset / 16) as usize;
+    if words < 5 {
+        return refused(i, ErrorKind::LengthValue);
+    }
+    Ok((i, (words * 4, flags)))
+}
+
 /// Reads a segment of TCP, all of `i` (RFC 9293, section 3.1): 20 bytes, options up to the data offset, and the data.
 ///
 /// - `Incomplete` of what is missing of the header, or of the options.
@@ -54,24 +101,15 @@ pub enum Content<'a> {
 pub fn parse_tcp(i: &[u8]) -> IResult<&[u8], TcpSegment>
     ensures { Gives view_segment tcp_layout i.now result }
 {
-    let (i, source) = number2(i)?;
-    let (i, destination) = number2(i)?;
-    let (i, sequence) = number4(i)?;
-    let (i, acknowledgment) = number4(i)?;
-    let (i, offset) = number1(i)?;
-    let (i, flags) = number1(i)?;
-    let (i, _) = block(i, 6)?;
-    let words = (offset / 16) as usize;
-    if words < 5 {
-        return refused(i, ErrorKind::LengthValue);
-    }
-    let (i, _) = block(i, words * 4 - 20)?;
+    let (i, numbers) = read_numbers(i)?;
+    let (i, (header, flags)) = control(i)?;
+    let (i, _) = block(i, header - 20)?;
     let (i, payload) = rest(i)?;
     let segment = TcpSegment {
-        source,
-        destination,
-        sequence,
-        acknowledgment,
+        source: numbers.source,
+        destination: numbers.destination,
+        sequence: numbers.sequence,
+        acknowledgment: numbers.acknowledgment,
         flags,
         payload,
     };
