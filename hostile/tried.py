@@ -14,8 +14,8 @@ MORE = "tls_events tls_flow"
 
 
 def tree(room, name, keeps=False):
-    """Copies the crates into the folder, with the program's sources in place of tlsview's, of which all but the root file and the
-    tests stay where it keeps them."""
+    """Copies the crates into the folder, with the program's sources in place of tlsview's, of which those that it doesn't have stay
+    where it keeps them."""
     crates = room / "crates"
     crates.mkdir()
     (room / "HANDLES").write_bytes((TOP / "HANDLES").read_bytes())
@@ -30,7 +30,7 @@ def tree(room, name, keeps=False):
     subprocess.run(["tar", "xf", "-"], cwd=crates, input=pack.stdout, check=True)
     source = crates / HOST / "src"
     for file in source.iterdir():
-        if not keeps or file.name == "tests.rt":
+        if not keeps:
             file.unlink()
     ours = TOP / "hostile" / name
     for file in ours.rglob("*.rt.unproved"):

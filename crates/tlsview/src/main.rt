@@ -19,8 +19,6 @@ mod report;
 mod sink;
 mod statement;
 mod tally;
-#[cfg(test)]
-mod tests;
 mod transfer;
 
 use crate::program::view;
