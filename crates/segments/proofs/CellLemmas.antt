@@ -1,6 +1,7 @@
 -- Cells, filled.
-use Rattle.std.proofs.Common.{◌≡◌, ℕ, zero, suc, ◌+◌, ◌<◌, ◌≤◌, [], ◌∷◌, ◌++◌, length, take, drop, map, Option, Some, None, Bool, true, false, cond, ltb, refl, sym, ◌∙◌, ap, arith}
-use Rattle.segments.specs.Cells.{Bytes, Cells, fill, fill_at, put, run, known, empties, known_behind, gap}
+use Rattle.std.proofs.Common.{◌≡◌, ℕ, zero, suc, ◌+◌, ◌<◌, ◌≤◌, [], ◌∷◌, ◌++◌, length, take, drop, get_or, map, Option, Some, None, Bool, true, false, cond, ltb, refl, sym, ◌∙◌, ap, arith}
+use Rattle.std.specs.Option.{is_some}
+use Rattle.segments.specs.Cells.{Bytes, Cells, fill, fill_at, put, run, known, empties, known_behind, gap, cell}
 
 pub fill_nil : (c : Cells) → fill c [] ≡ c
 fill_nil [] = refl
@@ -130,3 +131,63 @@ gap_first (Some x ∷ cs) h = let n = none (ltb 0 (known (Some x ∷ cs))) in ab
     none : (t : Bool) → ◌≡◌ {A = ℕ} (cond t 0 0) 0
     none true = refl
     none false = refl
+
+-- What stands at a place.
+pub cell_get : (cs : Cells) (i : ℕ) (d : Option ℕ) → i < length cs → cell cs i ≡ get_or cs i d
+cell_get [] i d h = absurd (omega (arith, h))
+cell_get (c ∷ cs) zero d h = refl
+cell_get (c ∷ cs) (suc i) d h = cell_get cs i d (omega (arith, h))
+
+pub cell_none : (cs : Cells) (i : ℕ) → length cs ≤ i → cell cs i ≡ None
+cell_none [] i h = refl
+cell_none (c ∷ cs) zero h = absurd (omega (arith, h))
+cell_none (c ∷ cs) (suc i) h = cell_none cs i (omega (arith, h))
+
+-- The front from a place on.
+pub run_next : (cs : Cells) (i b : ℕ) → cell cs i ≡ Some b → run (drop i cs) ≡ b ∷ run (drop (i + 1) cs)
+run_next cs i b e = let n : suc i ≡ i + 1 = omega arith in go cs i e ∙ ap (λ k. b ∷ run (drop k cs)) n
+  where
+    go : (cs : Cells) (i : ℕ) → cell cs i ≡ Some b → run (drop i cs) ≡ b ∷ run (drop (suc i) cs)
+    go [] i e = absurd cc
+    go (None ∷ cs) zero e = absurd cc
+    go (Some x ∷ cs) zero e = let same : x ≡ b = cc in ap (λ y. y ∷ run cs) same
+    go (c ∷ cs) (suc i) e = go cs i e
+
+pub run_stops : (cs : Cells) (i : ℕ) → cell cs i ≡ None → run (drop i cs) ≡ []
+run_stops [] zero e = refl
+run_stops [] (suc i) e = refl
+run_stops (None ∷ cs) zero e = refl
+run_stops (Some x ∷ cs) zero e = absurd cc
+run_stops (c ∷ cs) (suc i) e = run_stops cs i e
+
+pub empties_next : (cs : Cells) (i : ℕ) → i < length cs → cell cs i ≡ None → empties (drop i cs) ≡ 1 + empties (drop (i + 1) cs)
+empties_next cs i h e =
+    let n : suc i ≡ i + 1 = omega arith in
+    let m : suc (empties (drop (suc i) cs)) ≡ 1 + empties (drop (suc i) cs) = omega arith in
+    go cs i h e ∙ m ∙ ap (λ k. 1 + empties (drop k cs)) n
+  where
+    go : (cs : Cells) (i : ℕ) → i < length cs → cell cs i ≡ None → empties (drop i cs) ≡ suc (empties (drop (suc i) cs))
+    go [] i h e = absurd (omega (arith, h))
+    go (None ∷ cs) zero h e = refl
+    go (Some x ∷ cs) zero h e = absurd cc
+    go (c ∷ cs) (suc i) h e = go cs i (omega (arith, h)) e
+
+pub empties_stop : (cs : Cells) (i b : ℕ) → cell cs i ≡ Some b → empties (drop i cs) ≡ 0
+empties_stop [] i b e = absurd cc
+empties_stop (None ∷ cs) zero b e = absurd cc
+empties_stop (Some x ∷ cs) zero b e = refl
+empties_stop (c ∷ cs) (suc i) b e = empties_stop cs i b e
+
+pub empties_end : (cs : Cells) (i : ℕ) → length cs ≤ i → empties (drop i cs) ≡ 0
+empties_end [] zero h = refl
+empties_end [] (suc i) h = refl
+empties_end (c ∷ cs) zero h = absurd (omega (arith, h))
+empties_end (c ∷ cs) (suc i) h = empties_end cs i (omega (arith, h))
+
+pub some_of : (o : Option ℕ) → is_some o ≡ true → (b : ℕ) × (o ≡ Some b)
+some_of None e = absurd cc
+some_of (Some b) e = (b, refl)
+
+pub none_of : (o : Option ℕ) → is_some o ≡ false → o ≡ None
+none_of None e = refl
+none_of (Some b) e = absurd cc

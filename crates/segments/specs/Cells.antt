@@ -8,6 +8,20 @@ Bytes = List ℕ
 abbrev pub Cells : Type 0
 Cells = List (Option ℕ)
 
+-- What stands at a place.
+abbrev pub cell : Cells → ℕ → Option ℕ
+cell [] i = None
+cell (c ∷ cs) zero = c
+cell (c ∷ cs) (suc i) = cell cs i
+
+abbrev pub byte_at : Bytes → ℕ → Option ℕ
+byte_at b i = cell (map Some b) i
+
+-- The first of two that is there.
+abbrev pub earlier : Option ℕ → Option ℕ → Option ℕ
+earlier None o = o
+earlier (Some x) o = Some x
+
 -- What stands first stays.
 abbrev pub or_else : Option ℕ → ℕ → Option ℕ
 or_else None y = Some y

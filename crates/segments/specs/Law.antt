@@ -1,8 +1,8 @@
 -- What is handed out of a stream, by the stream and its segments alone.
-use Rattle.std.specs.Prelude.{◌≡◌, ℕ, zero, suc, ◌+◌, ◌^◌, ◌<◌, ◌≤◌, ◌⊎◌, Option, Some, None, List, [], ◌∷◌, ◌++◌, length, map}
+use Rattle.std.specs.Prelude.{◌≡◌, ℕ, ◌+◌, ◌^◌, ◌<◌, ◌≤◌, ◌⊎◌, Some, List, [], ◌∷◌, ◌++◌, length}
 use Rattle.std.specs.Borrow.{Bor}
 use Rattle.std.specs.Option.{IsSome}
-use Rattle.segments.specs.Cells.{Bytes, Cells, Held, ahead}
+use Rattle.segments.specs.Cells.{Bytes, Held, ahead, byte_at, cell}
 
 -- A segment: the sequence number of its first byte, and its bytes.
 abbrev pub Segment : Type 0
@@ -45,20 +45,6 @@ pub record IsLongestFront (stream : Bytes) (IsKnown : ℕ → Type 0) (front : B
 abbrev pub IsReassembled : ℕ → List Segment → Bytes → Type 0
 IsReassembled first segments out =
     (stream : Bytes) → length stream < 2 ^ 31 → AreParts stream first segments → IsLongestFront stream (IsCovered first segments) out
-
--- What stands at a place.
-abbrev pub cell : Cells → ℕ → Option ℕ
-cell [] i = None
-cell (c ∷ cs) zero = c
-cell (c ∷ cs) (suc i) = cell cs i
-
-abbrev pub byte_at : Bytes → ℕ → Option ℕ
-byte_at b i = cell (map Some b) i
-
--- The first of two that is there.
-abbrev pub earlier : Option ℕ → Option ℕ → Option ℕ
-earlier None o = o
-earlier (Some x) o = Some x
 
 -- What is held is what is known of the stream.
 pub record IsMadeOf (stream : Bytes) (IsKnown : ℕ → Type 0) (h : Held) : Type 0 where

@@ -1,6 +1,6 @@
 -- How the bytes that wait for others are stored: place by place.
 use Rattle.std.specs.Prelude.{◌≡◌, ℕ, ◌+◌, ◌-◌, ◌^◌, ◌≤◌, Option, Some, None, [], ◌∷◌, ◌++◌, length, map, drop}
-use Rattle.segments.specs.Cells.{Bytes, Cells, Held, known, run}
+use Rattle.segments.specs.Cells.{Bytes, Cells, Held, run}
 
 -- What stands at a place, or else a byte.
 abbrev pub standing : Option ℕ → ℕ → ℕ
@@ -12,11 +12,6 @@ abbrev pub over : Cells → Bytes → Bytes
 over [] ys = ys
 over (c ∷ cs) [] = []
 over (c ∷ cs) (y ∷ ys) = standing c y ∷ over cs ys
-
--- What a Window keeps.
-pub record IsCounted (begin held : ℕ) (places : Cells) : Type 0 where
-  pub begin_in : begin ≤ length places
-  pub held_is : held ≡ known (drop begin places)
 
 -- What a Segments keeps: the first place behind its front is empty, and no place is further behind it than the limit.
 pub record IsSound (start taken limit : ℕ) (front : Bytes) (window : Cells) : Type 0 where

@@ -16,16 +16,19 @@
 //!
 //! # Cost
 //!
-//! What waits is held place by place, up to the last byte that came, so a segment takes time by its own bytes, and by the places
-//! between it and the last that came; each place is made, and moved into order, once. Nothing is searched, however many
-//! segments wait, and in whatever order they come.
+//! What waits is held in pages of 256 places, of which only those are there in which a byte came. A segment takes time by its own
+//! bytes, with a look-up of its page for each, and each byte that waited is looked up twice more as it is put in order; a look-up
+//! takes time by the logarithm of how many pages there are. Nothing else is searched, in whatever order segments come. A gap that is
+//! skipped, or counted by [`Segments::missing`], takes a look-up for each of its places.
 //!
-//! Behind the first byte that is missing, a place takes 2 bytes of memory, at most twice the limit of [`Segments::new`] are kept,
-//! and a vector may have reserved twice what it holds: at most 8 bytes for each byte of the limit. None is kept once nothing
-//! waits. A segment far ahead takes memory up to its end, within the limit. What is available is the caller's to hand out.
+//! Behind the first byte that is missing, memory grows with what came, and not with how far ahead it is: the first byte in a page
+//! takes the page, of 512 bytes, and its entry in a tree. Where all places wait that the limit of [`Segments::new`] lets, that is
+//! little more than 2 bytes for each byte of the limit. None is kept once nothing waits. What is available is the caller's to hand
+//! out.
 #![tactic(auto)]
 
 pub mod laws;
+mod pages;
 mod places;
 mod segments;
 mod steps;

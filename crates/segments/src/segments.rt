@@ -162,10 +162,10 @@ impl Segments {
     {
         self.make_room();
         let held = self.front.len();
-        match append_joined(&mut self.front, bytes, self.window.places()) {
+        match append_joined(&mut self.front, bytes, &self.window) {
             Ok(()) => {
                 let added = self.front.len() - held;
-                let count = added.min(self.window.places().len());
+                let count = added.min(self.window.len());
                 self.window.drop_front(count);
                 Ok(())
             }
@@ -197,9 +197,7 @@ impl Segments {
         ensures err { OnErr result (self.new ≡ self.old) }
     {
         let held = self.front.len();
-        let places = self.window.places();
-        let from = missed.min(places.len());
-        match append_run(&mut self.front, &places[from..]) {
+        match append_run(&mut self.front, &self.window, missed.min(self.window.len())) {
             Ok(()) => {
                 let added = self.front.len() - held;
                 self.window.drop_front(missed + added);
@@ -287,7 +285,7 @@ impl Segments {
         if self.window.held() == 0 {
             return 0;
         }
-        count_empty(self.window.places())
+        count_empty(&self.window)
     }
 
     /// Gives up the bytes that are missing at the front, and tells how many they are: what is held behind them comes next.

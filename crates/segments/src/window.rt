@@ -1,32 +1,34 @@
 //! Bytes that wait for others.
-ghost use Rattle.std.specs.Prelude.{◌≡◌, ◌≤◌, ◌+◌, ◌-◌, ◌^◌, ◌++◌, [], None, length, drop, replicate, OnOk, OnErr};
-ghost use Rattle.segments.specs.Cells.{fill_at, known};
+ghost use Rattle.std.specs.Prelude.{◌≡◌, ◌≤◌, ◌<◌, ◌+◌, ◌^◌, [], length, drop, OnOk, OnErr};
+ghost use Rattle.segments.specs.Cells.{cell, fill_at, known};
 
-use crate::places::{count_known, fill_places};
+use crate::pages::{Pages, byte_at, count_known, make_pages, remove_pages, write_bytes};
 use std::alloc::{AllocError, Global};
+use std::collections::BTreeMap;
 use std::marker::Model;
 
 /// The places from one on, up to the last byte that came.
+///
+/// Memory is taken for the pages in which a byte came, however far ahead they are.
 #[derive(Drop)]
 pub(crate) struct Window {
     alloc: Global,
-    // What stands at each place, behind `begin` places that were let go.
-    places: Vec<Option<u8>>,
-    begin: usize,
-    // How many bytes stand.
+    pages: Pages,
+    // The place in `pages` of the first, how many places there are, and how many bytes stand there.
+    begin: u64,
+    len: usize,
     held: usize,
 }
 
 impl Model for Window {
-    ghost use Rattle.std.specs.Prelude.{drop};
     ghost use Rattle.segments.specs.Cells.{Cells};
-    ghost use Rattle.segments.specs.Places.{IsCounted};
+    ghost use Rattle.segments.specs.Pages.{IsPaged, places};
 
     ghost Value = { Cells };
 
-    ghost view = { λ w. drop w.begin w.places.items };
+    ghost view = { λ w. places w.len w.begin w.pages };
 
-    ghost invariant = { λ w. IsCounted w.begin w.held w.places.items };
+    ghost invariant = { λ w. IsPaged w.begin w.len w.held w.pages };
 }
 
 impl Window {
@@ -36,17 +38,26 @@ impl Window {
     {
         Window {
             alloc,
-            places: Vec::new(alloc),
+            pages: BTreeMap::new(alloc),
             begin: 0,
+            len: 0,
             held: 0,
         }
     }
 
-    /// What stands at each place.
-    pub(crate) fn places(&self) -> &[Option<u8>]
-        ensures { result.now ≡ self.now }
+    /// How many places there are.
+    pub(crate) fn len(&self) -> usize
+        ensures { result ≡ length self.now }
     {
-        &self.places[self.begin..]
+        self.len
+    }
+
+    /// What stands at a place.
+    pub(crate) fn place(&self, at: usize) -> Option<u8>
+        requires { at < length self.now }
+        ensures { result ≡ cell self.now at }
+    {
+        byte_at(&self.pages, self.begin + at as u64)
     }
 
     /// How many bytes stand.
@@ -57,57 +68,38 @@ impl Window {
         self.held
     }
 
-    /// Lets the first places go, and all memory with the last of them.
+    /// Lets the first places go, and the memory of their pages.
     pub(crate) fn drop_front(&mut self, n: usize)
         requires { n ≤ length self.old }
         ensures { self.new ≡ drop n self.old }
     {
-        if self.begin + n == self.places.len() {
-            self.places = Vec::new(self.alloc);
-            self.begin = 0;
-            self.held = 0;
+        if n == self.len {
+            *self = Window::new(self.alloc);
             return;
         }
-        self.held -= count_known(&self.places[self.begin..self.begin + n]);
-        self.begin += n;
-    }
-
-    /// Moves the places to the beginning, where they are no more than were let go, so that each is moved no more often than
-    /// another is let go.
-    fn make_room(&mut self)
-        ensures { self.new ≡ self.old }
-    {
-        let count = self.places.len() - self.begin;
-        if count <= self.begin {
-            self.places.copy_within(self.begin.., 0);
-            self.places.truncate(count);
-            self.begin = 0;
-        }
-    }
-
-    /// Adds empty places behind the last, up to so many in all.
-    fn reach(&mut self, len: usize) -> Result<(), AllocError>
-        requires { len ≤ 2 ^ 62 }
-        ensures ok { OnOk result (self.new ≡ self.old ++ replicate (len - length self.old) None) }
-        ensures err { OnErr result (self.new ≡ self.old) }
-    {
-        self.make_room();
-        let end = self.begin + len;
-        if end <= self.places.len() {
-            return Ok(());
-        }
-        self.places.resize(end, None)?;
-        Ok(())
+        let begin = self.begin + n as u64;
+        self.held -= count_known(&self.pages, self.begin, n);
+        remove_pages(&mut self.pages, self.begin, begin);
+        self.begin = begin;
+        self.len -= n;
     }
 
     /// Puts bytes from a place on where none stand.
     pub(crate) fn fill(&mut self, at: usize, bytes: &[u8]) -> Result<(), AllocError>
-        requires { at + length bytes.now ≤ 2 ^ 62 }
+        requires some { 0 < length bytes.now }
+        requires small { at + length bytes.now ≤ 2 ^ 62 }
         ensures ok { OnOk result (self.new ≡ fill_at at self.old bytes.now) }
         ensures err { OnErr result (self.new ≡ self.old) }
     {
-        self.reach(at + bytes.len())?;
-        self.held += fill_places(&mut self.places, self.begin + at, bytes);
+        let end = at + bytes.len();
+        // There always is such a place: a stream has at most 2^62 bytes.
+        let Some(end_place) = self.begin.checked_add(end as u64) else {
+            return Err(AllocError);
+        };
+        let first = self.begin + at as u64;
+        make_pages(self.alloc, &mut self.pages, first, end_place - 1)?;
+        self.held += write_bytes(&mut self.pages, first, bytes);
+        self.len = self.len.max(end);
         Ok(())
     }
 }

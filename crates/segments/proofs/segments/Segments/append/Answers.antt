@@ -1,5 +1,5 @@
-use Rattle.std.proofs.Common.{◌≡◌, ◌≤◌, ◌+◌, ◌-◌, ◌^◌, ◌++◌, length, drop, ap, sym, ◌∙◌, subst, arith, min}
-use Rattle.segments.specs.Cells.{fill, run, wanted, with_located}
+use Rattle.std.proofs.Common.{◌≡◌, ◌≤◌, ◌+◌, ◌-◌, ◌^◌, length, drop, ap, sym, ◌∙◌, subst, arith, min}
+use Rattle.segments.specs.Cells.{wanted, with_located}
 use Rattle.segments.proofs.HeldLemmas.{wanted_is, appended}
 use Rattle.segments.proofs.segments.Segments.append.Goals as goal
 
@@ -16,9 +16,9 @@ invariant_of-self c =
     let l' = c.len-held.ensures in
     let n_is : n ≡ length c.append_joined.new.out.items - length i.front.items = omega (arith, o, o', l, l') in
     (appended i.first i.limit i.start i.taken i.front.items c.append_joined.new.out.items i.window c.drop_front.new.self ys n c.self.invariant small
-    (c.in-Ok.ensures.out ∙ ap (λ w. i.front.items ++ run (fill w ys)) c.places.ensures)
+    c.in-Ok.ensures.out
     n_is
-    (c.drop_front.ensures ∙ ap (λ k. drop k i.window) (c.min-count.ensures ∙ ap (λ p. min n (length p)) c.places-in-Ok.ensures))).sound
+    (c.drop_front.ensures ∙ ap (λ k. drop k i.window) (c.min-count.ensures ∙ ap (min n) c.len-in-Ok.ensures))).sound
 
 pub returns-in-Ok-clause-ok : goal.returns-in-Ok-clause-ok
 returns-in-Ok-clause-ok c =
@@ -33,7 +33,7 @@ returns-in-Ok-clause-ok c =
     let l' = c.len-held.ensures in
     let n_is : n ≡ length c.append_joined.new.out.items - length i.front.items = omega (arith, o, o', l, l') in
     (appended i.first i.limit i.start i.taken i.front.items c.append_joined.new.out.items i.window c.drop_front.new.self ys n c.self.invariant small
-    (c.in-Ok.ensures.out ∙ ap (λ w. i.front.items ++ run (fill w ys)) c.places.ensures)
+    c.in-Ok.ensures.out
     n_is
-    (c.drop_front.ensures ∙ ap (λ k. drop k i.window) (c.min-count.ensures ∙ ap (λ p. min n (length p)) c.places-in-Ok.ensures))).held
+    (c.drop_front.ensures ∙ ap (λ k. drop k i.window) (c.min-count.ensures ∙ ap (min n) c.len-in-Ok.ensures))).held
     ∙ ap (with_located (0, ys)) (c.self.view_is ∙ c.make_room.ensures)

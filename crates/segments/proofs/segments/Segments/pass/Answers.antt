@@ -1,5 +1,5 @@
-use Rattle.std.proofs.Common.{◌≡◌, ◌≤◌, ◌+◌, ◌-◌, ◌++◌, length, drop, ap, sym, ◌∙◌, subst, arith}
-use Rattle.std.proofs.lemmas.List.{take_rest, drop_min}
+use Rattle.std.proofs.Common.{◌≡◌, ◌≤◌, ◌+◌, ◌-◌, ◌++◌, length, drop, ap, sym, ◌∙◌, subst, arith, min}
+use Rattle.std.proofs.lemmas.List.{drop_min}
 use Rattle.segments.specs.Cells.{run, without_front}
 use Rattle.segments.proofs.HeldLemmas.{none_front, all_window, pass_room, skipped}
 use Rattle.segments.proofs.segments.Segments.pass.Goals as goal
@@ -12,13 +12,13 @@ drop_front-requires c =
     let none = none_front i.start i.taken i.limit i.front.items i.window c.self.invariant empty in
     let all = sym (ap (λ h. length h.cells) c.self.view_is) ∙ ap length (all_window i.start i.front.items i.window none) in
     let few = subst (λ k. n ≤ k) all c.requires.within in
-    let P = c.places-places.result.now in
     let front_is =
     c.in-Ok.ensures.out
-    ∙ ap (λ r. i.front.items ++ run r) (take_rest P c.min-from.result ∙ ap (λ k. drop k P) c.min-from.ensures ∙ drop_min n P ∙ ap (drop n) c.places-places.ensures) in
+    ∙ ap (λ k. i.front.items ++ run (drop k i.window)) (c.min.ensures ∙ ap (min n) c.len.ensures)
+    ∙ ap (λ r. i.front.items ++ run r) (drop_min n i.window) in
     let o = i.front.ok.0 in
     let o' = c.append_run.new.out.ok.0 in
-    let l = c.len.ensures in
+    let l = c.len-in-Ok.ensures in
     let l' = c.len-held.ensures in
     let room = pass_room n i.front.items c.append_run.new.out.items i.window few front_is in
     omega (arith, room, o, o', l, l')
@@ -31,15 +31,15 @@ invariant_of-self c =
     let none = none_front i.start i.taken i.limit i.front.items i.window c.self.invariant empty in
     let all = sym (ap (λ h. length h.cells) c.self.view_is) ∙ ap length (all_window i.start i.front.items i.window none) in
     let few = subst (λ k. n ≤ k) all c.requires.within in
-    let P = c.places-places.result.now in
     let front_is =
     c.in-Ok.ensures.out
-    ∙ ap (λ r. i.front.items ++ run r) (take_rest P c.min-from.result ∙ ap (λ k. drop k P) c.min-from.ensures ∙ drop_min n P ∙ ap (drop n) c.places-places.ensures) in
+    ∙ ap (λ k. i.front.items ++ run (drop k i.window)) (c.min.ensures ∙ ap (min n) c.len.ensures)
+    ∙ ap (λ r. i.front.items ++ run r) (drop_min n i.window) in
     let o = i.front.ok.0 in
     let o' = c.append_run.new.out.ok.0 in
-    let l = c.len.ensures in
+    let l = c.len-in-Ok.ensures in
     let l' = c.len-held.ensures in
-    let m_is : n + (c.len.result - c.len-held.result) ≡ n + (length c.append_run.new.out.items - length i.front.items) = omega (arith, o, o', l, l') in
+    let m_is : n + (c.len-in-Ok.result - c.len-held.result) ≡ n + (length c.append_run.new.out.items - length i.front.items) = omega (arith, o, o', l, l') in
     (skipped i.first i.limit i.start i.taken n _ i.front.items c.append_run.new.out.items i.window c.drop_front.new.self c.self.invariant none few front_is m_is c.drop_front.ensures).sound
 
 pub returns-in-Ok-clause-ok : goal.returns-in-Ok-clause-ok
@@ -50,14 +50,14 @@ returns-in-Ok-clause-ok c =
     let none = none_front i.start i.taken i.limit i.front.items i.window c.self.invariant empty in
     let all = sym (ap (λ h. length h.cells) c.self.view_is) ∙ ap length (all_window i.start i.front.items i.window none) in
     let few = subst (λ k. n ≤ k) all c.requires.within in
-    let P = c.places-places.result.now in
     let front_is =
     c.in-Ok.ensures.out
-    ∙ ap (λ r. i.front.items ++ run r) (take_rest P c.min-from.result ∙ ap (λ k. drop k P) c.min-from.ensures ∙ drop_min n P ∙ ap (drop n) c.places-places.ensures) in
+    ∙ ap (λ k. i.front.items ++ run (drop k i.window)) (c.min.ensures ∙ ap (min n) c.len.ensures)
+    ∙ ap (λ r. i.front.items ++ run r) (drop_min n i.window) in
     let o = i.front.ok.0 in
     let o' = c.append_run.new.out.ok.0 in
-    let l = c.len.ensures in
+    let l = c.len-in-Ok.ensures in
     let l' = c.len-held.ensures in
-    let m_is : n + (c.len.result - c.len-held.result) ≡ n + (length c.append_run.new.out.items - length i.front.items) = omega (arith, o, o', l, l') in
+    let m_is : n + (c.len-in-Ok.result - c.len-held.result) ≡ n + (length c.append_run.new.out.items - length i.front.items) = omega (arith, o, o', l, l') in
     (skipped i.first i.limit i.start i.taken n _ i.front.items c.append_run.new.out.items i.window c.drop_front.new.self c.self.invariant none few front_is m_is c.drop_front.ensures).held
     ∙ ap (without_front n) c.self.view_is

@@ -1,0 +1,62 @@
+-- How the places behind the first byte that is missing are stored: in pages, of which only those are there in which a byte came.
+use Rattle.std.specs.Prelude.{◌≡◌, ℕ, zero, suc, ◌+◌, ◌-◌, ◌/◌, ◌%◌, ◌^◌, ◌<◌, ◌≤◌, nat_lt, is_some, true, if◌then◌else◌, Option, Some, None, [], ◌∷◌, length}
+use Rattle.std.specs.BTreeMap.{BTreeMap, get}
+use Rattle.std.specs.Global.{Vec}
+use Rattle.std.specs.Ordering.{nat_cmp}
+use Rattle.segments.specs.Cells.{Bytes, Cells, byte_at, cell, earlier, known}
+
+-- How many places a page has.
+abbrev pub page_length : ℕ
+page_length = 256
+
+-- The places of a page.
+abbrev pub Page : Type 0
+Page = Vec (Option ℕ)
+
+-- Pages by their number: page k has the places from k * page_length on.
+abbrev pub Pages : Type 0
+Pages = BTreeMap ℕ Page
+
+abbrev pub page : Pages → ℕ → Option Page
+page m k = get nat_cmp m k
+
+-- What stands at a place of a page; nothing does where the page isn't there.
+abbrev pub cell_in : Option Page → ℕ → Option ℕ
+cell_in None i = None
+cell_in (Some p) i = cell p.items i
+
+abbrev pub place : Pages → ℕ → Option ℕ
+place m j = cell_in (page m (j / page_length)) (j % page_length)
+
+-- n places, from one on.
+abbrev pub places : ℕ → ℕ → Pages → Cells
+places zero k m = []
+places (suc n) k m = place m k ∷ places n (suc k) m
+
+-- Each page has all its places.
+abbrev pub AreWhole : Pages → Type 0
+AreWhole m = (k : ℕ) (p : Page) → page m k ≡ Some p → length p.items ≡ page_length
+
+-- What bytes from a place on put at another.
+abbrev pub written : ℕ → Bytes → ℕ → Option ℕ
+written at ys j = if nat_lt j at then None else byte_at ys (j - at)
+
+-- The same stands everywhere, and each page is still there.
+pub record IsSame (m n : Pages) : Type 0 where
+  pub whole : AreWhole n
+  pub stands : (j : ℕ) → place n j ≡ place m j
+  pub there : (k : ℕ) → is_some (page m k) ≡ true → is_some (page n k) ≡ true
+
+-- Bytes are put where none stood, and they are so many.
+pub record IsWritten (at : ℕ) (ys : Bytes) (m n : Pages) (count : ℕ) : Type 0 where
+  pub whole : AreWhole n
+  pub stands : (j : ℕ) → place n j ≡ earlier (place m j) (written at ys j)
+  pub there : (k : ℕ) → is_some (page m k) ≡ true → is_some (page n k) ≡ true
+  pub counted : (k l : ℕ) → k ≤ at → at + length ys ≤ k + l → known (places l k n) ≡ known (places l k m) + count
+
+-- What a Window keeps: behind its last place nothing stands.
+pub record IsPaged (begin len held : ℕ) (pages : Pages) : Type 0 where
+  pub whole : AreWhole pages
+  pub held_is : held ≡ known (places len begin pages)
+  pub empty_behind : (j : ℕ) → begin + len ≤ j → place pages j ≡ None
+  pub small : begin + len < 2 ^ 64
