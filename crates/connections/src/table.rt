@@ -1,5 +1,5 @@
 //! The connections that are open.
-ghost use Rattle.std.specs.Prelude.{◌≡◌, ◌-◌, ◌^◌, ◌≤◌, length, IfOk, IfSome, IfNone, OnErr, OnOk, [], ◌∷◌};
+ghost use Rattle.std.specs.Prelude.{◌≡◌, ◌-◌, ◌^◌, ◌≤◌, length, is_some, IfOk, IfSome, IfNone, OnErr, OnOk, [], ◌∷◌};
 ghost use Rattle.std.specs.Borrow.{sem};
 ghost use Rattle.std.specs.Option.{option_copied_mut};
 ghost use Rattle.connections.specs.Segment.{ends_of};
@@ -134,6 +134,14 @@ impl<T: Listener> Connections<T> {
         ensures value { option_copied_mut result ≡ at ends.now self.old.live }
     {
         self.live.peek_mut(ends)
+    }
+
+    /// Whether both sides ended the last connection between these ends, so that what still comes of it is left out. It is known up to
+    /// [`IDLE_LIMIT`] behind its end, and of the latest [`MAX_CONNECTIONS`] that ended.
+    pub fn has_closed(&self, ends: &Ends) -> bool
+        ensures { result ≡ is_some (at ends.now self.now.closed) }
+    {
+        self.closed.contains(ends)
     }
 
     /// Takes out the connection that was longest without a packet, where it is over at this time: it had none for more than
