@@ -1,0 +1,9 @@
+use Rattle.std.proofs.Common.{◌≡◌, ◌++◌, ◌∷◌, take}
+use Rattle.std.specs.List.{flat_map}
+use Rattle.std.specs.String.{string_bytes}
+use Rattle.tls_fingerprints.specs.Numbers.{four_digits}
+use Rattle.tls_fingerprints.proofs.numbers.add_hex_list.Given as goal
+
+abbrev pub invariant-loop-n : goal.invariant-loop-n
+invariant-loop-n l = string_bytes l.text
+    ≡ string_bytes l.initial.text ++ flat_map (λ n. 44 ∷ four_digits n) (take l.n-index l.others)

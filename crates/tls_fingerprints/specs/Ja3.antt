@@ -1,0 +1,33 @@
+-- JA3 and JA3S, as Salesforce defined them in 2017.
+use Rattle.std.specs.Prelude.{[], ◌∷◌, decimal}
+use Rattle.std.specs.List.{join_with_byte}
+use Rattle.md5.specs.Md5.{md5}
+use Rattle.hex.specs.Hex.{encode_lower}
+use Rattle.tls_fields.specs.Bytes.{Bytes}
+use Rattle.tls_fingerprints.specs.Numbers.{dashed, without_grease}
+use Rattle.tls_fingerprints.specs.Hellos.{Client, Server, types_in, groups_in, formats_in}
+
+-- Five fields with `,` between each two: the version, the cipher suites, the types of extensions, the groups, the formats of points.
+abbrev pub ja3_text_of : Client → Bytes
+ja3_text_of h = join_with_byte 44 (
+    decimal h.version
+    ∷ dashed (without_grease h.suites)
+    ∷ dashed (without_grease (types_in h.extensions))
+    ∷ dashed (without_grease (groups_in h.extensions))
+    ∷ dashed (formats_in h.extensions)
+    ∷ [])
+
+-- The MD5 of the text, in hexadecimal.
+abbrev pub ja3_of : Client → Bytes
+ja3_of h = encode_lower (md5 (ja3_text_of h))
+
+-- Three fields: the version, the cipher suite, the types of extensions.
+abbrev pub ja3s_text_of : Server → Bytes
+ja3s_text_of h = join_with_byte 44 (
+    decimal h.version
+    ∷ decimal h.suite
+    ∷ dashed (without_grease (types_in h.extensions))
+    ∷ [])
+
+abbrev pub ja3s_of : Server → Bytes
+ja3s_of h = encode_lower (md5 (ja3s_text_of h))

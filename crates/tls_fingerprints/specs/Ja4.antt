@@ -1,0 +1,100 @@
+-- JA4, as FoxIO defined it in 2023.
+use Rattle.std.specs.Prelude.{ℕ, ◌+◌, ◌-◌, ◌/◌, ◌%◌, ◌==◌, Bool, not, ◌&&◌, ◌||◌, min, if◌then◌else◌, List, [], ◌∷◌, ◌++◌, length, filter, take, slice_get, codes, Option, Some, None}
+use Rattle.std.specs.Char.{is_ascii_alphanumeric}
+use Rattle.std.specs.List.{join_with_byte}
+use Rattle.sha2.specs.Sha256.{sha256}
+use Rattle.hex.specs.Hex.{encode_lower}
+use Rattle.tls_fields.specs.Bytes.{Bytes}
+use Rattle.tls_base.specs.ExtensionNumbers as extension_number
+use Rattle.tls_ext.specs.InPlace.{best_version, protocol_names}
+use Rattle.tls_fingerprints.specs.Numbers.{hex_digit, hex_list, rising, without_grease}
+use Rattle.tls_fingerprints.specs.Hellos.{Client, types_in, algorithms_in, content_in, known}
+use Rattle.tls_fingerprints.specs.declared.hellos.Transport.{Transport}
+use Rattle.tls_fingerprints.specs.declared.hellos.Transport.TheVariants as over
+
+-- What the hello came over.
+abbrev pub letter_of : Transport → Bytes
+letter_of over.Tcp = codes "t"
+letter_of over.Udp = codes "d"
+letter_of over.Quic = codes "q"
+
+-- A version of TLS, SSL or DTLS.
+abbrev pub version_text : Option ℕ → Bytes
+version_text None = codes "00"
+version_text (Some n) =
+    if n == 0x0304 then codes "13"
+    else if n == 0x0303 then codes "12"
+    else if n == 0x0302 then codes "11"
+    else if n == 0x0301 then codes "10"
+    else if n == 0x0300 then codes "s3"
+    else if n == 0x0002 then codes "s2"
+    else if n == 0xfeff then codes "d1"
+    else if n == 0xfefd then codes "d2"
+    else if n == 0xfefc then codes "d3"
+    else codes "00"
+
+-- Whether a host is named.
+abbrev pub name_letter : Option Bytes → Bytes
+name_letter (Some c) = codes "d"
+name_letter None = codes "i"
+
+-- A count in two digits, at most 99.
+abbrev pub two_digits : ℕ → Bytes
+two_digits n = (48 + min n 99 / 10) ∷ (48 + min n 99 % 10) ∷ []
+
+-- Two characters by the first and the last byte of a name: the bytes where both are letters or digits of ASCII, else the first and the
+-- last digit of the name in hexadecimal.
+abbrev pub ends_text : Option ℕ → Option ℕ → Bytes
+ends_text (Some first) (Some last) =
+    if is_ascii_alphanumeric first && is_ascii_alphanumeric last then first ∷ last ∷ []
+    else hex_digit (first / 16) ∷ hex_digit (last % 16) ∷ []
+ends_text _ _ = codes "00"
+
+-- The first protocol's name, where there is one.
+abbrev pub protocol_text : Option (List Bytes) → Bytes
+protocol_text (Some (name ∷ names)) = ends_text (slice_get name 0) (slice_get name (length name - 1))
+protocol_text _ = codes "00"
+
+-- The first part: what the hello came over, its version, whether it names a host, how many suites and extensions it has, and the first
+-- protocol that it asks for (RFC 7301).
+abbrev pub ja4_front_of : Transport → Client → Bytes
+ja4_front_of t h =
+    letter_of t
+    ++ version_text (known (best_version h.version h.extensions))
+    ++ name_letter (content_in extension_number.server_name h.extensions)
+    ++ two_digits (length (without_grease h.suites))
+    ++ two_digits (length (without_grease (types_in h.extensions)))
+    ++ protocol_text (known (protocol_names h.extensions))
+
+-- What the second part is made of: the suites in rising order.
+abbrev pub ja4_suites_of : Client → Bytes
+ja4_suites_of h = hex_list (rising (without_grease h.suites))
+
+-- server_name and application_layer_protocol_negotiation are told by the first part.
+abbrev pub is_told_before : ℕ → Bool
+is_told_before n = n == extension_number.server_name || n == extension_number.application_layer_protocol_negotiation
+
+abbrev pub other_types : List ℕ → List ℕ
+other_types ns = filter (λ n. not (is_told_before n)) ns
+
+abbrev pub with_algorithms : Bytes → List ℕ → Bytes
+with_algorithms text [] = text
+with_algorithms text (n ∷ ns) = text ++ 95 ∷ hex_list (n ∷ ns)
+
+-- What the third part is made of: the types of the other extensions in rising order, and the signature algorithms in the hello's order.
+abbrev pub ja4_types_of : Client → Bytes
+ja4_types_of h = with_algorithms
+    (hex_list (rising (other_types (without_grease (types_in h.extensions)))))
+    (without_grease (algorithms_in h.extensions))
+
+-- The first 6 bytes of the SHA-256 of a text, in hexadecimal; zeros of an empty text.
+abbrev pub short_digest : Bytes → Bytes
+short_digest text = if length text == 0 then codes "000000000000" else encode_lower (take 6 (sha256 text))
+
+-- The three parts.
+abbrev pub ja4_text_of : Transport → Client → Bytes
+ja4_text_of t h = join_with_byte 95 (ja4_front_of t h ∷ ja4_suites_of h ∷ ja4_types_of h ∷ [])
+
+-- The first part, and the digests of the others.
+abbrev pub ja4_of : Transport → Client → Bytes
+ja4_of t h = join_with_byte 95 (ja4_front_of t h ∷ short_digest (ja4_suites_of h) ∷ short_digest (ja4_types_of h) ∷ [])

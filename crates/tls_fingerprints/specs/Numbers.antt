@@ -1,0 +1,38 @@
+-- Lists of numbers, as fingerprints have them.
+use Rattle.std.specs.Prelude.{ℕ, ◌+◌, ◌/◌, ◌%◌, ◌==◌, nat_lt, nat_le, Bool, not, ◌&&◌, if◌then◌else◌, List, [], ◌∷◌, map, filter, decimal}
+use Rattle.std.specs.List.{join_with_byte}
+use Rattle.tls_fields.specs.Bytes.{Bytes}
+
+-- A number that is kept free so that peers ignore what they don't know: two equal bytes that end in the hexadecimal digit a. These are
+-- the sixteen from 0x0a0a to 0xfafa (RFC 8701, section 2).
+abbrev pub is_grease : ℕ → Bool
+is_grease n = n / 256 == n % 256 && n % 16 == 10
+
+abbrev pub without_grease : List ℕ → List ℕ
+without_grease ns = filter (λ n. not (is_grease n)) ns
+
+-- n among rising numbers, in front of the first that isn't below it
+unfoldable pub placed : ℕ → List ℕ → List ℕ
+placed n [] = n ∷ []
+placed n (m ∷ ms) = if nat_le n m then n ∷ m ∷ ms else m ∷ placed n ms
+
+-- The same numbers, in rising order.
+unfoldable pub rising : List ℕ → List ℕ
+rising [] = []
+rising (n ∷ ns) = placed n (rising ns)
+
+-- The numbers in decimal, with `-` between each two.
+abbrev pub dashed : List ℕ → Bytes
+dashed ns = join_with_byte 45 (map decimal ns)
+
+-- A hexadecimal digit: `0` to `9`, `a` to `f`.
+abbrev pub hex_digit : ℕ → ℕ
+hex_digit d = if nat_lt d 10 then 48 + d else 87 + d
+
+-- The four hexadecimal digits of a number of 2 bytes.
+abbrev pub four_digits : ℕ → Bytes
+four_digits n = hex_digit (n / 4096) ∷ hex_digit (n / 256 % 16) ∷ hex_digit (n / 16 % 16) ∷ hex_digit (n % 16) ∷ []
+
+-- The numbers by their four hexadecimal digits, with `,` between each two.
+abbrev pub hex_list : List ℕ → Bytes
+hex_list ns = join_with_byte 44 (map four_digits ns)

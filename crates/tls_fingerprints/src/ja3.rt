@@ -1,0 +1,92 @@
+//! JA3 of a ClientHello, and JA3S of a ServerHello.
+ghost use Rattle.std.specs.Prelude.{◌≡◌, ◌++◌, ◌∷◌, [], IfOk, OnOk};
+ghost use Rattle.std.specs.String.{string_bytes};
+ghost use Rattle.std.specs.Option.{option_map};
+ghost use Rattle.tls_fields.specs.Items.{items_in};
+ghost use Rattle.tls_fields.specs.Layout.{number};
+ghost use Rattle.tls_fields.specs.Text.{held};
+ghost use Rattle.tls_fingerprints.specs.Numbers.{dashed, without_grease};
+ghost use Rattle.tls_fingerprints.specs.Hellos.{groups_in, types_in, view_client, view_server};
+ghost use Rattle.tls_fingerprints.specs.Ja3.{ja3_of, ja3_text_of, ja3s_of, ja3s_text_of};
+
+use crate::hellos::{ClientHelloParts, ServerHelloParts, formats, groups};
+use crate::numbers::{add_dashed, add_decimal, kept, kept_types};
+use md5::{Digest, Md5};
+use std::alloc::{AllocError, Global};
+use tls_ext::extension_types;
+use tls_fields::Items;
+
+/// Adds `,` and the numbers that aren't of GREASE.
+fn add_kept(alloc: Global, text: &mut String, numbers: Items<u16>) -> Result<(), AllocError>
+    ensures { OnOk result (string_bytes text.new
+        ≡ string_bytes text.old ++ 44 ∷ dashed (without_grease (items_in (number 2) numbers.entry.bytes.now))) }
+{
+    let kept = kept(alloc, numbers)?;
+    text.push(',')?;
+    add_dashed(text, kept.as_slice())
+}
+
+/// Adds `,` and the types of extensions that aren't of GREASE.
+fn add_types(alloc: Global, text: &mut String, ext: Option<&[u8]>) -> Result<(), AllocError>
+    ensures { OnOk result (string_bytes text.new
+        ≡ string_bytes text.old ++ 44 ∷ dashed (without_grease (types_in (held (option_map (λ x. x.now) ext.entry))))) }
+{
+    let kept = kept_types(alloc, extension_types(ext))?;
+    text.push(',')?;
+    add_dashed(text, kept.as_slice())
+}
+
+impl ClientHelloParts<'_> {
+    /// The text that JA3 is the digest of: version, cipher suites, types of extensions, groups and formats of points, in decimal, with `-`
+    /// within a list and `,` between the lists.
+    ///
+    /// `AllocError` where it could not be held.
+    pub fn ja3_text(&self, alloc: Global) -> Result<String, AllocError>
+        ensures { IfOk result (λ text. string_bytes text ≡ ja3_text_of (view_client self.now)) }
+    {
+        let mut text = String::new(alloc);
+        add_decimal(&mut text, self.version.0)?;
+        add_kept(alloc, &mut text, Items::new(self.ciphers.bytes()))?;
+        add_types(alloc, &mut text, self.ext)?;
+        add_kept(alloc, &mut text, groups(self.ext))?;
+        text.push(',')?;
+        add_dashed(&mut text, formats(self.ext))?;
+        Ok(text)
+    }
+
+    /// JA3: the MD5 of [`ClientHelloParts::ja3_text`], in 32 hexadecimal digits.
+    ///
+    /// `AllocError` where it could not be held.
+    pub fn ja3(&self, alloc: Global) -> Result<String, AllocError>
+        ensures { IfOk result (λ digits. string_bytes digits ≡ ja3_of (view_client self.now)) }
+    {
+        let text = self.ja3_text(alloc)?;
+        hex::encode(alloc, Md5::digest(text.as_bytes()))
+    }
+}
+
+impl ServerHelloParts<'_> {
+    /// The text that JA3S is the digest of: version, cipher suite, and the types of extensions, as in JA3.
+    ///
+    /// `AllocError` where it could not be held.
+    pub fn ja3s_text(&self, alloc: Global) -> Result<String, AllocError>
+        ensures { IfOk result (λ text. string_bytes text ≡ ja3s_text_of (view_server self.now)) }
+    {
+        let mut text = String::new(alloc);
+        add_decimal(&mut text, self.version.0)?;
+        text.push(',')?;
+        add_decimal(&mut text, self.cipher.0)?;
+        add_types(alloc, &mut text, self.ext)?;
+        Ok(text)
+    }
+
+    /// JA3S: the MD5 of [`ServerHelloParts::ja3s_text`], in 32 hexadecimal digits.
+    ///
+    /// `AllocError` where it could not be held.
+    pub fn ja3s(&self, alloc: Global) -> Result<String, AllocError>
+        ensures { IfOk result (λ digits. string_bytes digits ≡ ja3s_of (view_server self.now)) }
+    {
+        let text = self.ja3s_text(alloc)?;
+        hex::encode(alloc, Md5::digest(text.as_bytes()))
+    }
+}

@@ -1,0 +1,202 @@
+//! JA4 of a ClientHello.
+ghost use Rattle.std.specs.Prelude.{◌≡◌, ◌++◌, ◌-◌, ◌∷◌, [], length, slice_get, IfOk, OnOk};
+ghost use Rattle.std.specs.List.{join_with_byte};
+ghost use Rattle.std.specs.String.{string_bytes};
+ghost use Rattle.std.specs.Option.{option_map};
+ghost use Rattle.tls_fields.specs.Text.{held};
+ghost use Rattle.tls_ext.specs.InPlace.{protocol_names};
+ghost use Rattle.tls_fingerprints.specs.Hellos.{known, view_client};
+ghost use Rattle.tls_fingerprints.specs.Ja4.{ends_text, ja4_front_of, ja4_of, ja4_suites_of, ja4_text_of, ja4_types_of, letter_of, other_types, protocol_text, short_digest as short_digest_of, two_digits, version_text as version_text_of};
+
+use crate::hellos::{ClientHelloParts, Transport, algorithms, content};
+use crate::numbers::{add_hex_list, hex_digit, kept, kept_types, rise};
+use sha2::{Digest, Sha256};
+use std::alloc::{AllocError, Global};
+use tls_base::{TlsExtensionType, TlsVersion};
+use tls_ext::{application_protocols, best_version, extension_types};
+use tls_fields::Items;
+
+impl Transport {
+    /// The letter of the first part.
+    fn letter(self) -> &'static str
+        ensures { result.now ≡ letter_of self }
+    {
+        match self {
+            Transport::Tcp => "t",
+            Transport::Udp => "d",
+            Transport::Quic => "q",
+        }
+    }
+}
+
+/// The two characters of a version.
+fn version_text(version: Option<TlsVersion>) -> &'static str
+    ensures { result.now ≡ version_text_of (option_map (λ v. v.0) version) }
+{
+    let Some(version) = version else {
+        return "00";
+    };
+    match version.0 {
+        0x0304 => "13",
+        0x0303 => "12",
+        0x0302 => "11",
+        0x0301 => "10",
+        0x0300 => "s3",
+        0x0002 => "s2",
+        0xfeff => "d1",
+        0xfefd => "d2",
+        0xfefc => "d3",
+        _ => "00",
+    }
+}
+
+/// Adds a count in two digits, at most 99.
+fn add_two_digits(text: &mut String, count: usize) -> Result<(), AllocError>
+    ensures { OnOk result (string_bytes text.new ≡ string_bytes text.old ++ two_digits count) }
+{
+    let shown = count.min(99) as u8;
+    text.push(char::from(b'0' + shown / 10))?;
+    text.push(char::from(b'0' + shown % 10))
+}
+
+/// Adds two characters by the first and the last byte of a name.
+fn add_ends(text: &mut String, name: &[u8]) -> Result<(), AllocError>
+    ensures { OnOk result (string_bytes text.new
+        ≡ string_bytes text.old ++ ends_text (slice_get name.now 0) (slice_get name.now (length name.now - 1))) }
+{
+    let (Some(first), Some(last)) = (name.first(), name.last()) else {
+        return text.push_str("00");
+    };
+    if first.is_ascii_alphanumeric() && last.is_ascii_alphanumeric() {
+        text.push(char::from(*first))?;
+        text.push(char::from(*last))
+    } else {
+        text.push(hex_digit(*first / 16))?;
+        text.push(hex_digit(*last % 16))
+    }
+}
+
+/// Adds the two characters of the first protocol that the client asks for.
+fn add_protocol(text: &mut String, ext: Option<&[u8]>) -> Result<(), AllocError>
+    ensures { OnOk result (string_bytes text.new
+        ≡ string_bytes text.old ++ protocol_text (known (protocol_names (held (option_map (λ x. x.now) ext.entry))))) }
+{
+    let Ok(Some(mut names)) = application_protocols(ext) else {
+        return text.push_str("00");
+    };
+    match names.next() {
+        Some(name) => add_ends(text, name),
+        None => text.push_str("00"),
+    }
+}
+
+/// Leaves out the types that the first part tells.
+fn leave_told(types: &mut Vec<u16>)
+    ensures { types.new.items ≡ other_types types.old.items }
+{
+    types.retain(|kind| *kind != 0 && *kind != 16);
+}
+
+/// The first 6 bytes of the SHA-256 of a text, in hexadecimal; zeros of an empty text.
+fn short_digest(alloc: Global, text: &str) -> Result<String, AllocError>
+    ensures { IfOk result (λ digits. string_bytes digits ≡ short_digest_of text.now) }
+{
+    if text.is_empty() {
+        return String::from_str(alloc, "000000000000");
+    }
+    let digest = Sha256::digest(text.as_bytes());
+    let (front, _) = digest.split_at(6);
+    hex::encode(alloc, front)
+}
+
+/// Adds the second and the third part, each behind `_`.
+fn add_parts(text: &mut String, second: &str, third: &str) -> Result<(), AllocError>
+    ensures { OnOk result (string_bytes text.new ≡ join_with_byte 95 (string_bytes text.old ∷ second.now ∷ third.now ∷ [])) }
+{
+    text.push('_')?;
+    text.push_str(second)?;
+    text.push('_')?;
+    text.push_str(third)
+}
+
+impl ClientHelloParts<'_> {
+    /// The first part.
+    fn ja4_front(&self, alloc: Global, transport: Transport) -> Result<String, AllocError>
+        ensures { IfOk result (λ text. string_bytes text ≡ ja4_front_of transport (view_client self.now)) }
+    {
+        let version = match best_version(self.version, self.ext) {
+            Ok(version) => version,
+            Err(_) => None,
+        };
+        let suites = kept(alloc, Items::new(self.ciphers.bytes()))?;
+        let types = kept_types(alloc, extension_types(self.ext))?;
+        let mut text = String::from_str(alloc, transport.letter())?;
+        text.push_str(version_text(version))?;
+        text.push(match content(self.ext, TlsExtensionType::ServerName) {
+            Some(_) => 'd',
+            None => 'i',
+        })?;
+        add_two_digits(&mut text, suites.len())?;
+        add_two_digits(&mut text, types.len())?;
+        add_protocol(&mut text, self.ext)?;
+        Ok(text)
+    }
+
+    /// What the second part is made of.
+    fn ja4_suites(&self, alloc: Global) -> Result<String, AllocError>
+        ensures { IfOk result (λ text. string_bytes text ≡ ja4_suites_of (view_client self.now)) }
+    {
+        let mut suites = kept(alloc, Items::new(self.ciphers.bytes()))?;
+        rise(&mut suites);
+        let mut text = String::new(alloc);
+        add_hex_list(&mut text, suites.as_slice())?;
+        Ok(text)
+    }
+
+    /// What the third part is made of.
+    fn ja4_types(&self, alloc: Global) -> Result<String, AllocError>
+        ensures { IfOk result (λ text. string_bytes text ≡ ja4_types_of (view_client self.now)) }
+    {
+        let mut types = kept_types(alloc, extension_types(self.ext))?;
+        leave_told(&mut types);
+        rise(&mut types);
+        let algorithms = kept(alloc, algorithms(self.ext))?;
+        let mut text = String::new(alloc);
+        add_hex_list(&mut text, types.as_slice())?;
+        if !algorithms.is_empty() {
+            text.push('_')?;
+            add_hex_list(&mut text, algorithms.as_slice())?;
+        }
+        Ok(text)
+    }
+
+    /// JA4 with its second and third part as they stand, and not their digests, which some tools name JA4_r.
+    ///
+    /// `AllocError` where it could not be held.
+    pub fn ja4_text(&self, alloc: Global, transport: Transport) -> Result<String, AllocError>
+        ensures { IfOk result (λ text. string_bytes text ≡ ja4_text_of transport (view_client self.now)) }
+    {
+        let mut text = self.ja4_front(alloc, transport)?;
+        let suites = self.ja4_suites(alloc)?;
+        let types = self.ja4_types(alloc)?;
+        add_parts(&mut text, suites.as_str(), types.as_str())?;
+        Ok(text)
+    }
+
+    /// JA4, as `t13d1516h2_8daaf6152771_e5627efa2ab1`: what the hello came over, its version, whether it names a host, how many cipher suites
+    /// and extensions it has, and its first protocol; a digest of the cipher suites; and a digest of the types of its extensions and of the
+    /// signature algorithms.
+    ///
+    /// `AllocError` where it could not be held.
+    pub fn ja4(&self, alloc: Global, transport: Transport) -> Result<String, AllocError>
+        ensures { IfOk result (λ text. string_bytes text ≡ ja4_of transport (view_client self.now)) }
+    {
+        let mut text = self.ja4_front(alloc, transport)?;
+        let suites = self.ja4_suites(alloc)?;
+        let suites = short_digest(alloc, suites.as_str())?;
+        let types = self.ja4_types(alloc)?;
+        let types = short_digest(alloc, types.as_str())?;
+        add_parts(&mut text, suites.as_str(), types.as_str())?;
+        Ok(text)
+    }
+}

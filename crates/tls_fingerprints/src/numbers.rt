@@ -1,0 +1,119 @@
+//! Lists of numbers, as fingerprints have them.
+ghost use Rattle.std.specs.Prelude.{◌≡◌, ◌++◌, ◌∷◌, [], ◌<◌, ◌+◌, map, IfOk, OnOk};
+ghost use Rattle.std.specs.List.{join_with_byte};
+ghost use Rattle.std.specs.String.{string_bytes};
+ghost use Rattle.tls_fields.specs.Items.{items_in};
+ghost use Rattle.tls_fields.specs.Layout.{number};
+ghost use Rattle.tls_ext.specs.InPlace.{extension_type};
+ghost use Rattle.tls_fingerprints.specs.Numbers.{four_digits, hex_digit as hex_digit_of, hex_list, is_grease as is_grease_number, rising, without_grease};
+
+use itoa::{Buffer, Integer};
+use std::alloc::{AllocError, Global};
+use tls_ext::ExtensionType;
+use tls_fields::Items;
+
+/// Whether a number is kept free so that peers ignore what they don't know (RFC 8701, section 2): its two bytes are equal, and end in the
+/// hexadecimal digit a.
+fn is_grease(n: u16) -> bool
+    ensures { result ≡ is_grease_number n }
+{
+    n / 256 == n % 256 && n % 16 == 10
+}
+
+/// The numbers that aren't of GREASE, in their order.
+pub(crate) fn kept(alloc: Global, numbers: Items<u16>) -> Result<Vec<u16>, AllocError>
+    ensures { IfOk result (λ v. v.items ≡ without_grease (items_in (number 2) numbers.entry.bytes.now)) }
+{
+    let mut kept = Vec::with_capacity(alloc, numbers.len())?;
+    for n in numbers {
+        if is_grease(n) {
+            continue;
+        }
+        kept.push(n)?;
+    }
+    Ok(kept)
+}
+
+/// The types that aren't of GREASE, in their order.
+pub(crate) fn kept_types(alloc: Global, types: Items<ExtensionType>) -> Result<Vec<u16>, AllocError>
+    ensures { IfOk result (λ v. v.items ≡ without_grease (items_in extension_type types.entry.bytes.now)) }
+{
+    let mut kept = Vec::new(alloc);
+    for kind in types {
+        if is_grease(kind.0) {
+            continue;
+        }
+        kept.push(kind.0)?;
+    }
+    Ok(kept)
+}
+
+/// The numbers in rising order.
+pub(crate) fn rise(numbers: &mut Vec<u16>)
+    ensures { numbers.new.items ≡ rising numbers.old.items }
+{
+    numbers.sort_unstable();
+}
+
+/// Adds a number in decimal.
+pub(crate) fn add_decimal<N: Integer>(text: &mut String, n: N) -> Result<(), AllocError>
+    ensures { OnOk result (string_bytes text.new ≡ string_bytes text.old ++ N.text n) }
+{
+    let mut buffer = Buffer::new();
+    text.push_str(buffer.format(n))
+}
+
+/// Adds numbers in decimal, with `-` between each two.
+#[tactic(auto, using(crate::proofs::JoinLemmas::each_next))]
+pub(crate) fn add_dashed<N: Integer>(text: &mut String, numbers: &[N]) -> Result<(), AllocError>
+    ensures { OnOk result (string_bytes text.new ≡ string_bytes text.old ++ join_with_byte 45 (map N.text numbers.now)) }
+{
+    let Some((first, others)) = numbers.split_first() else {
+        return Ok(());
+    };
+    add_decimal(text, *first)?;
+    for n in others {
+        text.push('-')?;
+        add_decimal(text, *n)?;
+    }
+    Ok(())
+}
+
+/// A hexadecimal digit.
+pub(crate) fn hex_digit(digit: u8) -> char
+    requires { digit < 16 }
+    ensures is { result ≡ hex_digit_of digit }
+    ensures ascii { result < 128 }
+{
+    if digit < 10 {
+        char::from(b'0' + digit)
+    } else {
+        char::from(b'a' + (digit - 10))
+    }
+}
+
+/// Adds a number by its four hexadecimal digits.
+fn add_four_digits(text: &mut String, n: u16) -> Result<(), AllocError>
+    ensures { OnOk result (string_bytes text.new ≡ string_bytes text.old ++ four_digits n) }
+{
+    text.push(hex_digit((n / 4096) as u8))?;
+    text.push(hex_digit((n / 256 % 16) as u8))?;
+    text.push(hex_digit((n / 16 % 16) as u8))?;
+    text.push(hex_digit((n % 16) as u8))
+}
+
+/// Adds numbers by their four hexadecimal digits, with `,` between each two.
+#[tactic(auto, using(crate::proofs::JoinLemmas::each_next))]
+pub(crate) fn add_hex_list(text: &mut String, numbers: &[u16]) -> Result<(), AllocError>
+    ensures { OnOk result (string_bytes text.new ≡ string_bytes text.old ++ hex_list numbers.now) }
+{
+    let Some((first, others)) = numbers.split_first() else {
+        return Ok(());
+    };
+    add_four_digits(text, *first)?;
+    for n in others {
+        text.push(',')?;
+        add_four_digits(text, *n)?;
+    }
+    Ok(())
+}
