@@ -1,0 +1,117 @@
+//! What a client offers, and what a server chose.
+use crate::data::Sender;
+use crate::extension::{Extension, Extensions, some_bytes};
+use crate::text::{codes, hexadecimal, number, numbers};
+use serde::Serialize;
+use std::alloc::{AllocError, Global};
+use tls_hs::{ClientHelloView, TlsServerHelloContents, TlsServerHelloV13Draft18Contents};
+use tls_parser::DTLSClientHelloView;
+
+/// A ClientHello (RFC 5246, section 7.4.1.2; of DTLS RFC 6347, section 4.2.1).
+#[derive(Debug, Drop, Serialize)]
+pub struct ClientHello {
+    client_version: String,
+    random: String,
+    session_id: String,
+    #[serde(skip_serializing_if = "Option::is_none")]
+    cookie: Option<String>,
+    cipher_suites: Vec<String>,
+    compression_methods: Vec<u8>,
+    extensions: Vec<Extension>,
+    #[serde(skip_serializing_if = "Option::is_none")]
+    extensions_rest: Option<String>,
+}
+
+/// A ServerHello (RFC 5246, section 7.4.1.3), or that of draft 18 of TLS 1.3, which has no id and no compression.
+#[derive(Debug, Drop, Serialize)]
+pub struct ServerHello {
+    server_version: String,
+    random: String,
+    #[serde(skip_serializing_if = "Option::is_none")]
+    session_id: Option<String>,
+    cipher_suite: String,
+    #[serde(skip_serializing_if = "Option::is_none")]
+    compression_method: Option<u8>,
+    extensions: Vec<Extension>,
+    #[serde(skip_serializing_if = "Option::is_none")]
+    extensions_rest: Option<String>,
+}
+
+/// A session's id; an empty one where there is none.
+fn id(alloc: Global, session_id: Option<&[u8]>) -> Result<String, AllocError> {
+    match session_id {
+        Some(bytes) => hexadecimal(alloc, bytes),
+        None => Ok(String::new(alloc)),
+    }
+}
+
+impl ClientHello {
+    /// That of TLS.
+    pub fn new(alloc: Global, hello: &ClientHelloView<'_>) -> Result<ClientHello, AllocError> {
+        let extensions = Extensions::new(alloc, Sender::Client, hello.ext)?;
+        Ok(ClientHello {
+            client_version: number(alloc, hello.version.0)?,
+            random: hexadecimal(alloc, hello.random)?,
+            session_id: id(alloc, hello.session_id)?,
+            cookie: None,
+            cipher_suites: numbers(alloc, hello.ciphers.map(|suite| suite.0))?,
+            compression_methods: codes(alloc, hello.comp.bytes())?,
+            extensions: extensions.all,
+            extensions_rest: extensions.rest,
+        })
+    }
+
+    /// That of DTLS.
+    pub fn of_datagrams(
+        alloc: Global,
+        hello: &DTLSClientHelloView<'_>,
+    ) -> Result<ClientHello, AllocError> {
+        let extensions = Extensions::new(alloc, Sender::Client, hello.ext)?;
+        Ok(ClientHello {
+            client_version: number(alloc, hello.version.0)?,
+            random: hexadecimal(alloc, hello.random)?,
+            session_id: id(alloc, hello.session_id)?,
+            cookie: Some(hexadecimal(alloc, hello.cookie)?),
+            cipher_suites: numbers(alloc, hello.ciphers.map(|suite| suite.0))?,
+            compression_methods: codes(alloc, hello.comp.bytes())?,
+            extensions: extensions.all,
+            extensions_rest: extensions.rest,
+        })
+    }
+}
+
+impl ServerHello {
+    /// That of SSL 3.0 to TLS 1.3, and of DTLS.
+    pub fn new(
+        alloc: Global,
+        hello: &TlsServerHelloContents<'_>,
+    ) -> Result<ServerHello, AllocError> {
+        let extensions = Extensions::new(alloc, Sender::Server, hello.ext)?;
+        Ok(ServerHello {
+            server_version: number(alloc, hello.version.0)?,
+            random: hexadecimal(alloc, hello.random)?,
+            session_id: Some(id(alloc, hello.session_id)?),
+            cipher_suite: number(alloc, hello.cipher.0)?,
+            compression_method: Some(hello.compression.0),
+            extensions: extensions.all,
+            extensions_rest: extensions.rest,
+        })
+    }
+
+    /// That of draft 18 of TLS 1.3.
+    pub fn of_draft(
+        alloc: Global,
+        hello: &TlsServerHelloV13Draft18Contents<'_>,
+    ) -> Result<ServerHello, AllocError> {
+        let extensions = Extensions::new(alloc, Sender::Server, hello.ext)?;
+        Ok(ServerHello {
+            server_version: number(alloc, hello.version.0)?,
+            random: hexadecimal(alloc, hello.random)?,
+            session_id: None,
+            cipher_suite: number(alloc, hello.cipher.0)?,
+            compression_method: None,
+            extensions: extensions.all,
+            extensions_rest: extensions.rest,
+        })
+    }
+}
