@@ -111,16 +111,19 @@ def block(order, kind, body):
     return struct.pack(order + "2I", kind, len(body) + 12) + body + struct.pack(order + "I", len(body) + 12)
 
 
-def pcapng(packets, order="<", nano=False, is_obsolete=False, link=ETHERNET):
-    """A capture in blocks (draft-ietf-opsawg-pcapng), with a block of names that no one reads."""
-    options = struct.pack(order + "HHBxxxHH", 9, 1, 9, 0, 0) if nano else b""
+def pcapng(packets, order="<", nano=False, is_obsolete=False, link=ETHERNET, offset=0):
+    """A capture in blocks (draft-ietf-opsawg-pcapng), with a block of names that no one reads. All times are that many seconds
+    behind those of its packets where its interface says an offset."""
+    options = struct.pack(order + "HHBxxx", 9, 1, 9) if nano else b""
+    options += struct.pack(order + "HHq", 14, 8, offset) if offset else b""
+    options += struct.pack(order + "HH", 0, 0) if options else b""
     parts = [
         block(order, 0x0A0D0D0A, struct.pack(order + "IHHq", 0x1A2B3C4D, 1, 0, -1)),
         block(order, 1, struct.pack(order + "HHI", link, 0, 262144) + options),
         block(order, 4, struct.pack(order + "HH", 0, 0)),
     ]
     for time, frame in packets:
-        units = time * (1000 if nano else 1)
+        units = (time - offset * 1_000_000) * (1000 if nano else 1)
         front = struct.pack(order + "HH" if is_obsolete else order + "I", *((0, 0) if is_obsolete else (0,)))
         front += struct.pack(order + "4I", units >> 32, units % 2**32, len(frame), len(frame))
         parts.append(block(order, 2 if is_obsolete else 6, front + frame))
@@ -136,6 +139,8 @@ def forms(segments):
             yield f"pcap {name} {unit}", pcap(plain, order, nano)
             yield f"pcapng {name} {unit}", pcapng(plain, order, nano)
         yield f"pcapng {name} obsolete", pcapng(plain, order, is_obsolete=True)
+        for offset in (1_000_000_000, -1_000_000_000):
+            yield f"pcapng {name} moved by {offset} seconds", pcapng(plain, order, nano, offset=offset)
 
 
 def links(segments):
