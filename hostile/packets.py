@@ -157,7 +157,23 @@ def links(segments):
     yield "null", of(0, lambda s: (30 if s.is_v6 else 2).to_bytes(4, "little"))
     yield "loopback", of(108, lambda s: (24 if s.is_v6 else 2).to_bytes(4, "big"))
     yield "cooked", of(113, lambda s: b"\0\0\3\4\0\6" + bytes(8) + kind[s.is_v6])
+    yield "cooked, tagged", of(113, lambda s: b"\0\0\3\4\0\6" + bytes(8) + b"\x81\0\0\7" + kind[s.is_v6])
     yield "cooked 2", of(276, lambda s: kind[s.is_v6] + b"\0\0\0\0\0\1\3\4\0\6" + bytes(8))
+    yield "cooked 2, tagged", of(276, lambda s: b"\x81\0" + b"\0\0\0\0\0\1\3\4\0\6" + bytes(8) + b"\0\7" + kind[s.is_v6])
+    yield "cooked 2, tagged twice", of(276, lambda s: b"\x88\xa8" + bytes(18) + b"\0\7\x81\0\0\7" + kind[s.is_v6])
     yield "tagged", of(ETHERNET, lambda s: inner(s, b"\x81\0\0\7"))
     yield "tagged twice", of(ETHERNET, lambda s: inner(s, b"\x88\xa8\0\7\x81\0\0\7"))
-    yield "PPPoE", of(ETHERNET, lambda s: s.front[:12] + b"\x88\x64\x11\0\0\1" + (len(s.frame()) - 12).to_bytes(2, "big") + (b"\0\x57" if s.is_v6 else b"\0\x21"))
+    ppp = {False: b"\0\x21", True: b"\0\x57"}
+
+    def session(s):
+        return b"\x11\0\0\1" + (len(s.frame()) - LINK_HEADER + 2).to_bytes(2, "big") + ppp[s.is_v6]
+
+    yield "PPPoE", of(ETHERNET, lambda s: s.front[:12] + b"\x88\x64" + session(s))
+    yield "PPPoE alone", of(51, session)
+    for link in (9, 50):
+        yield f"PPP as {link}", of(link, lambda s: ppp[s.is_v6])
+        yield f"PPP as {link}, compressed", of(link, lambda s: ppp[s.is_v6][1:])
+        yield f"PPP as {link} in HDLC", of(link, lambda s: b"\xff\3" + ppp[s.is_v6])
+        yield f"PPP as {link} in HDLC, compressed", of(link, lambda s: b"\xff\3" + ppp[s.is_v6][1:])
+        yield f"Cisco's HDLC as {link}", of(link, lambda s: b"\x0f\0" + kind[s.is_v6])
+        yield f"Cisco's HDLC as {link}, to many", of(link, lambda s: b"\x8f\0" + kind[s.is_v6])

@@ -7,6 +7,7 @@
 mod block_packet;
 mod interface;
 mod ip;
+mod jumbo;
 mod link;
 mod order;
 mod pcap;
