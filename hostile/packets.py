@@ -111,16 +111,19 @@ def block(order, kind, body):
     return struct.pack(order + "2I", kind, len(body) + 12) + body + struct.pack(order + "I", len(body) + 12)
 
 
-def pcapng(packets, order="<", nano=False, is_obsolete=False, link=ETHERNET):
-    """A capture in blocks (draft-ietf-opsawg-pcapng), with a block of names that no one reads."""
-    options = struct.pack(order + "HHBxxxHH", 9, 1, 9, 0, 0) if nano else b""
+def pcapng(packets, order="<", nano=False, is_obsolete=False, link=ETHERNET, offset=0):
+    """A capture in blocks (draft-ietf-opsawg-pcapng), with a block of names that no one reads. All times are that many seconds
+    behind those of its packets where its interface says an offset."""
+    options = struct.pack(order + "HHBxxx", 9, 1, 9) if nano else b""
+    options += struct.pack(order + "HHq", 14, 8, offset) if offset else b""
+    options += struct.pack(order + "HH", 0, 0) if options else b""
     parts = [
         block(order, 0x0A0D0D0A, struct.pack(order + "IHHq", 0x1A2B3C4D, 1, 0, -1)),
         block(order, 1, struct.pack(order + "HHI", link, 0, 262144) + options),
         block(order, 4, struct.pack(order + "HH", 0, 0)),
     ]
     for time, frame in packets:
-        units = time * (1000 if nano else 1)
+        units = (time - offset * 1_000_000) * (1000 if nano else 1)
         front = struct.pack(order + "HH" if is_obsolete else order + "I", *((0, 0) if is_obsolete else (0,)))
         front += struct.pack(order + "4I", units >> 32, units % 2**32, len(frame), len(frame))
         parts.append(block(order, 2 if is_obsolete else 6, front + frame))
@@ -136,6 +139,8 @@ def forms(segments):
             yield f"pcap {name} {unit}", pcap(plain, order, nano)
             yield f"pcapng {name} {unit}", pcapng(plain, order, nano)
         yield f"pcapng {name} obsolete", pcapng(plain, order, is_obsolete=True)
+        for offset in (1_000_000_000, -1_000_000_000):
+            yield f"pcapng {name} moved by {offset} seconds", pcapng(plain, order, nano, offset=offset)
 
 
 def links(segments):
@@ -152,7 +157,23 @@ def links(segments):
     yield "null", of(0, lambda s: (30 if s.is_v6 else 2).to_bytes(4, "little"))
     yield "loopback", of(108, lambda s: (24 if s.is_v6 else 2).to_bytes(4, "big"))
     yield "cooked", of(113, lambda s: b"\0\0\3\4\0\6" + bytes(8) + kind[s.is_v6])
+    yield "cooked, tagged", of(113, lambda s: b"\0\0\3\4\0\6" + bytes(8) + b"\x81\0\0\7" + kind[s.is_v6])
     yield "cooked 2", of(276, lambda s: kind[s.is_v6] + b"\0\0\0\0\0\1\3\4\0\6" + bytes(8))
+    yield "cooked 2, tagged", of(276, lambda s: b"\x81\0" + b"\0\0\0\0\0\1\3\4\0\6" + bytes(8) + b"\0\7" + kind[s.is_v6])
+    yield "cooked 2, tagged twice", of(276, lambda s: b"\x88\xa8" + bytes(18) + b"\0\7\x81\0\0\7" + kind[s.is_v6])
     yield "tagged", of(ETHERNET, lambda s: inner(s, b"\x81\0\0\7"))
     yield "tagged twice", of(ETHERNET, lambda s: inner(s, b"\x88\xa8\0\7\x81\0\0\7"))
-    yield "PPPoE", of(ETHERNET, lambda s: s.front[:12] + b"\x88\x64\x11\0\0\1" + (len(s.frame()) - 12).to_bytes(2, "big") + (b"\0\x57" if s.is_v6 else b"\0\x21"))
+    ppp = {False: b"\0\x21", True: b"\0\x57"}
+
+    def session(s):
+        return b"\x11\0\0\1" + (len(s.frame()) - LINK_HEADER + 2).to_bytes(2, "big") + ppp[s.is_v6]
+
+    yield "PPPoE", of(ETHERNET, lambda s: s.front[:12] + b"\x88\x64" + session(s))
+    yield "PPPoE alone", of(51, session)
+    for link in (9, 50):
+        yield f"PPP as {link}", of(link, lambda s: ppp[s.is_v6])
+        yield f"PPP as {link}, compressed", of(link, lambda s: ppp[s.is_v6][1:])
+        yield f"PPP as {link} in HDLC", of(link, lambda s: b"\xff\3" + ppp[s.is_v6])
+        yield f"PPP as {link} in HDLC, compressed", of(link, lambda s: b"\xff\3" + ppp[s.is_v6][1:])
+        yield f"Cisco's HDLC as {link}", of(link, lambda s: b"\x0f\0" + kind[s.is_v6])
+        yield f"Cisco's HDLC as {link}, to many", of(link, lambda s: b"\x8f\0" + kind[s.is_v6])

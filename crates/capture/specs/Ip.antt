@@ -3,6 +3,7 @@ use Rattle.std.specs.Prelude.{ℕ, zero, suc, ◌+◌, ◌-◌, ◌*◌, ◌/◌
 use Rattle.tls_fields.specs.Bytes.{Bytes}
 use Rattle.tls_fields.specs.Layout.{Layout, done, number, block, window, complete, test, choose, mapped, ◌>>=◌, ◌>>◌}
 use Rattle.tls_fields.specs.declared.result.ErrorKind.TheVariants.{Verify, LengthValue}
+use Rattle.capture.specs.Jumbo.{payload_length}
 use Rattle.capture.specs.Transport.{Content, Fragment, view_content, transport}
 use Rattle.capture.specs.declared.ip.Address.{Address as StoredAddress}
 use Rattle.capture.specs.declared.ip.Address.TheVariants as address
@@ -135,17 +136,24 @@ address_v6 = do
   lower ← number 8
   done (V6 upper lower)
 
--- Version, traffic class and flow label; payload length; next header; hop limit; source; destination; and the payload
--- (RFC 8200, section 3), with at most 16 extension headers.
-unfoldable pub ipv6 : Layout Datagram
-ipv6 = do
+-- Version, traffic class and flow label; payload length; next header; hop limit (RFC 8200, section 3): the length and the next
+-- header.
+unfoldable pub front_v6 : Layout (ℕ × ℕ)
+front_v6 = do
   first ← number 1
   test (first / 16 == 6) Verify
   block 3
   len ← number 2
   next ← number 1
   block 1
+  done (len, next)
+
+-- The same, source, destination, and the payload, with at most 16 extension headers.
+unfoldable pub ipv6 : Layout Datagram
+ipv6 = do
+  front ← front_v6
   source ← address_v6
   destination ← address_v6
-  content ← window len (complete (headers 16 next))
+  len ← payload_length front.0 front.1
+  content ← window len (complete (headers 16 front.1))
   done (record { source = source; destination = destination; content = content })

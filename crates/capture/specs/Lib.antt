@@ -2,6 +2,7 @@ pub mod Order
 pub mod Pcap
 pub mod Pcapng
 pub mod Transport
+pub mod Jumbo
 pub mod Ip
 pub mod Link
 pub use Rattle.tls_fields.specs.Bytes

@@ -1,5 +1,5 @@
 -- What a packet begins with, by the link type of its capture (the LINKTYPE pages of tcpdump.org).
-use Rattle.std.specs.Prelude.{ℕ, ◌/◌, ◌==◌, ◌||◌, Bool, Option, Some, None, if◌then◌else◌}
+use Rattle.std.specs.Prelude.{ℕ, ◌/◌, ◌%◌, ◌==◌, ◌||◌, Bool, Option, Some, None, if◌then◌else◌}
 use Rattle.std.specs.Option.{option_map}
 use Rattle.tls_fields.specs.Layout.{Layout, done, refuse, number, block, list, look, test, choose, mapped, ◌>>=◌, ◌>>◌}
 use Rattle.tls_fields.specs.declared.result.ErrorKind.TheVariants.{Tag, Verify, Switch}
@@ -55,19 +55,48 @@ loopback = mapped family (number 4)
 unfoldable pub sll : Layout ℕ
 sll = block 14 >> ether_type
 
+-- What stands behind a type of Ethernet that was read: where it is that of a tag, the tag's control information, and any number
+-- of further tags.
+unfoldable pub behind_type : ℕ → Layout ℕ
+behind_type kind = choose (is_vlan kind) (block 2 >> ether_type) (done kind)
+
 -- LINKTYPE_LINUX_SLL2: protocol; reserved, interface, ARPHRD type, packet type, length of the link's address and 8
--- bytes of it.
+-- bytes of it; tags.
 unfoldable pub sll2 : Layout ℕ
 sll2 = do
   kind ← number 2
   block 18
-  done kind
+  behind_type kind
 
 -- LINKTYPE_RAW: the version is in the upper 4 bits of the first byte, which is the datagram's.
 unfoldable pub raw_ip : Layout ℕ
 raw_ip = do
   first ← look (number 1)
   choose (first / 16 == 4) (done IPV4) (choose (first / 16 == 6) (done IPV6) (refuse Verify))
+
+-- What a protocol of PPP is as a type of Ethernet: 0x0021 is IPv4 (RFC 1332, section 2), 0x0057 IPv6 (RFC 5072, section 2).
+abbrev pub type_of_ppp : ℕ → ℕ
+type_of_ppp protocol = if protocol == 0x0021 then IPV4 else if protocol == 0x0057 then IPV6 else 0
+
+-- Each protocol's upper byte is even and its lower one odd, so that a first byte that is odd is the whole number, in the compressed
+-- form (RFC 1661, sections 2 and 6.5).
+unfoldable pub ppp : Layout ℕ
+ppp = do
+  first ← look (number 1)
+  mapped type_of_ppp (choose (first % 2 == 1) (number 1) (number 2))
+
+-- What follows these 2 bytes in front: behind the address and the control byte of HDLC stands PPP (RFC 1662, section 3.1); behind
+-- those of Cisco's form of HDLC types of Ethernet (RFC 1547, section 4.3.1). Others are PPP's own.
+unfoldable pub ppp_by : ℕ → Layout ℕ
+ppp_by front =
+    choose (front == 0xff03) (block 2 >> ppp) (
+    choose (front == 0x0f00) (block 2 >> ether_type) (
+    choose (front == 0x8f00) (block 2 >> ether_type) (
+    ppp)))
+
+-- LINKTYPE_PPP and LINKTYPE_PPP_HDLC.
+unfoldable pub ppp_link : Layout ℕ
+ppp_link = look (number 2) >>= ppp_by
 
 -- LINKTYPE_RAW, LINKTYPE_IPV4 and LINKTYPE_IPV6: no header of a link.
 unfoldable pub no_link : ℕ → Layout ℕ
@@ -77,6 +106,17 @@ no_link link_type =
     choose (link_type == 229) (done IPV6) (
     refuse Switch)))
 
+-- The type of a packet of a PPPoE session.
+abbrev pub PPPOE : ℕ
+PPPOE = 0x8864
+
+-- LINKTYPE_PPP_ETHER has packets of PPPoE sessions.
+unfoldable pub ppp_or_none : ℕ → Layout ℕ
+ppp_or_none link_type =
+    choose ((link_type == 9) || (link_type == 50)) ppp_link (
+    choose (link_type == 51) (done PPPOE) (
+    no_link link_type))
+
 -- The type of what follows, by the link type.
 unfoldable pub link : ℕ → Layout ℕ
 link link_type =
@@ -84,25 +124,24 @@ link link_type =
     choose ((link_type == 0) || (link_type == 108)) loopback (
     choose (link_type == 113) sll (
     choose (link_type == 276) sll2 (
-    no_link link_type))))
+    ppp_or_none link_type))))
 
--- A packet of a PPPoE session: version and type, code 0, session, length (RFC 2516, section 4); and the protocol of
--- PPP: 0x0021 is IPv4 (RFC 1332), 0x0057 IPv6 (RFC 5072).
+-- A datagram, by its type.
+unfoldable pub datagram : ℕ → Layout (Option Datagram)
+datagram kind = choose (kind == IPV4) (mapped Some ipv4) (choose (kind == IPV6) (mapped Some ipv6) (done None))
+
+-- A packet of a PPPoE session: version and type, code 0, session, length; and PPP (RFC 2516, section 4).
 unfoldable pub pppoe : Layout (Option Datagram)
 pppoe = do
-  kind ← number 2
-  test (kind == 0x1100) Verify
+  front ← number 2
+  test (front == 0x1100) Verify
   block 4
-  protocol ← number 2
-  choose (protocol == 0x0021) (mapped Some ipv4) (choose (protocol == 0x0057) (mapped Some ipv6) (done None))
+  kind ← ppp
+  datagram kind
 
 -- What follows, by its type.
 unfoldable pub network : ℕ → Layout (Option Datagram)
-network kind =
-    choose (kind == IPV4) (mapped Some ipv4) (
-    choose (kind == IPV6) (mapped Some ipv6) (
-    choose (kind == 0x8864) pppoe (
-    done None)))
+network kind = choose (kind == PPPOE) pppoe (datagram kind)
 
 -- A packet of that link type.
 unfoldable pub packet : ℕ → Layout (Option Datagram)

@@ -1,6 +1,8 @@
 -- Files of blocks, in sections (draft-ietf-opsawg-pcapng).
 use Rattle.std.specs.Prelude.{ℕ, ◌+◌, ◌-◌, ◌*◌, ◌/◌, ◌%◌, ◌^◌, ◌==◌, ◌||◌, ◌&&◌, not, min, nat_le, nat_lt, Bool}
-use Rattle.std.specs.Prelude.{Option, Some, None, if◌then◌else◌}
+use Rattle.std.specs.Prelude.{Option, Some, None, if◌then◌else◌, ℤ, pos, negsuc}
+use Rattle.std.specs.Int.{w64, cast_signed}
+use Rattle.std.specs.Option.{option_and_then}
 use Rattle.tls_fields.specs.Bytes.{Bytes}
 use Rattle.tls_fields.specs.Layout.{Layout, done, refuse, number, block, left, list, either, look, test, choose}
 use Rattle.tls_fields.specs.Layout.{mapped, ◌>>=◌, ◌>>◌}
@@ -65,22 +67,34 @@ next_block order = order_next order >>= block_by
 abbrev pub padded : ℕ → ℕ
 padded n = (n + 3) / 4 * 4
 
--- An option that neither ends the options nor is if_tsresol: code, length, value, padding (section 3.5).
-unfoldable pub other_option : Order → Layout Unit
-other_option order = do
-  code ← number_by order 2
-  test (not ((code == 0) || (code == 9))) Tag
+-- An option that neither ends the options nor has that code and that length: code, length, value, padding (section 3.5).
+unfoldable pub option_but : Order → ℕ → ℕ → Layout Unit
+option_but order code size = do
+  other ← number_by order 2
   len ← number_by order 2
+  test (not ((other == 0) || ((other == code) && (len == size)))) Tag
   mapped (λ _. tt) (block (padded len))
 
--- if_tsresol: 1 byte (section 4.2).
+-- The code and the length of an option that has these.
+unfoldable pub option_front : Order → ℕ → ℕ → Layout Unit
+option_front order code size = do
+  other ← number_by order 2
+  len ← number_by order 2
+  test ((other == code) && (len == size)) Tag
+
+-- The options up to the first that is an if_tsresol of 1 byte, and that (section 4.2).
 unfoldable pub resolution_option : Order → Layout ℕ
 resolution_option order = do
-  code ← number_by order 2
-  test (code == 9) Tag
-  len ← number_by order 2
-  test (len == 1) LengthValue
+  list (option_but order 9 1)
+  option_front order 9 1
   number 1
+
+-- The options up to the first that is an if_tsoffset of 8 bytes, and that: seconds, a signed number (section 4.2).
+unfoldable pub offset_option : Order → Layout ℤ
+offset_option order = do
+  list (option_but order 14 8)
+  option_front order 14 8
+  mapped (cast_signed w64) (number_by order 8)
 
 -- How many units of time a second has: ten to a power, or two to one where the highest bit is set (section 4.2,
 -- if_tsresol).
@@ -90,33 +104,43 @@ units_of resolution =
     choose (nat_le 128 resolution && nat_le resolution 191) (done (2 ^ (resolution - 128))) (
     refuse Verify))
 
--- An interface: what its packets begin with, how far they are captured (0: without a limit), and how many units of time
--- a second has.
+-- An interface: what its packets begin with, how far they are captured (0: without a limit), how many units of time a
+-- second has, and how many seconds are added to each time.
 pub record Interface : Type 0 where
   pub link_type : ℕ
   pub snap_length : ℕ
   pub units : ℕ
+  pub offset : ℤ
 
 abbrev pub view_interface : StoredInterface → Interface
-view_interface i = record { link_type = i.link_type; snap_length = i.snap_length; units = i.units }
+view_interface i = record { link_type = i.link_type; snap_length = i.snap_length; units = i.units; offset = i.offset }
 
 -- The body of an Interface Description Block: link type, reserved, snap length, options; a second has 10^6 units where
--- if_tsresol isn't among these (section 4.2).
+-- if_tsresol isn't among these, and nothing is added where if_tsoffset isn't (section 4.2).
 unfoldable pub interface : Order → Layout Interface
 interface order = do
   link_type ← number_by order 2
   block 2
   snap_length ← number_by order 4
-  list (other_option order)
-  resolution ← either (resolution_option order) (done 6)
+  resolution ← look (either (resolution_option order) (done 6))
+  offset ← look (either (offset_option order) (done (pos 0)))
   units ← units_of resolution
-  done (record { link_type = link_type; snap_length = snap_length; units = units })
+  done (record { link_type = link_type; snap_length = snap_length; units = units; offset = offset })
 
--- So many units as nanoseconds, rounded down; none where these are 2^64 or more, or where a second has no units.
-abbrev pub nanoseconds_of : ℕ → ℕ → Option ℕ
-nanoseconds_of per_second units =
-    if per_second == 0 then None else
-    if nat_lt (units * 1000000000 / per_second) (2 ^ 64) then Some (units * 1000000000 / per_second) else None
+-- Nanoseconds with so many seconds added; none below 0.
+abbrev pub moved_by : ℤ → ℕ → Option ℕ
+moved_by (pos s) n = Some (n + s * 1000000000)
+moved_by (negsuc s) n = if nat_le ((s + 1) * 1000000000) n then Some (n - (s + 1) * 1000000000) else None
+
+abbrev pub below_2_64 : ℕ → Option ℕ
+below_2_64 n = if nat_lt n (2 ^ 64) then Some n else None
+
+-- A time of so many units as nanoseconds since 1970-01-01 00:00 UTC, rounded down; none before that, from 2^64 on, or where
+-- a second has no units.
+abbrev pub nanoseconds_of : Interface → ℕ → Option ℕ
+nanoseconds_of i units =
+    if i.units == 0 then None else
+    option_and_then below_2_64 (moved_by i.offset (units * 1000000000 / i.units))
 
 -- A packet: of which interface of its section, counted from 0; when, in that interface's units since 1970-01-01 00:00
 -- UTC; how long it was; what was captured.

@@ -1,5 +1,5 @@
 //! Datagrams of the Internet Protocol (RFC 791; RFC 8200).
-#![tactic(auto, using(tls_fields::proofs::OneAnswerLemmas::read_allowed), unfolding(crate::specs::Ip::content_v4, crate::specs::Ip::skipped, crate::specs::Ip::fragment_header, crate::specs::Ip::step, crate::specs::Ip::address_v6))]
+#![tactic(auto, using(tls_fields::proofs::OneAnswerLemmas::read_allowed), unfolding(crate::specs::Ip::content_v4, crate::specs::Ip::front_v6, crate::specs::Ip::skipped, crate::specs::Ip::fragment_header, crate::specs::Ip::step, crate::specs::Ip::address_v6))]
 
 ghost use Rattle.std.specs.Prelude.{◌≡◌, ◌<◌, ◌≤◌, IfOk};
 ghost use Rattle.tls_fields.specs.Layout.{complete};
@@ -7,9 +7,10 @@ ghost use Rattle.tls_fields.specs.Answers.{Gives};
 ghost use Rattle.capture.specs.Transport.{view_content};
 ghost use Rattle.capture.specs.Ip.{content_v4 as content_v4_layout, ipv4, ipv6, view_datagram, view_address};
 ghost use Rattle.capture.specs.Ip.{skipped as skipped_layout, lengths_v4 as lengths_v4_layout, fields_v4 as fields_v4_layout, view_fields_v4};
-ghost use Rattle.capture.specs.Ip.{address_v6 as address_v6_layout, headers as headers_layout, step as step_layout};
+ghost use Rattle.capture.specs.Ip.{address_v6 as address_v6_layout, front_v6 as front_v6_layout, headers as headers_layout, step as step_layout};
 ghost use Rattle.capture.specs.Ip.{fragment_header as fragment_header_layout, is_extension as is_extension_number};
 
+use crate::jumbo::payload_length;
 use crate::transport::{Content, transport};
 use tls_fields::{Err, ErrorKind, IResult, block, number1, number2, number4, number8, refused};
 
@@ -234,20 +235,10 @@ fn address_v6(i: &[u8]) -> IResult<&[u8], Address>
     Ok((i, Address::V6(upper, lower)))
 }
 
-/// Reads a datagram of IPv6 (RFC 8200, section 3): its header of 40 bytes, at most 16 extension headers, and what it
-/// holds, which ends where its payload length says. What follows is padding. One more extension header behind 16 is
-/// `Other`.
-///
-/// - `Incomplete` of what is missing of the header, or of the bytes that the payload length counts: it wasn't captured
-///   whole.
-/// - `Error` of kind `Verify` where the version isn't 6.
-/// - `Error` of kind `LengthValue` where the data offset of a segment is below 5 words, or the length of a user
-///   datagram below 8.
-/// - `Error` of kind `Complete` where an extension header, a segment or a user datagram doesn't fit in the payload
-///   length.
-#[tactic(auto, using(tls_fields::proofs::OneAnswerLemmas::read_allowed), unfolding(crate::specs::Ip::ipv6))]
-pub fn parse_ipv6(i: &[u8]) -> IResult<&[u8], Datagram>
-    ensures { Gives view_datagram ipv6 i.now result }
+/// The payload length and the next header of a header of IPv6.
+#[inline]
+fn front_v6(i: &[u8]) -> IResult<&[u8], (u16, u8)>
+    ensures { Gives (λ v. v) front_v6_layout i.now result }
 {
     let (i, first) = number1(i)?;
     if first / 16 != 6 {
@@ -257,8 +248,28 @@ pub fn parse_ipv6(i: &[u8]) -> IResult<&[u8], Datagram>
     let (i, len) = number2(i)?;
     let (i, next) = number1(i)?;
     let (i, _) = block(i, 1)?;
+    Ok((i, (len, next)))
+}
+
+/// Reads a datagram of IPv6 (RFC 8200, section 3): its header of 40 bytes, at most 16 extension headers, and what it
+/// holds, which ends where its payload length says, or, where that is 0 and Hop-by-Hop Options follow, the length in their
+/// jumbo payload (RFC 2675). What follows is padding. One more extension header behind 16 is `Other`.
+///
+/// - `Incomplete` of what is missing of the header, or of the bytes that the payload length counts: it wasn't captured
+///   whole.
+/// - `Error` of kind `Verify` where the version isn't 6.
+/// - `Error` of kind `LengthValue` where the data offset of a segment is below 5 words, or the length of a user
+///   datagram below 8; or where a jumbo payload is said in another length than 4 bytes, or is below 65,536.
+/// - `Error` of kind `Complete` where an extension header, a segment or a user datagram doesn't fit in the payload
+///   length; or where there is no jumbo payload among the options that should say the length.
+#[tactic(auto, using(tls_fields::proofs::OneAnswerLemmas::read_allowed), unfolding(crate::specs::Ip::ipv6))]
+pub fn parse_ipv6(i: &[u8]) -> IResult<&[u8], Datagram>
+    ensures { Gives view_datagram ipv6 i.now result }
+{
+    let (i, (len, next)) = front_v6(i)?;
     let (i, source) = address_v6(i)?;
     let (i, destination) = address_v6(i)?;
+    let (i, len) = payload_length(i, len, next)?;
     let (i, held) = block(i, len as usize)?;
     let (_, content) = whole_v6(held, next)?;
     let datagram = Datagram {

@@ -7,6 +7,7 @@
 mod block_packet;
 mod interface;
 mod ip;
+mod jumbo;
 mod link;
 mod order;
 mod pcap;
@@ -19,7 +20,7 @@ pub use block_packet::{
 pub use interface::{Interface, parse_interface};
 pub use ip::{Address, Datagram, parse_ipv4, parse_ipv6};
 pub use link::parse_packet;
-pub use order::{Order, number2_by, number4_by};
+pub use order::{Order, number2_by, number4_by, number8_by};
 pub use pcap::{
     Captured, Format, MAX_PACKET_LEN, PcapHeader, Unit, parse_pcap_header, parse_pcap_packet,
 };

@@ -2,9 +2,10 @@
 #![tactic(auto, using(tls_fields::proofs::GivesLemmas::reads), unfolding(tls_fields::specs::Reading::split_at, crate::specs::Order::little))]
 
 ghost use Rattle.tls_fields.specs.Answers.{Gives};
-ghost use Rattle.capture.specs.Order.{little, number_by};
+ghost use Rattle.std.specs.Prelude.{◌≡◌, length};
+ghost use Rattle.capture.specs.Order.{little, little_of, number_by};
 
-use tls_fields::{Err, IResult, Needed, number2, number4};
+use tls_fields::{Err, IResult, Needed, number2, number4, number8};
 
 /// Which byte of a number stands first.
 #[derive(Clone, Copy, Debug, PartialEq, Eq)]
@@ -35,6 +36,28 @@ fn little4(i: &[u8]) -> IResult<&[u8], u32>
     }
 }
 
+/// The number that 8 bytes spell, the least significant first.
+#[tactic(auto)]
+fn little_number(bytes: &[u8]) -> u64
+    requires { length bytes.now ≡ 8 }
+    ensures { result ≡ little_of bytes.now }
+{
+    u64::from_le_bytes([
+        bytes[0], bytes[1], bytes[2], bytes[3], bytes[4], bytes[5], bytes[6], bytes[7],
+    ])
+}
+
+/// A number of 8 bytes, the least significant first.
+fn little8(i: &[u8]) -> IResult<&[u8], u64>
+    ensures { Gives (λ v. v) (little 8) i.now result }
+{
+    if i.len() < 8 {
+        return Err(Err::Incomplete(Needed::Size(8 - i.len())));
+    }
+    let (front, rest) = i.split_at(8);
+    Ok((rest, little_number(front)))
+}
+
 /// A number of 2 bytes in that order.
 ///
 /// `Incomplete` of the missing bytes where there are fewer than 2.
@@ -58,5 +81,18 @@ pub fn number4_by(i: &[u8], order: Order) -> IResult<&[u8], u32>
     match order {
         Order::Big => number4(i),
         Order::Little => little4(i),
+    }
+}
+
+/// A number of 8 bytes in that order.
+///
+/// `Incomplete` of the missing bytes where there are fewer than 8.
+#[tactic(auto, using(tls_fields::proofs::OneAnswerLemmas::read_allowed), unfolding(crate::specs::Order::number_by))]
+pub fn number8_by(i: &[u8], order: Order) -> IResult<&[u8], u64>
+    ensures { Gives (λ v. v) (number_by order 8) i.now result }
+{
+    match order {
+        Order::Big => number8(i),
+        Order::Little => little8(i),
     }
 }

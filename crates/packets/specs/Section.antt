@@ -79,7 +79,7 @@ packet_at s i p (Some time) = Ok (
 -- A packet with a time in units of that interface, which the section has to have.
 abbrev pub timed_of : Section → BlockPacket → Option Interface → Heard
 timed_of s p None = Err error.Broken
-timed_of s p (Some i) = packet_at s i p (nanoseconds_of i.units p.units)
+timed_of s p (Some i) = packet_at s i p (nanoseconds_of i p.units)
 
 -- A packet with a time, of the interface that it names by its number (section 4.3, and appendix A).
 abbrev pub timed : Section → Answer BlockPacket → Heard

@@ -171,7 +171,7 @@ impl Capture {
     ///
     /// - `NoCapture` where the first bytes are of no form, or of a pcap file whose major version isn't 2.
     /// - `Broken` where a packet's header or a block breaks a rule of its layout, a block is of an interface that wasn't
-    ///   described, or a time is past the year 2554.
+    ///   described, or a time is before 1970 or past the year 2554.
     /// - `OutOfMemory` where an interface could not be held.
     ///
     /// Behind an error all is as it was before.
