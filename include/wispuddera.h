@@ -247,6 +247,9 @@ uint32_t wispuddera_version_at(const uint8_t *bytes, size_t count, size_t index,
 /* Of the groups in the content of a supported_groups (RFC 8446, section 4.2.7). */
 uint32_t wispuddera_group_at(const uint8_t *bytes, size_t count, size_t index, wispuddera_number *out);
 
+/* Of the signature schemes in the content of a signature_algorithms (RFC 8446, section 4.2.3); a last odd byte is left out. */
+uint32_t wispuddera_signature_scheme_at(const uint8_t *bytes, size_t count, size_t index, wispuddera_number *out);
+
 /* The best version of a hello with that version and that block of extensions (RFC 8446, section 4.2.1): the highest in its first
  * supported_versions that isn't one of GREASE (RFC 8701), or where there is none of these, its own. `count` isn't set. */
 uint32_t wispuddera_best_version(const uint8_t *bytes, size_t count, uint16_t version, wispuddera_number *out);
@@ -335,11 +338,29 @@ enum {
  * Nothing is refused. */
 uint32_t wispuddera_outcome(const wispuddera_event *events, size_t count);
 
+/* The same, followed event by event: nothing is kept but this number, which may be copied and stored. It is one of
+ * wispuddera_flow_start or of wispuddera_flow_step; another stands for WISPUDDERA_NO_HANDSHAKE, and stays. */
+typedef struct {
+    uint32_t state;
+} wispuddera_flow;
+
+/* Begins a conversation of which nothing was said. */
+void wispuddera_flow_start(wispuddera_flow *flow);
+
+/* Follows one more event. */
+void wispuddera_flow_step(wispuddera_flow *flow, const wispuddera_event *event);
+
+/* How the conversation stands: as wispuddera_outcome tells it of its events so far. */
+uint32_t wispuddera_flow_outcome(const wispuddera_flow *flow);
+
 /* ---- This header and the library ----
  *
  * How many bytes a struct takes in the library: of place, record, part, client_hello, server_hello, found, number, dtls_record,
- * dtls_message, dtls_client_hello, event the one at that index; 0 behind the last. */
+ * dtls_message, dtls_client_hello, event, flow the one at that index; 0 behind the last. */
 size_t wispuddera_struct_size(size_t index);
+
+/* Where a field of that struct begins, by its index in this header's order; behind the last field, the size of the struct. */
+size_t wispuddera_field_offset(size_t index, size_t field);
 
 #ifdef __cplusplus
 }

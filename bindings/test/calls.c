@@ -2,6 +2,7 @@
  * that stands elsewhere in the library's struct is seen. The bytes are those of RFC 8446's and RFC 6347's structs. */
 #include "wispuddera.h"
 
+#include <stddef.h>
 #include <stdio.h>
 #include <string.h>
 
@@ -36,16 +37,102 @@ static const uint8_t record[] = {
 
 enum { WHOLE = 102, BODY = 9, BODY_LENGTH = 93, BLOCK = 58, BLOCK_LENGTH = 44 };
 
-static void test_layout(void) {
-    static const size_t sizes[] = {sizeof(wispuddera_place),         sizeof(wispuddera_record),       sizeof(wispuddera_part),
-                                   sizeof(wispuddera_client_hello),  sizeof(wispuddera_server_hello), sizeof(wispuddera_found),
-                                   sizeof(wispuddera_number),        sizeof(wispuddera_dtls_record),  sizeof(wispuddera_dtls_message),
-                                   sizeof(wispuddera_dtls_client_hello), sizeof(wispuddera_event)};
+/* Where each field of a struct begins, and behind them its size. */
+static void is_laid_out(int line, size_t index, const size_t *offsets, size_t fields, size_t size) {
     size_t i;
-    for (i = 0; i < sizeof sizes / sizeof *sizes; i++) {
-        IS(wispuddera_struct_size(i), sizes[i]);
+    for (i = 0; i < fields; i++) {
+        is(line, wispuddera_field_offset(index, i), offsets[i]);
     }
-    IS(wispuddera_struct_size(i), 0);
+    is(line, wispuddera_field_offset(index, fields), size);
+    is(line, wispuddera_struct_size(index), size);
+}
+
+#define IS_LAID_OUT(index, type) is_laid_out(__LINE__, index, offsets, sizeof offsets / sizeof *offsets, sizeof(wispuddera_##type))
+
+static void test_layout(void) {
+    {
+        static const size_t offsets[] = {offsetof(wispuddera_place, offset), offsetof(wispuddera_place, length)};
+        IS_LAID_OUT(0, place);
+    }
+    {
+        static const size_t offsets[] = {offsetof(wispuddera_record, missing), offsetof(wispuddera_record, fragment),
+                                         offsetof(wispuddera_record, next), offsetof(wispuddera_record, version),
+                                         offsetof(wispuddera_record, length), offsetof(wispuddera_record, content_type)};
+        IS_LAID_OUT(1, record);
+    }
+    {
+        static const size_t offsets[] = {offsetof(wispuddera_part, missing), offsetof(wispuddera_part, content),
+                                         offsetof(wispuddera_part, next), offsetof(wispuddera_part, kind)};
+        IS_LAID_OUT(2, part);
+    }
+    {
+        static const size_t offsets[] = {offsetof(wispuddera_client_hello, missing), offsetof(wispuddera_client_hello, random),
+                                         offsetof(wispuddera_client_hello, session_id),
+                                         offsetof(wispuddera_client_hello, cipher_suites),
+                                         offsetof(wispuddera_client_hello, compression_methods),
+                                         offsetof(wispuddera_client_hello, extensions),
+                                         offsetof(wispuddera_client_hello, next), offsetof(wispuddera_client_hello, version),
+                                         offsetof(wispuddera_client_hello, has_extensions)};
+        IS_LAID_OUT(3, client_hello);
+    }
+    {
+        static const size_t offsets[] = {offsetof(wispuddera_server_hello, missing), offsetof(wispuddera_server_hello, random),
+                                         offsetof(wispuddera_server_hello, session_id),
+                                         offsetof(wispuddera_server_hello, extensions),
+                                         offsetof(wispuddera_server_hello, next), offsetof(wispuddera_server_hello, version),
+                                         offsetof(wispuddera_server_hello, cipher_suite),
+                                         offsetof(wispuddera_server_hello, compression_method),
+                                         offsetof(wispuddera_server_hello, has_extensions)};
+        IS_LAID_OUT(4, server_hello);
+    }
+    {
+        static const size_t offsets[] = {offsetof(wispuddera_found, missing), offsetof(wispuddera_found, place)};
+        IS_LAID_OUT(5, found);
+    }
+    {
+        static const size_t offsets[] = {offsetof(wispuddera_number, missing), offsetof(wispuddera_number, count),
+                                         offsetof(wispuddera_number, value)};
+        IS_LAID_OUT(6, number);
+    }
+    {
+        static const size_t offsets[] = {offsetof(wispuddera_dtls_record, missing), offsetof(wispuddera_dtls_record, fragment),
+                                         offsetof(wispuddera_dtls_record, next),
+                                         offsetof(wispuddera_dtls_record, sequence_number),
+                                         offsetof(wispuddera_dtls_record, version), offsetof(wispuddera_dtls_record, epoch),
+                                         offsetof(wispuddera_dtls_record, length),
+                                         offsetof(wispuddera_dtls_record, content_type)};
+        IS_LAID_OUT(7, dtls_record);
+    }
+    {
+        static const size_t offsets[] = {offsetof(wispuddera_dtls_message, missing), offsetof(wispuddera_dtls_message, body),
+                                         offsetof(wispuddera_dtls_message, next), offsetof(wispuddera_dtls_message, length),
+                                         offsetof(wispuddera_dtls_message, fragment_offset),
+                                         offsetof(wispuddera_dtls_message, fragment_length),
+                                         offsetof(wispuddera_dtls_message, message_seq),
+                                         offsetof(wispuddera_dtls_message, kind), offsetof(wispuddera_dtls_message, is_part)};
+        IS_LAID_OUT(8, dtls_message);
+    }
+    {
+        static const size_t offsets[] = {offsetof(wispuddera_dtls_client_hello, missing),
+                                         offsetof(wispuddera_dtls_client_hello, random),
+                                         offsetof(wispuddera_dtls_client_hello, session_id),
+                                         offsetof(wispuddera_dtls_client_hello, cookie),
+                                         offsetof(wispuddera_dtls_client_hello, extensions),
+                                         offsetof(wispuddera_dtls_client_hello, next),
+                                         offsetof(wispuddera_dtls_client_hello, version),
+                                         offsetof(wispuddera_dtls_client_hello, has_extensions)};
+        IS_LAID_OUT(9, dtls_client_hello);
+    }
+    {
+        static const size_t offsets[] = {offsetof(wispuddera_event, kind), offsetof(wispuddera_event, to_server)};
+        IS_LAID_OUT(10, event);
+    }
+    {
+        static const size_t offsets[] = {offsetof(wispuddera_flow, state)};
+        IS_LAID_OUT(11, flow);
+    }
+    IS(wispuddera_struct_size(12), 0);
+    IS(wispuddera_field_offset(12, 0), 0);
 }
 
 static void test_record(void) {
@@ -171,6 +258,12 @@ static void test_numbers(void) {
     IS(n.value, 23);
     IS(wispuddera_group_at((const uint8_t *)"\x00\x04\x00\x1d\x00\x17", 5, 1, &n), WISPUDDERA_INCOMPLETE);
     IS(n.missing, 1);
+    IS(wispuddera_signature_scheme_at((const uint8_t *)"\x00\x05\x04\x03\x08\x04\x08", 7, 1, &n), WISPUDDERA_READ);
+    IS(n.value, 0x0804);
+    IS(n.count, 2);
+    IS(wispuddera_signature_scheme_at((const uint8_t *)"\x00\x05\x04\x03\x08\x04\x08", 7, 2, &n), WISPUDDERA_NONE);
+    IS(wispuddera_signature_scheme_at((const uint8_t *)"\x00\x05\x04\x03\x08\x04\x08", 6, 1, &n), WISPUDDERA_INCOMPLETE);
+    IS(n.missing, 1);
     IS(wispuddera_best_version(record + BLOCK, 42, 0x0303, &n), WISPUDDERA_READ);
     IS(n.value, 0x0304);
     IS(wispuddera_best_version(NULL, 0, 0x0302, &n), WISPUDDERA_READ);
@@ -249,6 +342,29 @@ static void test_stream(void) {
     PLACE(messages, 97, 1);
 }
 
+/* The outcome of a list of events, and of each front of it, is the one behind steps. */
+static uint32_t outcome_of(const wispuddera_event *events, size_t count) {
+    wispuddera_flow flow = WISPUDDERA_EMPTY;
+    size_t i;
+    wispuddera_flow_start(&flow);
+    for (i = 0; i < count; i++) {
+        IS(wispuddera_flow_outcome(&flow), wispuddera_outcome(events, i));
+        wispuddera_flow_step(&flow, &events[i]);
+    }
+    IS(wispuddera_flow_outcome(&flow), wispuddera_outcome(events, count));
+    return wispuddera_flow_outcome(&flow);
+}
+
+static void test_no_state(void) {
+    static const wispuddera_event hello = {WISPUDDERA_EVENT_CLIENT_HELLO, true};
+    wispuddera_flow flow = {1000};
+    wispuddera_flow_step(&flow, &hello);
+    IS(flow.state, 1000);
+    IS(wispuddera_flow_outcome(&flow), WISPUDDERA_NO_HANDSHAKE);
+    wispuddera_flow_start(&flow);
+    IS(wispuddera_flow_outcome(&flow), WISPUDDERA_WAITING);
+}
+
 /* Handshakes as RFC 5246 (section 7.3) and RFC 8446 (section 2) draw them. */
 static void test_outcome(void) {
     static const uint8_t messages[] = {1, 2, 11, 12, 14, 16};
@@ -257,32 +373,32 @@ static void test_outcome(void) {
     const uint8_t versions[] = {0x00, 0x13, 0x01, 0x00, 0x00, 0x06, 0x00, 0x2b, 0x00, 0x02, 0x03, 0x04};
     wispuddera_event events[10];
     size_t i;
-    IS(wispuddera_outcome(NULL, 0), WISPUDDERA_WAITING);
+    IS(outcome_of(NULL, 0), WISPUDDERA_WAITING);
     for (i = 0; i < 6; i++) {
         const uint8_t *body = messages[i] == 2 ? hello : record + BODY;
         events[i].kind = wispuddera_event_of_message(body, messages[i] == 2 ? 38 : BODY_LENGTH, messages[i]);
         events[i].to_server = to_server[i];
         IS(events[i].kind != WISPUDDERA_EVENT_UNKNOWN, 1);
-        IS(wispuddera_outcome(events, i + 1), WISPUDDERA_WAITING);
+        IS(outcome_of(events, i + 1), WISPUDDERA_WAITING);
     }
     IS(events[1].kind, WISPUDDERA_EVENT_SERVER_HELLO);
     for (; i < 10; i++) {
         events[i].kind = i % 2 == 0 ? WISPUDDERA_EVENT_CHANGE_CIPHER_SPEC : WISPUDDERA_EVENT_ENCRYPTED;
         events[i].to_server = i < 8;
     }
-    IS(wispuddera_outcome(events, 7), WISPUDDERA_WAITING);
-    IS(wispuddera_outcome(events, 10), WISPUDDERA_FULL);
+    IS(outcome_of(events, 7), WISPUDDERA_WAITING);
+    IS(outcome_of(events, 10), WISPUDDERA_FULL);
     events[2].kind = wispuddera_event_of_alert(2, 40);
     IS(events[2].kind, WISPUDDERA_EVENT_FATAL);
-    IS(wispuddera_outcome(events, 10), WISPUDDERA_BROKEN_OFF);
+    IS(outcome_of(events, 10), WISPUDDERA_BROKEN_OFF);
     events[2].kind = 200;
-    IS(wispuddera_outcome(events, 10), WISPUDDERA_UNKNOWN);
+    IS(outcome_of(events, 10), WISPUDDERA_UNKNOWN);
     events[2].kind = WISPUDDERA_EVENT_CLIENT_HELLO;
-    IS(wispuddera_outcome(events, 10), WISPUDDERA_NO_HANDSHAKE);
+    IS(outcome_of(events, 10), WISPUDDERA_NO_HANDSHAKE);
     memcpy(hello + 34, versions, sizeof versions);
     events[1].kind = wispuddera_event_of_message(hello, sizeof hello, 2);
     IS(events[1].kind, WISPUDDERA_EVENT_SERVER_HELLO_13);
-    IS(wispuddera_outcome(events, 2), WISPUDDERA_TLS13);
+    IS(outcome_of(events, 2), WISPUDDERA_TLS13);
     IS(wispuddera_event_of_dtls_message(3), WISPUDDERA_EVENT_HELLO_VERIFY_REQUEST);
     IS(wispuddera_event_of_alert(1, 90), WISPUDDERA_EVENT_WARNING);
 }
@@ -303,6 +419,7 @@ int main(void) {
     test_dtls();
     test_stream();
     test_outcome();
+    test_no_state();
     printf(failures == 0 ? "calls: as counted by hand\n" : "calls: not as counted by hand\n");
     return failures != 0;
 }

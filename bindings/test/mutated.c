@@ -48,7 +48,8 @@ static void call_parts(const uint8_t *b, size_t n, size_t at) {
     static const finder finders[] = {wispuddera_find_server_name_in_record, wispuddera_find_server_name_in_hello,
                                      wispuddera_find_server_name, wispuddera_find_protocols, wispuddera_find_key_shares,
                                      wispuddera_find_certificates};
-    static const number_reader numbers[] = {wispuddera_number_at, wispuddera_version_at, wispuddera_group_at};
+    static const number_reader numbers[] = {wispuddera_number_at, wispuddera_version_at, wispuddera_group_at,
+                                            wispuddera_signature_scheme_at};
     size_t i;
     for (i = 0; i < sizeof readers / sizeof *readers; i++) {
         wispuddera_part p = WISPUDDERA_EMPTY;
@@ -114,6 +115,19 @@ static void call_others(const uint8_t *b, size_t n, size_t at) {
     is_read(wispuddera_best_version(b, n, (uint16_t)at, &v), &v.missing);
 }
 
+static void call_flow(const uint8_t *b, size_t n, size_t at) {
+    wispuddera_flow flow = {(uint32_t)(at == 0 ? 0 : n % 40)};
+    size_t i;
+    for (i = 0; i < n; i++) {
+        wispuddera_event event = {b[i], (b[i] & 32) != 0};
+        wispuddera_flow_step(&flow, &event);
+        if (wispuddera_flow_outcome(&flow) > WISPUDDERA_TLS13_RETRIED_EARLY) {
+            printf("mutated: no outcome\n");
+            exit(1);
+        }
+    }
+}
+
 static void call_streams(const uint8_t *b, size_t n, size_t at) {
     uint8_t *buffer = (uint8_t *)malloc(n + 1);
     wispuddera_place held = {at, n / 2};
@@ -152,7 +166,8 @@ int main(int argc, char **argv) {
         call_parts(block, count, at);
         call_others(block, count, at);
         call_streams(block, count, at);
-        calls += 27;
+        call_flow(block, count, at);
+        calls += 28 + 2 * (long)count;
         free(block);
     }
     printf("mutated: %ld calls, each with a status and its places within the bytes\n", calls);

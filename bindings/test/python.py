@@ -32,6 +32,9 @@ def refusal_of(call, *given):
 def test_sizes():
     sizes = [_library.struct_size(i) for i in range(len(_library.STRUCTS) + 1)]
     assert sizes == [*map(ctypes.sizeof, _library.STRUCTS), 0], sizes
+    for i, struct in enumerate(_library.STRUCTS):
+        fields = [getattr(struct, name).offset for name, _ in struct._fields_]
+        assert [_library.field_offset(i, j) for j in range(len(fields) + 1)] == [*fields, ctypes.sizeof(struct)], struct
 
 
 def test_hello():
@@ -45,6 +48,7 @@ def test_hello():
     assert w.server_name(BLOCK) == w.server_name_of_hello(BODY) == w.server_name_of_record(RECORD) == b"a.b"
     assert w.server_name(PROTOCOLS) is None and list(w.protocols(BLOCK)) == [b"h2"] and w.protocols(NAME) is None
     assert w.versions(w.find_extension(BLOCK, 43)) == (0x0304, 0x0303) and w.find_extension(BLOCK, 44) is None
+    assert w.signature_schemes(bytes.fromhex("0005 0403 0804 08")) == (0x0403, 0x0804)
     assert w.best_version(0x0303, BLOCK) == 0x0304 and w.best_version(0x0302, None) == 0x0302
     assert [(s.group, bytes(s.value)) for s in w.key_shares(w.find_extension(BLOCK, 51))] == [(29, b"\xb1\xb2")]
     assert w.key_share(bytes.fromhex("001d 0001 07")).value == b"\x07"
@@ -103,6 +107,11 @@ def test_outcome():
     said += [(kind.CHANGE_CIPHER_SPEC, True), (kind.ENCRYPTED, True), (kind.CHANGE_CIPHER_SPEC, False), (kind.ENCRYPTED, False)]
     assert w.outcome([]) == w.outcome(said[:7]) == w.Outcome.WAITING and w.outcome(iter(said)) == w.Outcome.FULL
     assert w.outcome([*said[:2], (w.event_of_alert(2, 40), True)]) == w.Outcome.BROKEN_OFF
+    flow = w.Flow()
+    for i, (said_kind, side) in enumerate(said):
+        assert flow.outcome == w.outcome(said[:i])
+        flow.step(said_kind, side)
+    assert flow.outcome == w.Outcome.FULL
     assert w.event_of_dtls_message(3) == kind.HELLO_VERIFY_REQUEST
 
 

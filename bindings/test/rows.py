@@ -1,11 +1,16 @@
 """The rows of crates/tlscall/data (docs/ROWS.md) through the Python module: values, places, kinds of refusals, and missing counts.
 
+    rows.py [PROGRAM]
+
+PROGRAM, if it is named, is asked the same: `answers`, which bindings/test/answers.rs is, over the Rust crate.
+
 What a row says of a call is compared with what the module answers where both tell the same: a whole value, made into the row's
 text here; or where more is decoded than the module does, what stands in front of it: the rest, and how many bytes are missing.
 Each row is asked on `bytes`, on a `bytearray` and on a `memoryview` of either.
 """
 
 import re
+import subprocess
 import sys
 from pathlib import Path
 
@@ -112,6 +117,10 @@ def groups(data):
     return None, f"EllipticCurves({numbers('NamedGroup', w.groups(data))})"
 
 
+def signature_schemes(data):
+    return None, f"SignatureAlgorithms([{', '.join(map(str, w.signature_schemes(data)))}])"
+
+
 def names_of_protocols(data):
     block = bytes.fromhex("0010") + len(data).to_bytes(2, "big") + bytes(data)
     return None, f"ALPN([{', '.join(shown(name) for name in whole(w.protocols(block)))}])"
@@ -125,6 +134,7 @@ WHOLE = {
     "parse_tls_handshake_msg_certificate": certificate,
     "parse_tls_extension_unknown": unknown,
     "parse_tls_extension_elliptic_curves_content": groups,
+    "parse_tls_extension_signature_algorithms_content": signature_schemes,
     "parse_tls_extension_alpn_content": names_of_protocols,
 }
 # Calls that decode what the module leaves as it stands.
@@ -162,13 +172,22 @@ def front(read):
     return ask
 
 
+def told_by_program(call, data):
+    program.stdin.write(f"{call} {data.hex()}\n")
+    program.stdin.flush()
+    return program.stdout.readline().rstrip("\n")
+
+
 def ask(call, data, wanted, where):
     """Compares the answers on all that may be passed."""
     read = WHOLE.get(call) or front(FRONT[call])
-    for given in (data, bytearray(data), memoryview(data), memoryview(bytearray(data))):
-        found = told(read, given)
+    buffers = (data, bytearray(data), memoryview(data), memoryview(bytearray(data)))
+    answers = [(type(given).__name__, told(read, given)) for given in buffers]
+    if program:
+        answers.append(("Rust", told_by_program(call, data)))
+    for name, found in answers:
         if not is_same(call, found.removesuffix(", ") if call in FRONT else found, wanted):
-            sys.exit(f"rows: {where}: {call} on {data.hex()} as {type(given).__name__}: {found} in place of {wanted}")
+            sys.exit(f"rows: {where}: {call} on {data.hex()} as {name}: {found} in place of {wanted}")
 
 
 def ask_cut(call, data, parts, where):
@@ -198,7 +217,11 @@ def main():
                     counts[call] += ask_cut(call, data, clauses["cut:"], where)
     if lacking := [call for call, count in counts.items() if count == 0]:
         sys.exit(f"rows: no row asks {lacking}")
-    print(f"rows: {sum(counts.values())} answers of {len(counts)} calls are those of the rows")
+    beside = " in Python and in Rust" if program else ""
+    print(f"rows: {sum(counts.values())} answers of {len(counts)} calls are those of the rows{beside}")
 
 
+program = None
+if sys.argv[1:]:
+    program = subprocess.Popen(sys.argv[1:], stdin=subprocess.PIPE, stdout=subprocess.PIPE, text=True)
 main()

@@ -30,6 +30,7 @@ __all__ = [
     "DtlsRecord",
     "EventKind",
     "Extension",
+    "Flow",
     "Incomplete",
     "KeyShare",
     "Message",
@@ -68,6 +69,7 @@ __all__ = [
     "server_name",
     "server_name_of_hello",
     "server_name_of_record",
+    "signature_schemes",
     "versions",
 ]
 
@@ -374,6 +376,11 @@ def groups(content: Data) -> tuple[int, ...]:
     return _numbers(_Given(content), _c.group_at)
 
 
+def signature_schemes(content: Data) -> tuple[int, ...]:
+    """The signature schemes in the content of a signature_algorithms (RFC 8446, section 4.2.3)."""
+    return _numbers(_Given(content), _c.signature_scheme_at)
+
+
 def best_version(version: int, block: Optional[Data]) -> Optional[int]:
     """The best version of a hello with that version and that block of extensions (RFC 8446, section 4.2.1)."""
     given, out = _Given(block or b""), _room.number
@@ -617,3 +624,20 @@ def outcome(events: Iterable[tuple[EventKind, bool]]) -> Outcome:
     """How a conversation of these events stands: what was said, and whether it goes to the server, in the order in which it came."""
     told = [_c.Event(kind, to_server) for kind, to_server in events]
     return Outcome(_c.outcome((_c.Event * len(told))(*told), len(told)))
+
+
+class Flow:
+    """A conversation that is followed event by event; what it keeps is one number."""
+
+    def __init__(self) -> None:
+        self._flow = _c.Flow()
+        _c.flow_start(self._flow)
+
+    def step(self, kind: EventKind, to_server: bool) -> None:
+        """Follows one more event: what was said, and whether it goes to the server."""
+        _c.flow_step(self._flow, _c.Event(kind, to_server))
+
+    @property
+    def outcome(self) -> Outcome:
+        """How the conversation stands: as `outcome` tells it of its events so far."""
+        return Outcome(_c.flow_outcome(self._flow))

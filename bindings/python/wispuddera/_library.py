@@ -127,6 +127,10 @@ class Event(ctypes.Structure):
     _fields_ = [("kind", _U8), ("to_server", _BOOL)]
 
 
+class Flow(ctypes.Structure):
+    _fields_ = [("state", _U32)]
+
+
 def _function(name, *arguments, answer=_U32):
     function = getattr(_library, f"wispuddera_{name}")
     function.argtypes = arguments
@@ -159,6 +163,7 @@ find_certificates = _function("find_certificates", _BYTES, _SIZE, _OUT(Found))
 number_at = _function("number_at", _BYTES, _SIZE, _SIZE, _OUT(Number))
 version_at = _function("version_at", _BYTES, _SIZE, _SIZE, _OUT(Number))
 group_at = _function("group_at", _BYTES, _SIZE, _SIZE, _OUT(Number))
+signature_scheme_at = _function("signature_scheme_at", _BYTES, _SIZE, _SIZE, _OUT(Number))
 best_version = _function("best_version", _BYTES, _SIZE, _U16, _OUT(Number))
 feed = _function("feed", _BYTES, _SIZE, _OUT(Place), _BYTES, _SIZE, _OUT(_SIZE))
 next_record = _function("next_record", _BYTES, _SIZE, _OUT(Place), _OUT(Record))
@@ -168,7 +173,11 @@ event_of_message = _function("event_of_message", _BYTES, _SIZE, _U8, answer=_U8)
 event_of_dtls_message = _function("event_of_dtls_message", _U8, answer=_U8)
 event_of_alert = _function("event_of_alert", _U8, _U8, answer=_U8)
 outcome = _function("outcome", _OUT(Event), _SIZE)
+flow_start = _function("flow_start", _OUT(Flow), answer=None)
+flow_step = _function("flow_step", _OUT(Flow), _OUT(Event), answer=None)
+flow_outcome = _function("flow_outcome", _OUT(Flow))
 struct_size = _function("struct_size", _SIZE, answer=_SIZE)
+field_offset = _function("field_offset", _SIZE, _SIZE, answer=_SIZE)
 
 # The structs, as the header lists them for `wispuddera_struct_size`.
-STRUCTS = (Place, Record, Part, ClientHello, ServerHello, Found, Number, DtlsRecord, DtlsMessage, DtlsClientHello, Event)
+STRUCTS = (Place, Record, Part, ClientHello, ServerHello, Found, Number, DtlsRecord, DtlsMessage, DtlsClientHello, Event, Flow)

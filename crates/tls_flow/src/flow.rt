@@ -46,6 +46,17 @@ impl Flow {
         }
     }
 
+    /// A conversation at that state, none of whose events were counted: a caller that keeps states alone goes on from one.
+    pub fn at(state: State) -> Flow
+        ensures { result ≡ record silence { state = state } }
+    {
+        Flow {
+            state,
+            events: 0,
+            stop: None,
+        }
+    }
+
     /// The state after the events so far.
     pub fn state(&self) -> State
         ensures { result ≡ self.now.state }

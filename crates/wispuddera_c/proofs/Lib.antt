@@ -3,3 +3,4 @@ pub mod PlaceLemmas
 pub mod FoundLemmas
 pub mod StreamLemmas
 pub mod OutcomeLemmas
+pub mod FlowLemmas

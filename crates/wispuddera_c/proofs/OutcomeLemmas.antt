@@ -33,7 +33,7 @@ use Rattle.tls_words.specs.Words.{run}
 use Rattle.wispuddera_c.specs.declared.outcome.Event.{Event}
 use Rattle.wispuddera_c.specs.Outcome.{letter_of, event_of, word_of}
 
-event_is : (e : FlowEvent) (l : Letter) → e.letter ≡ l → e.alert ≡ None → e ≡ record { letter = l; alert = None }
+pub event_is : (e : FlowEvent) (l : Letter) → e.letter ≡ l → e.alert ≡ None → e ≡ record { letter = l; alert = None }
 event_is e l letters alerts = ap₂ (λ x y. record { letter = x; alert = y }) letters alerts
 
 -- one more event

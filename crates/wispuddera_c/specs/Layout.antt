@@ -1,10 +1,31 @@
--- How many bytes the structs take where a size_t has 8.
+-- How many bytes the structs take, and where their fields begin, where a size_t has 8.
 use Rattle.std.specs.Prelude.{ℕ, List, [], ◌∷◌, slice_get}
 use Rattle.std.specs.Option.{unwrap_or}
 
--- Place, Record, Part, ClientHello, ServerHello, Found, Number, DtlsRecord, DtlsMessage, DtlsClientHello, Event.
+-- Place, Record, Part, ClientHello, ServerHello, Found, Number, DtlsRecord, DtlsMessage, DtlsClientHello, Event, Flow.
 abbrev pub struct_sizes : List ℕ
-struct_sizes = 16 ∷ 40 ∷ 40 ∷ 104 ∷ 72 ∷ 24 ∷ 24 ∷ 48 ∷ 48 ∷ 88 ∷ 2 ∷ []
+struct_sizes = 16 ∷ 40 ∷ 40 ∷ 104 ∷ 72 ∷ 24 ∷ 24 ∷ 48 ∷ 48 ∷ 88 ∷ 2 ∷ 4 ∷ []
 
 abbrev pub size_of_struct : ℕ → ℕ
 size_of_struct index = unwrap_or (slice_get struct_sizes index) 0
+
+-- Where the fields of these begin, in the order in which the header lists them.
+abbrev pub field_offsets : List (List ℕ)
+field_offsets =
+    (0 ∷ 8 ∷ [])
+    ∷ (0 ∷ 8 ∷ 24 ∷ 32 ∷ 34 ∷ 36 ∷ [])
+    ∷ (0 ∷ 8 ∷ 24 ∷ 32 ∷ [])
+    ∷ (0 ∷ 8 ∷ 24 ∷ 40 ∷ 56 ∷ 72 ∷ 88 ∷ 96 ∷ 98 ∷ [])
+    ∷ (0 ∷ 8 ∷ 24 ∷ 40 ∷ 56 ∷ 64 ∷ 66 ∷ 68 ∷ 69 ∷ [])
+    ∷ (0 ∷ 8 ∷ [])
+    ∷ (0 ∷ 8 ∷ 16 ∷ [])
+    ∷ (0 ∷ 8 ∷ 24 ∷ 32 ∷ 40 ∷ 42 ∷ 44 ∷ 46 ∷ [])
+    ∷ (0 ∷ 8 ∷ 24 ∷ 32 ∷ 36 ∷ 40 ∷ 44 ∷ 46 ∷ 47 ∷ [])
+    ∷ (0 ∷ 8 ∷ 24 ∷ 40 ∷ 56 ∷ 72 ∷ 80 ∷ 82 ∷ [])
+    ∷ (0 ∷ 1 ∷ [])
+    ∷ (0 ∷ [])
+    ∷ []
+
+-- Behind a struct's last field it is the struct's size.
+abbrev pub offset_of_field : ℕ → ℕ → ℕ
+offset_of_field index field = unwrap_or (slice_get (unwrap_or (slice_get field_offsets index) []) field) (size_of_struct index)

@@ -9,3 +9,4 @@ pub mod Dtls
 pub mod Layout
 pub mod Stream
 pub mod Outcome
+pub mod Flow

@@ -27,6 +27,10 @@ abbrev pub listed_groups : Extension → Option (List ℕ)
 listed_groups (ext.supported_groups groups) = Some groups
 listed_groups e = None
 
+abbrev pub listed_schemes : Extension → Option (List ℕ)
+listed_schemes (ext.signature_algorithms schemes) = Some schemes
+listed_schemes e = None
+
 -- The number is the one that is answered; or there is none, or a refusal is told.
 abbrev pub IsAnsweredNumber : Result (Option ℕ) Refusal → ℕ → Number → Type 0
 IsAnsweredNumber (Ok x) status c = IsOne x status c × (c.missing ≡ 0)

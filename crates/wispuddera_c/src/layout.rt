@@ -1,9 +1,11 @@
-//! How much room the structs take, so that a caller can compare what its compiler makes of the header.
-ghost use Rattle.std.specs.Prelude.{◌≡◌};
-ghost use Rattle.wispuddera_c.specs.Layout.{size_of_struct};
+//! How much room the structs take, and where their fields begin, so that a caller can compare what its compiler makes of the header.
+ghost use Rattle.std.specs.Prelude.{◌≡◌, [], slice_get};
+ghost use Rattle.std.specs.Option.{unwrap_or};
+ghost use Rattle.wispuddera_c.specs.Layout.{field_offsets as offsets_of_structs, offset_of_field, size_of_struct};
 
 use crate::client_hello::ClientHello;
 use crate::dtls::{DtlsClientHello, DtlsMessage, DtlsRecord};
+use crate::flow::Flow;
 use crate::found::Found;
 use crate::number::Number;
 use crate::outcome::Event;
@@ -30,6 +32,40 @@ pub extern "C" fn wispuddera_struct_size(index: usize) -> usize
         8 => size_of::<DtlsMessage>(),
         9 => size_of::<DtlsClientHello>(),
         10 => size_of::<Event>(),
+        11 => size_of::<Flow>(),
         _ => 0,
+    }
+}
+
+/// Where the fields of a struct begin, in the header's order.
+fn field_offsets(index: usize) -> &'static [usize]
+    ensures { result.now ≡ unwrap_or (slice_get offsets_of_structs index) [] }
+{
+    match index {
+        0 => &[0, 8],
+        1 => &[0, 8, 24, 32, 34, 36],
+        2 => &[0, 8, 24, 32],
+        3 => &[0, 8, 24, 40, 56, 72, 88, 96, 98],
+        4 => &[0, 8, 24, 40, 56, 64, 66, 68, 69],
+        5 => &[0, 8],
+        6 => &[0, 8, 16],
+        7 => &[0, 8, 24, 32, 40, 42, 44, 46],
+        8 => &[0, 8, 24, 32, 36, 40, 44, 46, 47],
+        9 => &[0, 8, 24, 40, 56, 72, 80, 82],
+        10 => &[0, 1],
+        11 => &[0],
+        _ => &[],
+    }
+}
+
+/// Where a field of a struct begins: of the header's list of structs the one at that index, and of its fields; behind the last field,
+/// the size of the struct.
+#[unsafe(no_mangle)]
+pub extern "C" fn wispuddera_field_offset(index: usize, field: usize) -> usize
+    ensures { result ≡ offset_of_field index field }
+{
+    match field_offsets(index).get(field) {
+        Some(offset) => *offset,
+        None => wispuddera_struct_size(index),
     }
 }

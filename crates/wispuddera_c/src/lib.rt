@@ -7,6 +7,7 @@
 
 mod client_hello;
 mod dtls;
+mod flow;
 mod found;
 mod layout;
 mod number;

@@ -1,14 +1,14 @@
-//! Numbers of lists by their index: cipher suites, versions, groups.
+//! Numbers of lists by their index: cipher suites, versions, groups, signature schemes.
 ghost use Rattle.tls_ext.specs.Content as content;
 ghost use Rattle.tls_ext.specs.InPlace.{best_version as best_version_in, listed_versions, picked};
 ghost use Rattle.tls_fields.specs.Items.{items_in};
 ghost use Rattle.tls_fields.specs.Layout.{number};
 ghost use Rattle.tls_fields.specs.Reading.{reading};
-ghost use Rattle.wispuddera_c.specs.Number.{IsAnsweredNumber, IsNumberIn, IsNumberOf, listed_groups};
+ghost use Rattle.wispuddera_c.specs.Number.{IsAnsweredNumber, IsNumberIn, IsNumberOf, listed_groups, listed_schemes};
 
 use crate::status::{NONE, READ, Refusal};
 use tls_base::{NamedGroup, TlsVersion};
-use tls_ext::{best_version, supported_groups, supported_versions};
+use tls_ext::{best_version, signature_algorithms, supported_groups, supported_versions};
 use tls_fields::Items;
 
 /// A number of a list, and how many the list has.
@@ -69,6 +69,25 @@ pub extern "C" fn wispuddera_group_at(bytes: &[u8], index: usize, out: &mut Numb
 {
     match supported_groups(bytes) {
         Ok((_, groups)) => tell(Items::new(groups.bytes()), index, out),
+        Err(e) => {
+            let refusal = Refusal::of(e);
+            out.missing = refusal.missing;
+            refusal.status
+        }
+    }
+}
+
+/// Finds the signature scheme at that index of the content of a signature_algorithms (RFC 8446, section 4.2.3).
+#[unsafe(no_mangle)]
+pub extern "C" fn wispuddera_signature_scheme_at(
+    bytes: &[u8],
+    index: usize,
+    out: &mut Number,
+) -> u32
+    ensures { IsNumberIn (picked listed_schemes (reading content.signature_algorithms bytes.now)) index result out.new }
+{
+    match signature_algorithms(bytes) {
+        Ok((_, schemes)) => tell(Items::new(schemes.bytes()), index, out),
         Err(e) => {
             let refusal = Refusal::of(e);
             out.missing = refusal.missing;

@@ -1,5 +1,5 @@
 //! How a conversation stands, by its events so far.
-ghost use Rattle.std.specs.Prelude.{◌≡◌, map};
+ghost use Rattle.std.specs.Prelude.{◌≡◌, None, map};
 ghost use Rattle.tls_base.specs.Alert.{Alert};
 ghost use Rattle.tls_flow.specs.Bytes.{kind_of_body, kind_of_type};
 ghost use Rattle.tls_flow.specs.Conversations.{IsOutcome};
@@ -7,7 +7,7 @@ ghost use Rattle.tls_flow.specs.Messages.{kind_of_alert};
 ghost use Rattle.tls_flow.specs.Steps.{follow, silence};
 ghost use Rattle.tls_flow.specs.declared.state.Outcome.{Outcome};
 ghost use Rattle.tls_words.specs.Words.{run};
-ghost use Rattle.wispuddera_c.specs.Outcome.{event_of, kind_of_number, outcome_number, word_of};
+ghost use Rattle.wispuddera_c.specs.Outcome.{event_of, kind_of_number, letter_of, outcome_number, word_of};
 
 use tls_base::{TlsAlertDescription, TlsAlertSeverity, TlsHandshakeType, TlsMessageAlert};
 use tls_flow::{Direction, Event as FlowEvent, Flow, Kind, Outcome};
@@ -82,7 +82,8 @@ fn number_of(kind: Kind) -> u8
     }
 }
 
-fn number_of_outcome(outcome: Outcome) -> u32
+/// The number of an outcome.
+pub fn number_of_outcome(outcome: Outcome) -> u32
     ensures { result ≡ outcome_number outcome }
 {
     match outcome {
@@ -137,6 +138,15 @@ pub extern "C" fn wispuddera_event_of_alert(level: u8, description: u8) -> u8
         code: TlsAlertDescription(description),
     };
     number_of(Kind::of_alert(&alert))
+}
+
+/// The event that the flow follows.
+#[inline(always)]
+pub fn followed_event(event: Event) -> FlowEvent
+    ensures letter { result.letter ≡ letter_of event }
+    ensures alert { result.alert ≡ None }
+{
+    FlowEvent::new(kind_of(event.kind), Direction::of(event.to_server))
 }
 
 /// The flow of a conversation of these events.

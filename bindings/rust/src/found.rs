@@ -1,0 +1,71 @@
+//! What is found in records, hellos and extensions.
+use crate::error::{is_found, Error};
+use crate::sys;
+
+fn found(status: u32, out: sys::Found, bytes: &[u8]) -> Result<Option<&[u8]>, Error> {
+    Ok(is_found(status, out.missing)?.then(|| out.place.of(bytes)))
+}
+
+/// The name of the host that the first ClientHello of the record in front asks for (RFC 6066, section 3); `None` where it asks for none,
+/// or the record isn't one of handshakes.
+///
+/// # Errors
+/// Where the record, or what stands on the way to the name, isn't read.
+///
+/// ```
+/// use wispuddera::{server_name_of_record, Error};
+///
+/// let record = [
+///     0x16, 3, 1, 0, 59, 1, 0, 0, 55, 3, 3, // headers and version
+///     1, 2, 3, 4, 5, 6, 7, 8, 9, 10, 11, 12, 13, 14, 15, 16, 17, 18, 19, 20, 21, 22, 23, 24, 25, 26, 27, 28, 29, 30, 31, 32, // random
+///     0, 0, 2, 0x13, 1, 1, 0, 0, 12, // no session id, a suite, a method, 12 bytes of extensions
+///     0, 0, 0, 8, 0, 6, 0, 0, 3, b'a', b'.', b'b',
+/// ];
+/// assert_eq!(server_name_of_record(&record), Ok(Some(&b"a.b"[..])));
+/// assert_eq!(server_name_of_record(&record[..60]), Err(Error::Incomplete { missing: 4 }));
+/// assert_eq!(server_name_of_record(&[0x15, 3, 3, 0, 2, 1, 0]), Ok(None));
+/// ```
+pub fn server_name_of_record(bytes: &[u8]) -> Result<Option<&[u8]>, Error> {
+    let (status, out) = sys::read_front(sys::wispuddera_find_server_name_in_record, bytes);
+    found(status, out, bytes)
+}
+
+/// The same, of the body of a ClientHello.
+///
+/// # Errors
+/// Where what stands on the way to the name isn't read.
+pub fn server_name_of_hello(body: &[u8]) -> Result<Option<&[u8]>, Error> {
+    let (status, out) = sys::read_front(sys::wispuddera_find_server_name_in_hello, body);
+    found(status, out, body)
+}
+
+/// The same, of a block of extensions: the first name in its first server_name.
+///
+/// # Errors
+/// Where what stands on the way to the name isn't read.
+pub fn server_name(block: &[u8]) -> Result<Option<&[u8]>, Error> {
+    let (status, out) = sys::read_front(sys::wispuddera_find_server_name, block);
+    found(status, out, block)
+}
+
+/// The content of the first extension of that ExtensionType in a block of extensions (RFC 8446, section 4.2).
+///
+/// # Errors
+/// Where the block isn't read up to it, or up to its end.
+pub fn find_extension(block: &[u8], kind: u16) -> Result<Option<&[u8]>, Error> {
+    let mut out = sys::Found::default();
+    // SAFETY: the pointer leads to as many bytes as are said, which nobody writes while they are lent; `out` has a value.
+    let status = unsafe { sys::wispuddera_find_extension(block.as_ptr(), block.len(), kind, &mut out) };
+    found(status, out, block)
+}
+
+/// The body of the first handshake message of that HandshakeType in the fragment of a record (RFC 5246, section 7.4).
+///
+/// # Errors
+/// Where the fragment isn't read up to it, or up to its end.
+pub fn find_body(fragment: &[u8], kind: u8) -> Result<Option<&[u8]>, Error> {
+    let mut out = sys::Found::default();
+    // SAFETY: as in `find_extension`.
+    let status = unsafe { sys::wispuddera_find_body(fragment.as_ptr(), fragment.len(), kind, &mut out) };
+    found(status, out, fragment)
+}

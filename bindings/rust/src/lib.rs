@@ -1,0 +1,62 @@
+//! TLS and DTLS read in place, by the proved library behind `wispuddera.h`.
+//!
+//! Bytes go in as slices, and what is read are numbers and slices of the same bytes. Nothing is allocated, nothing is kept between
+//! calls, and this crate needs no `std`. A call that reads what stands in front answers it with the bytes behind it; what isn't there
+//! is `None`; and an [`Error`] says that bytes are missing, or which kind of rule they break.
+//!
+//! ```
+//! use wispuddera::{messages, records, server_name_of_hello, ClientHello, Error};
+//!
+//! /// Prints the name that each hello of these records asks for.
+//! fn show_names(bytes: &[u8]) -> Result<(), Error> {
+//!     for record in records(bytes) {
+//!         let record = record?;
+//!         if record.content_type != 22 {
+//!             continue;
+//!         }
+//!         for message in messages(record.fragment) {
+//!             let message = message?;
+//!             if message.kind == 1 {
+//!                 let (hello, _) = ClientHello::read(message.body)?;
+//!                 println!("{} suites, for {:?}", hello.cipher_suites.len(), server_name_of_hello(message.body)?);
+//!             }
+//!         }
+//!     }
+//!     Ok(())
+//! }
+//! # assert_eq!(show_names(&[0x16, 3, 1, 0, 1]), Err(Error::Incomplete { missing: 1 }));
+//! # assert_eq!(show_names(&[]), Ok(()));
+//! ```
+//!
+//! What comes in pieces is held in a buffer of the caller's, by a [`RecordStream`] and a [`MessageStream`]. How a conversation of what both
+//! sides said stands is told by [`outcome`], or event by event by a [`Flow`].
+//!
+//! The library is proved (`crates/wispuddera_c`), and this crate is written by hand over it. A place that the library answers is
+//! looked up in the caller's slice by a check, so no answer of it is trusted for memory.
+#![no_std]
+#![warn(missing_docs, unsafe_op_in_unsafe_fn)]
+
+#[cfg(not(target_pointer_width = "64"))]
+compile_error!("libwispuddera.a is made for processors of 64 bits");
+
+mod dtls;
+mod error;
+mod found;
+mod hello;
+mod number;
+mod outcome;
+mod part;
+mod stream;
+mod sys;
+
+pub use dtls::{dtls_messages, dtls_records, DtlsClientHello, DtlsMessage, DtlsRecord};
+pub use error::{Error, Kind};
+pub use found::{find_body, find_extension, server_name, server_name_of_hello, server_name_of_record};
+pub use hello::{ClientHello, ServerHello};
+pub use number::{best_version, groups, signature_schemes, versions, Numbers};
+pub use outcome::{outcome, Event, EventKind, Flow, Outcome};
+pub use part::{
+    certificates, extensions, key_shares, messages, protocols, records, Certificate, Extension, Items, KeyShare, Message, Protocol, Read,
+    Record,
+};
+pub use stream::{MessageStream, RecordStream, RECORD_ROOM};

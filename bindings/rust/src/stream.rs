@@ -1,0 +1,127 @@
+//! Streams that come in pieces, held in a buffer of the caller's.
+use crate::error::{check, Error};
+use crate::part::{Message, Record};
+use crate::sys;
+
+/// What isn't read yet, at a place of the buffer.
+#[derive(Clone, Debug)]
+struct Held<B> {
+    buffer: B,
+    place: sys::Place,
+}
+
+impl<B: AsRef<[u8]> + AsMut<[u8]>> Held<B> {
+    fn new(buffer: B) -> Self {
+        Held { buffer, place: sys::Place::default() }
+    }
+
+    fn feed(&mut self, piece: &[u8]) -> usize {
+        let (buffer, mut taken) = (self.buffer.as_mut(), 0);
+        // SAFETY: each pointer leads to as many bytes as are said; those of the buffer are lent to this call alone, so they overlap
+        // nothing else.
+        unsafe {
+            sys::wispuddera_feed(buffer.as_mut_ptr(), buffer.len(), &mut self.place, piece.as_ptr(), piece.len(), &mut taken);
+        }
+        taken
+    }
+
+    /// Takes what a call reads in front off: the buffer's bytes, of which that tells places. `None` where it isn't whole yet.
+    fn take<T: Default>(&mut self, call: sys::Take<T>, missing: fn(&T) -> usize) -> Result<Option<(&[u8], T)>, Error> {
+        let (buffer, mut out) = (self.buffer.as_ref(), T::default());
+        // SAFETY: the pointer leads to as many bytes as are said, which nobody writes while they are lent; the place and `out` have
+        // values.
+        let status = unsafe { call(buffer.as_ptr(), buffer.len(), &mut self.place, &mut out) };
+        match check(status, missing(&out)) {
+            Ok(()) => Ok(Some((buffer, out))),
+            Err(Error::Incomplete { .. }) => Ok(None),
+            Err(e) => Err(e),
+        }
+    }
+}
+
+/// The bytes of the longest record: 5 of its header, and 16640 behind it.
+pub const RECORD_ROOM: usize = 16645;
+
+/// One direction's records, however its bytes come. A buffer of [`RECORD_ROOM`] bytes has room for each record that isn't refused.
+///
+/// ```
+/// use wispuddera::{RecordStream, RECORD_ROOM};
+///
+/// let mut stream = RecordStream::new([0; RECORD_ROOM]);
+/// let bytes = [0x15, 3, 3, 0, 2, 1, 0, 0x15, 3, 3, 0, 2, 2, 40];
+/// let mut alerts = 0;
+/// for piece in bytes.chunks(3) {
+///     assert_eq!(stream.feed(piece), piece.len());
+///     while let Some(record) = stream.next_record()? {
+///         assert_eq!(record.fragment.len(), 2);
+///         alerts += 1;
+///     }
+/// }
+/// assert_eq!(alerts, 2);
+/// # Ok::<(), wispuddera::Error>(())
+/// ```
+#[derive(Clone, Debug)]
+pub struct RecordStream<B> {
+    held: Held<B>,
+}
+
+impl<B: AsRef<[u8]> + AsMut<[u8]>> RecordStream<B> {
+    /// A stream of which nothing came, over an array, a vector or a slice.
+    pub fn new(buffer: B) -> Self {
+        RecordStream { held: Held::new(buffer) }
+    }
+
+    /// Holds as much of the piece as there is room for, and answers how many bytes that is: 0 where the buffer is full. Take the records
+    /// that are whole, and feed the rest.
+    pub fn feed(&mut self, piece: &[u8]) -> usize {
+        self.held.feed(piece)
+    }
+
+    /// How many bytes are held.
+    pub fn held(&self) -> usize {
+        self.held.place.length
+    }
+
+    /// Takes the record in front off what is held (RFC 5246, section 6.2.1); `None` where it isn't whole yet.
+    ///
+    /// # Errors
+    /// [`Error::Refused`] where its length is above 16640, and again at each further call.
+    pub fn next_record(&mut self) -> Result<Option<Record<'_>>, Error> {
+        let taken = self.held.take(sys::wispuddera_next_record, |out| out.missing)?;
+        Ok(taken.map(|(buffer, out)| Record { content_type: out.content_type, version: out.version, fragment: out.fragment.of(buffer) }))
+    }
+}
+
+/// Handshake messages, joined over the fragments of records. Of a message that is longer than the buffer, `feed` takes no more bytes,
+/// and none is whole.
+#[derive(Clone, Debug)]
+pub struct MessageStream<B> {
+    held: Held<B>,
+}
+
+impl<B: AsRef<[u8]> + AsMut<[u8]>> MessageStream<B> {
+    /// A stream of which nothing came, over an array, a vector or a slice.
+    pub fn new(buffer: B) -> Self {
+        MessageStream { held: Held::new(buffer) }
+    }
+
+    /// Holds as much of the fragment as there is room for, and answers how many bytes that is: 0 where the buffer is full. Take the
+    /// messages that are whole, and feed the rest.
+    pub fn feed(&mut self, fragment: &[u8]) -> usize {
+        self.held.feed(fragment)
+    }
+
+    /// How many bytes are held.
+    pub fn held(&self) -> usize {
+        self.held.place.length
+    }
+
+    /// Takes the message in front off what is held (RFC 5246, section 7.4); `None` where it isn't whole yet.
+    ///
+    /// # Errors
+    /// [`Error::Refused`] where it breaks a rule, and again at each further call.
+    pub fn next_message(&mut self) -> Result<Option<Message<'_>>, Error> {
+        let taken = self.held.take(sys::wispuddera_next_message, |out| out.missing)?;
+        Ok(taken.map(|(buffer, out)| Message { kind: out.kind as u8, body: out.content.of(buffer) }))
+    }
+}

@@ -1,0 +1,193 @@
+//! Answers the calls that bindings/test/rows.py asks, in the words of the rows: a line of standard input has a call and its bytes in
+//! hexadecimal digits, and a line of standard output the answer.
+use std::io::{self, BufRead, Write};
+use wispuddera::*;
+
+/// The rest's length, or `_` where it isn't told, and the value.
+type Answer = Result<(String, String), Error>;
+
+fn hex(bytes: &[u8]) -> String {
+    bytes.iter().map(|byte| format!("{byte:02x}")).collect()
+}
+
+fn shown(bytes: &[u8]) -> String {
+    if bytes.is_empty() {
+        "[]".to_owned()
+    } else {
+        format!("<{}>", hex(bytes))
+    }
+}
+
+fn option(bytes: Option<&[u8]>) -> String {
+    bytes.map_or_else(
+        || "None".to_owned(),
+        |bytes| format!("Some({})", shown(bytes)),
+    )
+}
+
+fn held(bytes: &[u8]) -> String {
+    option((!bytes.is_empty()).then_some(bytes))
+}
+
+fn numbers(name: &str, values: impl Iterator<Item = u16>) -> String {
+    let values: Vec<_> = values.map(|value| format!("{name}({value})")).collect();
+    format!("[{}]", values.join(", "))
+}
+
+/// Those in front of one that isn't read, where a list of the library ends.
+fn whole<'a, T: Read<'a>>(items: Items<'a, T>, show: impl Fn(T) -> String) -> String {
+    let items: Vec<_> = items.map_while(Result::ok).map(show).collect();
+    format!("[{}]", items.join(", "))
+}
+
+fn raw_record(bytes: &[u8]) -> Answer {
+    let (r, rest) = Record::read(bytes)?;
+    let front = format!(
+        "record_type: TlsRecordType({}), version: TlsVersion({})",
+        r.content_type, r.version
+    );
+    let header = format!("TlsRecordHeader {{ {front}, len: {} }}", r.fragment.len());
+    Ok((
+        rest.len().to_string(),
+        format!(
+            "TlsRawRecord {{ hdr: {header}, bytes: {} }}",
+            shown(r.fragment)
+        ),
+    ))
+}
+
+fn client_hello(bytes: &[u8]) -> Answer {
+    let (h, rest) = ClientHello::read(bytes)?;
+    let methods = h
+        .compression_methods
+        .iter()
+        .map(|method| u16::from(*method));
+    let front = format!(
+        "version: TlsVersion({}), random: {}, session_id: {}",
+        h.version,
+        shown(h.random),
+        held(h.session_id)
+    );
+    let (ciphers, comp) = (
+        numbers("TlsCipherSuiteID", h.cipher_suites),
+        numbers("TlsCompressionID", methods),
+    );
+    let value = format!(
+        "TlsClientHelloContents {{ {front}, ciphers: {ciphers}, comp: {comp}, ext: {} }}",
+        option(h.extensions)
+    );
+    Ok((rest.len().to_string(), value))
+}
+
+fn server_hello(bytes: &[u8]) -> Answer {
+    let (h, rest) = ServerHello::read(bytes)?;
+    let front = format!(
+        "version: TlsVersion({}), random: {}, session_id: {}",
+        h.version,
+        shown(h.random),
+        held(h.session_id)
+    );
+    let picked = format!(
+        "cipher: TlsCipherSuiteID({}), compression: TlsCompressionID({})",
+        h.cipher_suite, h.compression_method
+    );
+    let value = format!(
+        "TlsServerHelloContents {{ {front}, {picked}, ext: {} }}",
+        option(h.extensions)
+    );
+    Ok((rest.len().to_string(), value))
+}
+
+fn certificate(bytes: &[u8]) -> Answer {
+    let chain = whole(certificates(bytes)?, |it| {
+        format!("RawCertificate {{ bytes: {} }}", shown(it.der))
+    });
+    Ok((
+        "_".to_owned(),
+        format!("Certificate(TlsCertificateContents {{ cert_chain: {chain} }})"),
+    ))
+}
+
+fn unknown(bytes: &[u8]) -> Answer {
+    let (e, rest) = Extension::read(bytes)?;
+    Ok((
+        rest.len().to_string(),
+        format!(
+            "Unknown(TlsExtensionType({}), {})",
+            e.kind,
+            shown(e.content)
+        ),
+    ))
+}
+
+fn names_of_protocols(bytes: &[u8]) -> Answer {
+    let length = u16::try_from(bytes.len())
+        .expect("rows have fewer bytes")
+        .to_be_bytes();
+    let block = [&[0, 16], &length[..], bytes].concat();
+    let names = protocols(&block)?.expect("the block has them");
+    Ok((
+        "_".to_owned(),
+        format!("ALPN({})", whole(names, |it| shown(it.name))),
+    ))
+}
+
+/// What stands behind one whose value is decoded further than here.
+fn rest_of<'a, T: Read<'a>>(bytes: &'a [u8]) -> Answer {
+    let (_, rest) = T::read(bytes)?;
+    Ok((rest.len().to_string(), String::new()))
+}
+
+fn answer(call: &str, bytes: &[u8]) -> Answer {
+    match call {
+        "parse_tls_raw_record" => raw_record(bytes),
+        "parse_tls_handshake_client_hello" => client_hello(bytes),
+        "parse_tls_handshake_server_hello" => server_hello(bytes),
+        "parse_tls_handshake_msg_certificate" => certificate(bytes),
+        "parse_tls_extension_unknown" => unknown(bytes),
+        "parse_tls_extension_elliptic_curves_content" => Ok((
+            "_".to_owned(),
+            format!("EllipticCurves({})", numbers("NamedGroup", groups(bytes)?)),
+        )),
+        "parse_tls_extension_signature_algorithms_content" => Ok((
+            "_".to_owned(),
+            format!("SignatureAlgorithms([{}])", list(signature_schemes(bytes)?)),
+        )),
+        "parse_tls_extension_alpn_content" => names_of_protocols(bytes),
+        "parse_tls_plaintext" => rest_of::<Record>(bytes),
+        "parse_tls_message_handshake" => rest_of::<Message>(bytes),
+        "parse_tls_extension" => rest_of::<Extension>(bytes),
+        "parse_dtls_plaintext_record" => rest_of::<DtlsRecord>(bytes),
+        "parse_dtls_message_handshake" => rest_of::<DtlsMessage>(bytes),
+        _ => panic!("no call {call} is known here"),
+    }
+}
+
+fn list(values: impl Iterator<Item = u16>) -> String {
+    values
+        .map(|value| value.to_string())
+        .collect::<Vec<_>>()
+        .join(", ")
+}
+
+fn bytes_of(digits: &str) -> Vec<u8> {
+    let pairs = (0..digits.len()).step_by(2).map(|i| &digits[i..i + 2]);
+    pairs
+        .map(|pair| u8::from_str_radix(pair, 16).expect("digits"))
+        .collect()
+}
+
+fn main() -> io::Result<()> {
+    for line in io::stdin().lock().lines() {
+        let line = line?;
+        let (call, digits) = line.split_once(' ').expect("a call and its bytes");
+        let answer = match answer(call, &bytes_of(digits)) {
+            Ok((rest, value)) => format!("Ok rest {rest}, {value}"),
+            Err(Error::Incomplete { missing }) => format!("Incomplete({missing})"),
+            Err(Error::Refused(kind)) => format!("Error({kind:?})"),
+        };
+        writeln!(io::stdout(), "{answer}")?;
+        io::stdout().flush()?;
+    }
+    Ok(())
+}
