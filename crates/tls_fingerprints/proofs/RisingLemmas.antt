@@ -21,12 +21,13 @@ use Rattle.std.proofs.Common.{
   sym,
   ◌∙◌,
   ap,
+  subst,
   arith,
 }
 use Rattle.std.specs.Bool.{⊤}
-use Rattle.std.specs.List.{sum_by}
+use Rattle.std.specs.List.{filter, sum_by}
 use Rattle.std.specs.List.Sorted.{IsPermutation, IsNonDecreasing}
-use Rattle.std.proofs.lemmas.Bool.{leb-true, leb-false, eq-eqb, ne_eqb}
+use Rattle.std.proofs.lemmas.Bool.{leb-true, leb-false, eq-eqb, eqb-true, ne_eqb}
 use Rattle.std.proofs.lemmas.List.Recursion.{is_sum_by}
 use Rattle.std.proofs.lemmas.List.Sorted.{sum_by-IsPermutation}
 use Rattle.tls_fingerprints.specs.Numbers.{placed, rising}
@@ -143,3 +144,54 @@ times_sum v = is_sum_by (times_in v) (one_at v) refl (λ x xs. refl)
 pub sorted_is_rising : (xs ys : List ℕ) → IsPermutation xs ys → IsNonDecreasing ys → ys ≡ rising xs
 sorted_is_rising xs ys moved up = same_rising ys (rising xs) (Rises-sorted ys up) (Rises-rising xs)
     (λ v. times_sum v ys ∙ sum_by-IsPermutation (one_at v) xs ys moved ∙ sym (times_sum v xs) ∙ sym (times-rising v xs))
+
+-- lists of the same numbers, each as often, are the same in rising order
+rising_same : (ms ns : List ℕ) → ((v : ℕ) → times_in v ms ≡ times_in v ns) → rising ms ≡ rising ns
+rising_same ms ns e = same_rising (rising ms) (rising ns) (Rises-rising ms) (Rises-rising ns)
+    (λ v. times-rising v ms ∙ e v ∙ sym (times-rising v ns))
+
+times_moved : (v : ℕ) (ms ns : List ℕ) → IsPermutation ms ns → times_in v ms ≡ times_in v ns
+times_moved v ms ns moved = times_sum v ms ∙ sym (sum_by-IsPermutation (one_at v) ms ns moved) ∙ sym (times_sum v ns)
+
+times-filter : (v : ℕ) (p : ℕ → Bool) (xs : List ℕ) → times_in v (filter p xs) ≡ cond (p v) (times_in v xs) 0
+times-filter v p [] = none (p v)
+  where
+    none : (b : Bool) → times_in v [] ≡ cond b 0 0
+    none true = refl
+    none false = refl
+times-filter v p (x ∷ xs) = by_number (eqb x v) refl (times-filter v p xs)
+  where
+    Others : Bool → Type 0
+    Others b = times_in v (filter p xs) ≡ cond b (times_in v xs) 0
+
+    All : Bool → Bool → Type 0
+    All a b = times_in v (cond a (x ∷ filter p xs) (filter p xs)) ≡ cond b (one_at v x + times_in v xs) 0
+
+    it_is : (b : Bool) → Others b → All b b
+    it_is true e = omega (arith, e)
+    it_is false e = e
+
+    it_is_other : (a b : Bool) → one_at v x ≡ 0 → Others b → All a b
+    it_is_other true true z e = omega (arith, z, e)
+    it_is_other true false z e = omega (arith, z, e)
+    it_is_other false true z e = omega (arith, z, e)
+    it_is_other false false z e = e
+
+    by_number : (t : Bool) → eqb x v ≡ t → Others (p v) → All (p x) (p v)
+    by_number true e others =
+        let same : p v ≡ p x = ap p (sym (eqb-true x v e)) in
+        subst (λ b. All (p x) b) (sym same) (it_is (p x) (subst Others same others))
+    by_number false e others = it_is_other (p x) (p v) (ap (λ t. cond t 1 0) e) others
+
+times_kept : (v : ℕ) (p : ℕ → Bool) (ms ns : List ℕ) → times_in v ms ≡ times_in v ns
+    → times_in v (filter p ms) ≡ times_in v (filter p ns)
+times_kept v p ms ns e = times-filter v p ms ∙ ap (λ n. cond (p v) n 0) e ∙ sym (times-filter v p ns)
+
+-- what is kept of the same numbers in another order is the same in rising order
+pub rising_kept : (p : ℕ → Bool) (ms ns : List ℕ) → IsPermutation ms ns → rising (filter p ms) ≡ rising (filter p ns)
+rising_kept p ms ns moved = rising_same (filter p ms) (filter p ns) (λ v. times_kept v p ms ns (times_moved v ms ns moved))
+
+pub rising_kept_twice : (p q : ℕ → Bool) (ms ns : List ℕ) → IsPermutation ms ns
+    → rising (filter q (filter p ms)) ≡ rising (filter q (filter p ns))
+rising_kept_twice p q ms ns moved = rising_same (filter q (filter p ms)) (filter q (filter p ns))
+    (λ v. times_kept v q (filter p ms) (filter p ns) (times_kept v p ms ns (times_moved v ms ns moved)))

@@ -10,6 +10,7 @@
 mod hellos;
 mod ja3;
 mod ja4;
+pub mod laws;
 mod numbers;
 
 pub use hellos::{ClientHelloParts, ServerHelloParts, Transport};
