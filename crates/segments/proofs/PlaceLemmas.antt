@@ -1,5 +1,8 @@
 -- Places, stored one by one.
-use Rattle.std.proofs.Common.{◌≡◌, ℕ, zero, suc, ◌+◌, ◌-◌, ◌<◌, ◌≤◌, [], ◌∷◌, ◌++◌, length, take, drop, get_or, Option, Some, None, refl, sym, ◌∙◌, ap, arith, append_assoc, append-nil, ◌⊎◌, inl, inr, Bool, true, false, ltb, min}
+use Rattle.std.proofs.Common.{
+  ◌≡◌, ℕ, zero, suc, ◌+◌, ◌-◌, ◌<◌, ◌≤◌, [], ◌∷◌, ◌++◌, length, take, drop, get_or, Option, Some, None, refl, sym, ◌∙◌,
+  ap, arith, append_assoc, append-nil, ◌⊎◌, inl, inr, Bool, true, false, ltb, min,
+}
 use Rattle.std.specs.Option.{unwrap_or}
 use Rattle.std.proofs.lemmas.Bool.{ltb-true, ltb-false}
 use Rattle.std.proofs.lemmas.List.{drop_all, take_rest, drop_min}
@@ -11,7 +14,8 @@ pub record IsAppending (out out0 left all : Bytes) : Type 0 where
   pub is : out ++ left ≡ out0 ++ all
   pub more : (s : Bytes) × (out ≡ out0 ++ s)
 
-pub over_end : (cs : Cells) (ys : Bytes) (i : ℕ) → (length cs ≤ i) ⊎ (length ys ≤ i) → over (drop i cs) (drop i ys) ≡ drop i ys
+pub over_end : (cs : Cells) (ys : Bytes) (i : ℕ) → (length cs ≤ i) ⊎ (length ys ≤ i)
+    → over (drop i cs) (drop i ys) ≡ drop i ys
 over_end cs ys i (inl h) = ap (λ c. over c (drop i ys)) (drop_all i cs h)
 over_end cs ys i (inr h) = ap (over (drop i cs)) (drop_all i ys h) ∙ nothing (drop i cs) ∙ sym (drop_all i ys h)
   where
@@ -19,11 +23,14 @@ over_end cs ys i (inr h) = ap (over (drop i cs)) (drop_all i ys h) ∙ nothing (
     nothing [] = refl
     nothing (c ∷ cs) = refl
 
-pub over_ends : (out out' out0 : Bytes) (cs : Cells) (ys all : Bytes) (i n : ℕ) → IsAppending out out0 (over (drop i cs) (drop i ys)) all →
-    n ≡ min (length ys) (length cs) → n ≤ i → i ≤ n → out' ≡ out ++ take (length ys - n) (drop n ys) → out' ≡ out0 ++ all
+pub over_ends : (out out' out0 : Bytes) (cs : Cells) (ys all : Bytes) (i n : ℕ)
+    → IsAppending out out0 (over (drop i cs) (drop i ys)) all →
+    n ≡ min (length ys) (length cs) → n ≤ i → i ≤ n → out' ≡ out ++ take (length ys - n) (drop n ys)
+    → out' ≡ out0 ++ all
 over_ends out out' out0 cs ys all i n a n_is low high put =
     let same : n ≡ i = omega (arith, low, high) in
-    put ∙ ap (λ r. out ++ r) (take_rest ys n ∙ ap (λ k. drop k ys) same ∙ sym (over_end cs ys i (which (ltb (length ys) (length cs)) refl))) ∙ a.is
+    put ∙ ap (λ r. out ++ r) (take_rest ys n ∙ ap (λ k. drop k ys) same
+        ∙ sym (over_end cs ys i (which (ltb (length ys) (length cs)) refl))) ∙ a.is
   where
     which : (t : Bool) → ltb (length ys) (length cs) ≡ t → (length cs ≤ i) ⊎ (length ys ≤ i)
     which true e = let h = ltb-true (length ys) (length cs) e in inr (grind (arith, h, n_is, low))
@@ -40,7 +47,8 @@ over_run (c ∷ cs) [] = refl
 over_run (None ∷ cs) (y ∷ ys) = ap (λ r. y ∷ r) (over_run cs ys)
 over_run (Some x ∷ cs) (y ∷ ys) = ap (λ r. x ∷ r) (over_run cs ys)
 
-pub joined_is : (out out1 out2 : Bytes) (cs : Cells) (ys : Bytes) (m : ℕ) → out1 ≡ out ++ over cs ys → m ≡ min (length ys) (length cs) →
+pub joined_is : (out out1 out2 : Bytes) (cs : Cells) (ys : Bytes) (m : ℕ) → out1 ≡ out ++ over cs ys
+    → m ≡ min (length ys) (length cs) →
     out2 ≡ out1 ++ run (drop m cs) → out2 ≡ out ++ run (fill cs ys)
 joined_is out out1 out2 cs ys m first m_is second =
     second
@@ -52,7 +60,8 @@ joined_is out out1 out2 cs ys m first m_is second =
 -- One byte more.
 pub over_next : (cs : Cells) (ys : Bytes) (i : ℕ) (d : ℕ) → i < length cs → i < length ys
     → over (drop i cs) (drop i ys) ≡ standing (cell cs i) (get_or ys i d) ∷ over (drop (i + 1) cs) (drop (i + 1) ys)
-over_next cs ys i d h g = let n : suc i ≡ i + 1 = omega arith in go cs ys i h g ∙ ap (λ k. standing (cell cs i) (get_or ys i d) ∷ over (drop k cs) (drop k ys)) n
+over_next cs ys i d h g = let n : suc i ≡ i + 1 = omega arith in
+    go cs ys i h g ∙ ap (λ k. standing (cell cs i) (get_or ys i d) ∷ over (drop k cs) (drop k ys)) n
   where
     go : (cs : Cells) (ys : Bytes) (i : ℕ) → i < length cs → i < length ys
         → over (drop i cs) (drop i ys) ≡ standing (cell cs i) (get_or ys i d) ∷ over (drop (suc i) cs) (drop (suc i) ys)
@@ -61,7 +70,8 @@ over_next cs ys i d h g = let n : suc i ≡ i + 1 = omega arith in go cs ys i h 
     go (c ∷ cs) (y ∷ ys) zero h g = refl
     go (c ∷ cs) (y ∷ ys) (suc i) h g = go cs ys i (omega (arith, h)) (omega (arith, g))
 
-pub appended_one : (out out' out0 all left left' : Bytes) (b : ℕ) → IsAppending out out0 left all → left ≡ b ∷ left' → out' ≡ out ++ b ∷ [] → IsAppending out' out0 left' all
+pub appended_one : (out out' out0 all left left' : Bytes) (b : ℕ) → IsAppending out out0 left all → left ≡ b ∷ left'
+    → out' ≡ out ++ b ∷ [] → IsAppending out' out0 left' all
 appended_one out out' out0 all left left' b a is put = record {
   is = ap (λ o. o ++ left') put ∙ append_assoc out (b ∷ []) left' ∙ ap (λ l. out ++ l) (sym is) ∙ a.is;
   more = (a.more.0 ++ b ∷ [], put ∙ ap (λ o. o ++ b ∷ []) a.more.1 ∙ append_assoc out0 a.more.0 (b ∷ []));
