@@ -1,5 +1,6 @@
 -- What a table of ends holds after a step.
-use Rattle.std.proofs.Common.{◌≡◌, ℕ, zero, suc, ◌-◌, ◌≤◌, true, false, Option, Some, None, List, [], ◌∷◌, ◌++◌, length, take, slice_get, refl, sym, ap, ◌∙◌, subst, arith, rules, Bool, cond}
+use Rattle.std.proofs.Common.{◌≡◌, ℕ, zero, suc, ◌-◌, ◌≤◌, true, false, Option, Some, None, List, [], ◌∷◌, ◌++◌, length}
+use Rattle.std.proofs.Common.{take, slice_get, refl, sym, ap, ◌∙◌, subst, arith, rules, Bool, cond}
 use Rattle.std.specs.Map.{lookup_entry, set_value}
 use Rattle.lru.specs.LruCache.{LruCache, promoted, put_entries, last_entry}
 use Rattle.connections.specs.Ends.{are_ends}
@@ -17,9 +18,11 @@ are_ends-refl e = search rules
 
 module _ {X : Type 0} (e : Ends) where
   -- An entry that is found has these ends.
-  found : (xs : List (Ends × X)) (x : X) → at e xs ≡ Some x → (f : Ends × X) × (lookup_entry (are_ends e) xs ≡ Some f) × (f.0 ≡ e)
+  found : (xs : List (Ends × X)) (x : X) → at e xs ≡ Some x → (f : Ends × X) × (lookup_entry (are_ends e) xs ≡ Some f)
+      × (f.0 ≡ e)
   found [] x h = cc
-  found (f ∷ xs) x h = (elim (are_ends e f.0) as (λ y. are_ends e f.0 ≡ y → (g : Ends × X) × (lookup_entry (are_ends e) (f ∷ xs) ≡ Some g) × (g.0 ≡ e)) [
+  found (f ∷ xs) x h = (elim (are_ends e f.0) as
+      (λ y. are_ends e f.0 ≡ y → (g : Ends × X) × (lookup_entry (are_ends e) (f ∷ xs) ≡ Some g) × (g.0 ≡ e)) [
     | true ↦ λ t. (f, rw t refl, sym (the_same e f.0 t))
     | false ↦ λ t. let on = found xs x (rw t at h) in (on.0, rw t on.1, on.2)
   ]) refl
@@ -27,13 +30,15 @@ module _ {X : Type 0} (e : Ends) where
   -- Where none is found, taking it out changes nothing.
   missed : (xs : List (Ends × X)) → at e xs ≡ None → (lookup_entry (are_ends e) xs ≡ None) × (others e xs ≡ xs)
   missed [] h = (refl, refl)
-  missed (f ∷ xs) h = (elim (are_ends e f.0) as (λ y. are_ends e f.0 ≡ y → (lookup_entry (are_ends e) (f ∷ xs) ≡ None) × (others e (f ∷ xs) ≡ f ∷ xs)) [
+  missed (f ∷ xs) h = (elim (are_ends e f.0) as
+      (λ y. are_ends e f.0 ≡ y → (lookup_entry (are_ends e) (f ∷ xs) ≡ None) × (others e (f ∷ xs) ≡ f ∷ xs)) [
     | true ↦ λ t. let h' = rw t at h in cc
     | false ↦ λ t. let on = missed xs (rw t at h) in (rw t on.0, rw t (ap (λ l. f ∷ l) on.1))
   ]) refl
 
   -- What is written to the one that is found stands first.
-  pub written : (xs : List (Ends × X)) (x w : X) → at e xs ≡ Some x → set_value (are_ends e) (promoted (are_ends e) xs) w ≡ (e, w) ∷ others e xs
+  pub written : (xs : List (Ends × X)) (x w : X) → at e xs ≡ Some x
+      → set_value (are_ends e) (promoted (are_ends e) xs) w ≡ (e, w) ∷ others e xs
   written xs x w h = let f = found xs x h in rw (f.1, f.2, are_ends-refl e)
 
   -- The others of one that stands first are those behind it.
@@ -52,43 +57,54 @@ module _ {X : Type 0} (e : Ends) where
   by_look c w (Some x) h fits = let f = found c.entries x h in rw (f.1, f.2)
 
   -- What is put in stands first.
-  pub put_first : (c : LruCache Ends X) (w : X) → length c.entries ≤ c.cap - 1 → put_entries are_ends c e w ≡ (e, w) ∷ others e c.entries
+  pub put_first : (c : LruCache Ends X) (w : X) → length c.entries ≤ c.cap - 1
+      → put_entries are_ends c e w ≡ (e, w) ∷ others e c.entries
   put_first c w fits = by_look c w (at e c.entries) refl fits
 
 module _ {X : Type 0} where
-  last_of : (x : X) (xs : List X) (p : X) → slice_get (x ∷ xs) (length xs) ≡ Some p → x ∷ xs ≡ take (length xs) (x ∷ xs) ++ p ∷ []
+  last_of : (x : X) (xs : List X) (p : X) → slice_get (x ∷ xs) (length xs) ≡ Some p
+      → x ∷ xs ≡ take (length xs) (x ∷ xs) ++ p ∷ []
   last_of x [] p h = cc
   last_of x (y ∷ xs) p h = ap (λ l. x ∷ l) (last_of y xs p h)
 
   -- A list is its front and its last.
-  pub front_and_last : (xs : List X) (p : X) → slice_get xs (length xs - 1) ≡ Some p → xs ≡ take (length xs - 1) xs ++ p ∷ []
+  pub front_and_last : (xs : List X) (p : X) → slice_get xs (length xs - 1) ≡ Some p
+      → xs ≡ take (length xs - 1) xs ++ p ∷ []
   front_and_last [] p h = cc
-  front_and_last (x ∷ xs) p h = let e : suc (length xs) - 1 ≡ length xs = omega arith in rw e (last_of x xs p (rw e at h))
+  front_and_last (x ∷ xs) p h = let e : suc (length xs) - 1 ≡ length xs = omega arith in
+      rw e (last_of x xs p (rw e at h))
 
 module _ {X : Type 0} where
   -- What is popped was last.
-  pub was_last : (xs : List (Ends × X)) (e : Ends) (x : X) → Some (e, x) ≡ last_entry xs → WasLast xs (take (length xs - 1) xs) x
+  pub was_last : (xs : List (Ends × X)) (e : Ends) (x : X) → Some (e, x) ≡ last_entry xs
+      → WasLast xs (take (length xs - 1) xs) x
   was_last xs e x h = record { ends = e; stood = front_and_last xs (e, x) (sym h) }
 
   -- There is one last.
   pub same_last : (o : Option (Ends × X)) (e f : Ends) (x y : X) → Some (e, x) ≡ o → Some (f, y) ≡ o → x ≡ y
-  same_last o e f x y h k = let both : ◌≡◌ {A = Option (Ends × X)} (Some (e, x)) (Some (f, y)) = h ∙ sym k in let same : ◌≡◌ {A = Ends × X} (e, x) (f, y) = cc in ap (λ p. p.1) same
+  same_last o e f x y h k = let both : ◌≡◌ {A = Option (Ends × X)} (Some (e, x)) (Some (f, y)) = h ∙ sym k in
+      let same : ◌≡◌ {A = Ends × X} (e, x) (f, y) = cc in ap (λ p. p.1) same
 
 -- One more is forgotten.
-pub last_forgotten : (time : ℕ) (xs ys : List (Ends × ℕ)) (e : Ends) (t : ℕ) → IsForgotten time xs ys → Some (e, t) ≡ last_entry ys → IsOver time ys t
+pub last_forgotten : (time : ℕ) (xs ys : List (Ends × ℕ)) (e : Ends) (t : ℕ) → IsForgotten time xs ys
+    → Some (e, t) ≡ last_entry ys → IsOver time ys t
     → IsForgotten time xs (take (length ys - 1) ys)
 last_forgotten time xs ys e t f h o = one ys (take (length ys - 1) ys) (e, t) f (front_and_last ys (e, t) (sym h)) o
 
-module _ {T : Type 0} (e : Ends) (Takes : Option (Connection T) → Connection T → Type 0) (xs : List (Ends × Connection T)) (its : Connection T) where
+module _ {T : Type 0} (e : Ends) (Takes : Option (Connection T) → Connection T → Type 0)
+    (xs : List (Ends × Connection T)) (its : Connection T) where
   -- Written to the one that is found, and put in where none is.
-  pub put_in : (x : Connection T) → Some x ≡ at e xs → Takes (Some x) its → IsPut e Takes xs (set_value (are_ends e) (promoted (are_ends e) xs) its)
+  pub put_in : (x : Connection T) → Some x ≡ at e xs → Takes (Some x) its
+      → IsPut e Takes xs (set_value (are_ends e) (promoted (are_ends e) xs) its)
   put_in x h t = record { its = its; takes = subst (λ o. Takes o its) h t; stands = written e xs x its (sym h) }
 
-  pub put_new : (ys : List (Ends × Connection T)) → None ≡ at e xs → Takes None its → ys ≡ (e, its) ∷ others e xs → IsPut e Takes xs ys
+  pub put_new : (ys : List (Ends × Connection T)) → None ≡ at e xs → Takes None its → ys ≡ (e, its) ∷ others e xs
+      → IsPut e Takes xs ys
   put_new ys h t s = record { its = its; takes = subst (λ o. Takes o its) h t; stands = s }
 
 module _ {X : Type 0} (e f : Ends) (apart : e ≡ f → ⊥) where
-  one_more : (x : Ends × X) (xs : List (Ends × X)) (s t : Bool) → are_ends e x.0 ≡ s → are_ends f x.0 ≡ t → at f (others e xs) ≡ at f xs → at f (others e (x ∷ xs)) ≡ at f (x ∷ xs)
+  one_more : (x : Ends × X) (xs : List (Ends × X)) (s t : Bool) → are_ends e x.0 ≡ s → are_ends f x.0 ≡ t
+      → at f (others e xs) ≡ at f xs → at f (others e (x ∷ xs)) ≡ at f (x ∷ xs)
   one_more x xs true true p q h = absurd (apart (the_same e x.0 p ∙ sym (the_same f x.0 q)))
   one_more x xs true false p q h = rw (p, q)
   one_more x xs false t p q h = rw p (ap (λ o. cond (are_ends f x.0) (Some x.1) o) h)

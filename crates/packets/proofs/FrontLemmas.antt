@@ -1,5 +1,6 @@
 -- What stands in front of a capture's bytes, where further bytes follow.
-use Rattle.std.proofs.Common.{◌≡◌, ℕ, ◌+◌, ◌-◌, ◌<◌, [], ◌++◌, drop, length, Ok, Err, Some, None, Bool, true, false, cond, refl, ap, subst, sym, ◌∙◌, arith}
+use Rattle.std.proofs.Common.{◌≡◌, ℕ, ◌+◌, ◌-◌, ◌<◌, [], ◌++◌, drop, length, Ok, Err, Some, None, Bool, true, false}
+use Rattle.std.proofs.Common.{cond, refl, ap, subst, sym, ◌∙◌, arith}
 use Rattle.std.specs.Prelude.{◌==◌, ⊤}
 use Rattle.std.proofs.lemmas.List.{length-append}
 use Rattle.std.proofs.Math.Seq.{drop-append_seam}
@@ -11,8 +12,10 @@ use Rattle.tls_fields.proofs.StableLemmas.{Stays, stays}
 use Rattle.capture.specs.Pcap as pcap
 use Rattle.capture.specs.Pcapng.{Block, SECTION, next_block}
 use Rattle.packets.specs.Section.{Section, Heard, beginning, hear}
-use Rattle.packets.specs.Front.{Longer, State, Unknown, Pcap, Blocks, Captured, Other, Wait, Said, header_front, form_front, pcap_front, heard_front, block_front, front}
-use Rattle.packets.proofs.LayoutLemmas.{LeavesEnd, LeavesLess, leaves, next_block_leaves, header_stable, packet_stable, next_block_stays, header_less, packet_less, next_block_less}
+use Rattle.packets.specs.Front.{Longer, State, Unknown, Pcap, Blocks, Captured, Other, Wait, Said, header_front}
+use Rattle.packets.specs.Front.{form_front, pcap_front, heard_front, block_front, front}
+use Rattle.packets.proofs.LayoutLemmas.{LeavesEnd, LeavesLess, leaves, next_block_leaves, header_stable, packet_stable}
+use Rattle.packets.proofs.LayoutLemmas.{next_block_stays, header_less, packet_less, next_block_less}
 
 header_longer : (x : Bytes) (a b : Answer pcap.Header) → Stays x a b → Longer x (header_front a) (header_front b)
 header_longer x (Ok v) b e = ap header_front e

@@ -1,10 +1,12 @@
 -- What the layouts of a capture leave of the bytes, and what stands of their answers where further bytes follow.
-use Rattle.std.proofs.Common.{◌≡◌, ℕ, ◌-◌, ◌<◌, ◌≤◌, [], ◌∷◌, ◌++◌, length, take, drop, Ok, Err, Bool, true, false, cond, ltb, refl, sym, ap, subst, arith}
+use Rattle.std.proofs.Common.{◌≡◌, ℕ, ◌-◌, ◌<◌, ◌≤◌, [], ◌∷◌, ◌++◌, length, take, drop, Ok, Err, Bool, true, false}
+use Rattle.std.proofs.Common.{cond, ltb, refl, sym, ap, subst, arith}
 use Rattle.std.specs.Prelude.{◌==◌, ⊤}
 use Rattle.std.proofs.lemmas.List.{take-append-drop, length-append, length-drop}
 use Rattle.std.proofs.lemmas.Bool.{ltb-false}
 use Rattle.tls_fields.specs.Bytes.{Bytes, number_of}
-use Rattle.tls_fields.specs.Layout.{Layout, done, refuse, number, ignored, block, left, tag, window, list, maybe, either, complete, look, chain, test, choose}
+use Rattle.tls_fields.specs.Layout.{Layout, done, refuse, number, ignored, block, left, tag, window, list, maybe}
+use Rattle.tls_fields.specs.Layout.{either, complete, look, chain, test, choose}
 use Rattle.tls_fields.specs.Meaning.{Broken, Lacks, Answer, EndsWith}
 use Rattle.tls_fields.specs.Reading.{split_at, number_at, ignored_at, tag_at, reading, ◌and_then◌}
 use Rattle.tls_fields.specs.Stable.{IsStable}
@@ -62,7 +64,8 @@ split_less : (n : ℕ) (b : Bytes) → 0 < n → LeavesLess b (split_at n b)
 unfolding split_at
 split_less n b some = go (ltb (length b) n) refl
   where
-    go : (t : Bool) → ltb (length b) n ≡ t → LeavesLess b (cond t (Err (Lacks (n - length b))) (Ok (take n b, drop n b)))
+    go : (t : Bool) → ltb (length b) n ≡ t → LeavesLess b
+        (cond t (Err (Lacks (n - length b))) (Ok (take n b, drop n b)))
     go true e = tt
     go false e =
         let long : n ≤ length b = ltb-false (length b) n e in
@@ -100,7 +103,8 @@ leaves (maybe l) h b = absurd h
 leaves (either l m) h b = absurd h
 leaves (complete l) h b = absurd h
 leaves (look l) h b = absurd h
-leaves (chain l f) h b = leaves_then b (λ x. reading (f x.0) x.1) (λ x. leaves (f x.0) (h.1 x.0) x.1) (reading l b) (leaves l h.0 b)
+leaves (chain l f) h b = leaves_then b (λ x. reading (f x.0) x.1) (λ x. leaves (f x.0) (h.1 x.0) x.1) (reading l b)
+    (leaves l h.0 b)
 
 -- Its first part leaves less.
 abbrev LessFirst : {A : Type 0} → Layout A → Bytes → Type 0
@@ -137,7 +141,8 @@ number_less b =
 number_by_less : (o : Order) (b : Bytes) → LeavesLess b (reading (number_by o 4) b)
 unfolding number_by little
 number_by_less Big b = number_less b
-number_by_less Little b = less_then b (λ x. Ok (Rattle.capture.specs.Order.little_of x.0, x.1)) (λ x. ([], refl)) (split_at 4 b) (split_less 4 b (omega arith))
+number_by_less Little b = less_then b (λ x. Ok (Rattle.capture.specs.Order.little_of x.0, x.1)) (λ x. ([], refl))
+    (split_at 4 b) (split_less 4 b (omega arith))
 
 test_stable : (t : Bool) (k : ErrorKind) → IsStable (test t k)
 test_stable true k = tt
@@ -243,8 +248,10 @@ section_order_stable = (tt, λ u. (tt, λ magic. order_of_stable magic))
 
 -- the order of the next block, by whether it begins a section
 picked_stays : (t : Bool) (o : Order) (b s : Bytes)
-    → Stays s (reading (choose t (look section_order) (done o)) b) (reading (choose t (look section_order) (done o)) (b ++ s))
-picked_stays true o b s = look_stays b s (reading section_order b) (reading section_order (b ++ s)) (stays section_order section_order_stable b s)
+    → Stays s (reading (choose t (look section_order) (done o)) b)
+        (reading (choose t (look section_order) (done o)) (b ++ s))
+picked_stays true o b s = look_stays b s (reading section_order b) (reading section_order (b ++ s))
+    (stays section_order section_order_stable b s)
 picked_stays false o b s = refl
 
 picked_leaves : (t : Bool) (o : Order) (b : Bytes) → LeavesEnd b (reading (choose t (look section_order) (done o)) b)

@@ -1,5 +1,6 @@
 -- What a visit keeps from step to step.
-use Rattle.std.proofs.Common.{◌≡◌, ℕ, ◌-◌, List, [], ◌∷◌, ◌++◌, length, drop, Option, Some, None, Result, Ok, Err, Bool, true, false, refl, sym, ◌∙◌, ap, subst, append_assoc, arith}
+use Rattle.std.proofs.Common.{◌≡◌, ℕ, ◌-◌, List, [], ◌∷◌, ◌++◌, length, drop, Option, Some, None, Result, Ok, Err, Bool}
+use Rattle.std.proofs.Common.{true, false, refl, sym, ◌∙◌, ap, subst, append_assoc, arith}
 use Rattle.std.specs.Prelude.{⊤, IfSome, IfErr, OnOk}
 use Rattle.std.specs.Io.KnownBytes.{Consumes, IsAtEnd}
 use Rattle.std.proofs.lemmas.List.{append-nil}
@@ -94,7 +95,8 @@ went_by (Err e) old mid new known left s s' b b' by on h = absurd h
 
 pub on_went : (old mid new : Option (List Packet)) (known left : Option Bytes) (s s' : State) (b b' : Bytes)
     → IsOn old mid known left s b → Went (front s b) mid new s s' b b' true → IsOn old new known left s' b'
-on_went old mid new known left s s' b b' on goes = went_by (front s b) old mid new known left s s' b b' (stands s b) on goes
+on_went old mid new known left s s' b b' on goes = went_by (front s b) old mid new known left s s' b b' (stands s b) on
+    goes
 
 -- Further bytes are wanted.
 abbrev pub Wants : Said → Type 0
@@ -230,7 +232,8 @@ over_at old mid new (Some xs) (Some ys) (Some zs) s s' b b' b'' on waited came =
     let end : packets_from s (b ++ ys) ≡ ([], end_of s' b'') =
     ap (packets_from s) (ap (λ t. b ++ t) nothing ∙ append-nil b) ∙ wait_end s b waited.wants
     ∙ ap (λ u. ([], end_of u b)) (sym waited.known) ∙ ap (λ u. ([], end_of s' u)) (sym same) in
-    (all_of old mid new (packets_of xs) (packets_from s (b ++ ys)) on.some (end_of s' b'') on.adds waited.adds on.rest end, over)
+    (all_of old mid new (packets_of xs) (packets_from s (b ++ ys)) on.some (end_of s' b'') on.adds waited.adds on.rest
+        end, over)
 
 pub over : (old mid new : Option (List Packet)) (known left left' : Option Bytes) (s s' : State) (b b' b'' : Bytes)
     → IsOn old mid known left s b → Went (front s b) mid new s s' b b' false → Came b' b'' left left' 0
@@ -238,7 +241,8 @@ pub over : (old mid new : Option (List Packet)) (known left left' : Option Bytes
 over old mid new known left left' s s' b b' b'' on goes came =
     record { all = over_at old mid new known left left' s s' b b' b'' on (has_waited mid new s s' b b' goes) came }
 
-if_some_mapped : (known : Option Bytes) (P Q : Bytes → Type 0) → ((x : Bytes) → P x → Q x) → IfSome known P → IfSome known Q
+if_some_mapped : (known : Option Bytes) (P Q : Bytes → Type 0) → ((x : Bytes) → P x → Q x) → IfSome known P
+    → IfSome known Q
 if_some_mapped None P Q f h = tt
 if_some_mapped (Some x) P Q f h = f x h
 
@@ -250,7 +254,8 @@ read_all E old now known left BrokenOff (Ok u) over is = absurd is
 read_all E old now known left (Refused k) (Ok u) over is = absurd is
 read_all E old now known left end (Err e) over is = tt
 
-whole_front : (old now : Option (List Packet)) (all : Packets) (end : End) → AddsAll old now all end → AddsFront old now all
+whole_front : (old now : Option (List Packet)) (all : Packets) (end : End) → AddsAll old now all end
+    → AddsFront old now all
 whole_front old now all end h = (all.0, [], sym (append-nil all.0), h.0)
 
 pub read_cause : (E : Type 0) (old now : Option (List Packet)) (known left : Option Bytes) (end : End)
@@ -299,7 +304,8 @@ pub on_if_went : (old mid new : Option (List Packet)) (known left : Option Bytes
 on_if_went old mid new known left s s' b b' went on goes e =
     on_went old mid new known left s s' b b' on (subst (Went (front s b) mid new s s' b b') e goes)
 
-pub on_if_came : (old mid new : Option (List Packet)) (known left left' : Option Bytes) (s s' : State) (b b' b'' : Bytes)
+pub on_if_came : (old mid new : Option (List Packet)) (known left left' : Option Bytes) (s s' : State)
+    (b b' b'' : Bytes)
     (went : Bool) (n : ℕ) → IsOn old mid known left s b → Went (front s b) mid new s s' b b' went → went ≡ false
     → Came b' b'' left left' n → IsOn old new known left' s' b''
 on_if_came old mid new known left left' s s' b b' b'' went n on goes e came =

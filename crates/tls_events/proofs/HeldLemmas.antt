@@ -140,7 +140,8 @@ room b c1 c2 c p e u n low mid high all first second third =
     ∙ ap (λ x. paste x k (drop u x) (n - u)) first)
     ∙ moved b p k u (n - u) (omega (arith, low, mid)) (omega (arith, high, all))
 
--- The part is moved in front of the fragment: k bytes of s, to the new_start e, where n bytes behind them are those of b.
+-- The part is moved in front of the fragment: k bytes of s, to the new_start e, where n bytes behind them are those of
+-- b.
 pub pushed_part : (b s : Bytes) (e k n : ℕ) → e + k ≤ length b → k ≤ length s
     → take (k + n) (drop e (paste b e s k)) ≡ take k s ++ take n (drop (e + k) b)
 pushed_part b s e k n high few =

@@ -113,7 +113,8 @@ module _ {A B : Type 0} (f : A → B) (content : ℕ → ℕ → Layout A) where
   unfolding framed
   framed_decodes w k b = by_kind k (reading (number w) b)
 
--- one or more items, of which the first takes a byte, are the items that are walked; where the first is refused, none is
+-- one or more items, of which the first takes a byte, are the items that are walked; where the first is refused, none
+-- is
 pub list1_walked : {A : Type 0} (l : Layout A) (b : Bytes) → LeavesFewer (length b) (reading l b)
     → list_read (reading (list1 l) b) ≡ items_in l b
 list1_walked {A} l b fewer = go (reading l b) refl fewer

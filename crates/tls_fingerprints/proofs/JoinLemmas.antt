@@ -1,5 +1,6 @@
 -- Texts joined: the first, and the others, each behind the byte between them.
-use Rattle.std.proofs.Common.{◌≡◌, ℕ, ◌+◌, ◌<◌, ◌≤◌, List, [], ◌∷◌, ◌++◌, map, length, take, get_or, sym, ◌∙◌, ap, append_assoc, append-nil}
+use Rattle.std.proofs.Common.{◌≡◌, ℕ, ◌+◌, ◌<◌, ◌≤◌, List, [], ◌∷◌, ◌++◌, map, length, take, get_or, sym, ◌∙◌, ap}
+use Rattle.std.proofs.Common.{append_assoc, append-nil}
 use Rattle.std.specs.List.{flat_map, join_with_byte}
 use Rattle.std.proofs.lemmas.List.{take_all, take_more}
 
@@ -21,6 +22,7 @@ pub joined_all : {X : Type 0} (c : ℕ) (f : X → List ℕ) (x : X) (xs ys : Li
     → ys ≡ x ∷ xs → first ≡ old ++ f x → text ≡ first ++ flat_map (λ y. c ∷ f y) (take i xs) → length xs ≤ i
     → text ≡ old ++ join_with_byte c (map f ys)
 joined_all c f x xs ys i old first text all e more over =
-    more ∙ ap (λ t. t ++ flat_map (λ y. c ∷ f y) (take i xs)) e ∙ ap (λ zs. (old ++ f x) ++ flat_map (λ y. c ∷ f y) zs) (take_all i xs over)
+    more ∙ ap (λ t. t ++ flat_map (λ y. c ∷ f y) (take i xs)) e
+        ∙ ap (λ zs. (old ++ f x) ++ flat_map (λ y. c ∷ f y) zs) (take_all i xs over)
     ∙ append_assoc old (f x) (flat_map (λ y. c ∷ f y) xs)
     ∙ ap (λ t. old ++ t) (sym (joined_first c f x xs)) ∙ ap (λ zs. old ++ join_with_byte c (map f zs)) (sym all)

@@ -112,7 +112,8 @@ first_below a b ms ns up e = go (leb b a) refl
     go true le = leb-true b a le
     go false gt =
         let low : a < b = leb-false b a gt in
-        let none : times_in a (b ∷ ns) ≡ 0 = none_below a (b ∷ ns) (omega arith, From-lower (suc a) b ns (omega arith) up.0) in
+        let none : times_in a (b ∷ ns) ≡ 0 = none_below a (b ∷ ns)
+            (omega arith, From-lower (suc a) b ns (omega arith) up.0) in
         absurd (omega (arith, e, none, one_at_self a))
 
 same_rising : (ms ns : List ℕ) → Rises ms → Rises ns → ((v : ℕ) → times_in v ms ≡ times_in v ns) → ms ≡ ns
@@ -189,7 +190,8 @@ times_kept v p ms ns e = times-filter v p ms ∙ ap (λ n. cond (p v) n 0) e ∙
 
 -- what is kept of the same numbers in another order is the same in rising order
 pub rising_kept : (p : ℕ → Bool) (ms ns : List ℕ) → IsPermutation ms ns → rising (filter p ms) ≡ rising (filter p ns)
-rising_kept p ms ns moved = rising_same (filter p ms) (filter p ns) (λ v. times_kept v p ms ns (times_moved v ms ns moved))
+rising_kept p ms ns moved = rising_same (filter p ms) (filter p ns)
+    (λ v. times_kept v p ms ns (times_moved v ms ns moved))
 
 pub rising_kept_twice : (p q : ℕ → Bool) (ms ns : List ℕ) → IsPermutation ms ns
     → rising (filter q (filter p ms)) ≡ rising (filter q (filter p ns))

@@ -36,8 +36,8 @@ only_reading l b are x h = answers.only_reading l b are x h
 pub AreBytes-append : (b c : Bytes) → AreBytes b → AreBytes c → AreBytes (b ++ c)
 AreBytes-append b c are_b are_c = numbers.AreBytes-append b c are_b are_c
 
--- A ClientHello that was read has fields that can be written, and its session id is read back as it is: whatever its bytes
--- are followed by.
+-- A ClientHello that was read has fields that can be written, and its session id is read back as it is: whatever its
+-- bytes are followed by.
 pub record IsReadHello (h : ClientHello) : Type 0 where
   pub random : length h.random ≡ 32
   pub session_id : length (held h.session_id) ≤ 32

@@ -83,7 +83,8 @@ module _ (w : Word) where
       subst (λ q. fits q k.0 ≡ true) e k.1 in cc
 
   encrypted_is : (has_empty (waits (run state.None w)) ≡ true) ↔ HasHandshake w
-  encrypted_is = front_is_after is_noise turn same_letter next waits Fits next_fits next_waits state.None false refl clean clean_is handshake refl w
+  encrypted_is = front_is_after is_noise turn same_letter next waits Fits next_fits next_waits state.None false refl
+      clean clean_is handshake refl w
 
   encrypted_from : HasHandshake w → run state.None w ≡ state.SessionEncrypted
   encrypted_from h = only_encrypted (run state.None w) (encrypted_is.1 h)
@@ -92,11 +93,13 @@ module _ (w : Word) where
   encrypted_to e = encrypted_is.0 (ap (λ q. has_empty (waits q)) e)
 
   alive_to : IsAlive (run state.None w) → HasHandshake w ⊎ MayBecomeHandshake w
-  alive_to t = word_to_after is_noise turn same_letter next waits Fits next_fits next_waits state.None false refl clean clean_is handshake refl w (alive_at (run state.None w) ∙ t)
+  alive_to t = word_to_after is_noise turn same_letter next waits Fits next_fits next_waits state.None false refl clean
+      clean_is handshake refl w (alive_at (run state.None w) ∙ t)
 
   alive_from : MayBecomeHandshake w → IsAlive (run state.None w)
   alive_from h = sym (alive_at (run state.None w))
-      ∙ word_from_after is_noise turn same_letter next waits Fits next_fits next_waits state.None false refl clean clean_is handshake refl w h
+      ∙ word_from_after is_noise turn same_letter next waits Fits next_fits next_waits state.None false refl clean
+          clean_is handshake refl w h
 
 -- The last letter's step.
 run_last : (u : Word) (l : Letter) (w : Word) → w ≡ u ++ l ∷ []

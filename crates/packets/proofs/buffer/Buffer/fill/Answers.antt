@@ -16,12 +16,14 @@ returns-in-Ok-clause-ok g c =
     grind (arith, c.read.auto.buf, length-take, length-drop, len, whole) in
     let kept : take held c.deref_mut.result.now ≡ c.self.inside.bytes.items =
     ap (take held) c.deref_mut.ensures.value
-    ∙ room_made held c.in-Some.whole c.self.inside.bytes.items _ c.resize.new.self.items (sym counted) (omega (arith, whole))
+    ∙ room_made held c.in-Some.whole c.self.inside.bytes.items _ c.resize.new.self.items (sym counted)
+        (omega (arith, whole))
     c.in_ok-resize.ensures.items in
     record {
       bytes = take n c.read.new.buf;
       count = grind (arith, c.in-Ok.ensures.bound.1);
-      holds = read_behind c.self.inside.start held n c.resize.new.self.len (take held c.deref_mut.result.now) c.read.new.buf _ _
+      holds = read_behind c.self.inside.start held n c.resize.new.self.len (take held c.deref_mut.result.now)
+          c.read.new.buf _ _
           c.truncate.new.self.items (ap length kept ∙ sym counted) within
           (grind (arith, c.in_ok-resize.ensures.len, whole, room, within)) start c.truncate.ensures.items
           ∙ ap (λ t. drop c.self.inside.start t ++ take n c.read.new.buf) kept
