@@ -1,6 +1,6 @@
 -- What is read of a direction.
 use Rattle.std.specs.Prelude.{◌≡◌, ◌⊎◌, ℕ, ◌+◌, ◌-◌, ◌%◌, ◌^◌, ◌==◌, Bool, true, false, nat_lt, ◌&&◌, ◌||◌, if◌then◌else◌, Option, Some, None, [], length, take}
-use Rattle.segments.specs.Cells.{Bytes, Held, known_behind, run, with_segment, without_front, IsTooMuch}
+use Rattle.segments.specs.Cells.{Bytes, Held, differing_in, known_behind, run, with_segment, without_front, IsTooMuch}
 use Rattle.connections.specs.Segment.{breaks, ends, first_of, behind_of}
 use Rattle.connections.specs.Traffic.{plus}
 use Rattle.connections.specs.declared.segment.Segment.{Segment}
@@ -39,7 +39,7 @@ behind_front n Over = Over
 
 -- One of which nothing came.
 abbrev pub silent_stream : Stream
-silent_stream = record { reading = Unbegun; next = 0; last = 0; fin = None; is_broken = false; has_gap = false; length = 0; repeated = 0 }
+silent_stream = record { reading = Unbegun; next = 0; last = 0; fin = None; is_broken = false; has_gap = false; length = 0; repeated = 0; disagreeing = 0 }
 
 -- The number of the first byte that was not handed out, when more are.
 abbrev pub next_behind : ℕ → Reading → ℕ → ℕ
@@ -76,6 +76,14 @@ with_repeated n (Open h) Over count = count
 with_repeated n Unbegun r count = count
 with_repeated n Over r count = count
 
+-- At so many places another byte was held: they are added to a count. Of a stream that isn't read none are known.
+abbrev pub with_disagreeing : ℕ → Bytes → Reading → Reading → ℕ → ℕ
+with_disagreeing seq b (Open h) (Open k) count = plus count (differing_in seq b h)
+with_disagreeing seq b (Open h) Unbegun count = count
+with_disagreeing seq b (Open h) Over count = count
+with_disagreeing seq b Unbegun r count = count
+with_disagreeing seq b Over r count = count
+
 -- What the numbers of a segment say: how far its sender has come, and with FIN where the stream ends.
 abbrev pub with_numbers : Segment → Stream → Stream
 with_numbers s t = record t {
@@ -84,12 +92,13 @@ with_numbers s t = record t {
   fin = if ends s then Some (behind_of s) else t.fin;
 }
 
--- Its bytes are taken, and those of them that stood are counted. Where the stream is read no further from then on, bytes are missing.
+-- Its bytes are taken, and those of them that stood, or don't agree with those that stand, are counted. Where the stream is read no further from then on, bytes are missing.
 pub record HasPut (s : Segment) (old new : Stream) : Type 0 where
   pub bytes : Accepts (first_of s) s.payload.now old.reading new.reading
   pub repeated : new.repeated ≡ with_repeated (length s.payload.now) old.reading new.reading old.repeated
+  pub disagreeing : new.disagreeing ≡ with_disagreeing (first_of s) s.payload.now old.reading new.reading old.disagreeing
   pub gap : new.reading ≡ Over → (old.reading ≡ Over → ⊥) → new.has_gap ≡ true
-  pub others : new ≡ record old { reading = new.reading; repeated = new.repeated; has_gap = new.has_gap }
+  pub others : new ≡ record old { reading = new.reading; repeated = new.repeated; disagreeing = new.disagreeing; has_gap = new.has_gap }
 
 -- The stream begins with the segment's first byte, if none came before.
 abbrev pub begun_by : Segment → Stream → Stream

@@ -40,6 +40,8 @@ pub struct Stream {
     length: u64,
     // How many bytes came once more.
     repeated: u64,
+    // At how many places another byte came than the one that stands there.
+    disagreeing: u64,
 }
 
 /// Whether a number comes behind another, among the numbers around it.
@@ -90,6 +92,7 @@ impl Stream {
             has_gap: false,
             length: 0,
             repeated: 0,
+            disagreeing: 0,
         }
     }
 
@@ -124,11 +127,13 @@ impl Stream {
     {
         if let Reading::Open(segments) = &mut self.reading {
             let before = held(segments);
+            let differing = segments.differing(segment.first(), segment.payload);
             match segments.segment(segment.first(), segment.payload) {
                 Ok(()) => {
                     let new = held(segments).saturating_sub(before);
                     let again = (segment.payload.len() as u64).saturating_sub(new);
                     self.repeated = self.repeated.saturating_add(again);
+                    self.disagreeing = self.disagreeing.saturating_add(differing as u64);
                 }
                 Err(SegmentError::TooMuch) => {
                     self.has_gap = true;
@@ -188,6 +193,14 @@ impl Stream {
         ensures { result ≡ self.now.repeated }
     {
         self.repeated
+    }
+
+    /// How many bytes came that aren't those that stood at their places, behind others that are missing. Those that came first stay. It is
+    /// known of bytes that wait alone.
+    pub fn disagreeing(&self) -> u64
+        ensures { result ≡ self.now.disagreeing }
+    {
+        self.disagreeing
     }
 
     /// Reads no further: what is held and what comes is let go.
