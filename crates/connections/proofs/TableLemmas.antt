@@ -23,18 +23,18 @@ module _ {X : Type 0} (e : Ends) where
   found [] x h = cc
   found (f ∷ xs) x h = (elim (are_ends e f.0) as
       (λ y. are_ends e f.0 ≡ y → (g : Ends × X) × (lookup_entry (are_ends e) (f ∷ xs) ≡ Some g) × (g.0 ≡ e)) [
-    | true ↦ λ t. (f, rw t refl, sym (the_same e f.0 t))
-    | false ↦ λ t. let on = found xs x (rw t at h) in (on.0, rw t on.1, on.2)
-  ]) refl
+        | true ↦ λ t. (f, rw t refl, sym (the_same e f.0 t))
+        | false ↦ λ t. let on = found xs x (rw t at h) in (on.0, rw t on.1, on.2)
+      ]) refl
 
   -- Where none is found, taking it out changes nothing.
   missed : (xs : List (Ends × X)) → at e xs ≡ None → (lookup_entry (are_ends e) xs ≡ None) × (others e xs ≡ xs)
   missed [] h = (refl, refl)
   missed (f ∷ xs) h = (elim (are_ends e f.0) as
       (λ y. are_ends e f.0 ≡ y → (lookup_entry (are_ends e) (f ∷ xs) ≡ None) × (others e (f ∷ xs) ≡ f ∷ xs)) [
-    | true ↦ λ t. let h' = rw t at h in cc
-    | false ↦ λ t. let on = missed xs (rw t at h) in (rw t on.0, rw t (ap (λ l. f ∷ l) on.1))
-  ]) refl
+        | true ↦ λ t. let h' = rw t at h in cc
+        | false ↦ λ t. let on = missed xs (rw t at h) in (rw t on.0, rw t (ap (λ l. f ∷ l) on.1))
+      ]) refl
 
   -- What is written to the one that is found stands first.
   pub written : (xs : List (Ends × X)) (x w : X) → at e xs ≡ Some x

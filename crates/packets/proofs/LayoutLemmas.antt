@@ -249,7 +249,7 @@ section_order_stable = (tt, λ u. (tt, λ magic. order_of_stable magic))
 -- the order of the next block, by whether it begins a section
 picked_stays : (t : Bool) (o : Order) (b s : Bytes)
     → Stays s (reading (choose t (look section_order) (done o)) b)
-        (reading (choose t (look section_order) (done o)) (b ++ s))
+    (reading (choose t (look section_order) (done o)) (b ++ s))
 picked_stays true o b s = look_stays b s (reading section_order b) (reading section_order (b ++ s))
     (stays section_order section_order_stable b s)
 picked_stays false o b s = refl

@@ -231,9 +231,11 @@ over_at old mid new (Some xs) (Some ys) (Some zs) s s' b b' b'' on waited came =
     let same : b'' ≡ b = came.holds ∙ ap (λ t. b' ++ t) none ∙ append-nil b' ∙ waited.held in
     let end : packets_from s (b ++ ys) ≡ ([], end_of s' b'') =
     ap (packets_from s) (ap (λ t. b ++ t) nothing ∙ append-nil b) ∙ wait_end s b waited.wants
-    ∙ ap (λ u. ([], end_of u b)) (sym waited.known) ∙ ap (λ u. ([], end_of s' u)) (sym same) in
-    (all_of old mid new (packets_of xs) (packets_from s (b ++ ys)) on.some (end_of s' b'') on.adds waited.adds on.rest
-        end, over)
+    ∙ ap (λ u. ([], end_of u b)) (sym waited.known) ∙ ap (λ u. ([], end_of s' u)) (sym same) in (
+      all_of old mid new (packets_of xs) (packets_from s (b ++ ys)) on.some (end_of s' b'') on.adds waited.adds on.rest
+          end,
+      over,
+    )
 
 pub over : (old mid new : Option (List Packet)) (known left left' : Option Bytes) (s s' : State) (b b' b'' : Bytes)
     → IsOn old mid known left s b → Went (front s b) mid new s s' b b' false → Came b' b'' left left' 0

@@ -23,6 +23,6 @@ pub joined_all : {X : Type 0} (c : ℕ) (f : X → List ℕ) (x : X) (xs ys : Li
     → text ≡ old ++ join_with_byte c (map f ys)
 joined_all c f x xs ys i old first text all e more over =
     more ∙ ap (λ t. t ++ flat_map (λ y. c ∷ f y) (take i xs)) e
-        ∙ ap (λ zs. (old ++ f x) ++ flat_map (λ y. c ∷ f y) zs) (take_all i xs over)
+    ∙ ap (λ zs. (old ++ f x) ++ flat_map (λ y. c ∷ f y) zs) (take_all i xs over)
     ∙ append_assoc old (f x) (flat_map (λ y. c ∷ f y) xs)
     ∙ ap (λ t. old ++ t) (sym (joined_first c f x xs)) ∙ ap (λ zs. old ++ join_with_byte c (map f zs)) (sym all)

@@ -113,7 +113,7 @@ first_below a b ms ns up e = go (leb b a) refl
     go false gt =
         let low : a < b = leb-false b a gt in
         let none : times_in a (b ∷ ns) ≡ 0 = none_below a (b ∷ ns)
-            (omega arith, From-lower (suc a) b ns (omega arith) up.0) in
+        (omega arith, From-lower (suc a) b ns (omega arith) up.0) in
         absurd (omega (arith, e, none, one_at_self a))
 
 same_rising : (ms ns : List ℕ) → Rises ms → Rises ns → ((v : ℕ) → times_in v ms ≡ times_in v ns) → ms ≡ ns

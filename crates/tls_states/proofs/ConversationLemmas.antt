@@ -99,7 +99,7 @@ module _ (w : Word) where
   alive_from : MayBecomeHandshake w → IsAlive (run state.None w)
   alive_from h = sym (alive_at (run state.None w))
       ∙ word_from_after is_noise turn same_letter next waits Fits next_fits next_waits state.None false refl clean
-          clean_is handshake refl w h
+      clean_is handshake refl w h
 
 -- The last letter's step.
 run_last : (u : Word) (l : Letter) (w : Word) → w ≡ u ++ l ∷ []

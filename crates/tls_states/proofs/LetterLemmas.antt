@@ -56,7 +56,7 @@ same_letter (letter k d) (letter j e) = of_parts (same_kind k j) (same_direction
 abbrev kinds : List Kind
 kinds =
     HelloRequest ∷ ClientHello ∷ ClientHelloWithId ∷ ServerHello ∷ ServerHelloV13Draft18 ∷ NewSessionTicket ∷
-        Certificate
+    Certificate
     ∷ ServerKeyExchange ∷ CertificateRequest ∷ ServerDone ∷ CertificateVerify ∷ ClientKeyExchange ∷ CertificateStatus
     ∷ ChangeCipherSpec ∷ Warning ∷ Fatal ∷ Other ∷ []
 

@@ -97,10 +97,16 @@ step_by_table : (q : TlsState) (k : Kind) (d : Direction)
     → answered (next_after ROWS q k d) (rule q k) ≡ step q (letter k d)
 unfolding answered
 step_by_table = elim [
-  | state.None ↦ elim [ kind.HelloRequest ↦ elim [ ToServer ↦ refl | FromServer ↦ refl ] | _ ↦
-      elim [ ToServer ↦ refl | FromServer ↦ refl ] ]
-  | _ ↦ elim [ kind.HelloRequest ↦ elim [ ToServer ↦ refl | FromServer ↦ refl ] | _ ↦
-      elim [ ToServer ↦ refl | FromServer ↦ refl ] ]
+  | state.None ↦ elim [
+    | kind.HelloRequest ↦ elim [ ToServer ↦ refl | FromServer ↦ refl ]
+    | _ ↦
+        elim [ ToServer ↦ refl | FromServer ↦ refl ]
+  ]
+  | _ ↦ elim [
+    | kind.HelloRequest ↦ elim [ ToServer ↦ refl | FromServer ↦ refl ]
+    | _ ↦
+        elim [ ToServer ↦ refl | FromServer ↦ refl ]
+  ]
 ]
 
 stepped : (q : TlsState) (k : Kind) (d : Direction) (next : Option TlsState) (r : Result TlsState StateChangeError)

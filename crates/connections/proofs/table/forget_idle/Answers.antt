@@ -12,12 +12,14 @@ loop-last_time-init c = (none, refl)
 pub loop-last_time-preserved : goal.loop-last_time-preserved
 loop-last_time-preserved c =
     let over : IsOver c.args.time c.loop-last_time.closed.entries c.in-Some.last_time.now =
-        elim c.else-not-is_idle.branch [
+    elim c.else-not-is_idle.branch [
       | else-not-is_idle-via-then-not-is_idle+else-len-le-MAX_CONNECTIONS w ↦
           inr (omega (arith, w.len.ensures.len, w.if-len-le-MAX_CONNECTIONS.false))
       | else-not-is_idle-via-else-not-is_idle w ↦ inl
           (omega (arith, c.saturating_sub-is_idle.ensures, w.if-not-is_idle.false))
     ] in
-    rw c.pop_lru.ensures.entries (last_forgotten c.args.time c.args.closed.now.entries c.loop-last_time.closed.entries
-        c.in-Some.field-0-0.now c.in-Some.last_time.now c.loop-last_time.invariant.0 c.in-Some.ensures over,
-        c.loop-last_time.invariant.1)
+    rw c.pop_lru.ensures.entries (
+      last_forgotten c.args.time c.args.closed.now.entries c.loop-last_time.closed.entries
+          c.in-Some.field-0-0.now c.in-Some.last_time.now c.loop-last_time.invariant.0 c.in-Some.ensures over,
+      c.loop-last_time.invariant.1,
+    )

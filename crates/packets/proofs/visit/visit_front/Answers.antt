@@ -7,7 +7,7 @@ use Rattle.packets.proofs.visit.visit_front.Goals as goal
 pub returns-in-Ok : goal.returns-in-Ok
 returns-in-Ok g c =
     packet_taken (g.V.PacketVisitor.taken c.args.visitor.now) (g.V.PacketVisitor.taken c.visit.new.self)
-        c.args.capture.now
+    c.args.capture.now
     c.args.buffer.now (view_packet c.in-Ok-Packet.packet) c.in-Ok-Packet.rest.now c.step.new.self c.keep_last.new.self
     (ap (front c.args.capture.now) (sym c.held.ensures) ∙ c.in-Ok-Packet.ensures
     ∙ ap (λ f. Ok (view_step f, c.step.new.self)) c.in-Ok-Packet.field-0-is)

@@ -9,6 +9,6 @@ pub returns : goal.returns
 returns c g h moved e =
     ap (λ ns. with_algorithms (hex_list ns) (without_grease (algorithms_in g.extensions)))
     (rising_kept_twice (λ n. not (is_grease n)) (λ n. not (is_told_before n)) (types_in g.extensions)
-        (types_in h.extensions) moved)
+    (types_in h.extensions) moved)
     ∙ ap (λ ns. with_algorithms (hex_list (rising (other_types (without_grease (types_in h.extensions)))))
-        (without_grease ns)) e
+    (without_grease ns)) e

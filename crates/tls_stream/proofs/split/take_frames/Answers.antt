@@ -7,7 +7,7 @@ use Rattle.tls_stream.proofs.split.take_frames.Goals as goal
 pub loop-bytes-smaller : goal.loop-bytes-smaller
 loop-bytes-smaller g c =
     (first_taken (up_to g.F.Frame.kind g.row.LIMIT) g.met.F.Frame.takes c.loop-bytes.stream c.in-Some.bytes.now
-        c.take_front.new.self c.take_front.result c.in-Some.ensures c.take_front.ensures).fewer
+    c.take_front.new.self c.take_front.result c.in-Some.ensures c.take_front.ensures).fewer
 
 pub loop-bytes-preserved : goal.loop-bytes-preserved
 loop-bytes-preserved g c = (
@@ -23,4 +23,4 @@ loop-bytes-preserved g c = (
 pub returns : goal.returns
 returns g c = taken_all (up_to g.F.Frame.kind g.row.LIMIT) _ c.loop-bytes.stream _ _
     (none_taken (up_to g.F.Frame.kind g.row.LIMIT) g.met.F.Frame.takes c.loop-bytes.stream c.in_default.ensures)
-        c.loop-bytes.invariant
+    c.loop-bytes.invariant

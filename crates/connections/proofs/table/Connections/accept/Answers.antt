@@ -8,27 +8,27 @@ pub returns-in_err-accept-clause-others : goal.returns-in_err-accept-clause-othe
 returns-in_err-accept-clause-others g c =
     let e = ends_of c.args.segment.now in let xs = c.self.inside.live.entries in
     rw (c.between-ends.ensures, ← c.self.view_is)
-        (ap (others e) (written e xs c.in-Some.connection.now c.accept.new.self
-        (sym (rw c.between-ends.ensures at c.in-Some.ensures.value))) ∙ others-first e (others e xs) c.accept.new.self)
+    (ap (others e) (written e xs c.in-Some.connection.now c.accept.new.self
+    (sym (rw c.between-ends.ensures at c.in-Some.ensures.value))) ∙ others-first e (others e xs) c.accept.new.self)
 
 pub returns-in-Some-clause-put : goal.returns-in-Some-clause-put
 returns-in-Some-clause-put g c =
     let e = ends_of c.args.segment.now in let xs = c.self.inside.live.entries in
     rw (c.between-ends.ensures, ← c.self.view_is)
-        (put_in e (TakesSegment c.args.segment.now) xs c.accept.new.self c.in-Some.connection.now
-        (rw c.between-ends.ensures at c.in-Some.ensures.value) c.in_ok-accept.ensures)
+    (put_in e (TakesSegment c.args.segment.now) xs c.accept.new.self c.in-Some.connection.now
+    (rw c.between-ends.ensures at c.in-Some.ensures.value) c.in_ok-accept.ensures)
 
 pub returns-in-Some-clause-others : goal.returns-in-Some-clause-others
 returns-in-Some-clause-others g c =
     let e = ends_of c.args.segment.now in let xs = c.self.inside.live.entries in
     rw (c.between-ends.ensures, ← c.self.view_is)
-        (ap (others e) (written e xs c.in-Some.connection.now c.accept.new.self
-        (sym (rw c.between-ends.ensures at c.in-Some.ensures.value))) ∙ others-first e (others e xs) c.accept.new.self)
+    (ap (others e) (written e xs c.in-Some.connection.now c.accept.new.self
+    (sym (rw c.between-ends.ensures at c.in-Some.ensures.value))) ∙ others-first e (others e xs) c.accept.new.self)
 
 pub returns-clause-put : goal.returns-clause-put
 returns-clause-put g c =
     let e = ends_of c.args.segment.now in let xs = c.self.inside.live.entries in
     rw (← c.self.view_is) (put_new e (TakesSegment c.args.segment.now) xs c.accept-2.new.self
-        c.put_under.new.table.entries (rw c.between-ends.ensures at c.in_default.ensures.value)
+    c.put_under.new.table.entries (rw c.between-ends.ensures at c.in_default.ensures.value)
     (c.of_segment-connection.result, c.of_segment-connection.ensures, c.in_ok-accept-2.ensures)
-        (rw c.between-ends.ensures at c.in_ok-put_under.ensures.put))
+    (rw c.between-ends.ensures at c.in_ok-put_under.ensures.put))

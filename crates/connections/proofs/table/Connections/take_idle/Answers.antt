@@ -7,7 +7,7 @@ use Rattle.connections.proofs.table.Connections.take_idle.Goals.{else-not-is_idl
 pub returns-clause-taken : goal.returns-clause-taken
 returns-clause-taken g c =
     let same = same_last _ c.in_ok-oldest.field-0-0.now c.in_ok-connection.field-0-0 c.in_ok-oldest.oldest.now
-        c.in_ok-connection.connection c.in_ok-oldest.ensures c.in_ok-connection.ensures.value in
+    c.in_ok-connection.connection c.in_ok-oldest.ensures c.in_ok-connection.ensures.value in
     let at_once = ap (λ x. x.last_time) same in
     rw (c.pop_lru.ensures.entries, ← c.self.view_is) (
       was_last c.self.inside.live.entries c.in_ok-connection.field-0-0 c.in_ok-connection.connection

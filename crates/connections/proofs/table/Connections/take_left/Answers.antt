@@ -4,5 +4,5 @@ use Rattle.connections.proofs.table.Connections.take_left.Goals as goal
 pub returns-clause-taken : goal.returns-clause-taken
 returns-clause-taken g c =
     rw (c.pop_lru.ensures.entries, ← c.self.view_is)
-        (was_last c.self.inside.live.entries c.in_ok-connection.field-0-0 c.in_ok-connection.connection
-        c.in_ok-connection.ensures.value)
+    (was_last c.self.inside.live.entries c.in_ok-connection.field-0-0 c.in_ok-connection.connection
+    c.in_ok-connection.ensures.value)

@@ -17,7 +17,7 @@ returns-in-Ok-clause-ok g c =
     let kept : take held c.deref_mut.result.now ≡ c.self.inside.bytes.items =
     ap (take held) c.deref_mut.ensures.value
     ∙ room_made held c.in-Some.whole c.self.inside.bytes.items _ c.resize.new.self.items (sym counted)
-        (omega (arith, whole))
+    (omega (arith, whole))
     c.in_ok-resize.ensures.items in
     record {
       bytes = take n c.read.new.buf;
