@@ -1,19 +1,77 @@
 -- What is held, after bytes are added.
 use Rattle.std.proofs.Common.{
-  ◌≡◌, ℕ, zero, suc, ◌+◌, ◌-◌, ◌^◌, ◌<◌, ◌≤◌, [], ◌∷◌, ◌++◌, length, drop, map, Some, Bool, true, false, cond, ltb,
-  refl, sym, ◌∙◌, ap, subst, arith, append_assoc, append-nil, min,
+  ◌≡◌,
+  ℕ,
+  zero,
+  suc,
+  ◌+◌,
+  ◌-◌,
+  ◌^◌,
+  ◌<◌,
+  ◌≤◌,
+  [],
+  ◌∷◌,
+  ◌++◌,
+  length,
+  drop,
+  map,
+  Some,
+  Bool,
+  true,
+  false,
+  cond,
+  ltb,
+  refl,
+  sym,
+  ◌∙◌,
+  ap,
+  subst,
+  arith,
+  append_assoc,
+  append-nil,
+  min,
 }
 use Rattle.std.proofs.lemmas.Bool.{ltb-true, ltb-false}
 use Rattle.std.proofs.lemmas.List.{
-  length-append, length-drop, length-map, map-append, drop-drop, drop-append-le, drop_min, drop_all,
+  length-append,
+  length-drop,
+  length-map,
+  map-append,
+  drop-drop,
+  drop-append-le,
+  drop_min,
+  drop_all,
 }
 use Rattle.segments.specs.Cells.{
-  Bytes, Cells, fill, fill_at, put, run, wanted, with_located, without_front, known, known_behind, gap,
+  Bytes,
+  Cells,
+  fill,
+  fill_at,
+  put,
+  run,
+  wanted,
+  with_located,
+  without_front,
+  known,
+  known_behind,
+  gap,
 }
 use Rattle.segments.specs.Places.{IsSound, held_cells, held_of}
 use Rattle.segments.proofs.CellLemmas.{
-  put_at, put_now, put_behind, run_some, run_split, run_drop, run_low, run_fill_long, drop_fill, fill_low, fill_at_low,
-  fill_at_run, behind_some, behind_all,
+  put_at,
+  put_now,
+  put_behind,
+  run_some,
+  run_split,
+  run_drop,
+  run_low,
+  run_fill_long,
+  drop_fill,
+  fill_low,
+  fill_at_low,
+  fill_at_run,
+  behind_some,
+  behind_all,
 }
 
 pub run_held : (start taken limit : ℕ) (front : Bytes) (window : Cells) → IsSound start taken limit front window
@@ -33,7 +91,7 @@ put_held : (F : Bytes) (C : Cells) (d : ℕ) (ys : Bytes) → run (map Some F ++
     → put (length (run (map Some F ++ C)) + d) ys (map Some F ++ C) ≡ map Some F ++ put d ys C
 put_held F C d ys is =
     let n : length (run (map Some F ++ C)) + d ≡ length (map Some F) + d = ap (λ r. length r + d) is
-        ∙ ap (λ n. n + d) (sym (length-map F Some)) in
+    ∙ ap (λ n. n + d) (sym (length-map F Some)) in
     ap (λ n. put n ys (map Some F ++ C)) n ∙ put_behind (map Some F) C d ys
 
 run_few : (cs : Cells) (ys : Bytes) → length cs < length (run (fill cs ys)) → length (run (fill cs ys)) ≤ length ys
@@ -71,10 +129,10 @@ appended f l start taken front front' window window' ys n s small front_is n_is 
     let count : n ≡ length R = omega (arith, n_is, long) in
     let rest : window' ≡ drop (length R) X =
     window_is ∙ drop_min n window ∙ ap (λ n. drop n window) count
-        ∙ sym (drop_fill (length R) window ys (run_fill_long window ys)) in
+    ∙ sym (drop_fill (length R) window ys (run_fill_long window ys)) in
     let front_now : drop start front' ≡ F ++ R = ap (drop start) front_is ∙ drop-append-le start front R i in
     let left : length window' ≡ length window - length R = ap length (window_is ∙ drop_min n window)
-        ∙ length-drop n window ∙ ap (λ n. length window - n) count in
+    ∙ length-drop n window ∙ ap (λ n. length window - n) count in
     record {
       sound = record {
         start_in = omega (arith, long, i);
@@ -120,7 +178,7 @@ held_more f l start taken front window window' d ys s ahead some within small wi
     let i = s.start_in in
     let low = fill_at_low d window ys l w within in
     let low' = fill_at_low d window ys (2 ^ 62 - (taken + (length front - start))) (omega (arith, h))
-        (omega (arith, small)) in
+    (omega (arith, small)) in
     let len = ap length window_is in
     record {
       sound = record {
@@ -203,12 +261,12 @@ skipped f l start taken n m front front' window window' s none few front_is m_is
     let short = length-drop n window in
     let count : m ≡ length R + n = omega (arith, m_is, long) in
     let rest : window' ≡ drop (length R) X = window_is
-        ∙ ap (λ k. drop k window) (count ∙ (let e : length R + n ≡ n + length R = omega arith in e))
-        ∙ sym (drop-drop (length R) n window) in
+    ∙ ap (λ k. drop k window) (count ∙ (let e : length R + n ≡ n + length R = omega arith in e))
+    ∙ sym (drop-drop (length R) n window) in
     let left = ap length rest ∙ length-drop (length R) X in
     let empty : drop start front ≡ [] = drop_all start front none in
     let front_now : drop start front' ≡ R = ap (drop start) front_is ∙ drop-append-le start front R i
-        ∙ ap (λ e. e ++ R) empty in
+    ∙ ap (λ e. e ++ R) empty in
     record {
       sound = record {
         start_in = omega (arith, long, i);

@@ -1,19 +1,78 @@
 -- What stands of a stream, place by place.
 use Rattle.std.proofs.Common.{
-  ◌≡◌, ◌↔◌, ◌⊎◌, inl, inr, ℕ, zero, suc, ◌+◌, ◌-◌, ◌*◌, ◌/◌, ◌%◌, ◌^◌, ◌<◌, ◌≤◌, List, [], ◌∷◌, ◌++◌, length, take,
-  drop, Option, Some, None, Bool, true, false, cond, ltb, refl, sym, ◌∙◌, ap, subst, arith, append_assoc, le_refl,
+  ◌≡◌,
+  ◌↔◌,
+  ◌⊎◌,
+  inl,
+  inr,
+  ℕ,
+  zero,
+  suc,
+  ◌+◌,
+  ◌-◌,
+  ◌*◌,
+  ◌/◌,
+  ◌%◌,
+  ◌^◌,
+  ◌<◌,
+  ◌≤◌,
+  List,
+  [],
+  ◌∷◌,
+  ◌++◌,
+  length,
+  take,
+  drop,
+  Option,
+  Some,
+  None,
+  Bool,
+  true,
+  false,
+  cond,
+  ltb,
+  refl,
+  sym,
+  ◌∙◌,
+  ap,
+  subst,
+  arith,
+  append_assoc,
+  le_refl,
 }
 use Rattle.std.specs.Option.{IsSome}
 use Rattle.std.proofs.lemmas.Bool.{ltb-true, ltb-false}
 use Rattle.std.proofs.lemmas.List.{length-append, take_at, take-append-drop, length-take-le}
 use Rattle.std.proofs.lemmas.Nat.{div-add-mod', mod_below, mod_low}
 use Rattle.segments.specs.Cells.{
-  Bytes, Cells, Held, byte_at, cell, earlier, fill, fill_at, put, run, wanted, ahead, located, with_located,
-  with_segment, without_front,
+  Bytes,
+  Cells,
+  Held,
+  byte_at,
+  cell,
+  earlier,
+  fill,
+  fill_at,
+  put,
+  run,
+  wanted,
+  ahead,
+  located,
+  with_located,
+  with_segment,
+  without_front,
 }
 use Rattle.segments.proofs.CellLemmas.{run_drop}
 use Rattle.segments.specs.Law.{
-  Segment, place_of, IsPart, AreParts, IsOver, IsCovered, IsLongestFront, IsMadeOf, IsAmong,
+  Segment,
+  place_of,
+  IsPart,
+  AreParts,
+  IsOver,
+  IsCovered,
+  IsLongestFront,
+  IsMadeOf,
+  IsAmong,
 }
 
 -- Filled cells, place by place.
@@ -38,7 +97,7 @@ cell_fill_at (suc k) [] ys i = let n : suc k + i ≡ suc (k + i) = omega arith i
     ap (cell (None ∷ fill_at k [] ys)) n ∙ cell_fill_at k [] ys i
 cell_fill_at (suc k) (c ∷ cs) ys i = let n : suc k + i ≡ suc (k + i) = omega arith in
     ap (cell (c ∷ fill_at k cs ys)) n ∙ cell_fill_at k cs ys i
-        ∙ ap (λ m. earlier (cell (c ∷ cs) m) (byte_at ys i)) (sym n)
+    ∙ ap (λ m. earlier (cell (c ∷ cs) m) (byte_at ys i)) (sym n)
 
 cell_fill_low : (k : ℕ) (cs : Cells) (ys : Bytes) (i : ℕ) → i < k → cell (fill_at k cs ys) i ≡ cell cs i
 cell_fill_low zero cs ys i h = absurd (omega (arith, h))
@@ -57,7 +116,7 @@ cell_put k [] cs i h = none (cell cs i)
 cell_put k (y ∷ ys) cs i h =
     let n : k + (i - k) ≡ i = omega (arith, h) in
     ap (cell (fill_at k cs (y ∷ ys))) (sym n) ∙ cell_fill_at k cs (y ∷ ys) (i - k)
-        ∙ ap (λ m. earlier (cell cs m) (byte_at (y ∷ ys) (i - k))) n
+    ∙ ap (λ m. earlier (cell cs m) (byte_at (y ∷ ys) (i - k))) n
 
 pub cell_put_low : (k : ℕ) (ys : Bytes) (cs : Cells) (i : ℕ) → i < k → cell (put k ys cs) i ≡ cell cs i
 cell_put_low k [] cs i h = refl
@@ -149,11 +208,11 @@ ahead_is first w p seq d is low at =
         → (first + w % 2 ^ 32) % 2 ^ 32 < 2 ^ 32 → ahead first w seq < 2 ^ 32 → ahead first w seq ≡ d
     go (inl e) one two three four below last =
         unique ((seq + (2 ^ 32 - (first + w % 2 ^ 32) % 2 ^ 32)) / 2 ^ 32 + (first + p) / 2 ^ 32)
-            (1 + w / 2 ^ 32 + (first + w % 2 ^ 32) / 2 ^ 32) (ahead first w seq) d last low
+        (1 + w / 2 ^ 32 + (first + w % 2 ^ 32) / 2 ^ 32) (ahead first w seq) d last low
         (omega (arith, is, one, two, three, four, below, e))
     go (inr e) one two three four below last =
         unique ((seq + (2 ^ 32 - (first + w % 2 ^ 32) % 2 ^ 32)) / 2 ^ 32 + (first + p) / 2 ^ 32)
-            (w / 2 ^ 32 + (first + w % 2 ^ 32) / 2 ^ 32) (ahead first w seq) d last low
+        (w / 2 ^ 32 + (first + w % 2 ^ 32) / 2 ^ 32) (ahead first w seq) d last low
         (omega (arith, is, one, two, three, four, below, e))
 
 pub place_is : (first seq : ℕ) → seq < 2 ^ 32 → (first + ahead first 0 seq) % 2 ^ 32 ≡ seq
@@ -167,7 +226,7 @@ place_is first seq low =
     let below = mod_below (first + 0 % m) m (omega arith) in
     let last = mod_below (first + t) m (omega arith) in
     unique ((seq + (2 ^ 32 - (first + 0 % 2 ^ 32) % 2 ^ 32)) / 2 ^ 32 + (first + t) / 2 ^ 32)
-        (1 + (first + 0 % 2 ^ 32) / 2 ^ 32) ((first + t) % 2 ^ 32) seq last low
+    (1 + (first + 0 % 2 ^ 32) / 2 ^ 32) ((first + t) % 2 ^ 32) seq last low
     (omega (arith, three, four, five, below))
 
 abbrev pair : ℕ → Bytes → ℕ × Bytes
@@ -189,7 +248,7 @@ pub located_behind : (first w p seq : ℕ) (b : Bytes) → (first + p) % 2 ^ 32 
     → located (ahead first w seq) b ≡ pair 0 (drop (w - p) b)
 located_behind first w p seq b is order near =
     ap (λ d. located d b) (ahead_is first w p seq (2 ^ 32 - (w - p)) is (omega (arith, order))
-        (inr (omega (arith, order, near))))
+    (inr (omega (arith, order, near))))
     ∙ go (ltb (2 ^ 32 - (w - p)) (2 ^ 31)) refl
   where
     go : (t : Bool) → ltb (2 ^ 32 - (w - p)) (2 ^ 31) ≡ t
@@ -232,9 +291,10 @@ made_located stream K h p b d m made part at either = record {
     later k y low None is e =
         let there : byte_at b (m + (k - from)) ≡ Some y = sym (byte_drop m b (k - from)) ∙ e in
         let n : p + (m + (k - from)) ≡ h.taken + k = omega (arith, at, low) in
-        let in_b = byte_within b (m + (k - from)) y there in
-        (inr (omega (arith, n), omega (arith, n, in_b)),
-            ap (byte_at stream) (sym n) ∙ part_byte stream p b (m + (k - from)) y part there)
+        let in_b = byte_within b (m + (k - from)) y there in (
+          inr (omega (arith, n), omega (arith, n, in_b)),
+          ap (byte_at stream) (sym n) ∙ part_byte stream p b (m + (k - from)) y part there,
+        )
 
     stands : (k y : ℕ) → cell new k ≡ Some y → (t : Bool) → ltb k from ≡ t
         → (K (h.taken + k) ⊎ IsOver p b (h.taken + k)) × (byte_at stream (h.taken + k) ≡ Some y)
@@ -256,13 +316,13 @@ made_located stream K h p b d m made part at either = record {
         (front k (ltb-true k from f) over either)
     held k (inl known) false f =
         subst IsSome (sym (cell_put from (drop m b) h.cells k (ltb-false k from f)))
-            (some_earlier (cell h.cells k) (byte_at (drop m b) (k - from)) (made.held k known))
+        (some_earlier (cell h.cells k) (byte_at (drop m b) (k - from)) (made.held k known))
     held k (inr over) false f =
         let low = ltb-false k from f in
         let within : m + (k - from) < length b = omega (arith, low, over.1, over.0, at) in
         subst IsSome (sym (cell_put from (drop m b) h.cells k low))
         (some_later (cell h.cells k) (byte_at (drop m b) (k - from))
-            (subst IsSome (sym (byte_drop m b (k - from))) (byte_some b (m + (k - from)) within)))
+        (subst IsSome (sym (byte_drop m b (k - from))) (byte_some b (m + (k - from)) within)))
 
 -- A segment of the stream that is near the wanted place.
 pub made_more : (stream : Bytes) (K : ℕ → Type 0) (h : Held) (p seq : ℕ) (b : Bytes) → IsMadeOf stream K h
@@ -274,12 +334,12 @@ made_more stream K h p seq b made part is near near' = go (ltb p (wanted h)) ref
     go true e =
         let order = ltb-true p (wanted h) e in
         subst (λ l. IsMadeOf stream (λ i. K i ⊎ IsOver p b i) (with_located l h))
-            (sym (located_behind h.first (wanted h) p seq b is order near))
+        (sym (located_behind h.first (wanted h) p seq b is order near))
         (made_located stream K h p b 0 (wanted h - p) made part (omega (arith, order)) (inr refl))
     go false e =
         let order = ltb-false p (wanted h) e in
         subst (λ l. IsMadeOf stream (λ i. K i ⊎ IsOver p b i) (with_located l h))
-            (sym (located_ahead h.first (wanted h) p seq b is order near'))
+        (sym (located_ahead h.first (wanted h) p seq b is order near'))
         (made_located stream K h p b (p - wanted h) 0 made part (omega (arith, order)) (inl refl))
 
 -- Handing out changes nothing of what is known.
@@ -298,7 +358,7 @@ made_fewer stream K h n made few = record {
     given i low false f =
         let order = ltb-false i h.taken f in
         let s = some_is (cell h.cells (i - h.taken))
-            (run_stands h.cells (i - h.taken) (omega (arith, low, order, few))) in
+        (run_stands h.cells (i - h.taken) (omega (arith, low, order, few))) in
         let n : h.taken + (i - h.taken) ≡ i = omega (arith, order) in
         subst K n (made.stands (i - h.taken) s.0 s.1).0
 
@@ -325,7 +385,7 @@ pub front_rest : (stream : Bytes) (K : ℕ → Type 0) (out rest : Bytes) (h : H
 front_rest stream K out rest h made is taken =
     run_front h.cells rest (λ k y e.
     sym (byte_append out rest k) ∙ ap (λ n. byte_at (out ++ rest) (n + k)) (sym taken)
-        ∙ ap (λ s. byte_at s (h.taken + k)) (sym is) ∙ (made.stands k y e).1)
+    ∙ ap (λ s. byte_at s (h.taken + k)) (sym is) ∙ (made.stands k y e).1)
 
 pub handing_front : (stream : Bytes) (K : ℕ → Type 0) (out rest : Bytes) (h : Held) → IsMadeOf stream K h
     → stream ≡ out ++ rest → h.taken ≡ length out →
@@ -410,10 +470,10 @@ handing_next stream first xs s out h short same was parts =
     let taken = old.taken_is in
     let none = ap length old.none_left in
     let made = made_more stream (IsCovered first xs) h p s.0 s.1.now old.made two.1 there
-        (omega (arith, len, taken, none, short)) (omega (arith, within, short)) in
+    (omega (arith, len, taken, none, short)) (omega (arith, within, short)) in
     handing_front stream (IsCovered first (xs ++ s ∷ [])) out old.rest (with_segment s.0 s.1.now h)
     (made_same stream (λ i. IsCovered first xs i ⊎ IsOver p s.1.now i) (IsCovered first (xs ++ s ∷ []))
-        (with_segment s.0 s.1.now h) (covered_there first xs s) (covered_back first xs s) made)
+    (with_segment s.0 s.1.now h) (covered_there first xs s) (covered_back first xs s) made)
     old.is_front old.taken_is
 
 -- Two lists of segments that cover the same places.
@@ -429,8 +489,8 @@ same_front stream K L x y there back a b = go (ltb (length x) (length y)) refl (
     go false e true f = absurd (b.ends (there (length y) (a.known (length y) (ltb-true (length y) (length x) f))))
     go false e false f =
         let n : length x ≡ length y =
-            (let p = ltb-false (length x) (length y) e in let q = ltb-false (length y) (length x) f in
-            omega (arith, p, q)) in
+        (let p = ltb-false (length x) (length y) e in let q = ltb-false (length y) (length x) f in
+        omega (arith, p, q)) in
         take_front x a.rest a.is_front ∙ ap (λ n. take n stream) n ∙ sym (take_front y b.rest b.is_front)
 
 pub same_covered : (stream : Bytes) (first : ℕ) (p q : List Segment) (x y : Bytes)
@@ -454,7 +514,7 @@ pub made_among : (stream : Bytes) (ss : List (ℕ × Bytes)) (h : Held) (p seq :
     wanted h ≤ p + 2 ^ 31 → p < wanted h + 2 ^ 31 → IsMadeOf stream (IsAmong ((p, b) ∷ ss)) (with_segment seq b h)
 made_among stream ss h p seq b made part is near near' =
     made_same stream (λ i. IsAmong ss i ⊎ IsOver p b i) (IsAmong ((p, b) ∷ ss)) (with_segment seq b h)
-        (among_there p b ss) (among_back p b ss)
+    (among_there p b ss) (among_back p b ss)
     (made_more stream (IsAmong ss) h p seq b made part is near near')
 
 pub fewer_among : (stream : Bytes) (ss : List (ℕ × Bytes)) (h : Held) (n : ℕ) → IsMadeOf stream (IsAmong ss) h
@@ -467,4 +527,4 @@ pub front_among : (stream : Bytes) (ss : List (ℕ × Bytes)) (h : Held) → IsM
 front_among stream ss h made few =
     longest stream (IsAmong ss) (take h.taken stream ++ run h.cells) (without_front (length (run h.cells)) h)
     (handing_front stream (IsAmong ss) (take h.taken stream) (drop h.taken stream) h made
-        (sym (take-append-drop h.taken stream)) (sym (length-take-le h.taken stream few)))
+    (sym (take-append-drop h.taken stream)) (sym (length-take-le h.taken stream few)))

@@ -1,7 +1,38 @@
 -- Places in pages.
 use Rattle.std.proofs.Common.{
-  ◌≡◌, ℕ, zero, suc, ◌+◌, ◌-◌, ◌<◌, ◌≤◌, ◌⊎◌, inl, inr, [], ◌∷◌, ◌++◌, length, drop, map, ◌^◌, Option, Some, None, Bool,
-  true, false, cond, ltb, refl, sym, ◌∙◌, ap, subst, arith, max,
+  ◌≡◌,
+  ℕ,
+  zero,
+  suc,
+  ◌+◌,
+  ◌-◌,
+  ◌<◌,
+  ◌≤◌,
+  ◌⊎◌,
+  inl,
+  inr,
+  [],
+  ◌∷◌,
+  ◌++◌,
+  length,
+  drop,
+  map,
+  ◌^◌,
+  Option,
+  Some,
+  None,
+  Bool,
+  true,
+  false,
+  cond,
+  ltb,
+  refl,
+  sym,
+  ◌∙◌,
+  ap,
+  subst,
+  arith,
+  max,
 }
 use Rattle.std.specs.Option.{is_some}
 use Rattle.std.proofs.lemmas.Bool.{ltb-true, ltb-false, cases_eq}
@@ -78,7 +109,7 @@ known_none : (n k : ℕ) (m : Pages) → ((j : ℕ) → k ≤ j → place m j �
 known_none zero k m none = refl
 known_none (suc n) k m none =
     ap (λ c. known (c ∷ places n (suc k) m)) (none k (omega arith))
-        ∙ known_none n (suc k) m (λ j h. none j (omega (arith, h)))
+    ∙ known_none n (suc k) m (λ j h. none j (omega (arith, h)))
 
 -- Behind the last byte nothing is counted.
 known_longer : (n a k : ℕ) (m : Pages) → ((j : ℕ) → k + n ≤ j → place m j ≡ None)
@@ -91,8 +122,8 @@ known_longer (suc n) a k m none =
     let r = known_longer n a (suc k) m (λ j h. none j (omega (arith, h))) in
     let s = known_cons (place m k) (places (n + a) (suc k) m) (places n (suc k) m) 0 (omega (arith, r)) in
     ap (λ x. known (places x k m)) e
-        ∙ (let t : known (place m k ∷ places (n + a) (suc k) m) ≡ known (place m k ∷ places n (suc k) m) =
-        omega (arith, s) in t)
+    ∙ (let t : known (place m k ∷ places (n + a) (suc k) m) ≡ known (place m k ∷ places n (suc k) m) =
+    omega (arith, s) in t)
 
 pub known_all : (n l k : ℕ) (m : Pages) → n ≤ l → ((j : ℕ) → k + n ≤ j → place m j ≡ None)
     → known (places l k m) ≡ known (places n k m)
@@ -141,8 +172,8 @@ known_set (suc l) k at b m n others none some low high =
         let behind = places_beside l (suc k) m n at (omega (arith, is)) others in
         let one : known (places (suc l) k n) ≡ known (places l (suc k) m) + 1 =
         ap (λ c. known (c ∷ places l (suc k) n)) (ap (place n) (sym is) ∙ some)
-            ∙ (let r = ap known behind in
-            let t : suc (known (places l (suc k) n)) ≡ known (places l (suc k) m) + 1 = omega (arith, r) in t) in
+        ∙ (let r = ap known behind in
+        let t : suc (known (places l (suc k) n)) ≡ known (places l (suc k) m) + 1 = omega (arith, r) in t) in
         one ∙ ap (λ c. known (c ∷ places l (suc k) m) + 1) (sym none ∙ ap (place m) is)
 
 -- What bytes put, one after the other.
@@ -157,8 +188,8 @@ byte_behind (c ∷ x) y zero = refl
 byte_behind (c ∷ x) y (suc i) =
     let n : i - length x ≡ suc i - suc (length x) = omega arith in
     byte_behind x y i ∙ ap (earlier (byte_at x i))
-        (ap (λ k. cond (ltb i (length x)) None (byte_at y k)) n
-        ∙ ap (λ t. cond t None (byte_at y (suc i - suc (length x)))) (step i (length x)))
+    (ap (λ k. cond (ltb i (length x)) None (byte_at y k)) n
+    ∙ ap (λ t. cond t None (byte_at y (suc i - suc (length x)))) (step i (length x)))
   where
     step : (a b : ℕ) → ltb a b ≡ ltb (suc a) (suc b)
     step a b = go (ltb a b) (ltb (suc a) (suc b)) refl refl
@@ -321,9 +352,9 @@ filled begin len held at first count len' ys m n p w first_is len_is some small 
   shows =
       cells_eq (places len' begin n) (fill_at at (places len begin m) ys)
       (let l = places_length len' begin n in let k = places_length len begin m in
-          let r = fill_at_long at (places len begin m) ys some in omega (arith, l, k, r, len_is))
+      let r = fill_at_long at (places len begin m) ys some in omega (arith, l, k, r, len_is))
       (λ i. cell_places len' begin n i empty ∙ w.stands (begin + i) ∙ same i (ltb i at) refl
-          ∙ ap (λ cs. cell cs i) (put_at at ys (places len begin m) some));
+      ∙ ap (λ cs. cell cs i) (put_at at ys (places len begin m) some));
 }
   where
     written_at : (i : ℕ) (t : Bool) → ltb (begin + i) first ≡ t → first + length ys ≤ begin + i
@@ -360,12 +391,12 @@ filled begin len held at first count len' ys m n p w first_is len_is some small 
     same i true e =
         let h = ltb-true i at e in
         ap (earlier (place m (begin + i))) (in_front i h (ltb (begin + i) first) refl)
-            ∙ earlier_none (place m (begin + i)) ∙ sym (shown i)
+        ∙ earlier_none (place m (begin + i)) ∙ sym (shown i)
         ∙ sym (cell_put_low at ys (places len begin m) i h)
     same i false e =
         let h = ltb-false i at e in
         ap (earlier (place m (begin + i))) (there i h (ltb (begin + i) first) refl)
-            ∙ ap (λ o. earlier o (byte_at ys (i - at))) (sym (shown i))
+        ∙ ap (λ o. earlier o (byte_at ys (i - at))) (sym (shown i))
         ∙ sym (cell_put at ys (places len begin m) i h)
 
 -- The first places are let go.
@@ -413,7 +444,7 @@ few_known begin len held n count m p few is =
         let e : suc n + a ≡ suc (n + a) = omega arith in
         let r = more n a (suc k) m in
         subst (λ x. known (places (suc n) k m) ≤ known (places x k m)) (sym e)
-            (cons (place m k) (places n (suc k) m) (places (n + a) (suc k) m) r)
+        (cons (place m k) (places n (suc k) m) (places (n + a) (suc k) m) r)
       where
         cons : (c : Option ℕ) (xs ys : Cells) → known xs ≤ known ys → known (c ∷ xs) ≤ known (c ∷ ys)
         cons None xs ys h = h

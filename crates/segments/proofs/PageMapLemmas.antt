@@ -1,7 +1,39 @@
 -- Pages that are made, and written to.
 use Rattle.std.proofs.Common.{
-  ◌≡◌, ℕ, zero, suc, ◌+◌, ◌/◌, ◌%◌, ◌<◌, ◌⊎◌, inl, inr, [], ◌∷◌, length, get_or, set, replicate, Option, Some, None,
-  Result, Ok, Err, Bool, true, false, cond, ltb, eqb, refl, sym, ◌∙◌, ap, arith,
+  ◌≡◌,
+  ℕ,
+  zero,
+  suc,
+  ◌+◌,
+  ◌/◌,
+  ◌%◌,
+  ◌<◌,
+  ◌⊎◌,
+  inl,
+  inr,
+  [],
+  ◌∷◌,
+  length,
+  get_or,
+  set,
+  replicate,
+  Option,
+  Some,
+  None,
+  Result,
+  Ok,
+  Err,
+  Bool,
+  true,
+  false,
+  cond,
+  ltb,
+  eqb,
+  refl,
+  sym,
+  ◌∙◌,
+  ap,
+  arith,
 }
 use Rattle.std.specs.Prelude.{OnErr}
 use Rattle.std.specs.Option.{is_some}
@@ -12,7 +44,17 @@ use Rattle.std.proofs.lemmas.List.{length-replicate}
 use Rattle.std.proofs.lemmas.Nat.{div-add-mod', mod_below}
 use Rattle.segments.specs.Cells.{Cells, cell, known}
 use Rattle.segments.specs.Pages.{
-  AreWhole, IsPaged, IsSame, IsWritten, Page, Pages, cell_in, page, page_length, place, places,
+  AreWhole,
+  IsPaged,
+  IsSame,
+  IsWritten,
+  Page,
+  Pages,
+  cell_in,
+  page,
+  page_length,
+  place,
+  places,
 }
 use Rattle.segments.proofs.CellLemmas.{cell_get}
 use Rattle.segments.proofs.PageLemmas.{byte_is_put, byte_stands, known_next, places_same}
@@ -117,7 +159,7 @@ page_made k w m n whole is missing empty = record {
     each : (j : ℕ) → (j / page_length ≡ k) ⊎ (j / page_length ≡ k → ⊥) → place n j ≡ place m j
     each j (inl same) =
         replaced_at k w m n is j same ∙ ap (λ cs. cell cs (j % page_length)) empty
-            ∙ none_in page_length (j % page_length)
+        ∙ none_in page_length (j % page_length)
         ∙ sym (none_of (page m (j / page_length)) (j % page_length) (ap (λ q. is_some (page m q)) same ∙ missing))
     each j (inr apart) = replaced_else k w m n is j apart
 
@@ -135,7 +177,7 @@ pub page_kept : (at b : ℕ) (p : Page) (m n : Pages) (x d : Option ℕ) → Are
     → x ≡ get_or p.items (at % page_length) d → is_some x ≡ true → IsWritten at (b ∷ []) m n 0
 page_kept at b p m n x d whole there is read some =
     byte_stands at b m n (replaced_whole (at / page_length) p m n is whole (whole (at / page_length) p there))
-        (replaced_there (at / page_length) p m n is)
+    (replaced_there (at / page_length) p m n is)
     (λ j. each j (cases_eq (j / page_length) (at / page_length)))
     (ap is_some (sym (place_is m at p x d there whole read)) ∙ some)
   where

@@ -1,7 +1,38 @@
 -- Places, stored one by one.
 use Rattle.std.proofs.Common.{
-  ◌≡◌, ℕ, zero, suc, ◌+◌, ◌-◌, ◌<◌, ◌≤◌, [], ◌∷◌, ◌++◌, length, take, drop, get_or, Option, Some, None, refl, sym, ◌∙◌,
-  ap, arith, append_assoc, append-nil, ◌⊎◌, inl, inr, Bool, true, false, ltb, min,
+  ◌≡◌,
+  ℕ,
+  zero,
+  suc,
+  ◌+◌,
+  ◌-◌,
+  ◌<◌,
+  ◌≤◌,
+  [],
+  ◌∷◌,
+  ◌++◌,
+  length,
+  take,
+  drop,
+  get_or,
+  Option,
+  Some,
+  None,
+  refl,
+  sym,
+  ◌∙◌,
+  ap,
+  arith,
+  append_assoc,
+  append-nil,
+  ◌⊎◌,
+  inl,
+  inr,
+  Bool,
+  true,
+  false,
+  ltb,
+  min,
 }
 use Rattle.std.specs.Option.{unwrap_or}
 use Rattle.std.proofs.lemmas.Bool.{ltb-true, ltb-false}
@@ -30,7 +61,7 @@ pub over_ends : (out out' out0 : Bytes) (cs : Cells) (ys all : Bytes) (i n : ℕ
 over_ends out out' out0 cs ys all i n a n_is low high put =
     let same : n ≡ i = omega (arith, low, high) in
     put ∙ ap (λ r. out ++ r) (take_rest ys n ∙ ap (λ k. drop k ys) same
-        ∙ sym (over_end cs ys i (which (ltb (length ys) (length cs)) refl))) ∙ a.is
+    ∙ sym (over_end cs ys i (which (ltb (length ys) (length cs)) refl))) ∙ a.is
   where
     which : (t : Bool) → ltb (length ys) (length cs) ≡ t → (length cs ≤ i) ⊎ (length ys ≤ i)
     which true e = let h = ltb-true (length ys) (length cs) e in inr (grind (arith, h, n_is, low))

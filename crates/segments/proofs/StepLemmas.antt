@@ -1,7 +1,27 @@
 -- Steps, taken one after another.
 use Rattle.std.proofs.Common.{
-  ◌≡◌, ℕ, ◌+◌, ◌%◌, ◌^◌, ◌≤◌, List, [], ◌∷◌, ◌++◌, length, take, drop, min, refl, sym, ◌∙◌, ap, subst, arith,
-  append_assoc, append-nil,
+  ◌≡◌,
+  ℕ,
+  ◌+◌,
+  ◌%◌,
+  ◌^◌,
+  ◌≤◌,
+  List,
+  [],
+  ◌∷◌,
+  ◌++◌,
+  length,
+  take,
+  drop,
+  min,
+  refl,
+  sym,
+  ◌∙◌,
+  ap,
+  subst,
+  arith,
+  append_assoc,
+  append-nil,
 }
 use Rattle.std.proofs.lemmas.List.{length-append, take-append-drop, length-take-le}
 use Rattle.segments.specs.Cells.{Bytes, Held, run, with_segment, without_front}
@@ -75,16 +95,16 @@ steps_front stream known first (Take most ∷ ss) places out h u near =
     let front = take n (run h.cells) in
     let h' = without_front n h in
     let more = steps_front stream known first ss places (out ++ front) h'
-        (one_take stream known first out h n u (low_min (length (run h.cells)) most)) near in
+    (one_take stream known first out h n u (low_min (length (run h.cells)) most)) near in
     let same : (out ++ front) ++ (handed ss h' ++ run (after ss h').cells)
-        ≡ out ++ ((front ++ handed ss h') ++ run (after ss h').cells) =
+    ≡ out ++ ((front ++ handed ss h') ++ run (after ss h').cells) =
     append_assoc out front (handed ss h' ++ run (after ss h').cells)
-        ∙ ap (λ b. out ++ b) (sym (append_assoc front (handed ss h') (run (after ss h').cells))) in
+    ∙ ap (λ b. out ++ b) (sym (append_assoc front (handed ss h') (run (after ss h').cells))) in
     subst (IsLongestFront stream (IsAmong (came known ss places))) same more
 steps_front stream known first (Segment seq b ∷ ss) [] out h u near = absurd near
 steps_front stream known first (Segment seq b ∷ ss) (p ∷ places) out h u near =
     steps_front stream ((p, b.now) ∷ known) first ss places out (with_segment seq b.now h)
-        (one_segment stream known first out h seq p b.now u near.0 near.1 near.2) near.3
+    (one_segment stream known first out h seq p b.now u near.0 near.1 near.2) near.3
 
 -- From the beginning.
 pub replayed : (first limit : ℕ) (steps : List Step) (out available : Bytes) →
@@ -95,15 +115,18 @@ replayed first limit steps out available out_is available_is = λ stream places 
     let h : Held = record { first = first; limit = limit; taken = 0; cells = [] } in
     let start : IsUnderWay stream [] first [] h =
     record {
-      made = record { stands = λ k y e. absurd cc; held = λ k e. absurd e;
-          given = λ i low. absurd (omega (arith, low)) };
+      made = record {
+        stands = λ k y e. absurd cc;
+        held = λ k e. absurd e;
+        given = λ i low. absurd (omega (arith, low));
+      };
       rest = stream;
       is_front = refl;
       taken_is = refl;
       first_is = refl;
     } in
     subst (IsLongestFront stream (IsAmong (came [] steps places)))
-        (ap (λ o. o ++ run (after steps h).cells) (sym out_is) ∙ ap (λ a. out ++ a) (sym available_is))
+    (ap (λ o. o ++ run (after steps h).cells) (sym out_is) ∙ ap (λ a. out ++ a) (sym available_is))
     (steps_front stream [] first steps places [] h start near)
 
 -- A loop over steps: what they have done is part of what all do.

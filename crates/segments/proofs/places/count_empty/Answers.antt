@@ -16,6 +16,6 @@ loop-i-preserved c =
     let i = c.loop-i.i in
     let inv = c.loop-i.invariant in
     let next = empties_next w i (omega (arith, c.loop-i-test.true, c.len-i-end.ensures))
-        (sym c.place.ensures ∙ none_of c.place.result (sym c.is_some.ensures ∙ c.if-is_some.false)) in
+    (sym c.place.ensures ∙ none_of c.place.result (sym c.is_some.ensures ∙ c.if-is_some.false)) in
     let e : empties w ≡ (i + 1) + empties (drop (i + 1) w) = omega (arith, inv, next) in
     e

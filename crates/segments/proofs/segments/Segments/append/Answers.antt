@@ -8,7 +8,7 @@ invariant_of-self c =
     let i = c.self.inside in
     let ys = c.args.bytes.now in
     let there = sym (ap wanted (c.self.view_is ∙ c.make_room.ensures))
-        ∙ (wanted_is i.first i.limit i.start i.taken i.front.items i.window c.self.invariant).0 in
+    ∙ (wanted_is i.first i.limit i.start i.taken i.front.items i.window c.self.invariant).0 in
     let small = subst (λ n. n + length ys ≤ 2 ^ 62) there c.requires in
     let n = c.len.result - c.len-held.result in
     let o = i.front.ok.0 in
@@ -17,7 +17,7 @@ invariant_of-self c =
     let l' = c.len-held.ensures in
     let n_is : n ≡ length c.append_joined.new.out.items - length i.front.items = omega (arith, o, o', l, l') in
     (appended i.first i.limit i.start i.taken i.front.items c.append_joined.new.out.items i.window c.drop_front.new.self
-        ys n c.self.invariant small
+    ys n c.self.invariant small
     c.in-Ok.ensures.out
     n_is
     (c.drop_front.ensures ∙ ap (λ k. drop k i.window) (c.min-count.ensures ∙ ap (min n) c.len-in-Ok.ensures))).sound
@@ -27,7 +27,7 @@ returns-in-Ok-clause-ok c =
     let i = c.self.inside in
     let ys = c.args.bytes.now in
     let there = sym (ap wanted (c.self.view_is ∙ c.make_room.ensures))
-        ∙ (wanted_is i.first i.limit i.start i.taken i.front.items i.window c.self.invariant).0 in
+    ∙ (wanted_is i.first i.limit i.start i.taken i.front.items i.window c.self.invariant).0 in
     let small = subst (λ n. n + length ys ≤ 2 ^ 62) there c.requires in
     let n = c.len.result - c.len-held.result in
     let o = i.front.ok.0 in
@@ -36,7 +36,7 @@ returns-in-Ok-clause-ok c =
     let l' = c.len-held.ensures in
     let n_is : n ≡ length c.append_joined.new.out.items - length i.front.items = omega (arith, o, o', l, l') in
     (appended i.first i.limit i.start i.taken i.front.items c.append_joined.new.out.items i.window c.drop_front.new.self
-        ys n c.self.invariant small
+    ys n c.self.invariant small
     c.in-Ok.ensures.out
     n_is
     (c.drop_front.ensures ∙ ap (λ k. drop k i.window) (c.min-count.ensures ∙ ap (min n) c.len-in-Ok.ensures))).held
