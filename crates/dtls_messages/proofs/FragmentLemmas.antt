@@ -1,11 +1,44 @@
 -- Bytes of a message that fragments give.
 use Rattle.std.proofs.Common.{
-  ◌≡◌, ℕ, ◌+◌, ◌-◌, ◌<◌, ◌≤◌, Bool, true, false, cond, nat_le, nat_lt, nat_eq, Option, Some, None, List, length, sum_by,
-  refl, sym, ◌∙◌, ap, arith, get_or, slice_set,
+  ◌≡◌,
+  ℕ,
+  ◌+◌,
+  ◌-◌,
+  ◌<◌,
+  ◌≤◌,
+  Bool,
+  true,
+  false,
+  cond,
+  nat_le,
+  nat_lt,
+  nat_eq,
+  Option,
+  Some,
+  None,
+  List,
+  length,
+  sum_by,
+  refl,
+  sym,
+  ◌∙◌,
+  ap,
+  arith,
+  get_or,
+  slice_set,
 }
 use Rattle.std.specs.Prelude.{slice_index}
 use Rattle.std.proofs.lemmas.Bool.{
-  lt-ltb, le-ltb, le-leb, lt-leb, ltb-true, ltb-false, leb-true, leb-false, eqb-true, eqb-false,
+  lt-ltb,
+  le-ltb,
+  le-leb,
+  lt-leb,
+  ltb-true,
+  ltb-false,
+  leb-true,
+  leb-false,
+  eqb-true,
+  eqb-false,
 }
 use Rattle.std.proofs.lemmas.List.{get_or-set_same, get_or-set_other}
 use Rattle.std.proofs.lemmas.List.Sums.{sum_by-set}
@@ -83,9 +116,9 @@ filled_now c have held o k at x b was is h g none same i = go (nat_eq i at) refl
         let here : i ≡ at = eqb-true i at e in
         let first : c i ≡ None =
         sym (or_none (c i)) ∙ ap (or_else (c i)) (sym (given_not_here o k i b (here ∙ is))) ∙ sym (was i)
-            ∙ cell_absent have held i (ap (λ j. get_or have j false) here ∙ none) in
+        ∙ cell_absent have held i (ap (λ j. get_or have j false) here ∙ none) in
         cell_there (slice_set have at true) (slice_set held at x) i
-            (ap (λ j. get_or (slice_set have at true) j false) here ∙ get_or-set_same have at true false h)
+        (ap (λ j. get_or (slice_set have at true) j false) here ∙ get_or-set_same have at true false h)
         ∙ ap Some (ap (λ j. slice_index (slice_set held at x) j) here ∙ get_or-set_same held at x 0 g ∙ same)
         ∙ sym (given_here o k i b (here ∙ is))
         ∙ sym (ap (λ d. or_else d (given o b (k + 1) i)) first)
@@ -107,9 +140,9 @@ filled_before c have held o k at b was is there i = go (nat_eq i at) refl
         let here : i ≡ at = eqb-true i at e in
         let some : c i ≡ Some (slice_index held i) =
         sym (or_none (c i)) ∙ ap (or_else (c i)) (sym (given_not_here o k i b (here ∙ is))) ∙ sym (was i)
-            ∙ cell_there have held i (ap (λ j. get_or have j false) here ∙ there) in
+        ∙ cell_there have held i (ap (λ j. get_or have j false) here ∙ there) in
         cell_there have held i (ap (λ j. get_or have j false) here ∙ there)
-            ∙ sym (ap (λ d. or_else d (given o b (k + 1) i)) some)
+        ∙ sym (ap (λ d. or_else d (given o b (k + 1) i)) some)
     go false e =
         let other : i ≡ at → ⊥ = eqb-false i at e in
         was i ∙ ap (or_else (c i)) (sym (given_elsewhere o k i b (λ h. other (h ∙ sym is))))

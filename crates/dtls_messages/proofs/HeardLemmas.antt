@@ -1,15 +1,54 @@
 -- What is held is what was heard.
 use Rattle.std.proofs.Common.{
-  ◌≡◌, ℕ, ◌+◌, ◌<◌, ◌≤◌, Bool, true, false, cond, nat_eq, nat_lt, nat_le, Some, None, Option, Result, Ok, Err, List, [],
-  ◌∷◌, ◌++◌, refl, sym, ◌∙◌, ap, subst, arith,
+  ◌≡◌,
+  ℕ,
+  ◌+◌,
+  ◌<◌,
+  ◌≤◌,
+  Bool,
+  true,
+  false,
+  cond,
+  nat_eq,
+  nat_lt,
+  nat_le,
+  Some,
+  None,
+  Option,
+  Result,
+  Ok,
+  Err,
+  List,
+  [],
+  ◌∷◌,
+  ◌++◌,
+  refl,
+  sym,
+  ◌∙◌,
+  ap,
+  subst,
+  arith,
 }
 use Rattle.std.specs.Prelude.{◌==◌, OnOk}
 use Rattle.std.proofs.Common.{append-nil}
 use Rattle.std.proofs.lemmas.Bool.{le-ltb, lt-leb, eq-eqb, eqb-true, eqb-false}
 use Rattle.dtls_messages.specs.Fragments.{Fragment, Held, agrees, byte_at, first_at, or_else}
 use Rattle.dtls_messages.specs.Messages.{
-  Heard, IsChangedAt, IsOrMemory, IsPart, IsSlotAdded, Kept, Limits, Stands, agreed, of_message, slot, slot_judged,
-  verdict, view_limits, with_taken,
+  Heard,
+  IsChangedAt,
+  IsOrMemory,
+  IsPart,
+  IsSlotAdded,
+  Kept,
+  Limits,
+  Stands,
+  agreed,
+  of_message,
+  slot,
+  slot_judged,
+  verdict,
+  view_limits,
+  with_taken,
 }
 use Rattle.dtls_messages.specs.declared.fragments.FragmentError.{FragmentError}
 use Rattle.dtls_messages.specs.declared.fragments.FragmentError.TheVariants.{Old, TooFarAhead, TooLarge, OtherMessage}
@@ -60,7 +99,7 @@ judged_as_heard [] (Some h) f first is = absurd is
 judged_as_heard (g ∷ gs) None f first is = absurd is
 judged_as_heard (g ∷ gs) (Some h) f first is =
     ap (λ b. cond {A = Result Unit FragmentError} b (agrees h.msg_type h.size f) (Err OtherMessage))
-        (eq-eqb h.message_seq f.message_seq (is.same.message_seq ∙ first g gs refl))
+    (eq-eqb h.message_seq f.message_seq (is.same.message_seq ∙ first g gs refl))
     ∙ ap (λ t. agrees t h.size f) is.same.msg_type
     ∙ ap (λ n. agrees g.msg_type n f) is.same.size
 
@@ -70,9 +109,9 @@ pub verdict_near : (l : Limits) (h : Heard) (f : Fragment) → h.next ≤ f.mess
     verdict l h f ≡ agreed (of_message f.message_seq h.taken) f
 verdict_near l h f new near small =
     ap (λ b. cond {A = Result Unit FragmentError} b (Err Old)
-        (cond (nat_le (h.next + l.ahead) f.message_seq) (Err TooFarAhead)
-        (cond (nat_lt l.message f.length) (Err TooLarge) (agreed (of_message f.message_seq h.taken) f))))
-        (le-ltb f.message_seq h.next new)
+    (cond (nat_le (h.next + l.ahead) f.message_seq) (Err TooFarAhead)
+    (cond (nat_lt l.message f.length) (Err TooLarge) (agreed (of_message f.message_seq h.taken) f))))
+    (le-ltb f.message_seq h.next new)
     ∙ ap (λ b. cond {A = Result Unit FragmentError} b (Err TooFarAhead)
     (cond (nat_lt l.message f.length) (Err TooLarge) (agreed (of_message f.message_seq h.taken) f)))
     (lt-leb (h.next + l.ahead) f.message_seq near)
@@ -90,7 +129,7 @@ answered l h k f at r st there near small or_memory =
     let same : slot_judged (slot k at) f ≡ verdict l h f =
     judged_as_heard (of_message f.message_seq h.taken) (slot k at) f
     (λ g rest e. of_message_first f.message_seq h.taken g rest e)
-        (subst (λ n. IsPart (of_message n h.taken) (slot k at)) seq (st.each at))
+    (subst (λ n. IsPart (of_message n h.taken) (slot k at)) seq (st.each at))
     ∙ sym (verdict_near l h f (omega (arith, seq)) (omega (arith, seq, near, ahead)) (omega (arith, small, message))) in
     subst (IsOrMemory r) same or_memory
 
@@ -137,17 +176,17 @@ stands_more l h k new f at st there near added changed = record {
         let here : i ≡ at = eqb-true i at e in
         let seq : f.message_seq ≡ h.next + i = omega (arith, here, there, st.next) in
         subst (λ gs. IsPart gs (slot new i))
-            (sym (of_message_more (h.next + i) h.taken f
-            ∙ ap (λ gs. of_message (h.next + i) h.taken ++ gs) (of_message_same (h.next + i) f seq)))
+        (sym (of_message_more (h.next + i) h.taken f
+        ∙ ap (λ gs. of_message (h.next + i) h.taken ++ gs) (of_message_same (h.next + i) f seq)))
         (part_more (of_message (h.next + i) h.taken) (slot k i) (slot new i) f (st.each i)
         (subst (λ j. IsSlotAdded (slot k j) f (slot new j)) (sym here) added))
     go i false e =
         let other : i ≡ at → ⊥ = eqb-false i at e in
         let away : f.message_seq ≡ h.next + i → ⊥ = λ s. other (omega (arith, s, there, st.next)) in
         subst (λ gs. IsPart gs (slot new i))
-            (sym (of_message_more (h.next + i) h.taken f
-            ∙ ap (λ gs. of_message (h.next + i) h.taken ++ gs) (of_message_other (h.next + i) f away)
-            ∙ append-nil (of_message (h.next + i) h.taken)))
+        (sym (of_message_more (h.next + i) h.taken f
+        ∙ ap (λ gs. of_message (h.next + i) h.taken ++ gs) (of_message_other (h.next + i) f away)
+        ∙ append-nil (of_message (h.next + i) h.taken)))
         (subst (IsPart (of_message (h.next + i) h.taken)) (sym (changed.others i other)) (st.each i))
 
 pub taken_ok : (l : Limits) (h : Heard) (k new : Kept) (f : Fragment) (at : ℕ) (r : Result Unit FragmentError)

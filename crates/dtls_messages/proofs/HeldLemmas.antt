@@ -1,7 +1,34 @@
 -- A message of which fragments are there.
 use Rattle.std.proofs.Common.{
-  ◌≡◌, ℕ, zero, suc, ◌+◌, ◌-◌, ◌<◌, ◌≤◌, Bool, true, false, cond, nat_lt, Some, None, List, [], ◌∷◌, ◌++◌, length, take,
-  sum_by, refl, sym, ◌∙◌, ap, subst, arith, get_or,
+  ◌≡◌,
+  ℕ,
+  zero,
+  suc,
+  ◌+◌,
+  ◌-◌,
+  ◌<◌,
+  ◌≤◌,
+  Bool,
+  true,
+  false,
+  cond,
+  nat_lt,
+  Some,
+  None,
+  List,
+  [],
+  ◌∷◌,
+  ◌++◌,
+  length,
+  take,
+  sum_by,
+  refl,
+  sym,
+  ◌∙◌,
+  ap,
+  subst,
+  arith,
+  get_or,
 }
 use Rattle.std.specs.Prelude.{IsSome, slice_index, replicate}
 use Rattle.std.proofs.lemmas.List.{get_or_append_left, get_or-append_right, length-replicate}
@@ -80,7 +107,7 @@ complete_full h filled sound all = go h.size refl
         let last : n < h.size = omega (arith, e) in
         let reach : n < length h.there = there_below h.there n (is_there h.there h.held n (all n last)) in
         let none : sum_by absent h.there ≡ 0 =
-            none_absent h.there (λ i l. is_there h.there h.held i (all i (omega (arith, l, sound.0, sound.1)))) in
+        none_absent h.there (λ i l. is_there h.there h.held i (all i (omega (arith, l, sound.0, sound.1)))) in
         omega (arith, e, reach, none, sound.2)
 
 -- Places that are added, with no byte.
@@ -101,12 +128,12 @@ cell_grown ts bs m n same i = go (nat_lt i (length ts)) refl
         let l : i < length ts = ltb-true i (length ts) e in
         let k : i < length bs = omega (arith, l, same) in
         ap (λ t. cond t (Some (slice_index (bs ++ replicate n 0) i)) None)
-            (get_or_append_left ts (replicate m false) false i l)
+        (get_or_append_left ts (replicate m false) false i l)
         ∙ ap (λ x. cond (get_or ts i false) (Some x) None) (get_or_append_left bs (replicate n 0) 0 i k)
     go false e =
         let l : length ts ≤ i = ltb-false i (length ts) e in
         ap (λ t. cond t (Some (slice_index (bs ++ replicate n 0) i)) None)
-            (get_or-append_right ts (replicate m false) (length ts) i false refl l ∙ behind (i - length ts))
+        (get_or-append_right ts (replicate m false) (length ts) i false refl l ∙ behind (i - length ts))
         ∙ ap (λ t. cond t (Some (slice_index bs i)) None) (sym (past ts i l))
       where
         past : (ts : List Bool) (i : ℕ) → length ts ≤ i → get_or ts i false ≡ false
@@ -117,8 +144,14 @@ cell_grown ts bs m n same i = go (nat_lt i (length ts)) refl
 pub count_grown : (ts : List Bool) (n filled : ℕ) → filled + sum_by absent ts ≡ length ts
     → filled + sum_by absent (ts ++ replicate n false) ≡ length (ts ++ replicate n false)
 count_grown ts n filled was =
-    omega (arith, was, sum_by-append absent ts (replicate n false), sum_by-replicate absent n false,
-    length-append ts (replicate n false), length-replicate n false)
+    omega (
+      arith,
+      was,
+      sum_by-append absent ts (replicate n false),
+      sum_by-replicate absent n false,
+      length-append ts (replicate n false),
+      length-replicate n false,
+    )
 
 pub cell_resized : (ts us : List Bool) (bs cs : Bytes) (end m n : ℕ) → length ts ≡ length bs → length bs ≤ end →
     us ≡ take end ts ++ replicate m false → cs ≡ take end bs ++ replicate n 0 → (i : ℕ) → cell us cs i ≡ cell ts bs i

@@ -1,19 +1,79 @@
 -- What is handed out of a direction, after any fragments.
 use Rattle.std.proofs.Common.{
-  ◌≡◌, ℕ, zero, suc, ◌+◌, ◌<◌, ◌≤◌, Bool, true, false, cond, nat_lt, nat_le, Some, None, Option, Result, Ok, Err, List,
-  [], ◌∷◌, ◌++◌, length, take, drop, map, refl, sym, ◌∙◌, ap, subst, arith, append_assoc, append-nil, length-append,
+  ◌≡◌,
+  ℕ,
+  zero,
+  suc,
+  ◌+◌,
+  ◌<◌,
+  ◌≤◌,
+  Bool,
+  true,
+  false,
+  cond,
+  nat_lt,
+  nat_le,
+  Some,
+  None,
+  Option,
+  Result,
+  Ok,
+  Err,
+  List,
+  [],
+  ◌∷◌,
+  ◌++◌,
+  length,
+  take,
+  drop,
+  map,
+  refl,
+  sym,
+  ◌∙◌,
+  ap,
+  subst,
+  arith,
+  append_assoc,
+  append-nil,
+  length-append,
 }
 use Rattle.std.specs.Prelude.{IsSome, ◌==◌}
 use Rattle.std.proofs.lemmas.Bool.{le-leb, lt-ltb, eq-eqb, ltb-true, ltb-false, leb-false}
 use Rattle.dtls_messages.specs.Fragments.{Cover, Fragment, byte_at, first_at, inside, or_else}
 use Rattle.dtls_messages.specs.Messages.{
-  Event, Alert, ChangeCipherSpec, Encrypted, Failed, Handshake, Heard, Limits, Message, Refused, after, agreed, events,
-  heard, heard_by, message_of, messages, of_message, told, told_by, verdict, whole_from, with_taken,
+  Event,
+  Alert,
+  ChangeCipherSpec,
+  Encrypted,
+  Failed,
+  Handshake,
+  Heard,
+  Limits,
+  Message,
+  Refused,
+  after,
+  agreed,
+  events,
+  heard,
+  heard_by,
+  message_of,
+  messages,
+  of_message,
+  told,
+  told_by,
+  verdict,
+  whole_from,
+  with_taken,
 }
 use Rattle.dtls_messages.specs.Sent.{AreOf, AreSmall, IsCovered, IsHandedOut, IsOf, Sent, numbered, sent}
 use Rattle.dtls_messages.specs.declared.fragments.FragmentError.{FragmentError}
 use Rattle.dtls_messages.specs.declared.fragments.FragmentError.TheVariants.{
-  Old, TooFarAhead, TooLarge, Outside, OtherLength, OtherType,
+  Old,
+  TooFarAhead,
+  TooLarge,
+  Outside,
+  OtherLength,
+  OtherType,
 }
 use Rattle.dtls_messages.proofs.HeardLemmas.{of_message_more, of_message_other, verdict_near}
 use Rattle.dtls_messages.proofs.SentLemmas.{AreAll, IsRun, all_of_message, covered_message, run_of}
@@ -103,7 +163,7 @@ out_taken ms l h out f was number is near =
     let run : IsRun ms ts l.ahead h.next w = run_of ms ts l.ahead h.next of was.low in
     let beyond : (k : ℕ) → h.next + l.ahead ≤ k → of_message k ts ≡ [] =
     λ k g. of_message_more k h.taken f ∙ ap (λ gs. gs ++ of_message k (f ∷ [])) (was.near k g)
-        ∙ of_message_other k f (λ e. absurd (omega (arith, e, g, near))) in
+    ∙ of_message_other k f (λ e. absurd (omega (arith, e, g, near))) in
     record {
       taken = of;
       low = run.low;
@@ -144,8 +204,8 @@ unfolding after events
 out_all ms l h out [] was of = subst (IsOut ms l h) (sym (append-nil out)) was
 out_all ms l h out (f ∷ fs) was of =
     subst (IsOut ms l (after l (heard l h f) fs))
-        (append_assoc out (messages (told l h f)) (messages (events l (heard l h f) fs))
-        ∙ sym (ap (λ m. out ++ m) (messages-append (told l h f) (events l (heard l h f) fs))))
+    (append_assoc out (messages (told l h f)) (messages (events l (heard l h f) fs))
+    ∙ sym (ap (λ m. out ++ m) (messages-append (told l h f) (events l (heard l h f) fs))))
     (out_all ms l (heard l h f) (out ++ messages (told l h f)) fs (out_step ms l h out f was of.0 of.1) of.2)
 
 pub out_begins : (ms : List Sent) (l : Limits) → IsOut ms l (record { taken = []; next = 0 }) []
@@ -186,7 +246,7 @@ agreed_ok : (m : Sent) (gs : List Fragment) (f : Fragment) → AreAll m gs → I
 agreed_ok m [] f all is = inside_ok m f is
 agreed_ok m (g ∷ gs) f all is =
     ap (λ b. cond {A = Result Unit FragmentError} b (cond (g.length == f.length) (inside f) (Err OtherLength))
-        (Err OtherType)) (eq-eqb g.msg_type f.msg_type (all.0.msg_type ∙ sym is.msg_type))
+    (Err OtherType)) (eq-eqb g.msg_type f.msg_type (all.0.msg_type ∙ sym is.msg_type))
     ∙ ap (λ b. cond {A = Result Unit FragmentError} b (inside f) (Err OtherLength))
     (eq-eqb g.length f.length (all.0.size ∙ sym is.size))
     ∙ inside_ok m f is
@@ -256,7 +316,7 @@ all_step ms l h out fs f few small was all number is =
           outs = now;
           all = subst (λ v. IsAll ms (heard_by v l h f) (fs ++ f ∷ [])) (sym ok)
               (all_taken ms l h fs f all
-                  (subst (λ v. IsOut ms l (heard_by v l h f) (out ++ messages (told_by v l h f))) ok now).covered);
+              (subst (λ v. IsOut ms l (heard_by v l h f) (out ++ messages (told_by v l h f))) ok now).covered);
         }
 
 -- All that is told of fragments that come one after the other.
@@ -268,12 +328,14 @@ all_end : (ms : List Sent) (l : Limits) (h : Heard) (out : List Message) (fs gs 
     → AreSmall l ms → IsOut ms l h out → IsAll ms h fs → AreOf ms gs → IsEnd ms l h out fs gs
 unfolding after events
 all_end ms l h out fs [] few small was all of =
-    record { outs = subst (IsOut ms l h) (sym (append-nil out)) was;
-    all = subst (IsAll ms h) (sym (append-nil fs)) all }
+    record {
+      outs = subst (IsOut ms l h) (sym (append-nil out)) was;
+      all = subst (IsAll ms h) (sym (append-nil fs)) all;
+    }
 all_end ms l h out fs (f ∷ gs) few small was all of =
     let one = all_step ms l h out fs f few small was all of.0 of.1 in
     let more = all_end ms l (heard l h f) (out ++ messages (told l h f)) (fs ++ f ∷ []) gs few small one.outs one.all
-        of.2 in
+    of.2 in
     record {
       outs = subst (IsOut ms l (after l (heard l h f) gs))
           (append_assoc out (messages (told l h f)) (messages (events l (heard l h f) gs))
@@ -285,7 +347,7 @@ pub all_hand_out : (ms : List Sent) (l : Limits) (fs : List Fragment) → length
     → AreOf ms fs → IsHandedOut ms fs (messages (events l (record { taken = []; next = 0 }) fs))
 all_hand_out ms l fs few small of =
     let end = all_end ms l (record { taken = []; next = 0 }) [] [] fs few small (out_begins ms l)
-        (record { same = λ k g. refl; done = λ k g. absurd (omega (arith, g)) }) of in
+    (record { same = λ k g. refl; done = λ k g. absurd (omega (arith, g)) }) of in
     let h : Heard = after l (record { taken = []; next = 0 }) fs in
     record {
       count = h.next;
@@ -294,6 +356,6 @@ all_hand_out ms l fs few small of =
       covered = end.all.done;
       next = λ low cover.
           let mine : IsCovered ms h.taken h.next =
-              subst (λ gs. Cover gs (length (sent ms h.next).body)) (sym (end.all.same h.next (omega arith))) cover in
+          subst (λ gs. Cover gs (length (sent ms h.next).body)) (sym (end.all.same h.next (omega arith))) cover in
           let no = sym end.outs.none_next ∙ covered_message ms h.taken h.next end.outs.taken mine in absurd cc;
     }

@@ -1,6 +1,26 @@
 -- What is held of a message is what its fragments give.
 use Rattle.std.proofs.Common.{
-  ◌≡◌, ◌↔◌, ℕ, zero, suc, ◌+◌, ◌<◌, true, Some, None, Option, List, [], ◌∷◌, length, refl, sym, ◌∙◌, ap, subst, arith,
+  ◌≡◌,
+  ◌↔◌,
+  ℕ,
+  zero,
+  suc,
+  ◌+◌,
+  ◌<◌,
+  true,
+  Some,
+  None,
+  Option,
+  List,
+  [],
+  ◌∷◌,
+  length,
+  refl,
+  sym,
+  ◌∙◌,
+  ap,
+  subst,
+  arith,
 }
 use Rattle.std.specs.Prelude.{IsSome, IfSome, is_some, slice_index}
 use Rattle.std.specs.Borrow.{Bor}
@@ -8,7 +28,16 @@ use Rattle.std.specs.Option.{option_map}
 use Rattle.tls_fields.specs.Bytes.{Bytes}
 use Rattle.dtls_messages.specs.Fragments.{Fragment, Held, IsBody, IsComplete, first_at}
 use Rattle.dtls_messages.specs.Messages.{
-  Heard, IsPart, Kept, Limits, Stands, bytes_from, message_of, of_message, slot, with_byte,
+  Heard,
+  IsPart,
+  Kept,
+  Limits,
+  Stands,
+  bytes_from,
+  message_of,
+  of_message,
+  slot,
+  with_byte,
 }
 
 -- Bytes that are there at each place.
@@ -20,8 +49,8 @@ bytes_some fs i (suc n) [] e at = absurd (omega (arith, e))
 bytes_some fs i (suc n) (x ∷ b) e at =
     let first : first_at fs i ≡ Some x = ap (first_at fs) (omega arith) ∙ at 0 (omega arith) in
     let rest : bytes_from fs (suc i) n ≡ Some b =
-        bytes_some fs (suc i) n b (omega (arith, e))
-        (λ k l. ap (first_at fs) (omega arith) ∙ at (suc k) (omega (arith, l))) in
+    bytes_some fs (suc i) n b (omega (arith, e))
+    (λ k l. ap (first_at fs) (omega arith) ∙ at (suc k) (omega (arith, l))) in
     ap (λ o. with_byte o (bytes_from fs (suc i) n)) first ∙ ap (with_byte (Some x)) rest
 
 -- The place of a byte is one that is there.
@@ -65,7 +94,7 @@ part_none (f ∷ fs) h is not = go (bytes_from (f ∷ fs) 0 f.length) refl
     go None e = ap (option_map (λ b. record { msg_type = f.msg_type; message_seq = f.message_seq; body = b })) e
     go (Some b) e = absurd (not (λ i l. subst IsSome (sym (is.bytes i))
         (subst (λ j. IsSome (first_at (f ∷ fs) j)) (omega arith)
-            (bytes_all (f ∷ fs) 0 f.length b e i (omega (arith, l, is.same.size))))))
+        (bytes_all (f ∷ fs) 0 f.length b e i (omega (arith, l, is.same.size))))))
 
 pub part_empty : (fs : List Fragment) → IsPart fs None → message_of fs ≡ None
 part_empty [] is = refl

@@ -1,7 +1,36 @@
 -- What is handed out of messages that a peer sends.
 use Rattle.std.proofs.Common.{
-  ◌≡◌, ℕ, zero, suc, ◌+◌, ◌-◌, ◌<◌, ◌≤◌, Bool, true, false, cond, nat_eq, nat_lt, nat_le, Some, None, Option, List, [],
-  ◌∷◌, length, take, drop, refl, sym, ◌∙◌, ap, subst, arith, get_or,
+  ◌≡◌,
+  ℕ,
+  zero,
+  suc,
+  ◌+◌,
+  ◌-◌,
+  ◌<◌,
+  ◌≤◌,
+  Bool,
+  true,
+  false,
+  cond,
+  nat_eq,
+  nat_lt,
+  nat_le,
+  Some,
+  None,
+  Option,
+  List,
+  [],
+  ◌∷◌,
+  length,
+  take,
+  drop,
+  refl,
+  sym,
+  ◌∙◌,
+  ap,
+  subst,
+  arith,
+  get_or,
 }
 use Rattle.std.specs.Prelude.{IsSome, slice_index, ◌==◌}
 use Rattle.std.specs.Option.{option_map}
@@ -83,7 +112,7 @@ covered_from ms k (g ∷ gs) first all cover =
     let there : bytes_from (g ∷ gs) 0 g.length ≡ Some (sent ms k).body =
     bytes_some (g ∷ gs) 0 g.length (sent ms k).body (sym all.0.size)
     (λ i l. ap (first_at (g ∷ gs)) (omega arith)
-        ∙ some_first (sent ms k) (g ∷ gs) i all (cover.each i (omega (arith, l, all.0.size)))) in
+    ∙ some_first (sent ms k) (g ∷ gs) i all (cover.each i (omega (arith, l, all.0.size)))) in
     ap (option_map (λ b. record { msg_type = g.msg_type; message_seq = g.message_seq; body = b })) there
     ∙ ap (λ t. Some (record { msg_type = t; message_seq = g.message_seq; body = (sent ms k).body })) all.0.msg_type
     ∙ ap (λ s. Some (record { msg_type = (sent ms k).msg_type; message_seq = s; body = (sent ms k).body }))

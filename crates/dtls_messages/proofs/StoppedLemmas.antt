@@ -1,14 +1,65 @@
 -- What stands where memory ran out.
 use Rattle.std.proofs.Common.{
-  ◌≡◌, ℕ, ◌+◌, ◌-◌, ◌<◌, Bool, true, false, Option, Some, None, Result, Ok, Err, List, [], ◌∷◌, ◌++◌, length, take,
-  drop, map, refl, sym, ◌∙◌, ap, subst, arith, get_or, append_assoc, append-nil,
+  ◌≡◌,
+  ℕ,
+  ◌+◌,
+  ◌-◌,
+  ◌<◌,
+  Bool,
+  true,
+  false,
+  Option,
+  Some,
+  None,
+  Result,
+  Ok,
+  Err,
+  List,
+  [],
+  ◌∷◌,
+  ◌++◌,
+  length,
+  take,
+  drop,
+  map,
+  refl,
+  sym,
+  ◌∙◌,
+  ap,
+  subst,
+  arith,
+  get_or,
+  append_assoc,
+  append-nil,
 }
 use Rattle.std.specs.Prelude.{OnErr, is_some}
 use Rattle.std.proofs.lemmas.List.{drop_more, map-append, take-append-drop}
 use Rattle.dtls_messages.specs.Fragments.{Fragment, view_fragment, view_fragments}
 use Rattle.dtls_messages.specs.Messages.{
-  AreHandedOut, AreHeard, AreKept, Event, Handshake, Heard, IsStopped, Kept, Limits, Message, Stands, after, events,
-  heard, heard_by, message_of, of_message, told, told_by, verdict, view_event, view_events, whole_from, with_taken,
+  AreHandedOut,
+  AreHeard,
+  AreKept,
+  Event,
+  Handshake,
+  Heard,
+  IsStopped,
+  Kept,
+  Limits,
+  Message,
+  Stands,
+  after,
+  events,
+  heard,
+  heard_by,
+  message_of,
+  of_message,
+  told,
+  told_by,
+  verdict,
+  view_event,
+  view_events,
+  whole_from,
+  with_taken,
 }
 use Rattle.dtls_messages.specs.declared.event.Event.{Event as Lent}
 use Rattle.dtls_messages.specs.declared.fragments.Fragment.{Fragment as Given}
@@ -24,7 +75,7 @@ pub ends_none : (l : Limits) (h : Heard) (es es' : List Event) (k : Kept) (way :
 ends_none l h es es' k way none =
     let no : whole_from (l.ahead - way.moved) (h.next + way.moved) h.taken ≡ [] =
     whole_end (l.ahead - way.moved) (h.next + way.moved) h.taken
-        (is_none (message_of (of_message (h.next + way.moved) h.taken)) none) in
+    (is_none (message_of (of_message (h.next + way.moved) h.taken)) none) in
     let all : way.moved ≡ length (whole_from l.ahead h.next h.taken) = omega (arith, way.count, ap length no) in
     record {
       events = sym (append-nil es') ∙ ap (λ w. es' ++ map Handshake w) (sym no) ∙ way_events l h es es' k way;
@@ -137,7 +188,7 @@ pub stopped_same : (l : Limits) (h : Heard) (f : Fragment) (es es' : List Lent) 
 stopped_same l h f es es' k k' st told same =
     subst (λ k'. IsStopped l h (f ∷ []) (view_events es) (view_events es') k') (sym same)
     (subst (λ x. IsStopped l h (f ∷ []) (view_events es) (view_events x) k) (sym told)
-        (stopped_none l h f (view_events es) k st))
+    (stopped_none l h f (view_events es) k st))
 
 pub pushed_on : (es es' es'' : List Lent) (e : Lent) → es' ≡ es → es'' ≡ es' ++ e ∷ []
     → view_events es'' ≡ view_events es ++ view_event e ∷ []

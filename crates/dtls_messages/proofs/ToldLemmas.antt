@@ -1,7 +1,37 @@
 -- What is told of fragments.
 use Rattle.std.proofs.Common.{
-  ◌≡◌, ℕ, zero, suc, ◌+◌, ◌-◌, ◌<◌, ◌≤◌, Some, None, Option, Result, Ok, Err, List, [], ◌∷◌, ◌++◌, length, take, map,
-  refl, sym, ◌∙◌, ap, subst, arith, get_or, inl, inr, append_assoc, append-nil,
+  ◌≡◌,
+  ℕ,
+  zero,
+  suc,
+  ◌+◌,
+  ◌-◌,
+  ◌<◌,
+  ◌≤◌,
+  Some,
+  None,
+  Option,
+  Result,
+  Ok,
+  Err,
+  List,
+  [],
+  ◌∷◌,
+  ◌++◌,
+  length,
+  take,
+  map,
+  refl,
+  sym,
+  ◌∙◌,
+  ap,
+  subst,
+  arith,
+  get_or,
+  inl,
+  inr,
+  append_assoc,
+  append-nil,
 }
 use Rattle.std.specs.Prelude.{OnOk, is_some, if◌then◌else◌}
 use Rattle.std.specs.Option.{option_map}
@@ -9,9 +39,34 @@ use Rattle.std.proofs.lemmas.List.{map-append, take_all}
 use Rattle.std.proofs.Math.Seq.{take-suc}
 use Rattle.dtls_messages.specs.Fragments.{Fragment, Held, view_fragment, view_fragments}
 use Rattle.dtls_messages.specs.Messages.{
-  AreHandedOut, AreHeard, Event, Handshake, Heard, IsHeard, IsOrMemory, IsPart, Kept, Limits, Message, Refused, Stands,
-  after, events, followed, heard, heard_by, message_of, of_message, told, told_by, verdict, view_event, view_events,
-  view_message, whole_from, with_taken,
+  AreHandedOut,
+  AreHeard,
+  Event,
+  Handshake,
+  Heard,
+  IsHeard,
+  IsOrMemory,
+  IsPart,
+  Kept,
+  Limits,
+  Message,
+  Refused,
+  Stands,
+  after,
+  events,
+  followed,
+  heard,
+  heard_by,
+  message_of,
+  of_message,
+  told,
+  told_by,
+  verdict,
+  view_event,
+  view_events,
+  view_message,
+  whole_from,
+  with_taken,
 }
 use Rattle.dtls_messages.specs.declared.event.Event.{Event as Lent}
 use Rattle.dtls_messages.specs.declared.event.Message.{Message as Owned}
@@ -93,7 +148,7 @@ one_more l h es es' es'' k new m way is st pushed = go (sized (l.ahead - way.mov
     sized : (n : ℕ) → l.ahead - way.moved ≡ n → 0 < l.ahead - way.moved
     sized zero e =
         let none : of_message (h.next + way.moved) h.taken ≡ [] =
-            ap (λ n. of_message n h.taken) (omega (arith, e, way.few)) ∙ way.last in
+        ap (λ n. of_message n h.taken) (omega (arith, e, way.few)) ∙ way.last in
         let no : Some (view_message m) ≡ None = is ∙ ap message_of none in
         absurd cc
     sized (suc n) e = omega (arith, e)
@@ -101,14 +156,14 @@ one_more l h es es' es'' k new m way is st pushed = go (sized (l.ahead - way.mov
     go : 0 < l.ahead - way.moved → IsOnTheWay l h es es'' new
     go some =
         let steps : whole_from (l.ahead - way.moved) (h.next + way.moved) h.taken
-            ≡ view_message m ∷ whole_from (l.ahead - way.moved - 1) (h.next + way.moved + 1) h.taken =
+        ≡ view_message m ∷ whole_from (l.ahead - way.moved - 1) (h.next + way.moved + 1) h.taken =
         whole_step (l.ahead - way.moved) (h.next + way.moved) h.taken (view_message m) some (sym is) in
         let less : l.ahead - (way.moved + 1) ≡ l.ahead - way.moved - 1 = omega (arith, some) in
         let next : h.next + (way.moved + 1) ≡ h.next + way.moved + 1 = omega arith in
         let rest : whole_from (l.ahead - (way.moved + 1)) (h.next + (way.moved + 1)) h.taken
-            ≡ whole_from (l.ahead - way.moved - 1) (h.next + way.moved + 1) h.taken =
+        ≡ whole_from (l.ahead - way.moved - 1) (h.next + way.moved + 1) h.taken =
         ap (λ n. whole_from n (h.next + (way.moved + 1)) h.taken) less
-            ∙ ap (λ n. whole_from (l.ahead - way.moved - 1) n h.taken) next in
+        ∙ ap (λ n. whole_from (l.ahead - way.moved - 1) n h.taken) next in
         record {
           moved = way.moved + 1;
           few = omega (arith, some);
@@ -139,8 +194,8 @@ ends l h es es' k new o way none is st =
       events = sym (append-nil es') ∙ ap (λ w. es' ++ map Handshake w) (sym no) ∙ way_events l h es es' k way;
       stands = subst (λ n. Stands l (record { taken = h.taken; next = h.next + n }) new) all
           (subst (λ (o : Option Owned). Stands l
-              (record { taken = h.taken; next = if is_some o then h.next + way.moved + 1 else h.next + way.moved }) new)
-              none st);
+          (record { taken = h.taken; next = if is_some o then h.next + way.moved + 1 else h.next + way.moved }) new)
+          none st);
     }
 
 -- A fragment that is taken, or isn't.
@@ -187,7 +242,7 @@ pub views_next : (fs : List Given) (i : ℕ) (d : Given) → i < length fs
 views_next fs i d h =
     let one : i + 1 ≡ suc i = omega arith in
     ap (λ k. view_fragments (take k fs)) one ∙ ap view_fragments (take-suc fs i d h)
-        ∙ map-append view_fragment (take i fs) (get_or fs i d ∷ [])
+    ∙ map-append view_fragment (take i fs) (get_or fs i d ∷ [])
 
 pub heard_none : (l : Limits) (h : Heard) (es : List Event) (k : Kept) → Stands l h k → AreHeard l h [] es es k
 unfolding events after

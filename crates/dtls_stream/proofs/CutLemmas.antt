@@ -1,12 +1,43 @@
 -- What stands where memory ran out.
 use Rattle.std.proofs.Common.{
-  ◌≡◌, ℕ, List, [], ◌∷◌, ◌++◌, take, drop, map, refl, sym, ◌∙◌, ap, subst, arith, append_assoc, append-nil,
+  ◌≡◌,
+  ℕ,
+  List,
+  [],
+  ◌∷◌,
+  ◌++◌,
+  take,
+  drop,
+  map,
+  refl,
+  sym,
+  ◌∙◌,
+  ap,
+  subst,
+  arith,
+  append_assoc,
+  append-nil,
 }
 use Rattle.std.proofs.lemmas.List.{map-append, take-append-drop}
 use Rattle.dtls_messages.specs.Fragments.{Fragment}
 use Rattle.dtls_messages.specs.Messages.{
-  Alert, AreHeard, ChangeCipherSpec, Encrypted, Event, Failed, Handshake, Heard, IsStopped, Kept, Limits, Message,
-  Refused, Stands, after, events, messages,
+  Alert,
+  AreHeard,
+  ChangeCipherSpec,
+  Encrypted,
+  Event,
+  Failed,
+  Handshake,
+  Heard,
+  IsStopped,
+  Kept,
+  Limits,
+  Message,
+  Refused,
+  Stands,
+  after,
+  events,
+  messages,
 }
 use Rattle.dtls_messages.proofs.StoppedLemmas.{after_append, events_append}
 use Rattle.dtls_stream.specs.Datagrams.{AreToldInPart, IsCut}
@@ -128,7 +159,7 @@ pub cut_behind : (l : Limits) (h : Heard) (first fs more : List Fragment)
     IsCut l (after l h first) fs all es' es'' k → IsCut l h (first ++ (fs ++ more)) total es es'' k
 cut_behind l h first fs more so_far all rest total es es' es'' k told none_lost in_order cut =
     let same : after l (after l h first) cut.first ≡ after l h (first ++ cut.first) =
-        sym (after_append l h first cut.first) in
+    sym (after_append l h first cut.first) in
     let kept : List Event = map Handshake cut.kept in
     record {
       first = first ++ cut.first;

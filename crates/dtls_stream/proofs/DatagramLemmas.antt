@@ -1,7 +1,36 @@
 -- What is told of records and datagrams.
 use Rattle.std.proofs.Common.{
-  ◌≡◌, ℕ, zero, suc, ◌+◌, ◌<◌, ◌≤◌, Bool, true, false, cond, Result, Ok, Err, List, [], ◌∷◌, ◌++◌, length, take, drop,
-  map, refl, sym, ◌∙◌, ap, subst, arith, get_or, append_assoc, append-nil,
+  ◌≡◌,
+  ℕ,
+  zero,
+  suc,
+  ◌+◌,
+  ◌<◌,
+  ◌≤◌,
+  Bool,
+  true,
+  false,
+  cond,
+  Result,
+  Ok,
+  Err,
+  List,
+  [],
+  ◌∷◌,
+  ◌++◌,
+  length,
+  take,
+  drop,
+  map,
+  refl,
+  sym,
+  ◌∙◌,
+  ap,
+  subst,
+  arith,
+  get_or,
+  append_assoc,
+  append-nil,
 }
 use Rattle.std.specs.Prelude.{OnOk, ◌==◌}
 use Rattle.std.specs.Borrow.{Bor}
@@ -16,8 +45,19 @@ use Rattle.tls_parser.specs.declared.dtls.message.DTLSMessage.{DTLSMessage}
 use Rattle.dtls_messages.specs.Fragments.{Fragment}
 use Rattle.dtls_messages.specs.Messages.{AreHeard, Encrypted, Event, Failed, Heard, Kept, Limits, Stands, events}
 use Rattle.dtls_stream.specs.Datagrams.{
-  IsStep, content_step, datagram, datagrams, encrypted, event_of, fragment_record_step, fragments_step, kind_of,
-  left_over, record_step, then_step, views,
+  IsStep,
+  content_step,
+  datagram,
+  datagrams,
+  encrypted,
+  event_of,
+  fragment_record_step,
+  fragments_step,
+  kind_of,
+  left_over,
+  record_step,
+  then_step,
+  views,
 }
 
 pub map_next : {X Y : Type 0} (f : X → Y) (xs : List X) (i : ℕ) (d : X) → i < length xs
@@ -54,9 +94,9 @@ pub fragments_ok : (l : Limits) (h : Heard) (es es' es'' : List Event) (k : Kept
     AreHeard l h fs es es' k → es'' ≡ es' ++ left_over rest → IsStep l (fragments_step r l h) es es'' k
 fragments_ok l h es es' es'' k r fs rest is all left =
     subst (λ a. IsStep l (fragments_step a l h) es es'' k) (sym is) (record {
-  events = left ∙ ap (λ e. e ++ left_over rest) all.events ∙ append_assoc es (events l h fs) (left_over rest);
-  stands = all.stands;
-})
+      events = left ∙ ap (λ e. e ++ left_over rest) all.events ∙ append_assoc es (events l h fs) (left_over rest);
+      stands = all.stands;
+    })
 
 pub fragments_err : (l : Limits) (h : Heard) (es es' : List Event) (k : Kept) (r : Answer (List Fragment)) (e : Refusal)
     → r ≡ Err e →
@@ -70,8 +110,8 @@ pub sealed_step : (l : Limits) (h : Heard) (r : RawRecord) (es es' : List Event)
     IsStep l (record_step l h r) es es' k
 sealed_step l h r es es' k above told st =
     subst (λ b. IsStep l (cond b (h, Encrypted (encrypted r) ∷ [])
-        (cond (r.header.content_type == 22) (fragment_record_step r.fragment l h)
-        (content_step (reading (record_content r.header) r.fragment) h))) es es' k)
+    (cond (r.header.content_type == 22) (fragment_record_step r.fragment l h)
+    (content_step (reading (record_content r.header) r.fragment) h))) es es' k)
     (sym (lt-ltb 0 r.header.epoch above)) (record { events = told; stands = st })
 
 pub clear_step : (l : Limits) (h : Heard) (r : RawRecord) (es es' : List Event) (k : Kept) → r.header.epoch ≤ 0 →
@@ -80,8 +120,8 @@ pub clear_step : (l : Limits) (h : Heard) (r : RawRecord) (es es' : List Event) 
     IsStep l (record_step l h r) es es' k
 clear_step l h r es es' k low is =
     subst (λ b. IsStep l (cond b (h, Encrypted (encrypted r) ∷ [])
-        (cond (r.header.content_type == 22) (fragment_record_step r.fragment l h)
-        (content_step (reading (record_content r.header) r.fragment) h))) es es' k)
+    (cond (r.header.content_type == 22) (fragment_record_step r.fragment l h)
+    (content_step (reading (record_content r.header) r.fragment) h))) es es' k)
     (sym (le-ltb 0 r.header.epoch low)) is
 
 pub handshake_step : (l : Limits) (h : Heard) (r : RawRecord) (es es' : List Event) (k : Kept) → r.header.epoch ≤ 0
@@ -90,8 +130,8 @@ pub handshake_step : (l : Limits) (h : Heard) (r : RawRecord) (es es' : List Eve
 handshake_step l h r es es' k low kind is =
     clear_step l h r es es' k low
     (subst (λ b. IsStep l (cond b (fragment_record_step r.fragment l h)
-        (content_step (reading (record_content r.header) r.fragment) h)) es es' k)
-        (sym (eq-eqb r.header.content_type 22 kind)) is)
+    (content_step (reading (record_content r.header) r.fragment) h)) es es' k)
+    (sym (eq-eqb r.header.content_type 22 kind)) is)
 
 pub eqb-ne : (a b : ℕ) → (a ≡ b → ⊥) → (a == b) ≡ false
 eqb-ne a b not = go (a == b) refl
@@ -111,10 +151,13 @@ pub other_step : (l : Limits) (h : Heard) (r : RawRecord) (es es' : List Event) 
 other_step l h r es es' k low kind told st =
     clear_step l h r es es' k low
     (subst (λ b. IsStep l (cond b (fragment_record_step r.fragment l h)
-        (content_step (reading (record_content r.header) r.fragment) h)) es es' k)
-        (sym (eqb-ne r.header.content_type 22 kind))
-    (record { events = told; stands =
-        subst (λ g. Stands l g k) (sym (content_same h (reading (record_content r.header) r.fragment))) st }))
+    (content_step (reading (record_content r.header) r.fragment) h)) es es' k)
+    (sym (eqb-ne r.header.content_type 22 kind))
+    (record {
+      events = told;
+      stands =
+          subst (λ g. Stands l g k) (sym (content_same h (reading (record_content r.header) r.fragment))) st;
+    }))
 
 pub on_ok : {P Q E : Type 0} (r : Result Unit E) → OnOk r P → (P → Q) → OnOk r Q
 on_ok (Ok t) p f = f p
@@ -149,7 +192,7 @@ datagrams_next l all ds i d es es' k k' low was hears =
     let b : Bytes = (get_or ds i d).now in
     let rest : List Bytes = views (drop (i + 1) ds) in
     let steps : datagrams l was.heard (views (drop i ds))
-        ≡ then_step (datagram l was.heard b) (λ h. datagrams l h rest) =
+    ≡ then_step (datagram l was.heard b) (λ h. datagrams l h rest) =
     ap (λ x. datagrams l was.heard (views x)) (drop_more ds i d low) ∙ more_datagrams l was.heard b rest in
     record {
       heard = (datagram l was.heard b).0;
@@ -163,7 +206,7 @@ pub datagrams_end : (l : Limits) (all ds : List Bytes) (es : List Event) (k : Ke
     → es ≡ (datagrams l (record { taken = []; next = 0 }) all).1
 datagrams_end l all ds es k none was =
     sym (append-nil es) ∙ ap (λ s. es ++ s.1) (sym (ap (datagrams l was.heard) none ∙ no_datagrams l was.heard))
-        ∙ was.told
+    ∙ was.told
 
 pub drop_past : (ds : List (Bor (List ℕ))) (i : ℕ) → length ds ≤ i → views (drop i ds) ≡ []
 drop_past [] zero h = refl

@@ -1,7 +1,29 @@
 -- What is told of a datagram, record by record.
 use Rattle.std.proofs.Common.{
-  ◌≡◌, ℕ, suc, ◌≤◌, Bool, true, false, cond, nat_lt, Ok, Err, List, [], ◌∷◌, ◌++◌, length, map, refl, sym, ◌∙◌, ap,
-  subst, append_assoc, append-nil,
+  ◌≡◌,
+  ℕ,
+  suc,
+  ◌≤◌,
+  Bool,
+  true,
+  false,
+  cond,
+  nat_lt,
+  Ok,
+  Err,
+  List,
+  [],
+  ◌∷◌,
+  ◌++◌,
+  length,
+  map,
+  refl,
+  sym,
+  ◌∙◌,
+  ap,
+  subst,
+  append_assoc,
+  append-nil,
 }
 use Rattle.std.specs.Prelude.{◌==◌}
 use Rattle.std.proofs.lemmas.Bool.{le-ltb, eq-eqb}
@@ -14,16 +36,53 @@ use Rattle.tls_parser.specs.declared.dtls.message.DTLSMessage.{DTLSMessage}
 use Rattle.tls_parser.specs.DtlsRecord as dtls_record
 use Rattle.dtls_messages.specs.Fragments.{Fragment, fragment}
 use Rattle.dtls_messages.specs.Messages.{
-  AreHeard, Encrypted, Event, Heard, IsStopped, Kept, Limits, Stands, after, events, messages,
+  AreHeard,
+  Encrypted,
+  Event,
+  Heard,
+  IsStopped,
+  Kept,
+  Limits,
+  Stands,
+  after,
+  events,
+  messages,
 }
 use Rattle.dtls_messages.proofs.StoppedLemmas.{after_append}
 use Rattle.dtls_stream.specs.Datagrams.{
-  AreToldInPart, IsCut, IsStep, Step, content_step, datagram, datagram_record, encrypted, event_of,
-  fragment_record_step, fragments_from, fragments_in_record, fragments_of, fragments_step, fragments_within, left_over,
-  next_record, record_step, records_step, then_step, those_read, unread,
+  AreToldInPart,
+  IsCut,
+  IsStep,
+  Step,
+  content_step,
+  datagram,
+  datagram_record,
+  encrypted,
+  event_of,
+  fragment_record_step,
+  fragments_from,
+  fragments_in_record,
+  fragments_of,
+  fragments_step,
+  fragments_within,
+  left_over,
+  next_record,
+  record_step,
+  records_step,
+  then_step,
+  those_read,
+  unread,
 }
 use Rattle.dtls_stream.proofs.CutLemmas.{
-  cut_all, cut_behind, cut_part, cut_same, cut_stopped, messages_append, messages_joined, part_behind, part_front,
+  cut_all,
+  cut_behind,
+  cut_part,
+  cut_same,
+  cut_stopped,
+  messages_append,
+  messages_joined,
+  part_behind,
+  part_front,
 }
 use Rattle.dtls_stream.proofs.DatagramLemmas.{content_same, eqb-ne, map_twice}
 
@@ -95,14 +154,14 @@ pub fragments_stopped : (l : Limits) (h : Heard) (es es' : List Event) (k : Kept
     IsStopped l h fs es es' k → IsCut l h (those_read r) (fragments_step r l h).1 es es' k
 fragments_stopped l h es es' k r fs rest is was =
     subst (λ a. IsCut l h (those_read a) (fragments_step a l h).1 es es' k) (sym is)
-        (cut_stopped l h fs (left_over rest) es es' k was)
+    (cut_stopped l h fs (left_over rest) es es' k was)
 
 pub fragments_untold : (l : Limits) (h : Heard) (es es' es'' : List Event) (k : Kept) (r : Answer (List Fragment))
     (fs : List Fragment) (rest : Bytes) → r ≡ Ok (fs, rest) →
     AreHeard l h fs es es' k → es'' ≡ es' → IsCut l h (those_read r) (fragments_step r l h).1 es es'' k
 fragments_untold l h es es' es'' k r fs rest is was same =
     subst (λ a. IsCut l h (those_read a) (fragments_step a l h).1 es es'' k) (sym is)
-        (cut_all l h fs (left_over rest) es es' es'' k was same)
+    (cut_all l h fs (left_over rest) es es' es'' k was same)
 
 -- Of the messages in a record of another type the first are told.
 pub content_stopped : (h : Heard) (es es' : List Event) (r : Answer (List Message)) (ms : List DTLSMessage)
@@ -119,7 +178,7 @@ pub content_untold : (h : Heard) (es es' es'' : List Event) (r : Answer (List Me
 content_untold h es es' es'' r ms rest is told same =
     subst (λ a. AreToldInPart (content_step a h).1 es es'') (sym is)
     (part_front (map event_of (map view_message ms)) (left_over rest) es es''
-        (same ∙ told ∙ ap (λ m. es ++ m) (sym (map_twice ms))))
+    (same ∙ told ∙ ap (λ m. es ++ m) (sym (map_twice ms))))
 
 cut_by : (a b c d : Bool) (l : Limits) (h : Heard) (r : RawRecord) (es es' : List Event) (k : Kept) → a ≡ c → b ≡ d →
     IsCut l h (fragments_by c d r) (step_by c d l h r).1 es es' k
@@ -144,7 +203,7 @@ other_cut l h r es es' k low kind was st =
     cut_by (nat_lt 0 r.header.epoch) (r.header.content_type == 22) false false l h r es es' k
     (le-ltb 0 r.header.epoch low) (eqb-ne r.header.content_type 22 kind)
     (cut_part l h (content_step (reading (record_content r.header) r.fragment) h).1 es es' k
-        (content_none h (reading (record_content r.header) r.fragment)) was st)
+    (content_none h (reading (record_content r.header) r.fragment)) was st)
 
 -- A datagram of which so many records may still come: its first fragments were heard.
 pub record IsReading (l : Limits) (h : Heard) (fs : List Fragment) (s : Step) (n : ℕ) (left : Bytes)
@@ -231,7 +290,7 @@ pub reading_fails : (l : Limits) (h : Heard) (fs : List Fragment) (s : Step) (n 
     → IsStep l s es es'' k
 reading_fails l h fs s n m left e es es' es'' k is err was told =
     let steps : records_step n l was.heard left ≡ (was.heard, unread left e) =
-        ap (λ n. records_step n l was.heard left) is ∙ step_err m l was.heard left e err in
+    ap (λ n. records_step n l was.heard left) is ∙ step_err m l was.heard left e err in
     record {
       events = told ∙ ap (λ x. x ++ unread left e) was.told ∙ append_assoc es was.front (unread left e)
           ∙ ap (λ x. es ++ x) (ap (λ s. was.front ++ s.1) (sym steps) ∙ was.in_order);
@@ -243,7 +302,7 @@ pub reading_ends : (l : Limits) (h : Heard) (fs : List Fragment) (s : Step) (n :
     IsReading l h fs s n left es es' k → IsStep l s es es' k
 reading_ends l h fs s n left es es' k is was =
     let steps : records_step n l was.heard left ≡ (was.heard, []) = ap (λ n. records_step n l was.heard left) is
-        ∙ step_none l was.heard left in
+    ∙ step_none l was.heard left in
     record {
       events = was.told ∙ ap (λ x. es ++ x)
           (sym (append-nil was.front) ∙ ap (λ s. was.front ++ s.1) (sym steps) ∙ was.in_order);
@@ -268,7 +327,7 @@ reading_cut l h fs s n m left rest r es es' es'' k k' is ok was hears =
     was.split ∙ ap (λ x. was.first ++ x) (ap (λ n. fragments_within n left) is ∙ within_ok m left rest r ok) in
     subst (λ fs. IsCut l h fs s.1 es es'' k') (sym split)
     (cut_behind l h was.first more (fragments_within m rest) was.front step.1 behind s.1 es es' es'' k' was.told
-        was.none_lost
+    was.none_lost
     (ap (λ s. was.front ++ s.1) (sym steps) ∙ was.in_order) cut)
 
 pub reading_untold : (l : Limits) (h : Heard) (fs : List Fragment) (s : Step) (n : ℕ) (left : Bytes)
@@ -278,5 +337,5 @@ reading_untold l h fs s n left es es' es'' k was same =
     let stands : Stands l (after l h was.first) k = subst (λ g. Stands l g k) was.hears was.stands in
     subst (λ fs. IsCut l h fs s.1 es es'' k) (sym was.split)
     (cut_behind l h was.first [] (fragments_within n left) was.front [] (records_step n l was.heard left).1 s.1 es es'
-        es'' k was.told was.none_lost was.in_order
+    es'' k was.told was.none_lost was.in_order
     (cut_same l (after l h was.first) [] [] es' es'' k same stands))

@@ -168,7 +168,7 @@ fn read_handshake(
         → OnOk result (IsStep l (fragment_record_step bytes.now l h) (view_events events.old.items) (view_events events.new.items) messages.new) }
     ensures stopped { (l : Allowed) (h : Heard) → Stands l h messages.old
         → OnErr result (IsCut l h (fragments_in_content bytes.now) (fragment_record_step bytes.now l h).1
-            (view_events events.old.items) (view_events events.new.items) messages.new) }
+        (view_events events.old.items) (view_events events.new.items) messages.new) }
 {
     match items1::<Fragment>(alloc, bytes) {
         Ok((rest, fragments)) => {

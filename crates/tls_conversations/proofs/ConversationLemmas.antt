@@ -1,7 +1,37 @@
 -- Conversations, by the pieces of both sides.
 use Rattle.std.proofs.Common.{
-  ◌≡◌, ℕ, suc, ◌+◌, ◌<◌, ◌≤◌, List, [], ◌∷◌, ◌++◌, length, take, get_or, map, Bool, true, false, cond, not, ◌&&◌, ◌||◌,
-  Option, Some, None, refl, sym, ◌∙◌, ap, subst, arith, append_assoc, append-nil,
+  ◌≡◌,
+  ℕ,
+  suc,
+  ◌+◌,
+  ◌<◌,
+  ◌≤◌,
+  List,
+  [],
+  ◌∷◌,
+  ◌++◌,
+  length,
+  take,
+  get_or,
+  map,
+  Bool,
+  true,
+  false,
+  cond,
+  not,
+  ◌&&◌,
+  ◌||◌,
+  Option,
+  Some,
+  None,
+  refl,
+  sym,
+  ◌∙◌,
+  ap,
+  subst,
+  arith,
+  append_assoc,
+  append-nil,
 }
 use Rattle.std.specs.Borrow.{Bor}
 use Rattle.std.proofs.Math.Seq.{take-suc}
@@ -20,8 +50,21 @@ use Rattle.tls_flow.specs.declared.letter.Direction.{Direction as Side}
 use Rattle.tls_flow.specs.declared.letter.Direction.TheVariants.{ToServer, FromServer}
 use Rattle.tls_flow.proofs.FlowLemmas.{told_of_flow}
 use Rattle.tls_conversations.specs.Conversations.{
-  AreEvents, Hears, IsBegun, IsBehind, IsFedBy, IsFollowed, IsHeard, IsOutcomeOf, IsTakenBy, IsToldIf, Says, ear, other,
-  tells, views,
+  AreEvents,
+  Hears,
+  IsBegun,
+  IsBehind,
+  IsFedBy,
+  IsFollowed,
+  IsHeard,
+  IsOutcomeOf,
+  IsTakenBy,
+  IsToldIf,
+  Says,
+  ear,
+  other,
+  tells,
+  views,
 }
 use Rattle.tls_conversations.specs.Ears.{IsReady, IsTaken, first_in, front_of, says}
 use Rattle.tls_conversations.specs.Events.{chooses_tls13, event_of}
@@ -49,9 +92,10 @@ flow_heard c d (p ∷ ps) es h =
 pub one_more : (c d e : Conversation) (ps : List (Side × Bytes)) (es : List Event) (s : Side) (p : Bytes)
     → Hears c ps es d → IsHeard d s p e
     → (fs : List Event) × Hears c (ps ++ (s, p) ∷ []) fs e
-one_more c d e [] es s p h last =
-    (map (event_of s) last.1 ++ [],
-        (last.0, e, last.1, [], refl, subst (λ x. IsFedBy x s p last.0) h.1 last.2, last.3, (refl, refl)))
+one_more c d e [] es s p h last = (
+  map (event_of s) last.1 ++ [],
+  (last.0, e, last.1, [], refl, subst (λ x. IsFedBy x s p last.0) h.1 last.2, last.3, (refl, refl)),
+)
 one_more c d e (q ∷ ps) es s p h last =
     let k = one_more h.1 d e ps h.3 s p h.7 last in
     (map (event_of q.0) h.2 ++ k.0, (h.0, h.1, h.2, k.0, refl, h.5, h.6, k.1))
@@ -59,9 +103,12 @@ one_more c d e (q ∷ ps) es s p h last =
 pub outcome_is : (c d : Conversation) (limit : ℕ) (ps : List (Side × Bytes)) (es : List Event) → IsBegun limit c
     → Hears c ps es d
     → IsOutcomeOf (outcome_at d.flow.state) limit ps
-outcome_is c d limit ps es begun h =
-    (es, (c, d, begun, h), (told_of_flow es c.flow d.flow (flow_heard c d ps es h) begun.flow
-        (outcome_at d.flow.state)).0 refl)
+outcome_is c d limit ps es begun h = (
+  es,
+  (c, d, begun, h),
+  (told_of_flow es c.flow d.flow (flow_heard c d ps es h) begun.flow
+      (outcome_at d.flow.state)).0 refl,
+)
 
 -- An event is taken off a side and followed.
 each_told : (c d : Conversation) (e : Event) → IsFollowed c e d → (s : Side) → IsToldIf (tells c e) (ear c s) (ear d s)
@@ -98,7 +145,7 @@ at_client c m d s v e t n at is front e_is off f =
     (λ front e_is. behind_is c m d ToServer v e t front e_is
     (subst (λ x. IsTaken (front_of c.client) c.client t x) (sym (ap (λ (x : Conversation). x.client) is)) off)
     (ap (λ (x : Conversation). x.server) is) (ap (λ (x : Conversation). x.is_tls13) is)
-        (ap (λ (x : Conversation). x.flow) is) f)
+    (ap (λ (x : Conversation). x.flow) is) f)
     front e_is
 
 pub at_server : (c m d : Conversation) (s : Side) (v : Said) (e : Event) (t : Bool) (n : Ear) → s ≡ FromServer
@@ -110,7 +157,7 @@ at_server c m d s v e t n at is front e_is off f =
     (λ front e_is. behind_is c m d FromServer v e t front e_is
     (subst (λ x. IsTaken (front_of c.server) c.server t x) (sym (ap (λ (x : Conversation). x.server) is)) off)
     (ap (λ (x : Conversation). x.client) is) (ap (λ (x : Conversation). x.is_tls13) is)
-        (ap (λ (x : Conversation). x.flow) is) f)
+    (ap (λ (x : Conversation). x.flow) is) f)
     front e_is
 
 -- All that a side says is taken off, one after the other: what it says then, it said behind what was taken.
@@ -177,20 +224,20 @@ fewer_untold m n s t untold took taken = go (front_of (ear m s)) taken
     by v true at behind =
         let told : n.is_tls13 ≡ true = behind.is_tls13 ∙ ap (λ b. m.is_tls13 || b) at ∙ ap (λ b. b || true) untold in
         subst (λ b. cond b 0 (suc (length (says (ear n s) []))) < suc (length (says (ear m s) []))) (sym told)
-            (omega arith)
+        (omega arith)
     by v false at behind =
         let e = behind.side.0 in
         let one : says (ear m s) [] ≡ v ∷ says e [] = behind.side.1 [] in
         let same : says e [] ≡ says (ear n s) [] = (subst (λ b. IsToldIf b e (ear n s)) at behind.side.2) [] in
         let still : n.is_tls13 ≡ false = behind.is_tls13 ∙ ap (λ b. m.is_tls13 || b) at ∙ ap (λ b. b || false) untold in
         subst (λ b. cond b 0 (suc (length (says (ear n s) []))) < suc (length (says (ear m s) []))) (sym still)
-            (omega (arith, ap length one, ap length same))
+        (omega (arith, ap length one, ap length same))
 
     go : (o : Option Said) → IsTakenBy o m s t n → left_untold n s < left_untold m s
     go None taken = let e : true ≡ false = sym took ∙ taken.0 in absurd cc
     go (Some v) taken =
         subst (λ b. left_untold n s < cond b 0 (suc (length (says (ear m s) [])))) (sym untold)
-            (by v (tells m (event_of s v)) refl taken.1)
+        (by v (tells m (event_of s v)) refl taken.1)
 
 still_by : (o : Option Said) (m n : Conversation) (s : Side) (t : Bool) → m.is_tls13 ≡ true → IsTakenBy o m s t n
     → n.is_tls13 ≡ true
@@ -214,12 +261,12 @@ pub piece_heard : (limit : ℕ) (pieces : List (Side × Bor (List ℕ))) (i : �
     → AreHeard limit (views (take (i + 1) pieces)) e
 piece_heard limit pieces i q d e within heard last =
     let k = one_more heard.0 d e (views (take i pieces)) heard.1 (get_or pieces i q).0 (get_or pieces i q).1.now heard.3
-        last in
+    last in
     let one : i + 1 ≡ suc i = omega arith in
     let next : views (take (i + 1) pieces)
-        ≡ views (take i pieces) ++ ((get_or pieces i q).0, (get_or pieces i q).1.now) ∷ []
+    ≡ views (take i pieces) ++ ((get_or pieces i q).0, (get_or pieces i q).1.now) ∷ []
     = ap (λ k. views (take k pieces)) one ∙ ap views (take-suc pieces i q within)
-        ∙ map-append (λ (p : Side × Bor (List ℕ)). (p.0, p.1.now)) (take i pieces) (get_or pieces i q ∷ []) in
+    ∙ map-append (λ (p : Side × Bor (List ℕ)). (p.0, p.1.now)) (take i pieces) (get_or pieces i q ∷ []) in
     (heard.0, k.0, heard.2, subst (λ ps. Hears heard.0 ps k.0 e) (sym next) k.1)
 
 pub all_heard : (limit : ℕ) (pieces : List (Side × Bor (List ℕ))) (i : ℕ) (d : Conversation) → length pieces ≤ i

@@ -1,6 +1,24 @@
 -- Sides of conversations.
 use Rattle.std.proofs.Common.{
-  ◌≡◌, ℕ, List, [], ◌∷◌, ◌++◌, Bool, true, false, Option, Some, None, Ok, refl, sym, ◌∙◌, ap, subst, append_assoc,
+  ◌≡◌,
+  ℕ,
+  List,
+  [],
+  ◌∷◌,
+  ◌++◌,
+  Bool,
+  true,
+  false,
+  Option,
+  Some,
+  None,
+  Ok,
+  refl,
+  sym,
+  ◌∙◌,
+  ap,
+  subst,
+  append_assoc,
   append-nil,
 }
 use Rattle.std.specs.Prelude.{IsSome, option_map}
@@ -66,9 +84,11 @@ taken_is d n e off same = go (first d) refl off
     go : (a : Option (Said × Direction)) → first d ≡ a → FirstTaken a d true n
         → IsTaken (option_map (λ x. x.0) a) (speaking d) true e
     go None is off = let t : true ≡ false = off.0 in absurd cc
-    go (Some x) is off =
-        (refl, λ t. first_event d x.1 x.0 t is ∙ ap (λ m. x.0 ∷ events (fed m t)) (sym off.1)
-            ∙ ap (λ vs. x.0 ∷ vs) (same t))
+    go (Some x) is off = (
+      refl,
+      λ t. first_event d x.1 x.0 t is ∙ ap (λ m. x.0 ∷ events (fed m t)) (sym off.1)
+          ∙ ap (λ vs. x.0 ∷ vs) (same t),
+    )
 
 pub none_taken : (d n : Direction) → FirstTaken (first d) d false n
     → IsTaken (front_of (speaking d)) (speaking d) false (speaking n)
@@ -97,17 +117,17 @@ pub taken_by : (s : Standing) (d n : Direction) (e : Ear) (t : Bool) → s ≡ S
 taken_by s d n e t is took off same =
     let at : IsTaken (front_of (speaking d)) (speaking d) true e
     = taken_is d n e (subst (λ t. FirstTaken (first d) d t n) took off)
-        (subst (λ s. SaysAs (record { direction = n; standing = s }) e) is same) in
+    (subst (λ s. SaysAs (record { direction = n; standing = s }) e) is same) in
     subst (λ t. IsTaken (front_of (record { direction = d; standing = s })) (record { direction = d; standing = s }) t
-        e) (sym took)
+    e) (sym took)
     (subst (λ s. IsTaken (front_of (record { direction = d; standing = s })) (record { direction = d; standing = s })
-        true e) (sym is) at)
+    true e) (sym is) at)
 
 pub kept_ready : (s : Standing) (d n : Direction) (t : Bool) → t ≡ false → FirstTaken (first d) d t n
     → IsReady (record { direction = d; standing = s }) → IsReady (record { direction = n; standing = s })
 kept_ready s d n t none off ready =
     subst (λ m. IsReady (record { direction = m; standing = s }))
-        (sym (is (first d) (subst (λ t. FirstTaken (first d) d t n) none off))) ready
+    (sym (is (first d) (subst (λ t. FirstTaken (first d) d t n) none off))) ready
   where
     is : (a : Option (Said × Direction)) → FirstTaken a d false n → n ≡ d
     is None off = off.1

@@ -223,7 +223,7 @@ same_kind b m e =
     let is_m : ◌≡◌ {A = messages.Message × Bytes} (messages.Handshake y.0.0, y.0.1) (m, []) =
     ok_is (messages.Handshake y.0.0, y.0.1) (m, []) y.2 in
     same_parts b t.0.1 n.0.1 w.0.0 w.0.1 t.0.0 n.0.0 x.0.0 read_t.0 read_t.1 read_t.2 read_n.0 read_n.2 read_w.0
-        read_w.1 read_w.2
+    read_w.1 read_w.2
     (ap (λ (p : handshakes.Handshake × Bytes). p.1) is_y ∙ ap (λ (p : messages.Message × Bytes). p.1) is_m)
     (same_body n.0.0 w.0.0 x.0 t.0.0 x.1)
     ∙ ap (λ (p : handshakes.Handshake × Bytes). kind_of_handshake p.0) is_y

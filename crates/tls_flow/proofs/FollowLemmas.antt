@@ -33,7 +33,7 @@ after_request w = after_certificate (letter kind.CertificateRequest FromServer �
 abbrev after_change : Word → Word
 after_change w =
     after_server_hello (letter kind.ServerDone FromServer ∷ letter kind.ClientKeyExchange ToServer
-        ∷ letter kind.ChangeCipherSpec ToServer ∷ w)
+    ∷ letter kind.ChangeCipherSpec ToServer ∷ w)
 
 abbrev road : State → Word
 road state.Start = []
@@ -58,7 +58,7 @@ road state.RequestDone = after_request (letter kind.ServerDone FromServer ∷ []
 road state.ClientCertificate = after_request (letter kind.ServerDone FromServer ∷ letter kind.Certificate ToServer ∷ [])
 road state.ClientKeys =
     after_request (letter kind.ServerDone FromServer ∷ letter kind.Certificate ToServer
-        ∷ letter kind.ClientKeyExchange ToServer ∷ [])
+    ∷ letter kind.ClientKeyExchange ToServer ∷ [])
 road state.Done = after_server_hello (letter kind.ServerDone FromServer ∷ [])
 road state.ClientDone = after_server_hello
     (letter kind.ServerDone FromServer ∷ letter kind.ClientKeyExchange ToServer ∷ [])
@@ -73,10 +73,10 @@ road state.Tls13 = after_hello (letter kind.ServerHello13 FromServer ∷ [])
 road state.EarlyTls13 = after_hello (letter kind.Encrypted ToServer ∷ letter kind.ServerHello13 FromServer ∷ [])
 road state.RetriedTls13 =
     after_hello (letter kind.HelloRetryRequest FromServer ∷ letter kind.ClientHello ToServer
-        ∷ letter kind.ServerHello13 FromServer ∷ [])
+    ∷ letter kind.ServerHello13 FromServer ∷ [])
 road state.EarlyRetriedTls13 = after_hello
     (letter kind.HelloRetryRequest FromServer ∷ letter kind.Encrypted ToServer ∷ letter kind.ClientHello ToServer
-        ∷ letter kind.ServerHello13 FromServer ∷ [])
+    ∷ letter kind.ServerHello13 FromServer ∷ [])
 road state.BrokenOff = letter kind.Other ToServer ∷ []
 road state.Unknown = letter kind.Other ToServer ∷ []
 road state.NoHandshake = letter kind.Other ToServer ∷ []

@@ -116,9 +116,9 @@ same_row : (r : Row) (q : State) (k : Kind) (d : Direction)
 same_row r q k d =
     ap (λ t. t && (sameb kinds r.kind k && sameb directions r.direction d)) (same_states r.state q)
     ∙ ap (λ t. eqb (state_number r.state) (state_number q) && (t && sameb directions r.direction d))
-        (same_kinds r.kind k)
+    (same_kinds r.kind k)
     ∙ ap (λ t. eqb (state_number r.state) (state_number q) && (eqb (kind_number r.kind) (kind_number k) && t))
-        (same_directions r.direction d)
+    (same_directions r.direction d)
 
 next_is : (rows : List Row) (q : State) (k : Kind) (d : Direction)
     → next_after rows q k d ≡ next_at rows (state_number q) (kind_number k) (direction_number d)
@@ -126,7 +126,7 @@ next_is [] q k d = refl
 next_is (r ∷ rows) q k d =
     ap (λ t. if t then Some r.next else next_after rows q k d) (same_row r q k d)
     ∙ ap (λ o. if eqb (state_number r.state) (state_number q) && is_letter (kind_number k) (direction_number d) r
-        then Some r.next else o) (next_is rows q k d)
+    then Some r.next else o) (next_is rows q k d)
 
 abbrev pub step_at : State → Letter → State
 step_at q l =
@@ -147,4 +147,4 @@ awaited_is [] q = refl
 awaited_is (r ∷ rows) q =
     ap (λ t. if t then letter r.kind r.direction ∷ awaited_in rows q else awaited_in rows q) (same_states r.state q)
     ∙ ap (λ ls. if eqb (state_number r.state) (state_number q) then letter r.kind r.direction ∷ ls else ls)
-        (awaited_is rows q)
+    (awaited_is rows q)

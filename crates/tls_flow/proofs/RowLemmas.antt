@@ -19,15 +19,24 @@ use denote.Enum.Bare.{true_same}
 use denote.Enum.Declared.{tag_of}
 use lib.Dec.{eqb}
 use Rattle.tls_flow.proofs.NumberLemmas.{
-  state_number, kind_number, direction_number, state_tag, kind_tag, direction_tag, same_states, same_kinds,
-  same_directions, step_at, step_is,
+  state_number,
+  kind_number,
+  direction_number,
+  state_tag,
+  kind_tag,
+  direction_tag,
+  same_states,
+  same_kinds,
+  same_directions,
+  step_at,
+  step_is,
 }
 
 -- No state, kind and direction stand in two rows.
 abbrev is_like : Row → Row → Bool
 is_like r s = eqb (state_number r.state) (state_number s.state)
     && (eqb (kind_number r.kind) (kind_number s.kind)
-        && eqb (direction_number r.direction) (direction_number s.direction))
+    && eqb (direction_number r.direction) (direction_number s.direction))
 
 alike : (r s : Row) → r.state ≡ s.state → r.kind ≡ s.kind → r.direction ≡ s.direction → is_like r s ≡ true
 alike r s e f g = and_both _ _ (sym (same_states r.state s.state) ∙ true_same states r.state s.state e)

@@ -10,9 +10,9 @@ loop-i-preserved c =
     let first = cell c.args.have.now c.args.held.now in
     let was = c.loop-i.invariant in
     let in_have : at < length c.loop-i.have =
-        omega (arith, c.requires.inside, c.loop-i-test.true, c.loop-i.auto.have) in
+    omega (arith, c.requires.inside, c.loop-i-test.true, c.loop-i.auto.have) in
     let in_held : at < length c.loop-i.held =
-        omega (arith, c.requires.inside, c.requires.both, c.loop-i-test.true, c.loop-i.auto.held) in
+    omega (arith, c.requires.inside, c.requires.both, c.loop-i-test.true, c.loop-i.auto.held) in
     elim c.if-not-have-at.branch [
       | then-not-have-at w ↦ (
         λ i. ap (λ h. cell h c.if-not-have-at.held i) w.have-is
