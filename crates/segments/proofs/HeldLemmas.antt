@@ -1,78 +1,16 @@
 -- What is held, after bytes are added.
-use Rattle.std.proofs.Common.{
-  ◌≡◌,
-  ℕ,
-  zero,
-  suc,
-  ◌+◌,
-  ◌-◌,
-  ◌^◌,
-  ◌<◌,
-  ◌≤◌,
-  [],
-  ◌∷◌,
-  ◌++◌,
-  length,
-  drop,
-  map,
-  Some,
-  Bool,
-  true,
-  false,
-  cond,
-  ltb,
-  refl,
-  sym,
-  ◌∙◌,
-  ap,
-  subst,
-  arith,
-  append_assoc,
-  append-nil,
-  min,
-}
+use Rattle.std.proofs.Common.{◌≡◌, ℕ, zero, suc, ◌+◌, ◌-◌, ◌^◌, ◌<◌, ◌≤◌, [], ◌∷◌, ◌++◌, length, drop, map, Some}
+use Rattle.std.proofs.Common.{Bool, true, false, cond, ltb, refl, sym, ◌∙◌, ap, subst, arith, append_assoc}
+use Rattle.std.proofs.Common.{append-nil, min}
 use Rattle.std.proofs.lemmas.Bool.{ltb-true, ltb-false}
-use Rattle.std.proofs.lemmas.List.{
-  length-append,
-  length-drop,
-  length-map,
-  map-append,
-  drop-drop,
-  drop-append-le,
-  drop_min,
-  drop_all,
-}
-use Rattle.segments.specs.Cells.{
-  Bytes,
-  Cells,
-  fill,
-  fill_at,
-  put,
-  run,
-  wanted,
-  with_located,
-  without_front,
-  known,
-  known_behind,
-  gap,
-}
+use Rattle.std.proofs.lemmas.List.{length-append, length-drop, length-map, map-append, drop-drop, drop-append-le}
+use Rattle.std.proofs.lemmas.List.{drop_min, drop_all}
+use Rattle.segments.specs.Cells.{Bytes, Cells, fill, fill_at, put, run, wanted, with_located, without_front, known}
+use Rattle.segments.specs.Cells.{known_behind, gap}
 use Rattle.segments.specs.Places.{IsSound, held_cells, held_of}
-use Rattle.segments.proofs.CellLemmas.{
-  put_at,
-  put_now,
-  put_behind,
-  run_some,
-  run_split,
-  run_drop,
-  run_low,
-  run_fill_long,
-  drop_fill,
-  fill_low,
-  fill_at_low,
-  fill_at_run,
-  behind_some,
-  behind_all,
-}
+use Rattle.segments.proofs.CellLemmas.{put_at, put_now, put_behind, run_some, run_split, run_drop, run_low}
+use Rattle.segments.proofs.CellLemmas.{run_fill_long, drop_fill, fill_low, fill_at_low, fill_at_run, behind_some}
+use Rattle.segments.proofs.CellLemmas.{behind_all}
 
 pub run_held : (start taken limit : ℕ) (front : Bytes) (window : Cells) → IsSound start taken limit front window
     → run (held_cells start front window) ≡ drop start front

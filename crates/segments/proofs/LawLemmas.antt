@@ -1,79 +1,16 @@
 -- What stands of a stream, place by place.
-use Rattle.std.proofs.Common.{
-  ◌≡◌,
-  ◌↔◌,
-  ◌⊎◌,
-  inl,
-  inr,
-  ℕ,
-  zero,
-  suc,
-  ◌+◌,
-  ◌-◌,
-  ◌*◌,
-  ◌/◌,
-  ◌%◌,
-  ◌^◌,
-  ◌<◌,
-  ◌≤◌,
-  List,
-  [],
-  ◌∷◌,
-  ◌++◌,
-  length,
-  take,
-  drop,
-  Option,
-  Some,
-  None,
-  Bool,
-  true,
-  false,
-  cond,
-  ltb,
-  refl,
-  sym,
-  ◌∙◌,
-  ap,
-  subst,
-  arith,
-  append_assoc,
-  le_refl,
-}
+use Rattle.std.proofs.Common.{◌≡◌, ◌↔◌, ◌⊎◌, inl, inr, ℕ, zero, suc, ◌+◌, ◌-◌, ◌*◌, ◌/◌, ◌%◌, ◌^◌, ◌<◌, ◌≤◌, List, []}
+use Rattle.std.proofs.Common.{◌∷◌, ◌++◌, length, take, drop, Option, Some, None, Bool, true, false, cond, ltb, refl}
+use Rattle.std.proofs.Common.{sym, ◌∙◌, ap, subst, arith, append_assoc, le_refl}
 use Rattle.std.specs.Option.{IsSome}
 use Rattle.std.proofs.lemmas.Bool.{ltb-true, ltb-false}
 use Rattle.std.proofs.lemmas.List.{length-append, take_at, take-append-drop, length-take-le}
 use Rattle.std.proofs.lemmas.Nat.{div-add-mod', mod_below, mod_low}
-use Rattle.segments.specs.Cells.{
-  Bytes,
-  Cells,
-  Held,
-  byte_at,
-  cell,
-  earlier,
-  fill,
-  fill_at,
-  put,
-  run,
-  wanted,
-  ahead,
-  located,
-  with_located,
-  with_segment,
-  without_front,
-}
+use Rattle.segments.specs.Cells.{Bytes, Cells, Held, byte_at, cell, earlier, fill, fill_at, put, run, wanted, ahead}
+use Rattle.segments.specs.Cells.{located, with_located, with_segment, without_front}
 use Rattle.segments.proofs.CellLemmas.{run_drop}
-use Rattle.segments.specs.Law.{
-  Segment,
-  place_of,
-  IsPart,
-  AreParts,
-  IsOver,
-  IsCovered,
-  IsLongestFront,
-  IsMadeOf,
-  IsAmong,
-}
+use Rattle.segments.specs.Law.{Segment, place_of, IsPart, AreParts, IsOver, IsCovered, IsLongestFront, IsMadeOf}
+use Rattle.segments.specs.Law.{IsAmong}
 
 -- Filled cells, place by place.
 cell_fill : (cs : Cells) (ys : Bytes) (i : ℕ) → cell (fill cs ys) i ≡ earlier (cell cs i) (byte_at ys i)

@@ -1,40 +1,7 @@
 -- Pages that are made, and written to.
-use Rattle.std.proofs.Common.{
-  ◌≡◌,
-  ℕ,
-  zero,
-  suc,
-  ◌+◌,
-  ◌/◌,
-  ◌%◌,
-  ◌<◌,
-  ◌⊎◌,
-  inl,
-  inr,
-  [],
-  ◌∷◌,
-  length,
-  get_or,
-  set,
-  replicate,
-  Option,
-  Some,
-  None,
-  Result,
-  Ok,
-  Err,
-  Bool,
-  true,
-  false,
-  cond,
-  ltb,
-  eqb,
-  refl,
-  sym,
-  ◌∙◌,
-  ap,
-  arith,
-}
+use Rattle.std.proofs.Common.{◌≡◌, ℕ, zero, suc, ◌+◌, ◌/◌, ◌%◌, ◌<◌, ◌⊎◌, inl, inr, [], ◌∷◌, length, get_or, set}
+use Rattle.std.proofs.Common.{replicate, Option, Some, None, Result, Ok, Err, Bool, true, false, cond, ltb, eqb, refl}
+use Rattle.std.proofs.Common.{sym, ◌∙◌, ap, arith}
 use Rattle.std.specs.Prelude.{OnErr}
 use Rattle.std.specs.Option.{is_some}
 use Rattle.std.specs.Ordering.{is_eq, nat_cmp}
@@ -43,19 +10,8 @@ use Rattle.std.proofs.lemmas.Bool.{ltb-true, eqb-true, eqb-false, cases_eq}
 use Rattle.std.proofs.lemmas.List.{length-replicate}
 use Rattle.std.proofs.lemmas.Nat.{div-add-mod', mod_below}
 use Rattle.segments.specs.Cells.{Cells, cell, known}
-use Rattle.segments.specs.Pages.{
-  AreWhole,
-  IsPaged,
-  IsSame,
-  IsWritten,
-  Page,
-  Pages,
-  cell_in,
-  page,
-  page_length,
-  place,
-  places,
-}
+use Rattle.segments.specs.Pages.{AreWhole, IsPaged, IsSame, IsWritten, Page, Pages, cell_in, page, page_length, place}
+use Rattle.segments.specs.Pages.{places}
 use Rattle.segments.proofs.CellLemmas.{cell_get}
 use Rattle.segments.proofs.PageLemmas.{byte_is_put, byte_stands, known_next, places_same}
 

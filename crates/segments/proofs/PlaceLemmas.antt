@@ -1,43 +1,13 @@
 -- Places, stored one by one.
-use Rattle.std.proofs.Common.{
-  ◌≡◌,
-  ℕ,
-  zero,
-  suc,
-  ◌+◌,
-  ◌-◌,
-  ◌<◌,
-  ◌≤◌,
-  [],
-  ◌∷◌,
-  ◌++◌,
-  length,
-  take,
-  drop,
-  get_or,
-  Option,
-  Some,
-  None,
-  refl,
-  sym,
-  ◌∙◌,
-  ap,
-  arith,
-  append_assoc,
-  append-nil,
-  ◌⊎◌,
-  inl,
-  inr,
-  Bool,
-  true,
-  false,
-  ltb,
-  min,
-}
+use Rattle.std.proofs.Common.{◌≡◌, ℕ, zero, suc, ◌+◌, ◌-◌, ◌<◌, ◌≤◌, [], ◌∷◌, ◌++◌, length, take, drop, get_or}
+use Rattle.std.proofs.Common.{Option, Some, None, refl, sym, ◌∙◌, ap, arith, append_assoc, append-nil, ◌⊎◌, inl, inr}
+use Rattle.std.proofs.Common.{Bool, true, false, ltb, min}
+use Rattle.std.proofs.Common.{map, if◌then◌else◌}
 use Rattle.std.specs.Option.{unwrap_or}
 use Rattle.std.proofs.lemmas.Bool.{ltb-true, ltb-false}
-use Rattle.std.proofs.lemmas.List.{drop_all, take_rest, drop_min}
-use Rattle.segments.specs.Cells.{Bytes, Cells, cell, fill, run}
+use Rattle.std.proofs.lemmas.List.{drop_all, drop_more, take_rest, drop_min}
+use Rattle.segments.specs.Cells.{Bytes, Cells, cell, differing, differs, fill, run}
+use Rattle.segments.proofs.CellLemmas.{cell_none}
 use Rattle.segments.specs.Places.{over, standing}
 
 -- A loop that appends: what is done and what is left to do.
@@ -117,3 +87,43 @@ nothing_appended out all = record { is = refl; more = ([], sym (append-nil out))
 pub standing_is : (o : Option ℕ) (y : ℕ) → unwrap_or o y ≡ standing o y
 standing_is None y = refl
 standing_is (Some x) y = refl
+
+-- Places at which other bytes stand.
+pub differing_end : (cs : Cells) (ys : Bytes) (k : ℕ) → length cs ≤ k → differing k ys cs ≡ 0
+differing_end cs [] k h = refl
+differing_end cs (y ∷ ys) k h =
+    let none : ◌≡◌ {A = ℕ} (if differs (cell cs k) y then 1 else 0) 0 =
+    ap (λ o. if differs o y then 1 else 0) (cell_none cs k h) in
+    let rest = differing_end cs ys (suc k) (omega (arith, h)) in
+    omega (arith, none, rest)
+
+pub differing_one : (cs : Cells) (ys : Bytes) (k i : ℕ) → i < length ys
+    → differing (k + i) (drop i ys) cs
+    ≡ (if differs (cell cs (k + i)) (get_or ys i 0) then 1 else 0) + differing (k + (i + 1)) (drop (i + 1) ys) cs
+differing_one cs ys k i h =
+    let next : suc (k + i) ≡ k + (i + 1) = omega arith in
+    ap (λ l. differing (k + i) l cs) (drop_more ys i 0 h)
+    ∙ ap (λ n. (if differs (cell cs (k + i)) (get_or ys i 0) then 1 else 0) + differing n (drop (i + 1) ys) cs) next
+
+pub differing_rest : (cs : Cells) (ys : Bytes) (k i : ℕ) → min (length ys) (length cs - k) ≤ i
+    → differing (k + i) (drop i ys) cs ≡ 0
+differing_rest cs ys k i h = go (ltb i (length ys)) refl
+  where
+    go : (t : Bool) → ltb i (length ys) ≡ t → differing (k + i) (drop i ys) cs ≡ 0
+    go true e = let more = ltb-true i (length ys) e in differing_end cs (drop i ys) (k + i) (omega (arith, h, more))
+    go false e = ap (λ l. differing (k + i) l cs) (drop_all i ys (ltb-false i (length ys) e))
+
+cell_behind : (F : Bytes) (cs : Cells) (k : ℕ) → cell (map Some F ++ cs) (length F + k) ≡ cell cs k
+cell_behind [] cs k = let e : 0 + k ≡ k = omega arith in ap (cell cs) e
+cell_behind (x ∷ F) cs k =
+    let e : suc (length F) + k ≡ suc (length F + k) = omega arith in
+    ap (cell (Some x ∷ map Some F ++ cs)) e ∙ cell_behind F cs k
+
+pub differing_behind : (F : Bytes) (cs : Cells) (k : ℕ) (ys : Bytes)
+    → differing (length F + k) ys (map Some F ++ cs) ≡ differing k ys cs
+differing_behind F cs k [] = refl
+differing_behind F cs k (y ∷ ys) =
+    let next : suc (length F + k) ≡ length F + suc k = omega arith in
+    ap (λ o. (if differs o y then 1 else 0) + differing (suc (length F + k)) ys (map Some F ++ cs)) (cell_behind F cs k)
+    ∙ ap (λ n. (if differs (cell cs k) y then 1 else 0) + differing n ys (map Some F ++ cs)) next
+    ∙ ap (λ n. (if differs (cell cs k) y then 1 else 0) + n) (differing_behind F cs (suc k) ys)
