@@ -1,4 +1,7 @@
 mod CutLemmas
 mod HearerLemmas
 mod TalkLemmas
+mod FollowLemmas
+mod FirstLemmas
+mod TurnLemmas
 mod DatagramLemmas
