@@ -28,7 +28,7 @@ pub record IsOn (t : Talk) (s : Side) (p : Bytes) (u : Talk) (n : ℕ) : Type 0 
   pub fed : IsFedBy t.hearer.conversation s p begun
   pub past : IsPast begun s said u.hearer.conversation
   pub heard : AreHeard (hearing t s) s t.hearer.conversation.flow said
-  pub facts : view_facts u.hearer.facts ≡ facts (view_facts t.hearer.facts) said
+  pub facts : view_facts u.hearer.facts ≡ facts s (view_facts t.hearer.facts) said
   pub history : u.hearer.history.items ≡ history s t.hearer.history.items said
   pub same : u ≡ with_hearing (record t { hearer = u.hearer }) s (hearing_behind (hearing t s) said)
   pub count : length said ≡ n
@@ -115,7 +115,7 @@ on_some t u w s p n v on clear noted_it kept same = record {
   fed = on.fed;
   past = (u.hearer.conversation, on.past, noted_it.behind);
   heard = (sym (over_is t u s p n on) ∙ clear, on.heard);
-  facts = noted_it.facts ∙ ap (λ f. noted f v) on.facts;
+  facts = noted_it.facts ∙ ap (λ f. noted s f v) on.facts;
   history = noted_it.history ∙ ap (λ x. with_letter s x (letter_of v)) on.history;
   same = same ∙ next_same t u w.hearer s p n (is_sealed v) on;
   count = omega (arith, on.count);

@@ -19,7 +19,7 @@ pub record IsOn (h : Hearer) (s : Side) (p : Bytes) (i : Hearer) (n : ℕ) (b : 
   pub said : List Said
   pub fed : IsFedBy h.conversation s p begun
   pub past : IsPast begun s said i.conversation
-  pub facts : view_facts i.facts ≡ facts (view_facts h.facts) said
+  pub facts : view_facts i.facts ≡ facts s (view_facts h.facts) said
   pub history : i.history.items ≡ history s h.history.items said
   pub count : length said ≡ n
   pub sealed : b ≡ has_sealed said
@@ -45,7 +45,7 @@ on_some h i j s p n v b on noted_it kept = record {
   said = v ∷ on.said;
   fed = on.fed;
   past = (i.conversation, on.past, noted_it.behind);
-  facts = noted_it.facts ∙ ap (λ f. noted f v) on.facts;
+  facts = noted_it.facts ∙ ap (λ f. noted s f v) on.facts;
   history = noted_it.history ∙ ap (λ h. with_letter s h (letter_of v)) on.history;
   count = omega (arith, on.count);
   sealed = ap (λ x. x || is_sealed v) on.sealed;

@@ -5,3 +5,4 @@ mod FollowLemmas
 mod FirstLemmas
 mod TurnLemmas
 mod DatagramLemmas
+mod RecordLemmas

@@ -130,7 +130,7 @@ both_followed t m u s p q first over last =
           (ap (λ h. over_behind h s m.hearer.conversation.flow last.said) at_hearing
           ∙ ap (λ f. over_behind (hearing_behind (hearing t s) first.said) s f last.said) at_flow
           ∙ over_on (hearing t s) s t.hearer.conversation.flow first.said last.said) last.left);
-      facts = last.facts ∙ ap (λ f. facts f last.said) first.facts ∙ facts_on (view_facts t.hearer.facts) first.said last.said;
+      facts = last.facts ∙ ap (λ f. facts s f last.said) first.facts ∙ facts_on s (view_facts t.hearer.facts) first.said last.said;
       history = last.history ∙ ap (λ h. history s h last.said) first.history ∙ history_on s t.hearer.history.items first.said last.said;
       same = last.same ∙ ap (λ x. with_hearing (record x { hearer = u.hearer }) s (hearing_behind (hearing m s) last.said)) first.same
           ∙ with_again t s m.hearer u.hearer (hearing_behind (hearing t s) first.said) (hearing_behind (hearing m s) last.said)

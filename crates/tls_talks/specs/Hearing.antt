@@ -21,7 +21,7 @@ pub record IsFed (h : Hearer) (s : Side) (p : Bytes) (i : Hearer) : Type 0 where
 -- The side says v next, which is followed and noted.
 pub record IsNoted (h : Hearer) (s : Side) (v : Said) (i : Hearer) : Type 0 where
   pub behind : IsBehind h.conversation s v i.conversation
-  pub facts : view_facts i.facts ≡ noted (view_facts h.facts) v
+  pub facts : view_facts i.facts ≡ noted s (view_facts h.facts) v
   pub history : i.history.items ≡ with_letter s h.history.items (letter_of v)
 
 -- What the side says next is taken off, if it says something: whether it is encrypted.
@@ -36,7 +36,7 @@ pub record IsHeard (h : Hearer) (s : Side) (p : Bytes) (i : Hearer) (found : Boo
   pub said : List Said
   pub fed : IsFedBy h.conversation s p begun
   pub past : IsPast begun s said i.conversation
-  pub facts : view_facts i.facts ≡ facts (view_facts h.facts) said
+  pub facts : view_facts i.facts ≡ facts s (view_facts h.facts) said
   pub history : i.history.items ≡ history s h.history.items said
   pub all : (says (ear i.conversation s) [] ≡ []) ⊎ (2 ^ 64 - 1 ≤ length said)
   pub sealed : found ≡ has_sealed said

@@ -108,7 +108,7 @@ pub record IsFollowed (t : Talk) (s : Side) (p : Bytes) (u : Talk) : Type 0 wher
   pub past : IsPast begun s said behind
   pub heard : AreHeard (hearing t s) s t.hearer.conversation.flow said
   pub left : IsLeft (over_behind (hearing t s) s t.hearer.conversation.flow said) s said behind u.hearer.conversation
-  pub facts : view_facts u.hearer.facts ≡ facts (view_facts t.hearer.facts) said
+  pub facts : view_facts u.hearer.facts ≡ facts s (view_facts t.hearer.facts) said
   pub history : u.hearer.history.items ≡ history s t.hearer.history.items said
   pub same : u ≡ with_hearing (record t { hearer = u.hearer }) s (hearing_behind (hearing t s) said)
 
