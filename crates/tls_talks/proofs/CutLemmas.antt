@@ -201,9 +201,9 @@ joined c a m b d s p q (v ∷ vs) [] fed past fed_again past_again = record {
   );
 }
 
-facts_on : (f : Facts) (vs ws : List Said) → facts (facts f vs) ws ≡ facts f (ws ++ vs)
-facts_on f vs [] = refl
-facts_on f vs (w ∷ ws) = ap (λ g. noted g w) (facts_on f vs ws)
+facts_on : (s : Side) (f : Facts) (vs ws : List Said) → facts s (facts s f vs) ws ≡ facts s f (ws ++ vs)
+facts_on s f vs [] = refl
+facts_on s f vs (w ∷ ws) = ap (λ g. noted s g w) (facts_on s f vs ws)
 
 history_on : (s : Side) (h : List ℕ) (vs ws : List Said) → history s (history s h vs) ws ≡ history s h (ws ++ vs)
 history_on s h vs [] = refl
@@ -238,7 +238,7 @@ both_heard h m i s p q a b first last =
       said = last.said ++ first.said;
       fed = whole.fed;
       past = whole.past;
-      facts = last.facts ∙ ap (λ f. facts f last.said) first.facts ∙ facts_on (view_facts h.facts) first.said last.said;
+      facts = last.facts ∙ ap (λ f. facts s f last.said) first.facts ∙ facts_on s (view_facts h.facts) first.said last.said;
       history = last.history ∙ ap (λ g. history s g last.said) first.history ∙ history_on s h.history.items first.said last.said;
       all = all_on first.said last.said (2 ^ 64 - 1) last.all;
       sealed = ap (λ x. x || b) first.sealed ∙ ap (λ x. has_sealed first.said || x) last.sealed ∙ sym (sealed_on first.said last.said);

@@ -18,7 +18,7 @@ pub record IsOn (h : Hearer) (s : Side) (p : Bytes) (i : Hearer) (n : ℕ) (b : 
   pub said : List Said
   pub fed : IsFedBy h.conversation s p begun
   pub past : IsPast begun s said i.conversation
-  pub facts : view_facts i.facts ≡ facts (view_facts h.facts) said
+  pub facts : view_facts i.facts ≡ facts s (view_facts h.facts) said
   pub history : i.history.items ≡ history s h.history.items said
   pub count : length said ≡ n
   pub sealed : b ≡ has_sealed said
@@ -32,7 +32,7 @@ on_begun h i s p fed ready same letters =
 pub on_more : (h i j : Hearer) (s : Side) (p : Bytes) (n : ℕ) (v : Said) (t b c : Bool) → IsOn h s p i n b
     → Some v ≡ front_of (ear i.conversation s) → IsTakenBy (front_of (ear i.conversation s)) i.conversation s t j.conversation
     → (IsReady (ear i.conversation s) → IsReady (ear j.conversation s))
-    → view_facts j.facts ≡ noted (view_facts i.facts) v → j.history.items ≡ with_letter s i.history.items (letter_of v)
+    → view_facts j.facts ≡ noted s (view_facts i.facts) v → j.history.items ≡ with_letter s i.history.items (letter_of v)
     → c ≡ (b || is_sealed v) → IsOn h s p j (n + 1) c
 on_more h i j s p n v t b c on front off kept step_facts step_history step_sealed =
     let step : IsTakenBy (Some v) i.conversation s t j.conversation =
@@ -42,7 +42,7 @@ on_more h i j s p n v t b c on front off kept step_facts step_history step_seale
       said = v ∷ on.said;
       fed = on.fed;
       past = (i.conversation, on.past, step.1);
-      facts = step_facts ∙ ap (λ f. noted f v) on.facts;
+      facts = step_facts ∙ ap (λ f. noted s f v) on.facts;
       history = step_history ∙ ap (λ h. with_letter s h (letter_of v)) on.history;
       count = omega (arith, on.count);
       sealed = step_sealed ∙ ap (λ x. x || is_sealed v) on.sealed;

@@ -19,7 +19,7 @@ pub record IsHeard (h : Hearer) (s : Side) (p : Bytes) (i : Hearer) (found : Boo
   pub said : List Said
   pub fed : IsFedBy h.conversation s p begun
   pub past : IsPast begun s said i.conversation
-  pub facts : view_facts i.facts ≡ facts (view_facts h.facts) said
+  pub facts : view_facts i.facts ≡ facts s (view_facts h.facts) said
   pub history : i.history.items ≡ history s h.history.items said
   pub all : (says (ear i.conversation s) [] ≡ []) ⊎ (2 ^ 64 - 1 ≤ length said)
   pub sealed : found ≡ has_sealed said

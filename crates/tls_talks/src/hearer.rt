@@ -33,12 +33,17 @@ fn is_encrypted(said: &Said<'_>) -> bool
     }
 }
 
-/// Notes what one event says.
-fn note(facts: &mut Facts, alloc: Global, said: &Said<'_>) -> Result<(), AllocError>
-    ensures { OnOk result (view_facts facts.new ≡ noted (view_facts facts.old) (view_said said.now)) }
+/// Notes what one event of a side says.
+fn note(
+    facts: &mut Facts,
+    alloc: Global,
+    side: Direction,
+    said: &Said<'_>,
+) -> Result<(), AllocError>
+    ensures { OnOk result (view_facts facts.new ≡ noted side (view_facts facts.old) (view_said said.now)) }
 {
     match said {
-        Said::Event(Event::Handshake(message)) => facts.note_message(alloc, message)?,
+        Said::Event(Event::Handshake(message)) => facts.note_message(alloc, side, message)?,
         Said::Event(Event::Alert(alert)) => facts.note_alert(alert.code),
         Said::Event(Event::ChangeCipherSpec)
         | Said::Event(Event::Heartbeat(_))
@@ -78,7 +83,7 @@ impl Hearer {
             match self.conversation.front(side) {
                 Some(said) => {
                     has_encrypted = has_encrypted || is_encrypted(&said);
-                    note(&mut self.facts, alloc, &said)?;
+                    note(&mut self.facts, alloc, side, &said)?;
                     add_letter(&mut self.history, side, said_letter(&said))?;
                 }
                 None => break,
