@@ -1,171 +1,163 @@
--- What a connection's events say of it.
-use Rattle.std.specs.Prelude.{ℕ, Bool, true, false, ◌||◌, ◌&&◌, nat_le, ◌==◌, if◌then◌else◌, List, ◌∷◌, Option, Some, None, option_map, Result, Ok, Err}
+-- What both sides' messages and alerts say of a connection.
+use Rattle.std.specs.Prelude.{ℕ, Bool, true, false, ◌==◌, if◌then◌else◌, List, [], ◌∷◌, Option, Some, None, option_map, Ok, Err}
+use Rattle.std.specs.Str.{bytes_eq}
 use Rattle.tls_fields.specs.Bytes.{Bytes}
-use Rattle.tls_fields.specs.Layout.{Layout, number, counted, ◌>>=◌}
-use Rattle.tls_fields.specs.Meaning.{Answer, Refusal}
+use Rattle.tls_fields.specs.Framed.{Framed}
+use Rattle.tls_fields.specs.Meaning.{Answer}
 use Rattle.tls_fields.specs.Reading.{reading}
 use Rattle.tls_fields.specs.Text.{held}
-use Rattle.tls_base.specs.ExtensionNumbers as extension_number
-use Rattle.tls_base.specs.KeyExchange as exchange
-use Rattle.tls_ext.specs.InPlace.{best_version, content_of, host_name, protocol_names}
+use Rattle.tls_hs.specs.Certificate.{certificate}
 use Rattle.tls_hs.specs.Handshake as handshakes
-use Rattle.tls_hs.specs.Message as messages
+use Rattle.tls_hs.specs.Hello as client
+use Rattle.tls_hs.specs.InPlace.{raw_handshake}
 use Rattle.tls_hs.specs.ServerHello as server
-use Rattle.tls_parser.specs.DtlsHello as datagram_hello
+use Rattle.tls_parser.specs.DtlsHello as datagram
+use Rattle.tls_flow.specs.declared.letter.Direction.{Direction as Side}
+use Rattle.tls_flow.specs.declared.letter.Direction.TheVariants.{ToServer, FromServer}
+use Rattle.tls_facts.specs.Exchange.{curve_by}
+use Rattle.tls_facts.specs.Hellos.{share_group_in}
+use Rattle.tls_facts.specs.Parts.{facts_of_all, view_client, view_server}
 use Rattle.tls_facts.specs.declared.facts.Facts as rust
+use Rattle.tls_facts.specs.declared.parts.CertificateFacts.{CertificateFacts}
 
 pub record Facts : Type 0 where
-  -- the version that the server chose
-  pub version : Option ℕ
-  -- the cipher suite that the server chose
-  pub cipher : Option ℕ
-  -- the group of the key exchange
+  -- the last ClientHello, and the last ServerHello that is no HelloRetryRequest
+  pub client : Option client.ClientHello
+  pub server : Option server.ServerHello
+  -- the group of the key exchange: of the server's key share, or of its ServerKeyExchange
   pub curve : Option ℕ
-  -- the host that the client asked for
-  pub server_name : Option Bytes
-  -- the protocol that the server chose
-  pub next_protocol : Option Bytes
-  -- whether the server took a session of TLS 1.3 up again
-  pub has_session : Bool
+  -- the last Certificate of each side
+  pub client_certificates : Option (List CertificateFacts)
+  pub server_certificates : Option (List CertificateFacts)
+  -- whether a HelloRetryRequest came, a CertificateRequest, a CertificateStatus, a NewSessionTicket
+  pub is_retried : Bool
+  pub requests_certificate : Bool
+  pub has_status : Bool
+  pub has_ticket : Bool
   -- what the last alert says
   pub last_alert : Option ℕ
 
 abbrev pub view_facts : rust.Facts → Facts
 view_facts f = record {
-  version = option_map (λ v. v.0) f.version;
-  cipher = option_map (λ v. v.0) f.cipher;
-  curve = option_map (λ v. v.0) f.curve;
-  server_name = option_map (λ v. v.items) f.server_name;
-  next_protocol = option_map (λ v. v.items) f.next_protocol;
-  has_session = f.has_session;
-  last_alert = option_map (λ v. v.0) f.last_alert;
+  client = option_map view_client f.client;
+  server = option_map view_server f.server;
+  curve = option_map (λ g. g.0) f.curve;
+  client_certificates = option_map (λ v. v.items) f.client_certificates;
+  server_certificates = option_map (λ v. v.items) f.server_certificates;
+  is_retried = f.is_retried;
+  requests_certificate = f.requests_certificate;
+  has_status = f.has_status;
+  has_ticket = f.has_ticket;
+  last_alert = option_map (λ a. a.0) f.last_alert;
 }
 
 -- Nothing was said.
 abbrev pub nothing : Facts
 nothing = record {
-  version = None;
-  cipher = None;
+  client = None;
+  server = None;
   curve = None;
-  server_name = None;
-  next_protocol = None;
-  has_session = false;
+  client_certificates = None;
+  server_certificates = None;
+  is_retried = false;
+  requests_certificate = false;
+  has_status = false;
+  has_ticket = false;
   last_alert = None;
 }
 
--- What is read, and nothing where it is refused.
-abbrev pub known : {A : Type 0} → Result (Option A) Refusal → Option A
-known (Ok x) = x
-known (Err e) = None
+-- The random of a ServerHello that is a HelloRetryRequest (RFC 8446, section 4.1.3).
+abbrev pub retry_random : Bytes
+retry_random =
+    0xcf ∷ 0x21 ∷ 0xad ∷ 0x74 ∷ 0xe5 ∷ 0x9a ∷ 0x61 ∷ 0x11 ∷ 0xbe ∷ 0x1d ∷ 0x8c ∷ 0x02 ∷ 0x1e ∷ 0x65 ∷ 0xb8 ∷ 0x91 ∷
+    0xc2 ∷ 0xa2 ∷ 0x11 ∷ 0x16 ∷ 0x7a ∷ 0xbb ∷ 0x8c ∷ 0x5e ∷ 0x07 ∷ 0x9e ∷ 0x09 ∷ 0xe2 ∷ 0xc8 ∷ 0xa8 ∷ 0x33 ∷ 0x9c ∷ []
 
-abbrev pub value_in : {A : Type 0} → Answer A → Option A
-value_in (Ok x) = Some x.0
-value_in (Err e) = None
+-- A ClientHello stands until the next, which replaces it whole.
+abbrev pub asked : client.ClientHello → Facts → Facts
+asked h f = record f { client = Some h }
 
-abbrev pub first_of : Option (List Bytes) → Option Bytes
-first_of (Some (x ∷ xs)) = Some x
-first_of _ = None
+-- So does a ServerHello, with the group of its key share; but a HelloRetryRequest chooses nothing yet.
+abbrev pub chosen : server.ServerHello → Facts → Facts
+chosen h f =
+    if bytes_eq h.random retry_random then record f { is_retried = true }
+    else record f { server = Some h; curve = share_group_in (held h.extensions) }
 
--- The group in front of a key share (RFC 8446, section 4.2.8): a server's has no length in front of it.
-abbrev pub group_of : Option Bytes → Option ℕ
-group_of (Some c) = value_in (reading (number 2) c)
-group_of None = None
-
-abbrev pub is_there : Option Bytes → Bool
-is_there (Some c) = true
-is_there None = false
-
--- What a client asks for, by its extensions.
-abbrev pub asked : Bytes → Facts → Facts
-asked b f = record f { server_name = known (host_name b) }
-
--- What a server chooses, by its version, its cipher suite and its extensions.
-abbrev pub chosen : ℕ → ℕ → Bytes → Facts → Facts
-chosen v c b f = record f {
-  version = known (best_version v b);
-  cipher = Some c;
-  curve = group_of (known (content_of extension_number.key_share b));
-  next_protocol = first_of (known (protocol_names b));
-  has_session = is_there (known (content_of extension_number.pre_shared_key b));
+-- What draft 18 of TLS 1.3 leaves out of a ServerHello is empty (draft-ietf-tls-tls13-18, section 4.1.3).
+abbrev pub of_draft : server.ServerHelloDraft18 → server.ServerHello
+of_draft h = record {
+  server_version = h.version;
+  random = h.random;
+  session_id = None;
+  cipher_suite = h.cipher_suite;
+  compression_method = 0;
+  extensions = h.extensions;
 }
 
-abbrev pub is_within : ℕ → ℕ → ℕ → Bool
-is_within first last n = nat_le first n && nat_le n last
-
--- The cipher suites whose ServerKeyExchange begins with the parameters of a curve (RFC 8422, section 5.4): those of ECDHE, without
--- those that have a key known to both before. Suites of fixed keys, which have no such message, are not told apart.
-abbrev pub names_curve : ℕ → Bool
-names_curve n =
-    is_within 0xc001 0xc019 n || is_within 0xc023 0xc032 n || is_within 0xc048 0xc04f n || is_within 0xc05c 0xc063 n
-    || is_within 0xc072 0xc079 n || is_within 0xc086 0xc08d n || is_within 0xc0ac 0xc0af n || is_within 0xcca8 0xcca9 n
-
--- Those whose ServerKeyExchange has a hint of the key known to both in front of the parameters (RFC 5489, section 2): those of ECDHE_PSK.
-abbrev pub has_hint : ℕ → Bool
-has_hint n =
-    is_within 0xc033 0xc03b n || is_within 0xc070 0xc071 n || is_within 0xc09a 0xc09b n || n == 0xccac || is_within 0xd001 0xd005 n
-
--- opaque psk_identity_hint<0..2^16-1>; and the parameters.
-unfoldable pub hinted_parameters : Layout exchange.ECParameters
-hinted_parameters = do
-  hint ← counted 2
-  exchange.ec_parameters
-
-abbrev pub number_of : exchange.CurveParameters → Option ℕ
-number_of (exchange.OfNamedCurve n) = Some n
-number_of (exchange.OfExplicitPrime c) = None
-
-abbrev pub named : Answer exchange.ECParameters → Option ℕ
-named (Ok x) = number_of x.0.parameters
-named (Err e) = None
-
 -- The curve of a ServerKeyExchange, by the suite that was chosen.
-abbrev pub of_exchange : Option ℕ → Bytes → Facts → Facts
-of_exchange None b f = f
-of_exchange (Some n) b f =
-    if names_curve n then record f { curve = named (reading exchange.ec_parameters b) }
-    else if has_hint n then record f { curve = named (reading hinted_parameters b) }
+abbrev pub exchanged_by : Option server.ServerHello → Bytes → Facts → Facts
+exchanged_by None b f = f
+exchanged_by (Some h) b f = record f { curve = curve_by h.cipher_suite b f.curve }
+
+abbrev pub exchanged : Bytes → Facts → Facts
+exchanged b f = exchanged_by f.server b f
+
+-- The last Certificate of that side (RFC 5246, section 7.4.2).
+abbrev pub certified : Side → Answer (List Bytes) → Facts → Facts
+certified ToServer (Ok x) f = record f { client_certificates = Some (facts_of_all x.0) }
+certified FromServer (Ok x) f = record f { server_certificates = Some (facts_of_all x.0) }
+certified s (Err e) f = f
+
+-- What a message that is no hello adds, by its side, its type and its body (RFC 5246, section 7.4). A HelloRetryRequest of its own type
+-- is one of drafts of TLS 1.3 (draft-ietf-tls-tls13-19, section 4.1.4).
+abbrev pub of_other : Side → ℕ → Bytes → Facts → Facts
+of_other s n b f =
+    if n == 4 then record f { has_ticket = true }
+    else if n == 6 then record f { is_retried = true }
+    else if n == 11 then certified s (reading certificate b) f
+    else if n == 12 then exchanged b f
+    else if n == 13 then record f { requests_certificate = true }
+    else if n == 22 then record f { has_status = true }
     else f
 
-abbrev pub of_key_exchange : Bytes → Facts → Facts
-of_key_exchange b f = of_exchange f.cipher b f
-
--- What a handshake message says: a ClientHello of the host, a ServerHello of what the server chose, a ServerKeyExchange of its curve.
-abbrev pub of_handshake : handshakes.Handshake → Facts → Facts
-of_handshake (handshakes.ClientHello h) f = asked (held h.extensions) f
-of_handshake (handshakes.ServerHello h) f = chosen h.server_version h.cipher_suite (held h.extensions) f
-of_handshake (handshakes.ServerHelloV13Draft18 h) f = chosen h.version h.cipher_suite (held h.extensions) f
-of_handshake (handshakes.ServerKeyExchange b) f = of_key_exchange b f
-of_handshake _ f = f
-
-abbrev pub of_message : messages.Message → Facts → Facts
-of_message (messages.Handshake h) f = of_handshake h f
-of_message _ f = f
-
-abbrev pub of_read : Answer messages.Message → Facts → Facts
-of_read (Ok x) f = of_message x.0 f
-of_read (Err e) f = f
-
--- What a whole handshake message adds, by its bytes.
-abbrev pub of_bytes : Bytes → Facts → Facts
-of_bytes b f = of_read (reading messages.handshake b) f
-
--- What a ClientHello and a ServerHello of DTLS add.
-abbrev pub of_client_hello : Answer datagram_hello.ClientHello → Facts → Facts
-of_client_hello (Ok x) f = asked (held x.0.hello.extensions) f
+abbrev pub of_client_hello : Answer client.ClientHello → Facts → Facts
+of_client_hello (Ok x) f = asked x.0 f
 of_client_hello (Err e) f = f
 
-abbrev pub of_server_hello : Answer server.ServerHello → Facts → Facts
-of_server_hello (Ok x) f = chosen x.0.server_version x.0.cipher_suite (held x.0.extensions) f
-of_server_hello (Err e) f = f
+abbrev pub of_server_hello : Answer handshakes.Handshake → Facts → Facts
+of_server_hello (Ok (handshakes.ServerHello h, rest)) f = chosen h f
+of_server_hello (Ok (handshakes.ServerHelloV13Draft18 h, rest)) f = chosen (of_draft h) f
+of_server_hello _ f = f
+
+-- What a message of TLS adds, by its type and its body; one whose body is refused, as far as it is read, adds nothing.
+abbrev pub of_message : Side → ℕ → Bytes → Facts → Facts
+of_message s n b f =
+    if n == 1 then of_client_hello (reading client.client_hello b) f
+    else if n == 2 then of_server_hello (reading handshakes.server_hello_body b) f
+    else of_other s n b f
+
+abbrev pub of_raw : Side → Answer Framed → Facts → Facts
+of_raw s (Ok x) f = of_message s x.0.kind x.0.content f
+of_raw s (Err e) f = f
+
+-- What a whole handshake message adds, by its bytes.
+abbrev pub of_bytes : Side → Bytes → Facts → Facts
+of_bytes s b f = of_raw s (reading raw_handshake b) f
+
+abbrev pub of_datagram_client_hello : Answer datagram.ClientHello → Facts → Facts
+of_datagram_client_hello (Ok x) f = asked x.0.hello f
+of_datagram_client_hello (Err e) f = f
+
+abbrev pub of_datagram_server_hello : Answer server.ServerHello → Facts → Facts
+of_datagram_server_hello (Ok x) f = chosen x.0 f
+of_datagram_server_hello (Err e) f = f
 
 -- What a whole handshake message of DTLS adds, by its type and its body (RFC 6347, section 4.2): its ClientHello has a cookie, and its
 -- versions are numbers of their own.
-abbrev pub of_datagram_message : ℕ → Bytes → Facts → Facts
-of_datagram_message n b f =
-    if n == 1 then of_client_hello (reading datagram_hello.client_hello b) f
-    else if n == 2 then of_server_hello (reading server.server_hello_any b) f
-    else if n == 12 then of_key_exchange b f
-    else f
+abbrev pub of_datagram_message : Side → ℕ → Bytes → Facts → Facts
+of_datagram_message s n b f =
+    if n == 1 then of_datagram_client_hello (reading datagram.client_hello b) f
+    else if n == 2 then of_datagram_server_hello (reading server.server_hello_any b) f
+    else of_other s n b f
 
 -- What an alert adds.
 abbrev pub of_alert : ℕ → Facts → Facts

@@ -1,1 +1,5 @@
+pub mod Exchange
+pub mod Hellos
+pub mod Parts
 pub mod Facts
+pub mod Told

@@ -1,124 +1,71 @@
-//! What a connection's events say of it.
-ghost use Rattle.std.specs.Prelude.{◌≡◌, OnOk, IfOk};
-ghost use Rattle.std.specs.Option.{option_map};
-ghost use Rattle.tls_fields.specs.Items.{told as told_by};
+//! What both sides' messages and alerts say of a connection.
+ghost use Rattle.std.specs.Prelude.{◌≡◌, OnOk};
+ghost use Rattle.tls_hs.specs.InPlace.{view_client_hello_in_place};
+ghost use Rattle.tls_hs.specs.ServerHello.{view_server_hello, view_server_hello_draft18};
+ghost use Rattle.tls_facts.specs.Facts.{asked, certified, chosen, exchanged, nothing, of_alert, of_bytes, of_datagram_client_hello, of_datagram_message, of_draft, of_message, of_other, of_server_hello, view_facts};
 ghost use Rattle.tls_fields.specs.Reading.{reading};
-ghost use Rattle.tls_fields.specs.Text.{held};
-ghost use Rattle.tls_fields.specs.Answers.{Gives, answer_of};
-ghost use Rattle.tls_base.specs.KeyExchange.{ec_parameters, view_ec_parameters};
-ghost use Rattle.tls_ext.specs.InPlace.{protocol_names};
-ghost use Rattle.tls_hs.specs.Handshake.{view_handshake};
-ghost use Rattle.tls_hs.specs.InPlace.{view_handshake_in_place};
-ghost use Rattle.tls_facts.specs.Facts.{asked, chosen as chosen_by, first_of, group_of, has_hint as has_hint_of, hinted_parameters as hinted_layout, known as known_by, named, names_curve as names_curve_of, nothing, of_alert, of_bytes, of_datagram_message, of_handshake, of_key_exchange, view_facts};
+ghost use Rattle.tls_hs.specs.Certificate.{certificate};
+ghost use Rattle.tls_hs.specs.Handshake.{server_hello_body};
+ghost use Rattle.tls_parser.specs.DtlsHello.{client_hello as datagram_client_hello};
 
+use crate::exchange::{has_hint, hinted_parameters, named_group, names_curve};
+use crate::hellos::{content, group_of_share};
+use crate::parts::{CertificateFacts, ClientParts, ServerParts, facts_of};
 use std::alloc::{AllocError, Global};
 use tls_base::{
-    ECParameters, ECParametersContent, NamedGroup, TlsAlertDescription, TlsCipherSuiteID,
-    TlsExtensionType, TlsHandshakeType, TlsVersion, parse_ec_parameters,
+    NamedGroup, TlsAlertDescription, TlsCompressionID, TlsExtensionType, TlsHandshakeType,
+    parse_ec_parameters,
 };
-use tls_ext::{application_protocols, best_version, extensions, first_content, server_name};
-use tls_fields::{Err, Error, IResult, InPlace, counted2};
+use tls_fields::InPlace;
+use tls_flow::Direction;
 use tls_hs::parts::server_hello_any;
-use tls_hs::{HandshakeView, TlsMessageHandshake};
+use tls_hs::{
+    ClientHelloView, RawHandshake, TlsMessageHandshake, TlsServerHelloContents,
+    TlsServerHelloV13Draft18Contents, certificates, parse_tls_handshake_msg_server_hello,
+};
 use tls_parser::DTLSClientHelloView;
+
+/// The random of a ServerHello that is a HelloRetryRequest (RFC 8446, section 4.1.3).
+static RETRY_RANDOM: [u8; 32] = [
+    0xcf, 0x21, 0xad, 0x74, 0xe5, 0x9a, 0x61, 0x11, 0xbe, 0x1d, 0x8c, 0x02, 0x1e, 0x65, 0xb8, 0x91,
+    0xc2, 0xa2, 0x11, 0x16, 0x7a, 0xbb, 0x8c, 0x5e, 0x07, 0x9e, 0x09, 0xe2, 0xc8, 0xa8, 0x33, 0x9c,
+];
 
 /// What is known of a connection by what both sides said in the clear.
 #[derive(Debug, PartialEq, Drop)]
 pub struct Facts {
-    /// The version that the server chose: the one in supported_versions, where its ServerHello has that.
-    pub version: Option<TlsVersion>,
-    /// The cipher suite that the server chose.
-    pub cipher: Option<TlsCipherSuiteID>,
-    /// The group of the key exchange: the one of the server's key share, or of its ServerKeyExchange.
-    pub curve: Option<NamedGroup>,
-    /// The host that the client asked for, as it stands in server_name.
-    pub server_name: Option<Vec<u8>>,
-    /// The protocol of the application that the server chose.
-    pub next_protocol: Option<Vec<u8>>,
-    /// Whether the server took up a session, or a key known before, by pre_shared_key (TLS 1.3).
-    pub has_session: bool,
+    /// The last ClientHello.
+    pub client: Option<ClientParts>,
+    /// The last ServerHello that is no HelloRetryRequest.
+    pub server: Option<ServerParts>,
+    pub(crate) curve: Option<NamedGroup>,
+    /// The certificates of the client's last Certificate, its own first (RFC 5246, section 7.4.6). TLS 1.3 encrypts it.
+    pub client_certificates: Option<Vec<CertificateFacts>>,
+    /// Those of the server's (RFC 5246, section 7.4.2).
+    pub server_certificates: Option<Vec<CertificateFacts>>,
+    /// Whether the server asked for another ClientHello by a HelloRetryRequest (RFC 8446, section 4.1.4).
+    pub is_retried: bool,
+    /// Whether a CertificateRequest came (RFC 5246, section 7.4.4).
+    pub requests_certificate: bool,
+    /// Whether a CertificateStatus came (RFC 6066, section 8).
+    pub has_status: bool,
+    /// Whether a NewSessionTicket came (RFC 5077, section 3.3).
+    pub has_ticket: bool,
     /// What the last alert in the clear says.
     pub last_alert: Option<TlsAlertDescription>,
 }
 
-/// What a call tells, and nothing where it refuses.
-fn known<T: Drop>(answer: Result<Option<T>, Err<Error<&[u8]>>>) -> Option<T>
-    ensures { result ≡ known_by (told_by (λ v. v) answer.entry) }
+/// A ServerHello of draft 18 with what it leaves out: no session id, and no compression.
+fn as_later(hello: TlsServerHelloV13Draft18Contents<'_>) -> TlsServerHelloContents<'_>
+    ensures { view_server_hello result ≡ of_draft (view_server_hello_draft18 hello.entry) }
 {
-    match answer {
-        Ok(value) => value,
-        Err(_) => None,
-    }
-}
-
-/// The bytes, copied.
-fn copied(alloc: Global, bytes: Option<&[u8]>) -> Result<Option<Vec<u8>>, AllocError>
-    ensures { IfOk result (λ v. option_map (λ x. x.items) v ≡ option_map (λ x. x.now) bytes.entry) }
-{
-    let Some(bytes) = bytes else {
-        return Ok(None);
-    };
-    let mut copy = Vec::new(alloc);
-    copy.extend_from_slice(bytes)?;
-    Ok(Some(copy))
-}
-
-/// The cipher suites whose ServerKeyExchange begins with the parameters of a curve: those of ECDHE, without those that have a
-/// key known to both before.
-fn names_curve(suite: u16) -> bool
-    ensures { result ≡ names_curve_of suite }
-{
-    matches!(suite,
-        0xc001..=0xc019 | 0xc023..=0xc032 | 0xc048..=0xc04f | 0xc05c..=0xc063
-        | 0xc072..=0xc079 | 0xc086..=0xc08d | 0xc0ac..=0xc0af | 0xcca8..=0xcca9)
-}
-
-/// The cipher suites whose ServerKeyExchange has a hint of the key known to both in front of the parameters: those of ECDHE_PSK.
-fn has_hint(suite: u16) -> bool
-    ensures { result ≡ has_hint_of suite }
-{
-    matches!(suite, 0xc033..=0xc03b | 0xc070..=0xc071 | 0xc09a..=0xc09b | 0xccac | 0xd001..=0xd005)
-}
-
-/// Reads a hint, and the parameters of the curve behind it (RFC 5489, section 2).
-#[tactic(auto, using(tls_fields::proofs::OneAnswerLemmas::read_allowed), unfolding(crate::specs::Facts::hinted_parameters))]
-fn hinted_parameters(i: &[u8]) -> IResult<&[u8], ECParameters>
-    ensures { Gives view_ec_parameters hinted_layout i.now result }
-{
-    let (i, _) = counted2(i)?;
-    parse_ec_parameters(i)
-}
-
-/// The group that parameters name.
-fn named_group(answer: IResult<&[u8], ECParameters>) -> Option<NamedGroup>
-    ensures { option_map (λ g. g.0) result ≡ named (answer_of view_ec_parameters answer.entry) }
-{
-    match answer {
-        Ok((_, parameters)) => match parameters.params_content {
-            ECParametersContent::NamedGroup(group) => Some(group),
-            ECParametersContent::ExplicitPrime(_) => None,
-        },
-        Err(_) => None,
-    }
-}
-
-/// The group in front of a server's key share.
-fn group_of_share(share: Option<&[u8]>) -> Option<NamedGroup>
-    ensures { option_map (λ g. g.0) result ≡ group_of (option_map (λ x. x.now) share.entry) }
-{
-    match NamedGroup::parse(share?) {
-        Ok((_, group)) => Some(group),
-        Err(_) => None,
-    }
-}
-
-/// The first of the protocols that a server's extensions name.
-fn first_protocol<'a>(ext: Option<&'a [u8]>) -> Option<&'a [u8]>
-    ensures { option_map (λ x. x.now) result ≡ first_of (known_by (protocol_names (held (option_map (λ x. x.now) ext.entry)))) }
-{
-    match application_protocols(ext) {
-        Ok(Some(mut names)) => names.next(),
-        Ok(None) | Err(_) => None,
+    TlsServerHelloContents {
+        version: hello.version,
+        random: hello.random,
+        session_id: None,
+        cipher: hello.cipher,
+        compression: TlsCompressionID(0),
+        ext: hello.ext,
     }
 }
 
@@ -128,21 +75,24 @@ impl Facts {
         ensures { view_facts result ≡ nothing }
     {
         Facts {
-            version: None,
-            cipher: None,
+            client: None,
+            server: None,
             curve: None,
-            server_name: None,
-            next_protocol: None,
-            has_session: false,
+            client_certificates: None,
+            server_certificates: None,
+            is_retried: false,
+            requests_certificate: false,
+            has_status: false,
+            has_ticket: false,
             last_alert: None,
         }
     }
 
     /// What a client asks for.
-    fn ask(&mut self, alloc: Global, ext: Option<&[u8]>) -> Result<(), AllocError>
-        ensures { OnOk result (view_facts self.new ≡ asked (held (option_map (λ x. x.now) ext.entry)) (view_facts self.old)) }
+    fn ask(&mut self, alloc: Global, hello: &ClientHelloView<'_>) -> Result<(), AllocError>
+        ensures { OnOk result (view_facts self.new ≡ asked (view_client_hello_in_place hello.now) (view_facts self.old)) }
     {
-        self.server_name = copied(alloc, known(server_name(ext)))?;
+        self.client = Some(ClientParts::of(alloc, hello)?);
         Ok(())
     }
 
@@ -150,129 +100,165 @@ impl Facts {
     fn choose(
         &mut self,
         alloc: Global,
-        version: TlsVersion,
-        cipher: TlsCipherSuiteID,
-        ext: Option<&[u8]>,
+        hello: &TlsServerHelloContents<'_>,
     ) -> Result<(), AllocError>
-        ensures { OnOk result (view_facts self.new ≡ chosen_by version.0 cipher.0 (held (option_map (λ x. x.now) ext.entry)) (view_facts self.old)) }
+        ensures { OnOk result (view_facts self.new ≡ chosen (view_server_hello hello.now) (view_facts self.old)) }
     {
-        let next_protocol = copied(alloc, first_protocol(ext))?;
-        let share = known(first_content(extensions(ext), TlsExtensionType::KeyShare));
-        let session = known(first_content(extensions(ext), TlsExtensionType::PreSharedKey));
-        self.version = known(best_version(version, ext));
-        self.cipher = Some(cipher);
-        self.curve = group_of_share(share);
-        self.next_protocol = next_protocol;
-        self.has_session = session.is_some();
+        if hello.random == RETRY_RANDOM.as_slice() {
+            self.is_retried = true;
+            return Ok(());
+        }
+        self.server = Some(ServerParts::of(alloc, hello)?);
+        self.curve = group_of_share(content(hello.ext, TlsExtensionType::KeyShare));
         Ok(())
     }
 
-    /// What a server's ServerKeyExchange says.
-    fn note_key_exchange(&mut self, body: &[u8])
-        ensures { view_facts self.new ≡ of_key_exchange body.now (view_facts self.old) }
+    /// What a ServerHello says, by its body.
+    fn note_server_hello(&mut self, alloc: Global, body: &[u8]) -> Result<(), AllocError>
+        ensures { OnOk result (view_facts self.new ≡ of_server_hello (reading server_hello_body body.now) (view_facts self.old)) }
     {
-        let Some(suite) = self.cipher else {
+        match parse_tls_handshake_msg_server_hello(body) {
+            Ok((_, TlsMessageHandshake::ServerHello(hello))) => self.choose(alloc, &hello),
+            Ok((_, TlsMessageHandshake::ServerHelloV13Draft18(hello))) => {
+                self.choose(alloc, &as_later(hello))
+            }
+            _ => Ok(()),
+        }
+    }
+
+    /// What a ServerKeyExchange says.
+    fn note_key_exchange(&mut self, body: &[u8])
+        ensures { view_facts self.new ≡ exchanged body.now (view_facts self.old) }
+    {
+        let Some(hello) = &self.server else {
             return;
         };
-        if names_curve(suite.0) {
+        let suite = hello.cipher.0;
+        if names_curve(suite) {
             self.curve = named_group(parse_ec_parameters(body));
-        } else if has_hint(suite.0) {
+        } else if has_hint(suite) {
             self.curve = named_group(hinted_parameters(body));
         }
     }
 
-    /// What a message without lists says.
+    /// What a Certificate of that side says.
+    fn note_certificates(
+        &mut self,
+        alloc: Global,
+        side: Direction,
+        body: &[u8],
+    ) -> Result<(), AllocError>
+        ensures { OnOk result (view_facts self.new ≡ certified side (reading certificate body.now) (view_facts self.old)) }
+    {
+        let Ok((_, chain)) = certificates(body) else {
+            return Ok(());
+        };
+        let chain = facts_of(alloc, chain)?;
+        match side {
+            Direction::ToServer => self.client_certificates = Some(chain),
+            Direction::FromServer => self.server_certificates = Some(chain),
+        }
+        Ok(())
+    }
+
+    /// What a message that is no hello says.
     fn note_other(
         &mut self,
         alloc: Global,
-        message: &TlsMessageHandshake<'_>,
+        side: Direction,
+        msg_type: TlsHandshakeType,
+        body: &[u8],
     ) -> Result<(), AllocError>
-        ensures { OnOk result (view_facts self.new ≡ of_handshake (view_handshake message.now) (view_facts self.old)) }
+        ensures { OnOk result (view_facts self.new ≡ of_other side msg_type.0 body.now (view_facts self.old)) }
     {
-        match message {
-            TlsMessageHandshake::ServerHello(hello) => {
-                self.choose(alloc, hello.version, hello.cipher, hello.ext)?
-            }
-            TlsMessageHandshake::ServerHelloV13Draft18(hello) => {
-                self.choose(alloc, hello.version, hello.cipher, hello.ext)?
-            }
-            TlsMessageHandshake::ServerKeyExchange(exchange) => {
-                self.note_key_exchange(exchange.parameters)
-            }
-            TlsMessageHandshake::ClientHello(hello) => self.ask(alloc, hello.ext)?,
-            TlsMessageHandshake::HelloRequest
-            | TlsMessageHandshake::NewSessionTicket(_)
-            | TlsMessageHandshake::EndOfEarlyData
-            | TlsMessageHandshake::HelloRetryRequest(_)
-            | TlsMessageHandshake::Certificate(_)
-            | TlsMessageHandshake::CertificateRequest(_)
-            | TlsMessageHandshake::ServerDone(_)
-            | TlsMessageHandshake::CertificateVerify(_)
-            | TlsMessageHandshake::ClientKeyExchange(_)
-            | TlsMessageHandshake::Finished(_)
-            | TlsMessageHandshake::CertificateStatus(_)
-            | TlsMessageHandshake::NextProtocol(_)
-            | TlsMessageHandshake::KeyUpdate(_) => {}
+        match msg_type {
+            TlsHandshakeType::NewSessionTicket => self.has_ticket = true,
+            TlsHandshakeType::HelloRetryRequest => self.is_retried = true,
+            TlsHandshakeType::Certificate => self.note_certificates(alloc, side, body)?,
+            TlsHandshakeType::ServerKeyExchange => self.note_key_exchange(body),
+            TlsHandshakeType::CertificateRequest => self.requests_certificate = true,
+            TlsHandshakeType::CertificateStatus => self.has_status = true,
+            _ => {}
         }
         Ok(())
     }
 
-    /// What a handshake message says.
-    fn note_handshake(
+    /// What a message says, by its type and its body.
+    fn note_body(
         &mut self,
         alloc: Global,
-        message: &HandshakeView<'_>,
+        side: Direction,
+        msg_type: TlsHandshakeType,
+        body: &[u8],
     ) -> Result<(), AllocError>
-        ensures { OnOk result (view_facts self.new ≡ of_handshake (view_handshake_in_place message.now) (view_facts self.old)) }
+        ensures { OnOk result (view_facts self.new ≡ of_message side msg_type.0 body.now (view_facts self.old)) }
     {
-        match message {
-            HandshakeView::ClientHello(hello) => self.ask(alloc, hello.ext)?,
-            HandshakeView::Other(other) => self.note_other(alloc, other)?,
-            HandshakeView::Certificate(_) | HandshakeView::CertificateRequest(_) => {}
+        match msg_type {
+            TlsHandshakeType::ClientHello => match ClientHelloView::parse(body) {
+                Ok((_, hello)) => self.ask(alloc, &hello),
+                Err(_) => Ok(()),
+            },
+            TlsHandshakeType::ServerHello => self.note_server_hello(alloc, body),
+            _ => self.note_other(alloc, side, msg_type, body),
         }
-        Ok(())
     }
 
-    /// Notes what a whole handshake message says, its header of 4 bytes first (RFC 8446, section 4): a ClientHello the host that
-    /// is asked for, a ServerHello what the server chose, a ServerKeyExchange the curve. Any other, and one that is refused, says
-    /// nothing.
+    /// Notes what a whole handshake message of a side says, its header of 4 bytes first (RFC 8446, section 4). A hello stands until
+    /// the next of its side, which replaces all of it; a HelloRetryRequest is none. One that is refused says nothing.
     ///
-    /// `AllocError` where a name could not be held.
-    pub fn note_message(&mut self, alloc: Global, message: &[u8]) -> Result<(), AllocError>
-        ensures { OnOk result (view_facts self.new ≡ of_bytes message.now (view_facts self.old)) }
+    /// `AllocError` where it could not be held.
+    pub fn note_message(
+        &mut self,
+        alloc: Global,
+        side: Direction,
+        message: &[u8],
+    ) -> Result<(), AllocError>
+        ensures { OnOk result (view_facts self.new ≡ of_bytes side message.now (view_facts self.old)) }
     {
-        match HandshakeView::read(message) {
-            Ok((_, read)) => self.note_handshake(alloc, &read),
+        match RawHandshake::read(message) {
+            Ok((_, raw)) => self.note_body(alloc, side, raw.msg_type, raw.body),
             Err(_) => Ok(()),
         }
+    }
+
+    /// What a ClientHello of DTLS says, by its body.
+    fn note_datagram_client_hello(&mut self, alloc: Global, body: &[u8]) -> Result<(), AllocError>
+        ensures { OnOk result (view_facts self.new ≡ of_datagram_client_hello (reading datagram_client_hello body.now) (view_facts self.old)) }
+    {
+        let Ok((_, hello)) = DTLSClientHelloView::parse(body) else {
+            return Ok(());
+        };
+        let hello = ClientHelloView {
+            version: hello.version,
+            random: hello.random,
+            session_id: hello.session_id,
+            ciphers: hello.ciphers,
+            comp: hello.comp,
+            ext: hello.ext,
+        };
+        self.ask(alloc, &hello)
     }
 
     /// The same of a whole handshake message of DTLS, by its type and its body (RFC 6347, section 4.2.2). A HelloVerifyRequest
     /// says nothing; the ClientHello that answers it stands.
     ///
-    /// `AllocError` where a name could not be held.
+    /// `AllocError` where it could not be held.
     pub fn note_datagram_message(
         &mut self,
         alloc: Global,
+        side: Direction,
         msg_type: TlsHandshakeType,
         body: &[u8],
     ) -> Result<(), AllocError>
-        ensures { OnOk result (view_facts self.new ≡ of_datagram_message msg_type.0 body.now (view_facts self.old)) }
+        ensures { OnOk result (view_facts self.new ≡ of_datagram_message side msg_type.0 body.now (view_facts self.old)) }
     {
         match msg_type {
-            TlsHandshakeType::ClientHello => match DTLSClientHelloView::parse(body) {
-                Ok((_, hello)) => self.ask(alloc, hello.ext),
-                Err(_) => Ok(()),
-            },
+            TlsHandshakeType::ClientHello => self.note_datagram_client_hello(alloc, body),
             TlsHandshakeType::ServerHello => match server_hello_any(body) {
-                Ok((_, hello)) => self.choose(alloc, hello.version, hello.cipher, hello.ext),
+                Ok((_, hello)) => self.choose(alloc, &hello),
                 Err(_) => Ok(()),
             },
-            TlsHandshakeType::ServerKeyExchange => {
-                self.note_key_exchange(body);
-                Ok(())
-            }
-            _ => Ok(()),
+            _ => self.note_other(alloc, side, msg_type, body),
         }
     }
 

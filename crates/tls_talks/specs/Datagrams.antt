@@ -18,11 +18,11 @@ use Rattle.tls_talks.specs.declared.account.Progress.{Progress}
 use Rattle.tls_talks.specs.declared.datagram_talk.Speaker.{Speaker}
 use Rattle.tls_talks.specs.declared.datagram_talk.DatagramTalk.{DatagramTalk}
 
--- What an event adds to what is known.
-abbrev pub noted_in_datagram : Facts → Event → Facts
-noted_in_datagram f (Handshake m) = of_datagram_message m.msg_type m.body f
-noted_in_datagram f (Alert a) = of_alert a.description f
-noted_in_datagram f e = f
+-- What an event of that side adds to what is known.
+abbrev pub noted_in_datagram : Side → Facts → Event → Facts
+noted_in_datagram s f (Handshake m) = of_datagram_message s m.msg_type m.body f
+noted_in_datagram s f (Alert a) = of_alert a.description f
+noted_in_datagram s f e = f
 
 abbrev pub is_change : Event → Bool
 is_change ChangeCipherSpec = true
@@ -61,7 +61,7 @@ told_of a p = record {
 abbrev pub said : Side → Told → Event → Told
 said s t e = record {
   flow = if t.has_changed && is_change e then t.flow else followed s t.flow e;
-  facts = noted_in_datagram t.facts e;
+  facts = noted_in_datagram s t.facts e;
   history = if t.has_changed && is_change e then t.history else with_letter s t.history (letter_in_datagram e);
   has_changed = t.has_changed || is_change e;
   is_encrypted = t.is_encrypted || is_sealed e;

@@ -3,6 +3,7 @@ use Rattle.std.specs.Prelude.{Bool, true, false}
 use Rattle.tls_flow.specs.declared.state.Outcome.{Outcome}
 use Rattle.tls_flow.specs.declared.state.Outcome.TheVariants as outcome
 use Rattle.tls_facts.specs.Facts.{Facts}
+use Rattle.tls_facts.specs.Told.{has_session}
 
 -- The part of the handshake that can be read came to its end: in TLS 1.3 that is the ServerHello.
 abbrev pub is_established : Outcome → Bool
@@ -15,5 +16,5 @@ is_established _ = false
 -- ServerHello's pre_shared_key (RFC 8446, section 4.2.11).
 abbrev pub is_resumed : Outcome → Facts → Bool
 is_resumed outcome.Resumed f = true
-is_resumed (outcome.Tls13 retried early) f = f.has_session
+is_resumed (outcome.Tls13 retried early) f = has_session f
 is_resumed _ f = false

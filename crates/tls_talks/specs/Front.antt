@@ -6,7 +6,7 @@ use Rattle.tls_fields.specs.Reading.{reading}
 use Rattle.tls_parser.specs.Framing.{max_fragment_length}
 use Rattle.tls_parser.specs.Record as stream
 use Rattle.tls_parser.specs.DtlsRecord as datagram
-use Rattle.tls_facts.specs.Facts.{is_within}
+use Rattle.tls_facts.specs.Exchange.{is_within}
 
 -- The header of a record of TLS (RFC 8446, section 5.1): a type that there is, a version 3.0 to 3.4, and a length within the limit.
 abbrev pub is_front : stream.RecordHeader → Bool

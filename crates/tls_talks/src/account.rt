@@ -40,13 +40,18 @@ fn is_sealed(event: &Event<'_>) -> bool
     matches!(event, Event::Encrypted(_))
 }
 
-/// Notes what one event says.
-fn note(facts: &mut Facts, alloc: Global, event: &Event<'_>) -> Result<(), AllocError>
-    ensures { OnOk result (view_facts facts.new ≡ noted_in_datagram (view_facts facts.old) (view_event event.now)) }
+/// Notes what one event of a side says.
+fn note(
+    facts: &mut Facts,
+    alloc: Global,
+    side: Direction,
+    event: &Event<'_>,
+) -> Result<(), AllocError>
+    ensures { OnOk result (view_facts facts.new ≡ noted_in_datagram side (view_facts facts.old) (view_event event.now)) }
 {
     match event {
         Event::Handshake(message) => {
-            facts.note_datagram_message(alloc, message.msg_type, message.body.as_slice())?
+            facts.note_datagram_message(alloc, side, message.msg_type, message.body.as_slice())?
         }
         Event::Alert(alert) => facts.note_alert(alert.code),
         Event::ChangeCipherSpec | Event::Encrypted(_) | Event::Refused(_, _) | Event::Fault(_) => {}
@@ -75,7 +80,7 @@ impl Account {
     ) -> Result<(), AllocError>
         ensures { OnOk result (told_of self.new progress.new ≡ said side (told_of self.old progress.old) (view_event event.now)) }
     {
-        note(&mut self.facts, alloc, event)?;
+        note(&mut self.facts, alloc, side, event)?;
         if !(progress.has_changed && is_change(event)) {
             follow(&mut self.flow, event, side);
             add_letter(&mut self.history, side, datagram_letter(event))?;

@@ -22,7 +22,7 @@ pub(crate) fn is_resumed(outcome: Outcome, facts: &Facts) -> bool
 {
     match outcome {
         Outcome::Resumed => true,
-        Outcome::Tls13 { .. } => facts.has_session,
+        Outcome::Tls13 { .. } => facts.has_session(),
         _ => false,
     }
 }

@@ -89,7 +89,8 @@ impl Heard {
         let Said::Stream(talk) = &mut self.said else {
             return Ok(());
         };
-        let n = talk.hear(self.alloc, direction, stream.available())?;
+        talk.hear(self.alloc, direction, stream.available())?;
+        let n = stream.available().len();
         stream.take(n);
         if talk.is_over(direction) {
             stream.stop();

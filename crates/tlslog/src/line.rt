@@ -66,7 +66,7 @@ fn name_or_number(alloc: Global, name: Option<&str>, number: u16) -> Result<Stri
 }
 
 /// Text that a peer sent, with what is no printable ASCII escaped.
-fn text(alloc: Global, bytes: &Option<Vec<u8>>) -> Result<Option<String>, AllocError> {
+fn text(alloc: Global, bytes: Option<&[u8]>) -> Result<Option<String>, AllocError> {
     match bytes {
         Some(bytes) => Ok(Some(format!(in alloc; "{}", bytes.escape_ascii())?)),
         None => Ok(None),
@@ -74,21 +74,21 @@ fn text(alloc: Global, bytes: &Option<Vec<u8>>) -> Result<Option<String>, AllocE
 }
 
 fn version_text(alloc: Global, facts: &Facts) -> Result<Option<String>, AllocError> {
-    match facts.version {
+    match facts.version() {
         Some(version) => Ok(Some(name_or_number(alloc, version_name(version), version.0)?)),
         None => Ok(None),
     }
 }
 
 fn cipher_text(alloc: Global, facts: &Facts) -> Result<Option<String>, AllocError> {
-    match facts.cipher {
+    match facts.cipher() {
         Some(cipher) => Ok(Some(name_or_number(alloc, None, cipher.0)?)),
         None => Ok(None),
     }
 }
 
 fn curve_text(alloc: Global, facts: &Facts) -> Result<Option<String>, AllocError> {
-    match facts.curve {
+    match facts.curve() {
         Some(group) => Ok(Some(name_or_number(alloc, group_name(group.0), group.0)?)),
         None => Ok(None),
     }
@@ -148,8 +148,8 @@ pub fn line_of(alloc: Global, connection: &Connection<Heard>) -> Result<String, 
         version: version_text(alloc, facts)?,
         cipher: cipher_text(alloc, facts)?,
         curve: curve_text(alloc, facts)?,
-        server_name: text(alloc, &facts.server_name)?,
-        next_protocol: text(alloc, &facts.next_protocol)?,
+        server_name: text(alloc, facts.server_name())?,
+        next_protocol: text(alloc, facts.next_protocol())?,
         resumed: heard.is_resumed(),
         established: heard.is_established(),
         last_alert: alert_text(alloc, facts)?,

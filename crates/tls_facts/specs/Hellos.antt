@@ -1,0 +1,116 @@
+-- What a hello says by its extensions; nothing where the extension is missing, or refused.
+use Rattle.std.specs.Prelude.{ℕ, Bool, true, false, List, [], ◌∷◌, Option, Some, None, Result, Ok, Err}
+use Rattle.tls_base.specs.ExtensionNumbers as extension_number
+use Rattle.tls_base.specs.Timestamp.{SignedCertificateTimestamp, timestamp_list}
+use Rattle.tls_fields.specs.Bytes.{Bytes}
+use Rattle.tls_fields.specs.Framed.{Framed}
+use Rattle.tls_fields.specs.Items.{list_read}
+use Rattle.tls_fields.specs.Layout.{Layout, number}
+use Rattle.tls_fields.specs.Meaning.{Answer, Refusal}
+use Rattle.tls_fields.specs.Reading.{reading}
+use Rattle.tls_ext.specs.Content as content
+use Rattle.tls_ext.specs.Extension as ext
+use Rattle.tls_ext.specs.Extension.{Extension}
+use Rattle.tls_ext.specs.InPlace.{client_shares, content_of, in_content, listed_versions, protocol_names}
+
+-- What is told, and nothing where it is refused.
+abbrev pub known : {A : Type 0} → Result (Option A) Refusal → Option A
+known (Ok x) = x
+known (Err e) = None
+
+abbrev pub value_in : {A : Type 0} → Answer A → Option A
+value_in (Ok x) = Some x.0
+value_in (Err e) = None
+
+abbrev pub is_there : Option Bytes → Bool
+is_there (Some c) = true
+is_there None = false
+
+abbrev pub first_of : List Bytes → Option Bytes
+first_of [] = None
+first_of (x ∷ xs) = Some x
+
+-- The content of the first extension of that type (RFC 8446, section 4.2).
+abbrev pub content_in : ℕ → Bytes → Option Bytes
+content_in kind b = known (content_of kind b)
+
+abbrev pub has : ℕ → Bytes → Bool
+has kind b = is_there (content_in kind b)
+
+-- What an extension lists.
+abbrev pub listed : {A : Type 0} → Result (Option (List A)) Refusal → List A
+listed (Ok (Some xs)) = xs
+listed _ = []
+
+-- What a content of that layout lists.
+abbrev pub list_in : {A : Type 0} → Layout (List A) → Option Bytes → List A
+list_in l (Some c) = list_read (reading l c)
+list_in l None = []
+
+-- The versions in supported_versions (RFC 8446, section 4.2.1).
+abbrev pub versions_in : Bytes → List ℕ
+versions_in b =
+    listed (in_content content.supported_versions listed_versions (content_of extension_number.supported_versions b))
+
+abbrev pub listed_groups : Extension → Option (List ℕ)
+listed_groups (ext.supported_groups groups) = Some groups
+listed_groups _ = None
+
+-- The groups in supported_groups (RFC 8446, section 4.2.7).
+abbrev pub groups_in : Bytes → List ℕ
+groups_in b = listed (in_content content.supported_groups listed_groups (content_of extension_number.supported_groups b))
+
+abbrev pub listed_formats : Extension → Option (List ℕ)
+listed_formats (ext.ec_point_formats formats) = Some formats
+listed_formats _ = None
+
+-- The formats in ec_point_formats (RFC 8422, section 5.1.2).
+abbrev pub formats_in : Bytes → List ℕ
+formats_in b = listed (in_content content.ec_point_formats listed_formats (content_of extension_number.ec_point_formats b))
+
+abbrev pub listed_algorithms : Extension → Option (List ℕ)
+listed_algorithms (ext.signature_algorithms algorithms) = Some algorithms
+listed_algorithms _ = None
+
+-- The algorithms in signature_algorithms (RFC 8446, section 4.2.3).
+abbrev pub algorithms_in : Bytes → List ℕ
+algorithms_in b =
+    listed (in_content content.signature_algorithms listed_algorithms (content_of extension_number.signature_algorithms b))
+
+abbrev pub listed_modes : Extension → Option (List ℕ)
+listed_modes (ext.psk_key_exchange_modes modes) = Some modes
+listed_modes _ = None
+
+-- The modes in psk_key_exchange_modes (RFC 8446, section 4.2.9).
+abbrev pub modes_in : Bytes → List ℕ
+modes_in b =
+    listed (in_content content.psk_key_exchange_modes listed_modes (content_of extension_number.psk_key_exchange_modes b))
+
+-- The protocols in application_layer_protocol_negotiation (RFC 7301, section 3.1).
+abbrev pub protocols_in : Bytes → List Bytes
+protocols_in b = listed (protocol_names b)
+
+-- The key shares of a client (RFC 8446, section 4.2.8).
+abbrev pub shares_in : Bytes → List Framed
+shares_in b = list_in client_shares (content_in extension_number.key_share b)
+
+-- The group in front of a key share (RFC 8446, section 4.2.8): a server's has no length in front of it.
+abbrev pub group_of : Option Bytes → Option ℕ
+group_of (Some c) = value_in (reading (number 2) c)
+group_of None = None
+
+-- The group of a server's key share.
+abbrev pub share_group_in : Bytes → Option ℕ
+share_group_in b = group_of (content_in extension_number.key_share b)
+
+-- The timestamps of a server's certificate (RFC 6962, section 3.3.1).
+abbrev pub timestamps_in : Bytes → List SignedCertificateTimestamp
+timestamps_in b = list_in timestamp_list (content_in extension_number.signed_certificate_timestamp b)
+
+abbrev pub has_bytes : Option Bytes → Bool
+has_bytes (Some (x ∷ xs)) = true
+has_bytes _ = false
+
+-- A ticket is offered by a session_ticket that has one: an empty one asks for a ticket (RFC 5077, section 3.2).
+abbrev pub has_ticket_in : Bytes → Bool
+has_ticket_in b = has_bytes (content_in extension_number.session_ticket b)

@@ -1,0 +1,41 @@
+-- What is kept of the hellos and the certificates of a connection.
+use Rattle.std.specs.Prelude.{List, map, length}
+use Rattle.std.specs.Option.{option_map}
+use Rattle.sha2.specs.Sha256.{sha256}
+use Rattle.tls_fields.specs.Bytes.{Bytes}
+use Rattle.tls_fields.specs.Layout.{number}
+use Rattle.tls_fields.specs.Items.{items_in}
+use Rattle.tls_hs.specs.Hello as hello
+use Rattle.tls_hs.specs.ServerHello as server
+use Rattle.tls_facts.specs.declared.parts.ClientParts.{ClientParts}
+use Rattle.tls_facts.specs.declared.parts.ServerParts.{ServerParts}
+use Rattle.tls_facts.specs.declared.parts.CertificateFacts.{CertificateFacts}
+
+-- The ClientHello whose parts these are.
+abbrev pub view_client : ClientParts → hello.ClientHello
+view_client p = record {
+  client_version = p.version.0;
+  random = p.random.items;
+  session_id = option_map (λ v. v.items) p.session_id;
+  cipher_suites = items_in (number 2) p.ciphers.items;
+  compression_methods = items_in (number 1) p.compressions.items;
+  extensions = option_map (λ v. v.items) p.ext;
+}
+
+-- The ServerHello whose parts these are.
+abbrev pub view_server : ServerParts → server.ServerHello
+view_server p = record {
+  server_version = p.version.0;
+  random = p.random.items;
+  session_id = option_map (λ v. v.items) p.session_id;
+  cipher_suite = p.cipher.0;
+  compression_method = p.compression.0;
+  extensions = option_map (λ v. v.items) p.ext;
+}
+
+abbrev pub facts_of : Bytes → CertificateFacts
+facts_of b = record { length = length b; sha256 = sha256 b }
+
+-- The length and the SHA-256 of each certificate, in their order.
+abbrev pub facts_of_all : List Bytes → List CertificateFacts
+facts_of_all chain = map facts_of chain

@@ -1,0 +1,169 @@
+//! What a hello says by its extensions; nothing where the extension is missing, or refused.
+ghost use Rattle.std.specs.Prelude.{◌≡◌, []};
+ghost use Rattle.std.specs.Option.{option_map};
+ghost use Rattle.tls_fields.specs.Items.{items_in, told as told_by};
+ghost use Rattle.tls_fields.specs.Layout.{counted, number};
+ghost use Rattle.tls_fields.specs.Text.{held};
+ghost use Rattle.tls_base.specs.Timestamp.{serialized_timestamp};
+ghost use Rattle.tls_ext.specs.InPlace.{key_share_entry};
+ghost use Rattle.tls_facts.specs.Hellos.{algorithms_in, content_in, formats_in, group_of, groups_in, has_bytes, known as known_by, modes_in, protocols_in, shares_in, timestamps_in, versions_in};
+
+use tls_base::{
+    NamedGroup, SignedCertificateTimestamp, TlsExtensionType, TlsVersion, certificate_timestamps,
+};
+use tls_ext::{
+    KeyShareEntry, application_protocols, ec_point_formats, extensions, first_content, key_shares,
+    psk_key_exchange_modes, signature_algorithms, supported_groups, supported_versions,
+};
+use tls_fields::{Counted1, Err, Error, InPlace, Items};
+
+/// What a call tells, and nothing where it refuses.
+pub(crate) fn known<T: Drop>(answer: Result<Option<T>, Err<Error<&[u8]>>>) -> Option<T>
+    ensures { result ≡ known_by (told_by (λ v. v) answer.entry) }
+{
+    match answer {
+        Ok(value) => value,
+        Err(_) => None,
+    }
+}
+
+/// No items.
+pub(crate) fn none<'a, T: InPlace<'a>>() -> Items<'a, T>
+    ensures { items_in T.layout result.bytes.now ≡ [] }
+{
+    Items::new(&[])
+}
+
+/// The content of the first extension of that type; `None` where none was found.
+pub(crate) fn content<'a>(ext: Option<&'a [u8]>, kind: TlsExtensionType) -> Option<&'a [u8]>
+    ensures { option_map (λ x. x.now) result ≡ content_in kind.0 (held (option_map (λ x. x.now) ext.entry)) }
+{
+    match first_content(extensions(ext), kind) {
+        Ok(content) => content,
+        Err(_) => None,
+    }
+}
+
+/// Whether there is a content, and it isn't empty.
+pub(crate) fn is_filled(content: Option<&[u8]>) -> bool
+    ensures { result ≡ has_bytes (option_map (λ x. x.now) content.entry) }
+{
+    match content {
+        Some(bytes) => !bytes.is_empty(),
+        None => false,
+    }
+}
+
+/// The versions of the first supported_versions.
+pub(crate) fn versions<'a>(ext: Option<&'a [u8]>) -> Items<'a, TlsVersion>
+    ensures { items_in (number 2) result.bytes.now ≡ versions_in (held (option_map (λ x. x.now) ext.entry)) }
+{
+    let Ok(Some(content)) = first_content(extensions(ext), TlsExtensionType::SupportedVersions)
+    else {
+        return none::<TlsVersion>();
+    };
+    match supported_versions(content) {
+        Ok((_, versions)) => versions,
+        Err(_) => none::<TlsVersion>(),
+    }
+}
+
+/// The groups of the first supported_groups.
+pub(crate) fn groups<'a>(ext: Option<&'a [u8]>) -> Items<'a, NamedGroup>
+    ensures { items_in (number 2) result.bytes.now ≡ groups_in (held (option_map (λ x. x.now) ext.entry)) }
+{
+    let Ok(Some(content)) = first_content(extensions(ext), TlsExtensionType::SupportedGroups) else {
+        return none::<NamedGroup>();
+    };
+    match supported_groups(content) {
+        Ok((_, groups)) => groups,
+        Err(_) => none::<NamedGroup>(),
+    }
+}
+
+/// The formats of the first ec_point_formats, one a byte.
+pub(crate) fn formats<'a>(ext: Option<&'a [u8]>) -> &'a [u8]
+    ensures { result.now ≡ formats_in (held (option_map (λ x. x.now) ext.entry)) }
+{
+    let Ok(Some(content)) = first_content(extensions(ext), TlsExtensionType::EcPointFormats) else {
+        return &[];
+    };
+    match ec_point_formats(content) {
+        Ok((_, formats)) => formats,
+        Err(_) => &[],
+    }
+}
+
+/// The algorithms of the first signature_algorithms.
+pub(crate) fn algorithms<'a>(ext: Option<&'a [u8]>) -> Items<'a, u16>
+    ensures { items_in (number 2) result.bytes.now ≡ algorithms_in (held (option_map (λ x. x.now) ext.entry)) }
+{
+    let Ok(Some(content)) = first_content(extensions(ext), TlsExtensionType::SignatureAlgorithms)
+    else {
+        return none::<u16>();
+    };
+    match signature_algorithms(content) {
+        Ok((_, algorithms)) => algorithms,
+        Err(_) => none::<u16>(),
+    }
+}
+
+/// The modes of the first psk_key_exchange_modes, one a byte.
+pub(crate) fn modes<'a>(ext: Option<&'a [u8]>) -> &'a [u8]
+    ensures { result.now ≡ modes_in (held (option_map (λ x. x.now) ext.entry)) }
+{
+    let Ok(Some(content)) = first_content(extensions(ext), TlsExtensionType::PskExchangeModes)
+    else {
+        return &[];
+    };
+    match psk_key_exchange_modes(content) {
+        Ok((_, modes)) => modes,
+        Err(_) => &[],
+    }
+}
+
+/// The names of the first application_layer_protocol_negotiation.
+pub(crate) fn protocols<'a>(ext: Option<&'a [u8]>) -> Items<'a, Counted1>
+    ensures { items_in (counted 1) result.bytes.now ≡ protocols_in (held (option_map (λ x. x.now) ext.entry)) }
+{
+    match application_protocols(ext) {
+        Ok(Some(names)) => names,
+        Ok(None) | Err(_) => none::<Counted1>(),
+    }
+}
+
+/// The key shares of a client's first key_share.
+pub(crate) fn shares<'a>(ext: Option<&'a [u8]>) -> Items<'a, KeyShareEntry<'a>>
+    ensures { items_in key_share_entry result.bytes.now ≡ shares_in (held (option_map (λ x. x.now) ext.entry)) }
+{
+    let Some(content) = content(ext, TlsExtensionType::KeyShare) else {
+        return none::<KeyShareEntry>();
+    };
+    match key_shares(content) {
+        Ok((_, shares)) => shares,
+        Err(_) => none::<KeyShareEntry>(),
+    }
+}
+
+/// The group in front of a server's key share.
+pub(crate) fn group_of_share(share: Option<&[u8]>) -> Option<NamedGroup>
+    ensures { option_map (λ g. g.0) result ≡ group_of (option_map (λ x. x.now) share.entry) }
+{
+    match NamedGroup::parse(share?) {
+        Ok((_, group)) => Some(group),
+        Err(_) => None,
+    }
+}
+
+/// The timestamps of a server's first signed_certificate_timestamp.
+pub(crate) fn timestamps<'a>(ext: Option<&'a [u8]>) -> Items<'a, SignedCertificateTimestamp<'a>>
+    ensures { items_in serialized_timestamp result.bytes.now ≡ timestamps_in (held (option_map (λ x. x.now) ext.entry)) }
+{
+    let Some(content) = content(ext, TlsExtensionType::SignedCertificateTimestamp) else {
+        return none::<SignedCertificateTimestamp>();
+    };
+    match certificate_timestamps(content) {
+        Ok((_, timestamps)) => timestamps,
+        Err(_) => none::<SignedCertificateTimestamp>(),
+    }
+}

@@ -1,0 +1,128 @@
+//! What is kept of the hellos and the certificates of a connection.
+ghost use Rattle.std.specs.Prelude.{◌≡◌, IfOk};
+ghost use Rattle.std.specs.Option.{option_map};
+ghost use Rattle.tls_fields.specs.Items.{items_in};
+ghost use Rattle.tls_fields.specs.Layout.{counted};
+ghost use Rattle.tls_hs.specs.InPlace.{view_client_hello_in_place};
+ghost use Rattle.tls_hs.specs.ServerHello.{view_server_hello};
+ghost use Rattle.tls_facts.specs.Parts.{facts_of_all, view_client, view_server};
+
+use sha2::{Digest, Sha256};
+use std::alloc::{AllocError, Global};
+use tls_base::{TlsCipherSuiteID, TlsCompressionID, TlsVersion};
+use tls_fields::Items;
+use tls_hs::{ClientHelloView, RawCertificate, TlsServerHelloContents};
+
+/// What is kept of a ClientHello (RFC 8446, section 4.1.2): all of it.
+#[derive(Debug, PartialEq, Drop)]
+pub struct ClientParts {
+    /// The version in the hello itself: 0x0303 in TLS 1.3.
+    pub version: TlsVersion,
+    /// 32 bytes.
+    pub random: Vec<u8>,
+    /// 1 to 32 bytes; `None` where there are none.
+    pub session_id: Option<Vec<u8>>,
+    /// The cipher suites that the client offers, 2 bytes each, in its order.
+    pub ciphers: Vec<u8>,
+    /// The compression methods that the client offers, 1 byte each, in its order.
+    pub compressions: Vec<u8>,
+    /// The extensions, as they stand after their length; `None` where there are none.
+    pub ext: Option<Vec<u8>>,
+}
+
+/// What is kept of a ServerHello (RFC 8446, section 4.1.3): all of it.
+#[derive(Debug, PartialEq, Drop)]
+pub struct ServerParts {
+    /// The version in the hello itself: 0x0303 in TLS 1.3.
+    pub version: TlsVersion,
+    /// 32 bytes.
+    pub random: Vec<u8>,
+    /// 1 to 32 bytes; `None` where there are none.
+    pub session_id: Option<Vec<u8>>,
+    /// The cipher suite that the server chose.
+    pub cipher: TlsCipherSuiteID,
+    /// The compression method that the server chose.
+    pub compression: TlsCompressionID,
+    /// The extensions, as they stand after their length; `None` where there are none.
+    pub ext: Option<Vec<u8>>,
+}
+
+/// What is kept of a certificate.
+#[derive(Clone, Copy, Debug, PartialEq, Eq)]
+pub struct CertificateFacts {
+    /// How many bytes it has, in DER.
+    pub length: usize,
+    /// The SHA-256 of these bytes (FIPS 180-4).
+    pub sha256: [u8; 32],
+}
+
+/// The bytes, copied.
+fn copied(alloc: Global, bytes: &[u8]) -> Result<Vec<u8>, AllocError>
+    ensures { IfOk result (λ v. v.items ≡ bytes.now) }
+{
+    let mut copy = Vec::new(alloc);
+    copy.extend_from_slice(bytes)?;
+    Ok(copy)
+}
+
+/// The bytes, copied, where there are any.
+fn copied_if(alloc: Global, bytes: Option<&[u8]>) -> Result<Option<Vec<u8>>, AllocError>
+    ensures { IfOk result (λ v. option_map (λ x. x.items) v ≡ option_map (λ x. x.now) bytes.entry) }
+{
+    match bytes {
+        Some(bytes) => Ok(Some(copied(alloc, bytes)?)),
+        None => Ok(None),
+    }
+}
+
+impl ClientParts {
+    /// The parts of a ClientHello.
+    pub(crate) fn of(alloc: Global, hello: &ClientHelloView<'_>) -> Result<ClientParts, AllocError>
+        ensures { IfOk result (λ p. view_client p ≡ view_client_hello_in_place hello.now) }
+    {
+        Ok(ClientParts {
+            version: hello.version,
+            random: copied(alloc, hello.random)?,
+            session_id: copied_if(alloc, hello.session_id)?,
+            ciphers: copied(alloc, hello.ciphers.bytes())?,
+            compressions: copied(alloc, hello.comp.bytes())?,
+            ext: copied_if(alloc, hello.ext)?,
+        })
+    }
+}
+
+impl ServerParts {
+    /// The parts of a ServerHello.
+    pub(crate) fn of(
+        alloc: Global,
+        hello: &TlsServerHelloContents<'_>,
+    ) -> Result<ServerParts, AllocError>
+        ensures { IfOk result (λ p. view_server p ≡ view_server_hello hello.now) }
+    {
+        Ok(ServerParts {
+            version: hello.version,
+            random: copied(alloc, hello.random)?,
+            session_id: copied_if(alloc, hello.session_id)?,
+            cipher: hello.cipher,
+            compression: hello.compression,
+            ext: copied_if(alloc, hello.ext)?,
+        })
+    }
+}
+
+/// The facts of certificates, in their order.
+pub(crate) fn facts_of<'a>(
+    alloc: Global,
+    chain: Items<'a, RawCertificate<'a>>,
+) -> Result<Vec<CertificateFacts>, AllocError>
+    ensures { IfOk result (λ v. v.items ≡ facts_of_all (items_in (counted 3) chain.entry.bytes.now)) }
+{
+    let mut facts = Vec::new(alloc);
+    for certificate in chain {
+        facts.push(CertificateFacts {
+            length: certificate.bytes.len(),
+            sha256: Sha256::digest(certificate.bytes),
+        })?;
+    }
+    Ok(facts)
+}
