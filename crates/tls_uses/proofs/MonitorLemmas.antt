@@ -1,5 +1,6 @@
 -- What a monitor is told, event by event.
-use Rattle.std.proofs.Common.{◌≡◌, ℕ, ◌+◌, ◌≤◌, ◌-◌, ◌^◌, inl, inr, List, [], ◌∷◌, length, Bool, true, false, Option, Some, None, IsSome, refl, sym, ◌∙◌, ap, subst, arith}
+use Rattle.std.proofs.Common.{◌≡◌, ℕ, ◌+◌, ◌≤◌, ◌-◌, ◌^◌, inl, inr, List, [], ◌∷◌, length, Bool, true, false, Option}
+use Rattle.std.proofs.Common.{Some, None, IsSome, refl, sym, ◌∙◌, ap, subst, arith}
 use Rattle.tls_fields.specs.Bytes.{Bytes}
 use Rattle.tls_events.specs.Item.{Event as Said}
 use Rattle.tls_flow.specs.declared.letter.Direction.{Direction as Side}
@@ -48,7 +49,8 @@ silent : (vs : List Said) → first_in vs ≡ None → vs ≡ []
 silent [] e = refl
 silent (v ∷ vs) e = absurd cc
 
-pub on_none : (c d : Conversation) (s : Side) (p : Bytes) (n : ℕ) → IsOn c s p d n → None ≡ front_of (ear d s) → IsWatched c s p d
+pub on_none : (c d : Conversation) (s : Side) (p : Bytes) (n : ℕ) → IsOn c s p d n → None ≡ front_of (ear d s)
+    → IsWatched c s p d
 on_none c d s p n on front = record {
   begun = on.begun;
   said = on.said;
