@@ -3,6 +3,8 @@
 import re
 import subprocess
 
+import wanted_hellos
+
 FIELDS = """
     handshake.type handshake.version handshake.random handshake.extensions.supported_version handshake.ciphersuite
     handshake.extensions_key_share_group handshake.extensions_key_share_selected_group handshake.server_named_curve
@@ -31,10 +33,12 @@ ALERTS = {
 RETRY = "cf21ad74e59a6111be1d8c021e65b891c2a211167abb8c5e079e09e2c8a8339c"
 CLIENT_HELLO, SERVER_HELLO, KEY_EXCHANGE, SERVER_DONE = "1", "2", "12", "14"
 CHANGE, PRE_SHARED_KEY = "20", "41"
+# Of these, 0 is told too.
+ALWAYS = ["comp_method", "cert_count", "client_cert_count"]
 ORDER = """
     ts id.orig_h id.orig_p id.resp_h id.resp_p proto duration version cipher curve server_name next_protocol resumed established
     last_alert outcome stop gap
-""".split()
+""".split() + wanted_hellos.ORDER
 
 
 def lines(capture, port=None, udp=False):
@@ -57,17 +61,18 @@ def lines(capture, port=None, udp=False):
 def rows(capture, port, udp):
     """tshark's fields of each packet of that protocol, as dictionaries of lists."""
     layer, prefix = ("udp", "dtls") if udp else ("tcp", "tls")
-    fields = [*OUTER, *(OF_UDP if udp else OF_TCP), *(f"{prefix}.{field}" for field in FIELDS)]
-    command = ["tshark", "-r", str(capture), "-T", "fields", "-E", "separator=|", "-E", "occurrence=a", "-Y", layer]
+    fields = [*OUTER, *(OF_UDP if udp else OF_TCP), *wanted_hellos.SHARED]
+    fields += [f"{prefix}.{field}" for field in (*FIELDS, *wanted_hellos.FIELDS)]
+    command = ["tshark", "-r", str(capture), "-T", "fields", "-E", "separator=|", "-E", "occurrence=a", "-E", "aggregator=;", "-Y", layer]
     command += ["-o", "tcp.reassemble_out_of_order:TRUE"]
     if port:
         command += ["-d", f"{layer}.port=={port},{prefix}"]
     for field in fields:
         command += ["-e", field]
-    names = [re.sub("^d?tls[.]", "", field) for field in fields]
+    names = [field if field in wanted_hellos.SHARED else re.sub("^d?tls[.]", "", field) for field in fields]
     text = subprocess.run(command, stdout=subprocess.PIPE, stderr=subprocess.DEVNULL, text=True, check=True).stdout
     for line in text.splitlines():
-        yield {name: [v for v in part.split(",") if v] for name, part in zip(names, line.split("|"))}
+        yield {name: [v for v in part.split(";") if v] for name, part in zip(names, line.split("|"))}
 
 
 def first(row, *fields):
@@ -75,6 +80,13 @@ def first(row, *fields):
         if row[field]:
             return row[field][0]
     return None
+
+
+def is_told(field, value):
+    """Whether a line has the field: it is there, and if it is a mark, a list or a text of hellos, it isn't empty."""
+    if field in wanted_hellos.ORDER and field not in ALWAYS:
+        return bool(value)
+    return value is not None
 
 
 def group(number):
@@ -105,10 +117,13 @@ class Talk:
         self.is_tls |= bool(types or row["alert_message.desc"] or row["record.content_type"])
         if CLIENT_HELLO in types:
             self.said["server_name"] = first(row, "handshake.extensions_server_name")
+            self.said |= wanted_hellos.of_client(row, self.layer, VERSIONS, GROUPS)
         if SERVER_HELLO in types:
             self.note_server(row)
         if KEY_EXCHANGE in types and row["handshake.server_named_curve"]:
             self.said["curve"] = group(int(row["handshake.server_named_curve"][0], 16))
+        if side not in self.changed or self.is_13:
+            self.said |= wanted_hellos.of_messages(row, side)
         self.has_done |= SERVER_DONE in types
         self.messages += len(types)
         for kind in row["record.content_type"]:
@@ -125,6 +140,10 @@ class Talk:
             self.changed.append(side)
 
     def note_server(self, row):
+        if first(row, "handshake.random").replace(":", "") == RETRY:
+            self.said["retried"] = True
+            return
+        self.said |= wanted_hellos.of_server(row, VERSIONS, GROUPS)
         version = int(first(row, "handshake.extensions.supported_version", "handshake.version"), 16)
         self.said["version"] = VERSIONS[version]
         self.said["cipher"] = first(row, "handshake.ciphersuite")
@@ -133,7 +152,7 @@ class Talk:
         self.said["next_protocol"] = first(row, "handshake.extensions_alpn_str")
         is_13 = version in (0x304, 0xFEFC)
         self.said["resumed"] = is_13 and PRE_SHARED_KEY in row["handshake.extension.type"]
-        self.is_13 |= is_13 and first(row, "handshake.random").replace(":", "") != RETRY
+        self.is_13 |= is_13
 
     def note_alerts(self, row, side):
         # Where the bytes of an encrypted one happen to be a level and a name, tshark takes them for these.
@@ -158,4 +177,4 @@ class Talk:
             **self.said, "resumed": is_short or (self.is_13 and self.said["resumed"]),
             "established": self.is_established(), "outcome": outcome, "stop": self.stop,
         }
-        return {field: known[field] for field in ORDER if known.get(field) is not None}
+        return {field: known[field] for field in ORDER if is_told(field, known.get(field))}

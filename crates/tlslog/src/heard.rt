@@ -1,4 +1,5 @@
 //! What is heard of a connection, by what carries it.
+use crate::speech::{Speech, Spoken};
 use connections::{Listener, Protocol, Stream};
 use std::alloc::{AllocError, Global};
 use tls_facts::Facts;
@@ -18,7 +19,10 @@ enum Said {
 #[derive(Drop)]
 pub struct Heard {
     alloc: Global,
+    protocol: Protocol,
     said: Said,
+    // The messages, where they are kept.
+    speech: Option<Speech>,
 }
 
 impl Listener for Heard {
@@ -27,7 +31,12 @@ impl Listener for Heard {
             Protocol::Tcp => Said::Stream(Talk::new(alloc)),
             Protocol::Udp => Said::Datagrams(DatagramTalk::new(alloc)),
         };
-        Heard { alloc, said }
+        Heard {
+            alloc,
+            protocol,
+            said,
+            speech: None,
+        }
     }
 }
 
@@ -80,6 +89,21 @@ impl Heard {
         }
     }
 
+    /// Keeps the messages that come from here on, until they are taken.
+    pub fn keep_messages(&mut self) {
+        if self.speech.is_none() {
+            self.speech = Some(Speech::new(self.alloc, self.protocol));
+        }
+    }
+
+    /// Takes out the messages that are kept.
+    pub fn take_messages(&mut self) -> Vec<Spoken> {
+        match &mut self.speech {
+            Some(speech) => speech.take(),
+            None => Vec::new(self.alloc),
+        }
+    }
+
     /// Hears what a side's stream says next.
     pub fn hear_stream(
         &mut self,
@@ -89,7 +113,14 @@ impl Heard {
         let Said::Stream(talk) = &mut self.said else {
             return Ok(());
         };
-        let n = talk.hear(self.alloc, direction, stream.available())?;
+        let was_over = talk.is_over(direction);
+        let bytes = stream.available();
+        let n = talk.hear(self.alloc, direction, bytes)?;
+        if let (Some(speech), Some(heard)) = (&mut self.speech, bytes.get(..n)) {
+            if talk.is_tls() && !was_over {
+                speech.hear(direction, heard)?;
+            }
+        }
         stream.take(n);
         if talk.is_over(direction) {
             stream.stop();
@@ -103,9 +134,16 @@ impl Heard {
         direction: Direction,
         payload: &[u8],
     ) -> Result<(), AllocError> {
-        match &mut self.said {
-            Said::Stream(_) => Ok(()),
-            Said::Datagrams(talk) => talk.hear(self.alloc, direction, payload),
+        let Said::Datagrams(talk) = &mut self.said else {
+            return Ok(());
+        };
+        let was_over = talk.is_over(direction);
+        talk.hear(self.alloc, direction, payload)?;
+        if let Some(speech) = &mut self.speech {
+            if talk.is_dtls() && !was_over {
+                speech.hear(direction, payload)?;
+            }
         }
+        Ok(())
     }
 }
