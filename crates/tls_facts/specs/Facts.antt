@@ -1,5 +1,5 @@
 -- What both sides' messages and alerts say of a connection.
-use Rattle.std.specs.Prelude.{ℕ, Bool, true, false, ◌==◌, if◌then◌else◌, List, Option, Some, None, option_map, Ok, Err}
+use Rattle.std.specs.Prelude.{ℕ, Bool, true, false, ◌==◌, if◌then◌else◌, List, [], ◌∷◌, Option, Some, None, option_map, Ok, Err}
 use Rattle.std.specs.Str.{bytes_eq}
 use Rattle.tls_fields.specs.Bytes.{Bytes}
 use Rattle.tls_fields.specs.Framed.{Framed}
@@ -18,7 +18,6 @@ use Rattle.tls_facts.specs.Exchange.{curve_by}
 use Rattle.tls_facts.specs.Hellos.{share_group_in}
 use Rattle.tls_facts.specs.Parts.{facts_of_all, view_client, view_server}
 use Rattle.tls_facts.specs.declared.facts.Facts as rust
-use Rattle.tls_facts.specs.declared.facts.TheConstants.{RETRY_RANDOM}
 use Rattle.tls_facts.specs.declared.parts.CertificateFacts.{CertificateFacts}
 
 pub record Facts : Type 0 where
@@ -67,14 +66,20 @@ nothing = record {
   last_alert = None;
 }
 
+-- The random of a ServerHello that is a HelloRetryRequest (RFC 8446, section 4.1.3).
+abbrev pub retry_random : Bytes
+retry_random =
+    0xcf ∷ 0x21 ∷ 0xad ∷ 0x74 ∷ 0xe5 ∷ 0x9a ∷ 0x61 ∷ 0x11 ∷ 0xbe ∷ 0x1d ∷ 0x8c ∷ 0x02 ∷ 0x1e ∷ 0x65 ∷ 0xb8 ∷ 0x91 ∷
+    0xc2 ∷ 0xa2 ∷ 0x11 ∷ 0x16 ∷ 0x7a ∷ 0xbb ∷ 0x8c ∷ 0x5e ∷ 0x07 ∷ 0x9e ∷ 0x09 ∷ 0xe2 ∷ 0xc8 ∷ 0xa8 ∷ 0x33 ∷ 0x9c ∷ []
+
 -- A ClientHello stands until the next, which replaces it whole.
 abbrev pub asked : client.ClientHello → Facts → Facts
 asked h f = record f { client = Some h }
 
--- So does a ServerHello, with the group of its key share; but one of that random is a HelloRetryRequest (RFC 8446, section 4.1.3).
+-- So does a ServerHello, with the group of its key share; but a HelloRetryRequest chooses nothing yet.
 abbrev pub chosen : server.ServerHello → Facts → Facts
 chosen h f =
-    if bytes_eq h.random RETRY_RANDOM then record f { is_retried = true }
+    if bytes_eq h.random retry_random then record f { is_retried = true }
     else record f { server = Some h; curve = share_group_in (held h.extensions) }
 
 -- What draft 18 of TLS 1.3 leaves out of a ServerHello is empty (draft-ietf-tls-tls13-18, section 4.1.3).

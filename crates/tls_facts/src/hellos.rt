@@ -28,7 +28,7 @@ pub(crate) fn known<T: Drop>(answer: Result<Option<T>, Err<Error<&[u8]>>>) -> Op
 }
 
 /// No items.
-fn none<'a, T: InPlace<'a>>() -> Items<'a, T>
+pub(crate) fn none<'a, T: InPlace<'a>>() -> Items<'a, T>
     ensures { items_in T.layout result.bytes.now ≡ [] }
 {
     Items::new(&[])

@@ -111,9 +111,9 @@ impl ServerParts {
 }
 
 /// The facts of certificates, in their order.
-pub(crate) fn facts_of(
+pub(crate) fn facts_of<'a>(
     alloc: Global,
-    chain: Items<RawCertificate>,
+    chain: Items<'a, RawCertificate<'a>>,
 ) -> Result<Vec<CertificateFacts>, AllocError>
     ensures { IfOk result (λ v. v.items ≡ facts_of_all (items_in (counted 3) chain.entry.bytes.now)) }
 {

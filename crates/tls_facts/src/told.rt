@@ -11,7 +11,7 @@ ghost use Rattle.tls_facts.specs.Told as told;
 
 use crate::facts::Facts;
 use crate::hellos::{
-    algorithms, content, formats, group_of_share, groups, is_filled, known, modes, protocols,
+    algorithms, content, formats, group_of_share, groups, is_filled, known, modes, none, protocols,
     shares, timestamps, versions,
 };
 use tls_base::{
@@ -131,7 +131,7 @@ impl Facts {
     {
         match &self.client {
             Some(hello) => Items::new(hello.ciphers.as_slice()),
-            None => Items::new(&[]),
+            None => none::<TlsCipherSuiteID>(),
         }
     }
 
@@ -141,7 +141,7 @@ impl Facts {
     {
         match &self.client {
             Some(hello) => Items::new(hello.compressions.as_slice()),
-            None => Items::new(&[]),
+            None => none::<TlsCompressionID>(),
         }
     }
 

@@ -1,0 +1,12 @@
+use Rattle.std.proofs.Common.{◌≡◌, ◌++◌}
+use Rattle.tls_fields.specs.Items.{items_in}
+use Rattle.tls_fields.specs.Layout.{counted}
+use Rattle.tls_facts.specs.Parts.{facts_of_all}
+use Rattle.tls_facts.proofs.parts.facts_of.Given as goal
+
+abbrev pub invariant-loop-certificate : goal.invariant-loop-certificate
+invariant-loop-certificate l =
+    (goal.iterator-loop-certificate).can_next l.certificate-iterator ×
+    (goal.iterator-loop-certificate).is_finite l.certificate-iterator ×
+    (l.facts.items ++ facts_of_all (items_in (counted 3) l.certificate-iterator.bytes.now)
+    ≡ facts_of_all (items_in (counted 3) l.fn.chain.bytes.now))
