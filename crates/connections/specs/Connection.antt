@@ -1,13 +1,16 @@
 -- What is held of a connection.
-use Rattle.std.specs.Prelude.{◌≡◌, ℕ, ◌==◌, Bool, false, ◌&&◌, not, Option, Some, None, if◌then◌else◌}
+use Rattle.std.specs.Prelude.{◌≡◌, ℕ, ◌==◌, Bool, false, ◌&&◌, not, Option, Some, None, if◌then◌else◌, length}
 use Rattle.connections.specs.Ends.{is_end}
 use Rattle.connections.specs.Segment.{answers, asks, first_of}
 use Rattle.connections.specs.Stream.{silent_stream, HasTaken, is_over}
+use Rattle.connections.specs.Traffic.{nothing_sent, with_packet}
+use Rattle.connections.specs.declared.datagram.Datagram.{Datagram}
 use Rattle.connections.specs.declared.ends.Protocol.{Protocol}
-use Rattle.connections.specs.declared.ends.Protocol.TheVariants.{Tcp}
+use Rattle.connections.specs.declared.ends.Protocol.TheVariants.{Tcp, Udp}
 use Rattle.connections.specs.declared.ends.End.{End}
 use Rattle.connections.specs.declared.segment.Segment.{Segment}
 use Rattle.connections.specs.declared.stream.Stream.{Stream}
+use Rattle.connections.specs.declared.traffic.Traffic.{Traffic}
 use Rattle.connections.specs.declared.connection.Connection.{Connection}
 use Rattle.connections.specs.declared.connection.Side.{Side}
 use Rattle.connections.specs.declared.connection.Side.TheVariants.{Originator, Responder}
@@ -31,6 +34,8 @@ module _ {T : Type 0} where
     asked = None;
     from_originator = silent_stream;
     from_responder = silent_stream;
+    originator_sent = nothing_sent;
+    responder_sent = nothing_sent;
     listener = listener;
   }
 
@@ -45,6 +50,10 @@ module _ {T : Type 0} where
   stream_of Originator c = c.from_originator
   stream_of Responder c = c.from_responder
 
+  abbrev pub sent_by : Side → Connection T → Traffic
+  sent_by Originator c = c.originator_sent
+  sent_by Responder c = c.responder_sent
+
   -- The segment asks, and is not the one that asked for this connection, sent once more.
   abbrev pub is_the_one_that_asked : Segment → Connection T → Option ℕ → Bool
   is_the_one_that_asked s c None = false
@@ -53,17 +62,34 @@ module _ {T : Type 0} where
   abbrev pub is_another : Segment → Connection T → Bool
   is_another s c = asks s && not (is_the_one_that_asked s c c.asked)
 
-  -- The sender's stream takes the segment; the other stream, the ends and the caller's value stay.
+  -- The sender's stream takes the segment, which is counted; the other side, the ends and the caller's value stay.
   abbrev pub TakesFrom : Side → Segment → Connection T → Connection T → Type 0
   TakesFrom Originator s old new =
       HasTaken s old.from_originator new.from_originator
-      × (new ≡ record old { last_time = s.time; asked = if asks s then Some (first_of s) else old.asked; from_originator = new.from_originator })
+      × (new ≡ record old {
+        last_time = s.time;
+        asked = if asks s then Some (first_of s) else old.asked;
+        from_originator = new.from_originator;
+        originator_sent = with_packet (length s.payload.now) old.originator_sent;
+      })
   TakesFrom Responder s old new =
       HasTaken s old.from_responder new.from_responder
-      × (new ≡ record old { last_time = s.time; from_responder = new.from_responder })
+      × (new ≡ record old { last_time = s.time; from_responder = new.from_responder; responder_sent = with_packet (length s.payload.now) old.responder_sent })
 
   abbrev pub Accepts : Segment → Connection T → Connection T → Type 0
   Accepts s old new = TakesFrom (side_of old s.source) s old new
+
+  -- A datagram is counted, and its time noted.
+  abbrev pub counts_from : Side → Datagram → Connection T → Connection T
+  counts_from Originator d c = record c { last_time = d.time; originator_sent = with_packet (length d.payload.now) c.originator_sent }
+  counts_from Responder d c = record c { last_time = d.time; responder_sent = with_packet (length d.payload.now) c.responder_sent }
+
+  abbrev pub with_datagram : Datagram → Connection T → Connection T
+  with_datagram d c = counts_from (side_of c d.source) d c
+
+  -- One that a datagram begins; its sender is the originator.
+  abbrev pub begun_by_datagram : Datagram → T → Connection T
+  begun_by_datagram d listener = with_datagram d (silent Udp d.source d.destination d.time listener)
 
   -- Both sides said their last.
   abbrev pub is_closed : Connection T → Bool

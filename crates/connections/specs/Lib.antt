@@ -3,4 +3,5 @@ pub mod Segment
 pub mod Stream
 pub mod Connection
 pub mod Table
+pub mod Traffic
 pub mod Lends

@@ -1,7 +1,8 @@
 -- What is read of a direction.
 use Rattle.std.specs.Prelude.{◌≡◌, ◌⊎◌, ℕ, ◌+◌, ◌-◌, ◌%◌, ◌^◌, ◌==◌, Bool, true, false, nat_lt, ◌&&◌, ◌||◌, if◌then◌else◌, Option, Some, None, [], length, take}
-use Rattle.segments.specs.Cells.{Bytes, Held, run, with_segment, without_front, IsTooMuch}
+use Rattle.segments.specs.Cells.{Bytes, Held, differing_in, known_behind, run, with_segment, without_front, IsTooMuch}
 use Rattle.connections.specs.Segment.{breaks, ends, first_of, behind_of}
+use Rattle.connections.specs.Traffic.{plus}
 use Rattle.connections.specs.declared.segment.Segment.{Segment}
 use Rattle.connections.specs.declared.stream.TheConstants.{HELD_LIMIT}
 use Rattle.connections.specs.declared.stream.Stream.{Stream}
@@ -38,7 +39,7 @@ behind_front n Over = Over
 
 -- One of which nothing came.
 abbrev pub silent_stream : Stream
-silent_stream = record { reading = Unbegun; next = 0; last = 0; fin = None; is_broken = false; has_gap = false }
+silent_stream = record { reading = Unbegun; next = 0; last = 0; fin = None; is_broken = false; has_gap = false; length = 0; repeated = 0; disagreeing = 0 }
 
 -- The number of the first byte that was not handed out, when more are.
 abbrev pub next_behind : ℕ → Reading → ℕ → ℕ
@@ -59,15 +60,57 @@ ahead_of n m = (n + (2 ^ 32 - m)) % 2 ^ 32
 abbrev pub is_behind : ℕ → ℕ → Bool
 is_behind n m = nat_lt 0 (ahead_of n m) && nat_lt (ahead_of n m) (2 ^ 31)
 
--- A segment with RST breaks the stream off, and its bytes are not read; of any other the bytes are taken, and with FIN it says
--- where the stream ends. Where it is read no further from then on, bytes are missing.
+-- How far a number is behind another; one that isn't is not at all.
+abbrev pub advance : ℕ → ℕ → ℕ
+advance n m = if is_behind n m then ahead_of n m else 0
+
+-- How many bytes are held, in order and behind others that are missing.
+abbrev pub came : Held → ℕ
+came h = plus (length (run h.cells)) (known_behind h.cells)
+
+-- Of so many bytes those stood already by which no more are held: they are added to a count. Of a stream that isn't read none are known.
+abbrev pub with_repeated : ℕ → Reading → Reading → ℕ → ℕ
+with_repeated n (Open h) (Open k) count = plus count (n - (came k - came h))
+with_repeated n (Open h) Unbegun count = count
+with_repeated n (Open h) Over count = count
+with_repeated n Unbegun r count = count
+with_repeated n Over r count = count
+
+-- At so many places another byte was held: they are added to a count. Of a stream that isn't read none are known.
+abbrev pub with_disagreeing : ℕ → Bytes → Reading → Reading → ℕ → ℕ
+with_disagreeing seq b (Open h) (Open k) count = plus count (differing_in seq b h)
+with_disagreeing seq b (Open h) Unbegun count = count
+with_disagreeing seq b (Open h) Over count = count
+with_disagreeing seq b Unbegun r count = count
+with_disagreeing seq b Over r count = count
+
+-- What the numbers of a segment say: how far its sender has come, and with FIN where the stream ends.
+abbrev pub with_numbers : Segment → Stream → Stream
+with_numbers s t = record t {
+  last = if is_behind (behind_of s) t.last then behind_of s else t.last;
+  length = plus t.length (advance (behind_of s) t.last);
+  fin = if ends s then Some (behind_of s) else t.fin;
+}
+
+-- Its bytes are taken, and those of them that stood, or don't agree with those that stand, are counted. Where the stream is read no further from then on, bytes are missing.
+pub record HasPut (s : Segment) (old new : Stream) : Type 0 where
+  pub bytes : Accepts (first_of s) s.payload.now old.reading new.reading
+  pub repeated : new.repeated ≡ with_repeated (length s.payload.now) old.reading new.reading old.repeated
+  pub disagreeing : new.disagreeing ≡ with_disagreeing (first_of s) s.payload.now old.reading new.reading old.disagreeing
+  pub gap : new.reading ≡ Over → (old.reading ≡ Over → ⊥) → new.has_gap ≡ true
+  pub others : new ≡ record old { reading = new.reading; repeated = new.repeated; disagreeing = new.disagreeing; has_gap = new.has_gap }
+
+-- The stream begins with the segment's first byte, if none came before.
+abbrev pub begun_by : Segment → Stream → Stream
+begun_by s t = record t {
+  reading = begun HELD_LIMIT (first_of s) t.reading;
+  next = number_begun t.reading (first_of s) t.next;
+  last = number_begun t.reading (first_of s) t.last;
+}
+
+-- A segment with RST breaks the stream off, and its bytes are not read; of any other the numbers are noted and the bytes taken.
 pub record HasTaken (s : Segment) (old new : Stream) : Type 0 where
-  pub bytes : breaks s ≡ false → Accepts (first_of s) s.payload.now (begun HELD_LIMIT (first_of s) old.reading) new.reading
-  pub next : breaks s ≡ false → new.next ≡ number_begun old.reading (first_of s) old.next
-  pub last : breaks s ≡ false → let l = number_begun old.reading (first_of s) old.last in new.last ≡ (if is_behind (behind_of s) l then behind_of s else l)
-  pub fin : breaks s ≡ false → new.fin ≡ (if ends s then Some (behind_of s) else old.fin)
-  pub is_broken : breaks s ≡ false → new.is_broken ≡ old.is_broken
-  pub gap : breaks s ≡ false → new.reading ≡ Over → (old.reading ≡ Over → ⊥) → new.has_gap ≡ true
+  pub taken : breaks s ≡ false → HasPut s (with_numbers s (begun_by s old)) new
   pub broken : breaks s ≡ true → new ≡ record old { is_broken = true }
 
 -- All in front of the FIN came, or is not read any more.

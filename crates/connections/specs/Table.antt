@@ -5,10 +5,9 @@ use Rattle.std.specs.Map.{lookup, remove_entry}
 use Rattle.lru.specs.LruCache.{last_entry}
 use Rattle.connections.specs.Ends.{are_ends}
 use Rattle.connections.specs.Segment.{asks, begins_one, ends_of}
-use Rattle.connections.specs.Connection.{IsBegunBy, Accepts, is_another, is_closed, silent}
+use Rattle.connections.specs.Connection.{IsBegunBy, Accepts, is_another, is_closed, begun_by_datagram, with_datagram}
 use Rattle.connections.specs.declared.datagram.Datagram.{Datagram}
 use Rattle.connections.specs.declared.ends.Ends.{Ends}
-use Rattle.connections.specs.declared.ends.Protocol.TheVariants.{Udp}
 use Rattle.connections.specs.declared.segment.Segment.{Segment}
 use Rattle.connections.specs.declared.connection.Connection.{Connection}
 use Rattle.connections.specs.declared.table.TheConstants.{IDLE_LIMIT, MAX_CONNECTIONS}
@@ -55,10 +54,10 @@ module _ {T : Type 0} where
   TakesSegment s (Some c) its = Accepts s c its
   TakesSegment s None its = (c : Connection T) × IsBegunBy s c × Accepts s c its
 
-  -- Of a datagram the time is noted; its sender is the originator of one that it begins.
+  -- A datagram is counted, and its time noted, in the exchange that is there, or in one that it begins.
   abbrev pub TakesDatagram : Datagram → Option (Connection T) → Connection T → Type 0
-  TakesDatagram d (Some c) its = its ≡ record c { last_time = d.time }
-  TakesDatagram d None its = its ≡ silent Udp d.source d.destination d.time its.listener
+  TakesDatagram d (Some c) its = its ≡ with_datagram d c
+  TakesDatagram d None its = its ≡ begun_by_datagram d its.listener
 
   -- There is an open connection between the segment's ends, or the segment begins one where none was closed.
   abbrev pub belongs : Segment → Table T → Bool

@@ -1,12 +1,12 @@
 //! A connection of TCP, or an exchange over UDP.
 ghost use Rattle.std.specs.Prelude.{◌≡◌, OnOk};
-ghost use Rattle.connections.specs.Connection.{silent, IsBegunBy, Accepts, side_of, stream_of, is_closed, is_another};
-ghost use Rattle.connections.specs.declared.ends.Protocol.TheVariants.{Udp};
+ghost use Rattle.connections.specs.Connection.{silent, IsBegunBy, Accepts, side_of, stream_of, sent_by, is_closed, is_another, begun_by_datagram, with_datagram};
 
 use crate::datagram::Datagram;
 use crate::ends::{End, Protocol};
 use crate::segment::Segment;
 use crate::stream::Stream;
+use crate::traffic::Traffic;
 use std::alloc::{AllocError, Global};
 
 /// A value of a caller that goes with a connection.
@@ -43,6 +43,10 @@ pub struct Connection<T> {
     pub from_originator: Stream,
     /// What the responder says over TCP.
     pub from_responder: Stream,
+    /// What the originator sent.
+    pub originator_sent: Traffic,
+    /// What the responder sent.
+    pub responder_sent: Traffic,
     /// The caller's own.
     pub listener: T,
 }
@@ -67,6 +71,8 @@ impl<T: Listener> Connection<T> {
             asked: None,
             from_originator: Stream::new(),
             from_responder: Stream::new(),
+            originator_sent: Traffic::new(),
+            responder_sent: Traffic::new(),
             listener: T::begin(alloc, protocol),
         }
     }
@@ -85,15 +91,17 @@ impl<T: Listener> Connection<T> {
 
     /// One that this datagram begins.
     pub(crate) fn of_datagram(alloc: Global, datagram: &Datagram<'_>) -> Connection<T>
-        ensures { result ≡ silent Udp datagram.now.source datagram.now.destination datagram.now.time result.listener }
+        ensures { result ≡ begun_by_datagram datagram.now result.listener }
     {
-        Connection::new(
+        let mut exchange = Connection::new(
             alloc,
             Protocol::Udp,
             datagram.source,
             datagram.destination,
             datagram.time,
-        )
+        );
+        exchange.accept_datagram(datagram);
+        exchange
     }
 
     /// Which side a sender of its packets is.
@@ -114,6 +122,16 @@ impl<T: Listener> Connection<T> {
         match side {
             Side::Originator => &self.from_originator,
             Side::Responder => &self.from_responder,
+        }
+    }
+
+    /// What that side sent.
+    pub fn sent(&self, side: Side) -> Traffic
+        ensures { result ≡ sent_by side self.now }
+    {
+        match side {
+            Side::Originator => self.originator_sent,
+            Side::Responder => self.responder_sent,
         }
     }
 
@@ -142,9 +160,24 @@ impl<T: Listener> Connection<T> {
                 if segment.asks() {
                     self.asked = Some(segment.first());
                 }
+                self.originator_sent.add(segment.payload);
                 self.from_originator.accept(alloc, segment)
             }
-            Side::Responder => self.from_responder.accept(alloc, segment),
+            Side::Responder => {
+                self.responder_sent.add(segment.payload);
+                self.from_responder.accept(alloc, segment)
+            }
+        }
+    }
+
+    /// Notes the datagram's time, and counts it.
+    pub(crate) fn accept_datagram(&mut self, datagram: &Datagram<'_>)
+        ensures { self.new ≡ with_datagram datagram.now self.old }
+    {
+        self.last_time = datagram.time;
+        match self.side_of(datagram.source) {
+            Side::Originator => self.originator_sent.add(datagram.payload),
+            Side::Responder => self.responder_sent.add(datagram.payload),
         }
     }
 

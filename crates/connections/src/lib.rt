@@ -3,7 +3,8 @@
 //! [`Connections`] is a table by protocol and both ends. Each [`Segment`] goes to its connection, where it is put into its
 //! direction's stream; what is there in order is handed out, and a caller's own value ([`Listener`]) goes with the connection.
 //! It ends by FIN or RST of both sides, by a new SYN, after [`IDLE_LIMIT`] without packets, or with the capture. A [`Datagram`]
-//! goes to the exchange between its ends, which ends after [`IDLE_LIMIT`] without packets, or with the capture.
+//! goes to the exchange between its ends, which ends after [`IDLE_LIMIT`] without packets, or with the capture. What each side sends is
+//! counted ([`Traffic`]).
 #![tactic(auto)]
 
 mod connection;
@@ -13,6 +14,7 @@ mod laws;
 mod segment;
 mod stream;
 mod table;
+mod traffic;
 
 pub use connection::{Connection, Listener, Side};
 pub use datagram::Datagram;
@@ -24,3 +26,4 @@ pub use laws::{
 pub use segment::Segment;
 pub use stream::{HELD_LIMIT, Stream};
 pub use table::{Connections, IDLE_LIMIT, MAX_CONNECTIONS};
+pub use traffic::Traffic;

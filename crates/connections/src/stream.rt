@@ -1,7 +1,7 @@
 //! One direction of a connection.
 ghost use Rattle.std.specs.Prelude.{◌≡◌, ◌%◌, ◌^◌, length, OnOk};
 ghost use Rattle.connections.specs.Segment.{first_of};
-ghost use Rattle.connections.specs.Stream.{begun, next_bytes, behind_front, next_behind, number_begun, silent_stream, is_behind as comes_behind, HasTaken, is_over, lacks};
+ghost use Rattle.connections.specs.Stream.{begun_by, next_bytes, behind_front, next_behind, silent_stream, is_behind as comes_behind, advance as advance_of, came, with_numbers, HasPut, HasTaken, is_over, lacks};
 ghost use Rattle.connections.specs.declared.stream.Reading.TheVariants.{Over};
 
 use crate::segment::Segment;
@@ -36,6 +36,12 @@ pub struct Stream {
     fin: Option<u32>,
     is_broken: bool,
     has_gap: bool,
+    // How far its last byte stands from its first.
+    length: u64,
+    // How many bytes came once more.
+    repeated: u64,
+    // At how many places another byte came than the one that stands there.
+    disagreeing: u64,
 }
 
 /// Whether a number comes behind another, among the numbers around it.
@@ -44,6 +50,25 @@ fn is_behind(number: u32, other: u32) -> bool
 {
     let ahead = number.wrapping_sub(other);
     ahead > 0 && ahead < HALF
+}
+
+/// How far a number comes behind another; 0 where it doesn't.
+fn advance(number: u32, other: u32) -> u32
+    ensures { result ≡ advance_of number other }
+{
+    if is_behind(number, other) {
+        number.wrapping_sub(other)
+    } else {
+        0
+    }
+}
+
+/// How many bytes are held, in order and behind others that are missing.
+fn held(segments: &Segments) -> u64
+    ensures { result ≡ came segments.now }
+{
+    let in_order = segments.available().len() as u64;
+    in_order.saturating_add(segments.held_behind() as u64)
 }
 
 /// The count of a slice's bytes as a number of sequence.
@@ -65,23 +90,59 @@ impl Stream {
             fin: None,
             is_broken: false,
             has_gap: false,
+            length: 0,
+            repeated: 0,
+            disagreeing: 0,
         }
     }
 
     /// It begins with its first segment.
     fn begin(&mut self, alloc: Global, segment: &Segment<'_>)
-        ensures reading { self.new.reading ≡ begun HELD_LIMIT (first_of segment.now) self.old.reading }
-        ensures next { self.new.next ≡ number_begun self.old.reading (first_of segment.now) self.old.next }
-        ensures last { self.new.last ≡ number_begun self.old.reading (first_of segment.now) self.old.last }
-        ensures fin { self.new.fin ≡ self.old.fin }
-        ensures is_broken { self.new.is_broken ≡ self.old.is_broken }
-        ensures has_gap { self.new.has_gap ≡ self.old.has_gap }
+        ensures { self.new ≡ begun_by segment.now self.old }
     {
         if let Reading::Unbegun = self.reading {
             self.next = segment.first();
             self.last = self.next;
             self.reading = Reading::Open(Segments::new(alloc, self.next, HELD_LIMIT));
         }
+    }
+
+    /// Notes where a segment ends.
+    fn note_numbers(&mut self, segment: &Segment<'_>)
+        ensures { self.new ≡ with_numbers segment.now self.old }
+    {
+        let further = advance(segment.behind(), self.last);
+        self.length = self.length.saturating_add(u64::from(further));
+        if is_behind(segment.behind(), self.last) {
+            self.last = segment.behind();
+        }
+        if segment.ends() {
+            self.fin = Some(segment.behind());
+        }
+    }
+
+    /// Puts the segment's bytes into what is held, and counts those of them that stood there.
+    fn put(&mut self, segment: &Segment<'_>) -> Result<(), AllocError>
+        ensures { OnOk result (HasPut segment.now self.old self.new) }
+    {
+        if let Reading::Open(segments) = &mut self.reading {
+            let before = held(segments);
+            let differing = segments.differing(segment.first(), segment.payload);
+            match segments.segment(segment.first(), segment.payload) {
+                Ok(()) => {
+                    let new = held(segments).saturating_sub(before);
+                    let again = (segment.payload.len() as u64).saturating_sub(new);
+                    self.repeated = self.repeated.saturating_add(again);
+                    self.disagreeing = self.disagreeing.saturating_add(differing as u64);
+                }
+                Err(SegmentError::TooMuch) => {
+                    self.has_gap = true;
+                    self.reading = Reading::Over;
+                }
+                Err(SegmentError::OutOfMemory) => return Err(AllocError),
+            }
+        }
+        Ok(())
     }
 
     /// Puts the segment's bytes where they stand. Where it ends more than [`HELD_LIMIT`] behind the first byte that is missing,
@@ -94,23 +155,8 @@ impl Stream {
             return Ok(());
         }
         self.begin(alloc, segment);
-        if is_behind(segment.behind(), self.last) {
-            self.last = segment.behind();
-        }
-        if segment.ends() {
-            self.fin = Some(segment.behind());
-        }
-        if let Reading::Open(segments) = &mut self.reading {
-            match segments.segment(segment.first(), segment.payload) {
-                Ok(()) => {}
-                Err(SegmentError::TooMuch) => {
-                    self.has_gap = true;
-                    self.reading = Reading::Over;
-                }
-                Err(SegmentError::OutOfMemory) => return Err(AllocError),
-            }
-        }
-        Ok(())
+        self.note_numbers(segment);
+        self.put(segment)
     }
 
     /// The bytes that come next, up to the first that is missing; none where it is not read any more.
@@ -132,6 +178,29 @@ impl Stream {
             self.next = self.next.wrapping_add((n % 0x1_0000_0000) as u32);
             segments.take(n);
         }
+    }
+
+    /// How many bytes its sender said, by the numbers of its segments: those that are missing count, and those that were sent again
+    /// count once. A segment counts that is less than 2^31 bytes ahead of the others.
+    pub fn length(&self) -> u64
+        ensures { result ≡ self.now.length }
+    {
+        self.length
+    }
+
+    /// How many bytes came at places where others had come. It is known as long as the stream is read.
+    pub fn repeated(&self) -> u64
+        ensures { result ≡ self.now.repeated }
+    {
+        self.repeated
+    }
+
+    /// How many bytes came that aren't those that stood at their places, behind others that are missing. Those that came first stay. It is
+    /// known of bytes that wait alone.
+    pub fn disagreeing(&self) -> u64
+        ensures { result ≡ self.now.disagreeing }
+    {
+        self.disagreeing
     }
 
     /// Reads no further: what is held and what comes is let go.

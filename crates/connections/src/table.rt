@@ -110,7 +110,7 @@ impl<T: Listener> Connections<T> {
         Ok(true)
     }
 
-    /// Notes the datagram's time in the exchange between its ends, which it begins where there is none.
+    /// Counts the datagram, and notes its time, in the exchange between its ends, which it begins where there is none.
     ///
     /// `AllocError` where a new one could not be held: it is left out.
     pub fn accept_datagram(&mut self, datagram: &Datagram<'_>) -> Result<(), AllocError>
@@ -120,7 +120,7 @@ impl<T: Listener> Connections<T> {
     {
         let ends = datagram.between();
         if let Some(exchange) = self.live.get_mut(&ends) {
-            exchange.last_time = datagram.time;
+            exchange.accept_datagram(datagram);
             return Ok(());
         }
         let exchange = Connection::of_datagram(self.alloc, datagram);

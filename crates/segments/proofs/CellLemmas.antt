@@ -1,5 +1,6 @@
 -- Cells, filled.
-use Rattle.std.proofs.Common.{◌≡◌, ℕ, zero, suc, ◌+◌, ◌<◌, ◌≤◌, [], ◌∷◌, ◌++◌, length, take, drop, get_or, map, Option, Some, None, Bool, true, false, cond, ltb, refl, sym, ◌∙◌, ap, arith}
+use Rattle.std.proofs.Common.{◌≡◌, ℕ, zero, suc, ◌+◌, ◌<◌, ◌≤◌, [], ◌∷◌, ◌++◌, length, take, drop, get_or, map}
+use Rattle.std.proofs.Common.{Option, Some, None, Bool, true, false, cond, ltb, refl, sym, ◌∙◌, ap, arith}
 use Rattle.std.specs.Option.{is_some}
 use Rattle.segments.specs.Cells.{Bytes, Cells, fill, fill_at, put, run, known, empties, known_behind, gap, cell}
 
@@ -8,7 +9,8 @@ fill_nil [] = refl
 fill_nil (x ∷ c) = refl
 
 -- from a place on
-pub fill_at_behind : (b : Cells) (cs : Cells) (k : ℕ) (ys : Bytes) → fill_at (length b + k) (b ++ cs) ys ≡ b ++ fill_at k cs ys
+pub fill_at_behind : (b : Cells) (cs : Cells) (k : ℕ) (ys : Bytes)
+    → fill_at (length b + k) (b ++ cs) ys ≡ b ++ fill_at k cs ys
 fill_at_behind [] cs k ys = ap (λ n. fill_at n cs ys) (omega arith)
 fill_at_behind (c ∷ b) cs k ys =
     let n : suc (length b) + k ≡ suc (length b + k) = omega arith in
@@ -73,14 +75,18 @@ fill_low [] (y ∷ ys) zero h g = absurd (omega (arith, g))
 fill_low [] (y ∷ ys) (suc n) h g = let r = fill_low [] ys n (omega arith) (omega (arith, g)) in omega (arith, r)
 fill_low (c ∷ cs) [] n h g = h
 fill_low (c ∷ cs) (y ∷ ys) zero h g = absurd (omega (arith, h))
-fill_low (c ∷ cs) (y ∷ ys) (suc n) h g = let r = fill_low cs ys n (omega (arith, h)) (omega (arith, g)) in omega (arith, r)
+fill_low (c ∷ cs) (y ∷ ys) (suc n) h g = let r = fill_low cs ys n (omega (arith, h)) (omega (arith, g)) in
+    omega (arith, r)
 
-pub fill_at_low : (k : ℕ) (cs : Cells) (ys : Bytes) (n : ℕ) → length cs ≤ n → k + length ys ≤ n → length (fill_at k cs ys) ≤ n
+pub fill_at_low : (k : ℕ) (cs : Cells) (ys : Bytes) (n : ℕ) → length cs ≤ n → k + length ys ≤ n
+    → length (fill_at k cs ys) ≤ n
 fill_at_low zero cs ys n h g = fill_low cs ys n h (omega (arith, g))
 fill_at_low (suc k) [] ys zero h g = absurd (omega (arith, g))
-fill_at_low (suc k) [] ys (suc n) h g = let r = fill_at_low k [] ys n (omega arith) (omega (arith, g)) in omega (arith, r)
+fill_at_low (suc k) [] ys (suc n) h g = let r = fill_at_low k [] ys n (omega arith) (omega (arith, g)) in
+    omega (arith, r)
 fill_at_low (suc k) (c ∷ cs) ys zero h g = absurd (omega (arith, h))
-fill_at_low (suc k) (c ∷ cs) ys (suc n) h g = let r = fill_at_low k cs ys n (omega (arith, h)) (omega (arith, g)) in omega (arith, r)
+fill_at_low (suc k) (c ∷ cs) ys (suc n) h g = let r = fill_at_low k cs ys n (omega (arith, h)) (omega (arith, g)) in
+    omega (arith, r)
 
 -- a first place that is empty stays so, where bytes are put behind it
 pub fill_at_run : (k : ℕ) (cs : Cells) (ys : Bytes) → 0 < k → run cs ≡ [] → run (fill_at k cs ys) ≡ []
@@ -160,7 +166,8 @@ run_stops (None ∷ cs) zero e = refl
 run_stops (Some x ∷ cs) zero e = absurd cc
 run_stops (c ∷ cs) (suc i) e = run_stops cs i e
 
-pub empties_next : (cs : Cells) (i : ℕ) → i < length cs → cell cs i ≡ None → empties (drop i cs) ≡ 1 + empties (drop (i + 1) cs)
+pub empties_next : (cs : Cells) (i : ℕ) → i < length cs → cell cs i ≡ None
+    → empties (drop i cs) ≡ 1 + empties (drop (i + 1) cs)
 empties_next cs i h e =
     let n : suc i ≡ i + 1 = omega arith in
     let m : suc (empties (drop (suc i) cs)) ≡ 1 + empties (drop (suc i) cs) = omega arith in

@@ -1,5 +1,7 @@
 -- Places in pages.
-use Rattle.std.proofs.Common.{◌≡◌, ℕ, zero, suc, ◌+◌, ◌-◌, ◌<◌, ◌≤◌, ◌⊎◌, inl, inr, [], ◌∷◌, ◌++◌, length, drop, map, ◌^◌, Option, Some, None, Bool, true, false, cond, ltb, refl, sym, ◌∙◌, ap, subst, arith, max}
+use Rattle.std.proofs.Common.{◌≡◌, ℕ, zero, suc, ◌+◌, ◌-◌, ◌<◌, ◌≤◌, ◌⊎◌, inl, inr, [], ◌∷◌, ◌++◌, length, drop, map}
+use Rattle.std.proofs.Common.{◌^◌, Option, Some, None, Bool, true, false, cond, ltb, refl, sym, ◌∙◌, ap, subst, arith}
+use Rattle.std.proofs.Common.{max}
 use Rattle.std.specs.Option.{is_some}
 use Rattle.std.proofs.lemmas.Bool.{ltb-true, ltb-false, cases_eq}
 use Rattle.std.proofs.lemmas.List.{length-append, length-map}
@@ -42,7 +44,8 @@ cell_within (suc n) k m (suc i) h =
     let e : suc k + i ≡ k + suc i = omega arith in
     cell_within n (suc k) m i (omega (arith, h)) ∙ ap (place m) e
 
-cell_places : (n k : ℕ) (m : Pages) (i : ℕ) → ((j : ℕ) → k + n ≤ j → place m j ≡ None) → cell (places n k m) i ≡ place m (k + i)
+cell_places : (n k : ℕ) (m : Pages) (i : ℕ) → ((j : ℕ) → k + n ≤ j → place m j ≡ None)
+    → cell (places n k m) i ≡ place m (k + i)
 cell_places n k m i behind = go (ltb i n) refl
   where
     go : (t : Bool) → ltb i n ≡ t → cell (places n k m) i ≡ place m (k + i)
@@ -73,10 +76,12 @@ places_same (suc n) k m m' same =
 known_none : (n k : ℕ) (m : Pages) → ((j : ℕ) → k ≤ j → place m j ≡ None) → known (places n k m) ≡ 0
 known_none zero k m none = refl
 known_none (suc n) k m none =
-    ap (λ c. known (c ∷ places n (suc k) m)) (none k (omega arith)) ∙ known_none n (suc k) m (λ j h. none j (omega (arith, h)))
+    ap (λ c. known (c ∷ places n (suc k) m)) (none k (omega arith))
+    ∙ known_none n (suc k) m (λ j h. none j (omega (arith, h)))
 
 -- Behind the last byte nothing is counted.
-known_longer : (n a k : ℕ) (m : Pages) → ((j : ℕ) → k + n ≤ j → place m j ≡ None) → known (places (n + a) k m) ≡ known (places n k m)
+known_longer : (n a k : ℕ) (m : Pages) → ((j : ℕ) → k + n ≤ j → place m j ≡ None)
+    → known (places (n + a) k m) ≡ known (places n k m)
 known_longer zero a k m none =
     let e : 0 + a ≡ a = omega arith in
     ap (λ x. known (places x k m)) e ∙ known_none a k m (λ j h. none j (omega (arith, h)))
@@ -84,15 +89,19 @@ known_longer (suc n) a k m none =
     let e : suc n + a ≡ suc (n + a) = omega arith in
     let r = known_longer n a (suc k) m (λ j h. none j (omega (arith, h))) in
     let s = known_cons (place m k) (places (n + a) (suc k) m) (places n (suc k) m) 0 (omega (arith, r)) in
-    ap (λ x. known (places x k m)) e ∙ (let t : known (place m k ∷ places (n + a) (suc k) m) ≡ known (place m k ∷ places n (suc k) m) = omega (arith, s) in t)
+    ap (λ x. known (places x k m)) e
+    ∙ (let t : known (place m k ∷ places (n + a) (suc k) m) ≡ known (place m k ∷ places n (suc k) m) =
+    omega (arith, s) in t)
 
-pub known_all : (n l k : ℕ) (m : Pages) → n ≤ l → ((j : ℕ) → k + n ≤ j → place m j ≡ None) → known (places l k m) ≡ known (places n k m)
+pub known_all : (n l k : ℕ) (m : Pages) → n ≤ l → ((j : ℕ) → k + n ≤ j → place m j ≡ None)
+    → known (places l k m) ≡ known (places n k m)
 known_all n l k m h none =
     let e : l ≡ n + (l - n) = omega (arith, h) in
     ap (λ x. known (places x k m)) e ∙ known_longer n (l - n) k m none
 
 -- A loop that counts.
-pub known_next : (n k : ℕ) (m : Pages) → known (places (n + 1) k m) ≡ known (places n k m) + (cond (is_some (place m (k + n))) 1 0)
+pub known_next : (n k : ℕ) (m : Pages)
+    → known (places (n + 1) k m) ≡ known (places n k m) + (cond (is_some (place m (k + n))) 1 0)
 known_next zero k m =
     let e : k ≡ k + 0 = omega arith in
     one (place m k) ∙ ap (λ x. 0 + (cond (is_some (place m x)) 1 0)) e
@@ -106,14 +115,18 @@ known_next (suc n) k m =
     let r = known_next n (suc k) m ∙ ap (λ x. known (places n (suc k) m) + (cond (is_some (place m x)) 1 0)) f in
     ap (λ x. known (places x k m)) e ∙ known_cons (place m k) (places (n + 1) (suc k) m) (places n (suc k) m) _ r
 
-places_beside : (l k : ℕ) (m n : Pages) (at : ℕ) → at < k → ((j : ℕ) → (j ≡ at → ⊥) → place n j ≡ place m j) → places l k n ≡ places l k m
-places_beside l k m n at low others = places_same l k m n (λ j h. others j (λ same. absurd (omega (arith, h, low, same))))
+places_beside : (l k : ℕ) (m n : Pages) (at : ℕ) → at < k → ((j : ℕ) → (j ≡ at → ⊥) → place n j ≡ place m j)
+    → places l k n ≡ places l k m
+places_beside l k m n at low others =
+    places_same l k m n (λ j h. others j (λ same. absurd (omega (arith, h, low, same))))
 
 -- One byte more.
-known_set : (l k at b : ℕ) (m n : Pages) → ((j : ℕ) → (j ≡ at → ⊥) → place n j ≡ place m j) → place m at ≡ None → place n at ≡ Some b
+known_set : (l k at b : ℕ) (m n : Pages) → ((j : ℕ) → (j ≡ at → ⊥) → place n j ≡ place m j) → place m at ≡ None
+    → place n at ≡ Some b
     → k ≤ at → at < k + l → known (places l k n) ≡ known (places l k m) + 1
 known_set zero k at b m n others none some low high = absurd (omega (arith, low, high))
-known_set (suc l) k at b m n others none some low high = go (ltb k at) refl (λ h. known_set l (suc k) at b m n others none some h (omega (arith, high)))
+known_set (suc l) k at b m n others none some low high =
+    go (ltb k at) refl (λ h. known_set l (suc k) at b m n others none some h (omega (arith, high)))
   where
     go : (t : Bool) → ltb k at ≡ t → (suc k ≤ at → known (places l (suc k) n) ≡ known (places l (suc k) m) + 1)
         → known (places (suc l) k n) ≡ known (places (suc l) k m) + 1
@@ -126,11 +139,14 @@ known_set (suc l) k at b m n others none some low high = go (ltb k at) refl (λ 
         let is : at ≡ k = omega (arith, h, low) in
         let behind = places_beside l (suc k) m n at (omega (arith, is)) others in
         let one : known (places (suc l) k n) ≡ known (places l (suc k) m) + 1 =
-        ap (λ c. known (c ∷ places l (suc k) n)) (ap (place n) (sym is) ∙ some) ∙ (let r = ap known behind in let t : suc (known (places l (suc k) n)) ≡ known (places l (suc k) m) + 1 = omega (arith, r) in t) in
+        ap (λ c. known (c ∷ places l (suc k) n)) (ap (place n) (sym is) ∙ some)
+        ∙ (let r = ap known behind in
+        let t : suc (known (places l (suc k) n)) ≡ known (places l (suc k) m) + 1 = omega (arith, r) in t) in
         one ∙ ap (λ c. known (c ∷ places l (suc k) m) + 1) (sym none ∙ ap (place m) is)
 
 -- What bytes put, one after the other.
-byte_behind : (x y : Bytes) (i : ℕ) → byte_at (x ++ y) i ≡ earlier (byte_at x i) (cond (ltb i (length x)) None (byte_at y (i - length x)))
+byte_behind : (x y : Bytes) (i : ℕ)
+    → byte_at (x ++ y) i ≡ earlier (byte_at x i) (cond (ltb i (length x)) None (byte_at y (i - length x)))
 byte_behind [] y i = first (ltb i 0) refl
   where
     first : (t : Bool) → ltb i 0 ≡ t → byte_at y i ≡ cond t None (byte_at y (i - 0))
@@ -139,7 +155,9 @@ byte_behind [] y i = first (ltb i 0) refl
 byte_behind (c ∷ x) y zero = refl
 byte_behind (c ∷ x) y (suc i) =
     let n : i - length x ≡ suc i - suc (length x) = omega arith in
-    byte_behind x y i ∙ ap (earlier (byte_at x i)) (ap (λ k. cond (ltb i (length x)) None (byte_at y k)) n ∙ ap (λ t. cond t None (byte_at y (suc i - suc (length x)))) (step i (length x)))
+    byte_behind x y i ∙ ap (earlier (byte_at x i))
+    (ap (λ k. cond (ltb i (length x)) None (byte_at y k)) n
+    ∙ ap (λ t. cond t None (byte_at y (suc i - suc (length x)))) (step i (length x)))
   where
     step : (a b : ℕ) → ltb a b ≡ ltb (suc a) (suc b)
     step a b = go (ltb a b) (ltb (suc a) (suc b)) refl refl
@@ -147,18 +165,24 @@ byte_behind (c ∷ x) y (suc i) =
         go : (s t : Bool) → ltb a b ≡ s → ltb (suc a) (suc b) ≡ t → ltb a b ≡ ltb (suc a) (suc b)
         go true true e f = e ∙ sym f
         go false false e f = e ∙ sym f
-        go true false e f = let p = ltb-true a b e in let q = ltb-false (suc a) (suc b) f in absurd (omega (arith, p, q))
-        go false true e f = let p = ltb-false a b e in let q = ltb-true (suc a) (suc b) f in absurd (omega (arith, p, q))
+        go true false e f = let p = ltb-true a b e in let q = ltb-false (suc a) (suc b) f in
+            absurd (omega (arith, p, q))
+        go false true e f = let p = ltb-false a b e in let q = ltb-true (suc a) (suc b) f in
+            absurd (omega (arith, p, q))
 
-written_behind : (at : ℕ) (x y : Bytes) (j : ℕ) → earlier (written at x j) (written (at + length x) y j) ≡ written at (x ++ y) j
+written_behind : (at : ℕ) (x y : Bytes) (j : ℕ)
+    → earlier (written at x j) (written (at + length x) y j) ≡ written at (x ++ y) j
 written_behind at x y j = go (ltb j at) refl
   where
-    go : (t : Bool) → ltb j at ≡ t → earlier (cond t None (byte_at x (j - at))) (written (at + length x) y j) ≡ cond t None (byte_at (x ++ y) (j - at))
+    go : (t : Bool) → ltb j at ≡ t
+        → earlier (cond t None (byte_at x (j - at))) (written (at + length x) y j)
+        ≡ cond t None (byte_at (x ++ y) (j - at))
     go true e =
         let h = ltb-true j at e in
         front (ltb j (at + length x)) refl (omega (arith, h))
       where
-        front : (t : Bool) → ltb j (at + length x) ≡ t → j < at + length x → cond t None (byte_at y (j - (at + length x))) ≡ None
+        front : (t : Bool) → ltb j (at + length x) ≡ t → j < at + length x
+            → cond t None (byte_at y (j - (at + length x))) ≡ None
         front true f low = refl
         front false f low = let g = ltb-false j (at + length x) f in absurd (omega (arith, g, low))
     go false e =
@@ -171,11 +195,14 @@ written_behind at x y j = go (ltb j at) refl
         behind true true f g h = refl
         behind false false f g h = let n : j - (at + length x) ≡ j - at - length x = omega arith in ap (byte_at y) n
         behind true false f g h =
-            let p = ltb-true j (at + length x) f in let q = ltb-false (j - at) (length x) g in absurd (omega (arith, p, q, h))
+            let p = ltb-true j (at + length x) f in let q = ltb-false (j - at) (length x) g in
+            absurd (omega (arith, p, q, h))
         behind false true f g h =
-            let p = ltb-false j (at + length x) f in let q = ltb-true (j - at) (length x) g in absurd (omega (arith, p, q, h))
+            let p = ltb-false j (at + length x) f in let q = ltb-true (j - at) (length x) g in
+            absurd (omega (arith, p, q, h))
 
-pub written_on : (at at' c d : ℕ) (x y : Bytes) (m n o : Pages) → at' ≡ at + length x → IsWritten at x m n c → IsWritten at' y n o d → IsWritten at (x ++ y) m o (c + d)
+pub written_on : (at at' c d : ℕ) (x y : Bytes) (m n o : Pages) → at' ≡ at + length x → IsWritten at x m n c
+    → IsWritten at' y n o d → IsWritten at (x ++ y) m o (c + d)
 written_on at at' c d x y m n o is first last = record {
   whole = last.whole;
   stands = λ j.
@@ -221,7 +248,8 @@ one_else at b j apart = go (ltb j at) refl
             more h true e = let r = ltb-true at j e in omega (arith, r)
             more h false e = let r = ltb-false at j e in absurd (other (omega (arith, r, h)))
 
-pub byte_stands : (at b : ℕ) (m n : Pages) → AreWhole n → ((k : ℕ) → is_some (page m k) ≡ true → is_some (page n k) ≡ true)
+pub byte_stands : (at b : ℕ) (m n : Pages) → AreWhole n
+    → ((k : ℕ) → is_some (page m k) ≡ true → is_some (page n k) ≡ true)
     → ((j : ℕ) → place n j ≡ place m j) → is_some (place m at) ≡ true → IsWritten at (b ∷ []) m n 0
 byte_stands at b m n whole there same some = record {
   whole = whole;
@@ -238,8 +266,10 @@ byte_stands at b m n whole there same some = record {
     each j (inl is) = stays (place m j) (written at (b ∷ []) j) (ap (λ i. is_some (place m i)) is ∙ some)
     each j (inr apart) = sym (ap (earlier (place m j)) (one_else at b j apart) ∙ earlier_none (place m j))
 
-pub byte_is_put : (at b : ℕ) (m n : Pages) → AreWhole n → ((k : ℕ) → is_some (page m k) ≡ true → is_some (page n k) ≡ true)
-    → ((j : ℕ) → (j ≡ at → ⊥) → place n j ≡ place m j) → place m at ≡ None → place n at ≡ Some b → IsWritten at (b ∷ []) m n 1
+pub byte_is_put : (at b : ℕ) (m n : Pages) → AreWhole n
+    → ((k : ℕ) → is_some (page m k) ≡ true → is_some (page n k) ≡ true)
+    → ((j : ℕ) → (j ≡ at → ⊥) → place n j ≡ place m j) → place m at ≡ None → place n at ≡ Some b
+    → IsWritten at (b ∷ []) m n 1
 byte_is_put at b m n whole there others none some = record {
   whole = whole;
   stands = λ j. each j (cases_eq j at);
@@ -250,8 +280,10 @@ byte_is_put at b m n whole there others none some = record {
     each : (j : ℕ) → (j ≡ at) ⊎ (j ≡ at → ⊥) → place n j ≡ earlier (place m j) (written at (b ∷ []) j)
     each j (inl same) =
         ap (place n) same ∙ some
-        ∙ sym (ap (λ i. earlier (place m i) (written at (b ∷ []) i)) same ∙ ap (λ o. earlier o (written at (b ∷ []) at)) none ∙ one_at at b)
-    each j (inr apart) = others j apart ∙ sym (ap (earlier (place m j)) (one_else at b j apart) ∙ earlier_none (place m j))
+        ∙ sym (ap (λ i. earlier (place m i) (written at (b ∷ []) i)) same
+        ∙ ap (λ o. earlier o (written at (b ∷ []) at)) none ∙ one_at at b)
+    each j (inr apart) = others j apart
+        ∙ sym (ap (earlier (place m j)) (one_else at b j apart) ∙ earlier_none (place m j))
 
 -- Bytes that are put at places of a window.
 fill_long : (cs : Cells) (ys : Bytes) → length (fill cs ys) ≡ max (length cs) (length ys)
@@ -259,7 +291,8 @@ fill_long [] ys = length-map ys Some ∙ (let e : length ys ≡ max 0 (length ys
 fill_long (c ∷ cs) [] = omega arith
 fill_long (c ∷ cs) (y ∷ ys) = let r = fill_long cs ys in omega (arith, r)
 
-fill_at_long : (k : ℕ) (cs : Cells) (ys : Bytes) → 0 < length ys → length (fill_at k cs ys) ≡ max (length cs) (k + length ys)
+fill_at_long : (k : ℕ) (cs : Cells) (ys : Bytes) → 0 < length ys
+    → length (fill_at k cs ys) ≡ max (length cs) (k + length ys)
 fill_at_long zero cs ys some = let r = fill_long cs ys in omega (arith, r)
 fill_at_long (suc k) [] ys some = let r = fill_at_long k [] ys some in omega (arith, r, some)
 fill_at_long (suc k) (c ∷ cs) ys some = let r = fill_at_long k cs ys some in omega (arith, r)
@@ -269,7 +302,8 @@ pub record IsFuller (begin len held at : ℕ) (ys : Bytes) (m n : Pages) (len' h
   pub paged : IsPaged begin len' held' n
   pub shows : places len' begin n ≡ fill_at at (places len begin m) ys
 
-pub filled : (begin len held at first count len' : ℕ) (ys : Bytes) (m n : Pages) → IsPaged begin len held m → IsWritten first ys m n count
+pub filled : (begin len held at first count len' : ℕ) (ys : Bytes) (m n : Pages) → IsPaged begin len held m
+    → IsWritten first ys m n count
     → first ≡ begin + at → len' ≡ max len (at + length ys) → 0 < length ys → begin + at + length ys < 2 ^ 64
     → IsFuller begin len held at ys m n len' (held + count)
 filled begin len held at first count len' ys m n p w first_is len_is some small = record {
@@ -285,13 +319,17 @@ filled begin len held at first count len' ys m n p w first_is len_is some small 
   };
   shows =
       cells_eq (places len' begin n) (fill_at at (places len begin m) ys)
-      (let l = places_length len' begin n in let k = places_length len begin m in let r = fill_at_long at (places len begin m) ys some in omega (arith, l, k, r, len_is))
-      (λ i. cell_places len' begin n i empty ∙ w.stands (begin + i) ∙ same i (ltb i at) refl ∙ ap (λ cs. cell cs i) (put_at at ys (places len begin m) some));
+      (let l = places_length len' begin n in let k = places_length len begin m in
+      let r = fill_at_long at (places len begin m) ys some in omega (arith, l, k, r, len_is))
+      (λ i. cell_places len' begin n i empty ∙ w.stands (begin + i) ∙ same i (ltb i at) refl
+      ∙ ap (λ cs. cell cs i) (put_at at ys (places len begin m) some));
 }
   where
-    written_at : (i : ℕ) (t : Bool) → ltb (begin + i) first ≡ t → first + length ys ≤ begin + i → cond t None (byte_at ys (begin + i - first)) ≡ None
+    written_at : (i : ℕ) (t : Bool) → ltb (begin + i) first ≡ t → first + length ys ≤ begin + i
+        → cond t None (byte_at ys (begin + i - first)) ≡ None
     written_at i true e h = refl
-    written_at i false e h = cell_none (map Some ys) (begin + i - first) (let l = length-map ys Some in omega (arith, l, h))
+    written_at i false e h = cell_none (map Some ys) (begin + i - first)
+        (let l = length-map ys Some in omega (arith, l, h))
 
     written_low : (j : ℕ) → first + length ys ≤ j → (t : Bool) → cond t None (byte_at ys (j - first)) ≡ None
     written_low j h true = refl
@@ -306,26 +344,32 @@ filled begin len held at first count len' ys m n p w first_is len_is some small 
     shown : (i : ℕ) → cell (places len begin m) i ≡ place m (begin + i)
     shown i = cell_places len begin m i p.empty_behind
 
-    in_front : (i : ℕ) → i < at → (t : Bool) → ltb (begin + i) first ≡ t → cond t None (byte_at ys (begin + i - first)) ≡ None
+    in_front : (i : ℕ) → i < at → (t : Bool) → ltb (begin + i) first ≡ t
+        → cond t None (byte_at ys (begin + i - first)) ≡ None
     in_front i h true e = refl
     in_front i h false e = let r = ltb-false (begin + i) first e in absurd (omega (arith, r, h, first_is))
 
-    there : (i : ℕ) → at ≤ i → (t : Bool) → ltb (begin + i) first ≡ t → cond t None (byte_at ys (begin + i - first)) ≡ byte_at ys (i - at)
+    there : (i : ℕ) → at ≤ i → (t : Bool) → ltb (begin + i) first ≡ t
+        → cond t None (byte_at ys (begin + i - first)) ≡ byte_at ys (i - at)
     there i h true e = let r = ltb-true (begin + i) first e in absurd (omega (arith, r, h, first_is))
     there i h false e = let k : begin + i - first ≡ i - at = omega (arith, first_is, h) in ap (byte_at ys) k
 
-    same : (i : ℕ) (t : Bool) → ltb i at ≡ t → earlier (place m (begin + i)) (written first ys (begin + i)) ≡ cell (put at ys (places len begin m)) i
+    same : (i : ℕ) (t : Bool) → ltb i at ≡ t
+        → earlier (place m (begin + i)) (written first ys (begin + i)) ≡ cell (put at ys (places len begin m)) i
     same i true e =
         let h = ltb-true i at e in
-        ap (earlier (place m (begin + i))) (in_front i h (ltb (begin + i) first) refl) ∙ earlier_none (place m (begin + i)) ∙ sym (shown i)
+        ap (earlier (place m (begin + i))) (in_front i h (ltb (begin + i) first) refl)
+        ∙ earlier_none (place m (begin + i)) ∙ sym (shown i)
         ∙ sym (cell_put_low at ys (places len begin m) i h)
     same i false e =
         let h = ltb-false i at e in
-        ap (earlier (place m (begin + i))) (there i h (ltb (begin + i) first) refl) ∙ ap (λ o. earlier o (byte_at ys (i - at))) (sym (shown i))
+        ap (earlier (place m (begin + i))) (there i h (ltb (begin + i) first) refl)
+        ∙ ap (λ o. earlier o (byte_at ys (i - at))) (sym (shown i))
         ∙ sym (cell_put at ys (places len begin m) i h)
 
 -- The first places are let go.
-pub fewer : (begin len held n count : ℕ) (m m' : Pages) → IsPaged begin len held m → AreWhole m' → ((j : ℕ) → begin + n ≤ j → place m' j ≡ place m j)
+pub fewer : (begin len held n count : ℕ) (m m' : Pages) → IsPaged begin len held m → AreWhole m'
+    → ((j : ℕ) → begin + n ≤ j → place m' j ≡ place m j)
     → n ≤ len → count ≡ known (places n begin m) → IsPaged (begin + n) (len - n) (held - count) m'
 fewer begin len held n count m m' p whole same few is = record {
   whole = whole;
@@ -339,7 +383,8 @@ fewer begin len held n count m m' p whole same few is = record {
   small = (let s = p.small in omega (arith, s, few));
 }
   where
-    known_parts : (n a k : ℕ) (m : Pages) → known (places (n + a) k m) ≡ known (places n k m) + known (places a (k + n) m)
+    known_parts : (n a k : ℕ) (m : Pages)
+        → known (places (n + a) k m) ≡ known (places n k m) + known (places a (k + n) m)
     known_parts zero a k m =
         let e : 0 + a ≡ a = omega arith in
         let f : k ≡ k + 0 = omega arith in
@@ -349,9 +394,11 @@ fewer begin len held n count m m' p whole same few is = record {
         let e : suc n + a ≡ suc (n + a) = omega arith in
         let f : suc k + n ≡ k + suc n = omega arith in
         ap (λ x. known (places x k m)) e
-        ∙ known_cons (place m k) (places (n + a) (suc k) m) (places n (suc k) m) _ (known_parts n a (suc k) m ∙ ap (λ x. known (places n (suc k) m) + known (places a x m)) f)
+        ∙ known_cons (place m k) (places (n + a) (suc k) m) (places n (suc k) m) _
+        (known_parts n a (suc k) m ∙ ap (λ x. known (places n (suc k) m) + known (places a x m)) f)
 
-pub few_known : (begin len held n count : ℕ) (m : Pages) → IsPaged begin len held m → n ≤ len → count ≡ known (places n begin m) → count ≤ held
+pub few_known : (begin len held n count : ℕ) (m : Pages) → IsPaged begin len held m → n ≤ len
+    → count ≡ known (places n begin m) → count ≤ held
 few_known begin len held n count m p few is =
     let e : len ≡ n + (len - n) = omega (arith, few) in
     let s = ap (λ x. known (places x begin m)) e in
@@ -364,7 +411,8 @@ few_known begin len held n count m p few is =
     more (suc n) a k m =
         let e : suc n + a ≡ suc (n + a) = omega arith in
         let r = more n a (suc k) m in
-        subst (λ x. known (places (suc n) k m) ≤ known (places x k m)) (sym e) (cons (place m k) (places n (suc k) m) (places (n + a) (suc k) m) r)
+        subst (λ x. known (places (suc n) k m) ≤ known (places x k m)) (sym e)
+        (cons (place m k) (places n (suc k) m) (places (n + a) (suc k) m) r)
       where
         cons : (c : Option ℕ) (xs ys : Cells) → known xs ≤ known ys → known (c ∷ xs) ≤ known (c ∷ ys)
         cons None xs ys h = h

@@ -1,5 +1,7 @@
 -- Pages that are made, and written to.
-use Rattle.std.proofs.Common.{◌≡◌, ℕ, zero, suc, ◌+◌, ◌/◌, ◌%◌, ◌<◌, ◌⊎◌, inl, inr, [], ◌∷◌, length, get_or, set, replicate, Option, Some, None, Result, Ok, Err, Bool, true, false, cond, ltb, eqb, refl, sym, ◌∙◌, ap, arith}
+use Rattle.std.proofs.Common.{◌≡◌, ℕ, zero, suc, ◌+◌, ◌/◌, ◌%◌, ◌<◌, ◌⊎◌, inl, inr, [], ◌∷◌, length, get_or, set}
+use Rattle.std.proofs.Common.{replicate, Option, Some, None, Result, Ok, Err, Bool, true, false, cond, ltb, eqb, refl}
+use Rattle.std.proofs.Common.{sym, ◌∙◌, ap, arith}
 use Rattle.std.specs.Prelude.{OnErr}
 use Rattle.std.specs.Option.{is_some}
 use Rattle.std.specs.Ordering.{is_eq, nat_cmp}
@@ -8,7 +10,8 @@ use Rattle.std.proofs.lemmas.Bool.{ltb-true, eqb-true, eqb-false, cases_eq}
 use Rattle.std.proofs.lemmas.List.{length-replicate}
 use Rattle.std.proofs.lemmas.Nat.{div-add-mod', mod_below}
 use Rattle.segments.specs.Cells.{Cells, cell, known}
-use Rattle.segments.specs.Pages.{AreWhole, IsPaged, IsSame, IsWritten, Page, Pages, cell_in, page, page_length, place, places}
+use Rattle.segments.specs.Pages.{AreWhole, IsPaged, IsSame, IsWritten, Page, Pages, cell_in, page, page_length, place}
+use Rattle.segments.specs.Pages.{places}
 use Rattle.segments.proofs.CellLemmas.{cell_get}
 use Rattle.segments.proofs.PageLemmas.{byte_is_put, byte_stands, known_next, places_same}
 
@@ -17,7 +20,8 @@ on_err (Ok x) P p = tt
 on_err (Err e) P p = p
 
 -- What stands at a place of a page that is there.
-pub place_in_page : (m : Pages) (j : ℕ) (p : Page) → page m (j / page_length) ≡ Some p → place m j ≡ cell p.items (j % page_length)
+pub place_in_page : (m : Pages) (j : ℕ) (p : Page) → page m (j / page_length) ≡ Some p
+    → place m j ≡ cell p.items (j % page_length)
 place_in_page m j p there = ap (λ o. cell_in o (j % page_length)) there
 
 pub place_is : (m : Pages) (at : ℕ) (p : Page) (x d : Option ℕ) → page m (at / page_length) ≡ Some p → AreWhole m
@@ -27,7 +31,8 @@ place_is m at p x d there whole is =
     let low = mod_below at page_length (omega arith) in
     is ∙ sym (cell_get p.items (at % page_length) d (omega (arith, l, low))) ∙ sym (place_in_page m at p there)
 
-pub counted_next : (n k : ℕ) (m : Pages) (count count' : ℕ) (t : Bool) → count ≡ known (places n k m) → t ≡ is_some (place m (k + n))
+pub counted_next : (n k : ℕ) (m : Pages) (count count' : ℕ) (t : Bool) → count ≡ known (places n k m)
+    → t ≡ is_some (place m (k + n))
     → count' ≡ count + (cond t 1 0) → count' ≡ known (places (n + 1) k m)
 counted_next n k m count count' t is told more =
     more ∙ ap (λ c. c + (cond t 1 0)) is ∙ ap (λ b. known (places n k m) + (cond b 1 0)) told ∙ sym (known_next n k m)
@@ -56,34 +61,41 @@ of_eq a b same = ap (λ c. is_eq (nat_cmp a c)) (sym same) ∙ itself
 abbrev pub IsReplaced : ℕ → Page → Pages → Pages → Type 0
 IsReplaced k w m n = (q : ℕ) → page n q ≡ cond (is_eq (nat_cmp k q)) (Some w) (page m q)
 
-pub replaced_whole : (k : ℕ) (w : Page) (m n : Pages) → IsReplaced k w m n → AreWhole m → length w.items ≡ page_length → AreWhole n
+pub replaced_whole : (k : ℕ) (w : Page) (m n : Pages) → IsReplaced k w m n → AreWhole m → length w.items ≡ page_length
+    → AreWhole n
 replaced_whole k w m n is whole len = λ q p e. go q p (is_eq (nat_cmp k q)) (sym (is q) ∙ e)
   where
     go : (q : ℕ) (p : Page) (t : Bool) → cond t (Some w) (page m q) ≡ Some p → length p.items ≡ page_length
     go q p true e = let same : w ≡ p = cc in ap (λ (v : Page). length v.items) (sym same) ∙ len
     go q p false e = whole q p e
 
-pub replaced_there : (k : ℕ) (w : Page) (m n : Pages) → IsReplaced k w m n → (q : ℕ) → is_some (page m q) ≡ true → is_some (page n q) ≡ true
+pub replaced_there : (k : ℕ) (w : Page) (m n : Pages) → IsReplaced k w m n → (q : ℕ) → is_some (page m q) ≡ true
+    → is_some (page n q) ≡ true
 replaced_there k w m n is q there = ap is_some (is q) ∙ go (is_eq (nat_cmp k q))
   where
     go : (t : Bool) → is_some (cond t (Some w) (page m q)) ≡ true
     go true = refl
     go false = there
 
-replaced_at : (k : ℕ) (w : Page) (m n : Pages) → IsReplaced k w m n → (j : ℕ) → j / page_length ≡ k → place n j ≡ cell w.items (j % page_length)
+replaced_at : (k : ℕ) (w : Page) (m n : Pages) → IsReplaced k w m n → (j : ℕ) → j / page_length ≡ k
+    → place n j ≡ cell w.items (j % page_length)
 replaced_at k w m n is j same =
     place_in_page n j w
     (is (j / page_length) ∙ ap (λ t. cond t (Some w) (page m (j / page_length))) (of_eq k (j / page_length) (sym same)))
 
-replaced_else : (k : ℕ) (w : Page) (m n : Pages) → IsReplaced k w m n → (j : ℕ) → (j / page_length ≡ k → ⊥) → place n j ≡ place m j
-replaced_else k w m n is j apart = ap (λ o. cell_in o (j % page_length)) (is (j / page_length) ∙ go (is_eq (nat_cmp k (j / page_length))) refl)
+replaced_else : (k : ℕ) (w : Page) (m n : Pages) → IsReplaced k w m n → (j : ℕ) → (j / page_length ≡ k → ⊥)
+    → place n j ≡ place m j
+replaced_else k w m n is j apart =
+    ap (λ o. cell_in o (j % page_length)) (is (j / page_length) ∙ go (is_eq (nat_cmp k (j / page_length))) refl)
   where
-    go : (t : Bool) → is_eq (nat_cmp k (j / page_length)) ≡ t → cond t (Some w) (page m (j / page_length)) ≡ page m (j / page_length)
+    go : (t : Bool) → is_eq (nat_cmp k (j / page_length)) ≡ t
+        → cond t (Some w) (page m (j / page_length)) ≡ page m (j / page_length)
     go true e = absurd (apart (sym (eq_of k (j / page_length) e)))
     go false e = refl
 
 -- A page that wasn't there is made: nothing stands in it.
-pub page_made : (k : ℕ) (w : Page) (m n : Pages) → AreWhole m → IsReplaced k w m n → is_some (page m k) ≡ false → w.items ≡ replicate page_length None
+pub page_made : (k : ℕ) (w : Page) (m n : Pages) → AreWhole m → IsReplaced k w m n → is_some (page m k) ≡ false
+    → w.items ≡ replicate page_length None
     → IsSame m n
 page_made k w m n whole is missing empty = record {
   whole = replaced_whole k w m n is whole (ap length empty ∙ length-replicate {A = Option ℕ} page_length None);
@@ -102,7 +114,8 @@ page_made k w m n whole is missing empty = record {
 
     each : (j : ℕ) → (j / page_length ≡ k) ⊎ (j / page_length ≡ k → ⊥) → place n j ≡ place m j
     each j (inl same) =
-        replaced_at k w m n is j same ∙ ap (λ cs. cell cs (j % page_length)) empty ∙ none_in page_length (j % page_length)
+        replaced_at k w m n is j same ∙ ap (λ cs. cell cs (j % page_length)) empty
+        ∙ none_in page_length (j % page_length)
         ∙ sym (none_of (page m (j / page_length)) (j % page_length) (ap (λ q. is_some (page m q)) same ∙ missing))
     each j (inr apart) = replaced_else k w m n is j apart
 
@@ -115,14 +128,17 @@ paged_same begin len held m n p s = record {
 }
 
 -- A byte is put where one stands: nothing changes.
-pub page_kept : (at b : ℕ) (p : Page) (m n : Pages) (x d : Option ℕ) → AreWhole m → page m (at / page_length) ≡ Some p → IsReplaced (at / page_length) p m n
+pub page_kept : (at b : ℕ) (p : Page) (m n : Pages) (x d : Option ℕ) → AreWhole m → page m (at / page_length) ≡ Some p
+    → IsReplaced (at / page_length) p m n
     → x ≡ get_or p.items (at % page_length) d → is_some x ≡ true → IsWritten at (b ∷ []) m n 0
 page_kept at b p m n x d whole there is read some =
-    byte_stands at b m n (replaced_whole (at / page_length) p m n is whole (whole (at / page_length) p there)) (replaced_there (at / page_length) p m n is)
+    byte_stands at b m n (replaced_whole (at / page_length) p m n is whole (whole (at / page_length) p there))
+    (replaced_there (at / page_length) p m n is)
     (λ j. each j (cases_eq (j / page_length) (at / page_length)))
     (ap is_some (sym (place_is m at p x d there whole read)) ∙ some)
   where
-    each : (j : ℕ) → (j / page_length ≡ at / page_length) ⊎ (j / page_length ≡ at / page_length → ⊥) → place n j ≡ place m j
+    each : (j : ℕ) → (j / page_length ≡ at / page_length) ⊎ (j / page_length ≡ at / page_length → ⊥)
+        → place n j ≡ place m j
     each j (inl same) =
         replaced_at (at / page_length) p m n is j same ∙ sym (place_in_page m j p (ap (page m) same ∙ there))
     each j (inr apart) = replaced_else (at / page_length) p m n is j apart
@@ -145,8 +161,10 @@ length_set (c ∷ cs) zero v = refl
 length_set (c ∷ cs) (suc i) v = ap suc (length_set cs i v)
 
 -- It is put where none stands.
-pub page_written : (at b : ℕ) (p w : Page) (m n : Pages) (x d : Option ℕ) → AreWhole m → page m (at / page_length) ≡ Some p → w.items ≡ set p.items (at % page_length) (Some b)
-    → IsReplaced (at / page_length) w m n → x ≡ get_or p.items (at % page_length) d → x ≡ None → IsWritten at (b ∷ []) m n 1
+pub page_written : (at b : ℕ) (p w : Page) (m n : Pages) (x d : Option ℕ) → AreWhole m
+    → page m (at / page_length) ≡ Some p → w.items ≡ set p.items (at % page_length) (Some b)
+    → IsReplaced (at / page_length) w m n → x ≡ get_or p.items (at % page_length) d → x ≡ None
+    → IsWritten at (b ∷ []) m n 1
 page_written at b p w m n x d whole there put is read none =
     byte_is_put at b m n
     (replaced_whole k w m n is whole (ap length put ∙ length_set p.items (at % page_length) (Some b) ∙ whole k p there))
@@ -154,7 +172,8 @@ page_written at b p w m n x d whole there put is read none =
     (λ j apart. each j apart (cases_eq (j / page_length) k))
     (sym (place_is m at p x d there whole read) ∙ none)
     (replaced_at k w m n is at refl ∙ ap (λ cs. cell cs (at % page_length)) put
-    ∙ cell_set p.items (at % page_length) (Some b) (let l = whole k p there in let low = mod_below at page_length (omega arith) in omega (arith, l, low)))
+    ∙ cell_set p.items (at % page_length) (Some b)
+    (let l = whole k p there in let low = mod_below at page_length (omega arith) in omega (arith, l, low)))
   where
     k : ℕ
     k = at / page_length

@@ -1,9 +1,13 @@
 -- Places, stored one by one.
-use Rattle.std.proofs.Common.{◌≡◌, ℕ, zero, suc, ◌+◌, ◌-◌, ◌<◌, ◌≤◌, [], ◌∷◌, ◌++◌, length, take, drop, get_or, Option, Some, None, refl, sym, ◌∙◌, ap, arith, append_assoc, append-nil, ◌⊎◌, inl, inr, Bool, true, false, ltb, min}
+use Rattle.std.proofs.Common.{◌≡◌, ℕ, zero, suc, ◌+◌, ◌-◌, ◌<◌, ◌≤◌, [], ◌∷◌, ◌++◌, length, take, drop, get_or}
+use Rattle.std.proofs.Common.{Option, Some, None, refl, sym, ◌∙◌, ap, arith, append_assoc, append-nil, ◌⊎◌, inl, inr}
+use Rattle.std.proofs.Common.{Bool, true, false, ltb, min}
+use Rattle.std.proofs.Common.{map, if◌then◌else◌}
 use Rattle.std.specs.Option.{unwrap_or}
 use Rattle.std.proofs.lemmas.Bool.{ltb-true, ltb-false}
-use Rattle.std.proofs.lemmas.List.{drop_all, take_rest, drop_min}
-use Rattle.segments.specs.Cells.{Bytes, Cells, cell, fill, run}
+use Rattle.std.proofs.lemmas.List.{drop_all, drop_more, take_rest, drop_min}
+use Rattle.segments.specs.Cells.{Bytes, Cells, cell, differing, differs, fill, run}
+use Rattle.segments.proofs.CellLemmas.{cell_none}
 use Rattle.segments.specs.Places.{over, standing}
 
 -- A loop that appends: what is done and what is left to do.
@@ -11,7 +15,8 @@ pub record IsAppending (out out0 left all : Bytes) : Type 0 where
   pub is : out ++ left ≡ out0 ++ all
   pub more : (s : Bytes) × (out ≡ out0 ++ s)
 
-pub over_end : (cs : Cells) (ys : Bytes) (i : ℕ) → (length cs ≤ i) ⊎ (length ys ≤ i) → over (drop i cs) (drop i ys) ≡ drop i ys
+pub over_end : (cs : Cells) (ys : Bytes) (i : ℕ) → (length cs ≤ i) ⊎ (length ys ≤ i)
+    → over (drop i cs) (drop i ys) ≡ drop i ys
 over_end cs ys i (inl h) = ap (λ c. over c (drop i ys)) (drop_all i cs h)
 over_end cs ys i (inr h) = ap (over (drop i cs)) (drop_all i ys h) ∙ nothing (drop i cs) ∙ sym (drop_all i ys h)
   where
@@ -19,11 +24,14 @@ over_end cs ys i (inr h) = ap (over (drop i cs)) (drop_all i ys h) ∙ nothing (
     nothing [] = refl
     nothing (c ∷ cs) = refl
 
-pub over_ends : (out out' out0 : Bytes) (cs : Cells) (ys all : Bytes) (i n : ℕ) → IsAppending out out0 (over (drop i cs) (drop i ys)) all →
-    n ≡ min (length ys) (length cs) → n ≤ i → i ≤ n → out' ≡ out ++ take (length ys - n) (drop n ys) → out' ≡ out0 ++ all
+pub over_ends : (out out' out0 : Bytes) (cs : Cells) (ys all : Bytes) (i n : ℕ)
+    → IsAppending out out0 (over (drop i cs) (drop i ys)) all →
+    n ≡ min (length ys) (length cs) → n ≤ i → i ≤ n → out' ≡ out ++ take (length ys - n) (drop n ys)
+    → out' ≡ out0 ++ all
 over_ends out out' out0 cs ys all i n a n_is low high put =
     let same : n ≡ i = omega (arith, low, high) in
-    put ∙ ap (λ r. out ++ r) (take_rest ys n ∙ ap (λ k. drop k ys) same ∙ sym (over_end cs ys i (which (ltb (length ys) (length cs)) refl))) ∙ a.is
+    put ∙ ap (λ r. out ++ r) (take_rest ys n ∙ ap (λ k. drop k ys) same
+    ∙ sym (over_end cs ys i (which (ltb (length ys) (length cs)) refl))) ∙ a.is
   where
     which : (t : Bool) → ltb (length ys) (length cs) ≡ t → (length cs ≤ i) ⊎ (length ys ≤ i)
     which true e = let h = ltb-true (length ys) (length cs) e in inr (grind (arith, h, n_is, low))
@@ -40,7 +48,8 @@ over_run (c ∷ cs) [] = refl
 over_run (None ∷ cs) (y ∷ ys) = ap (λ r. y ∷ r) (over_run cs ys)
 over_run (Some x ∷ cs) (y ∷ ys) = ap (λ r. x ∷ r) (over_run cs ys)
 
-pub joined_is : (out out1 out2 : Bytes) (cs : Cells) (ys : Bytes) (m : ℕ) → out1 ≡ out ++ over cs ys → m ≡ min (length ys) (length cs) →
+pub joined_is : (out out1 out2 : Bytes) (cs : Cells) (ys : Bytes) (m : ℕ) → out1 ≡ out ++ over cs ys
+    → m ≡ min (length ys) (length cs) →
     out2 ≡ out1 ++ run (drop m cs) → out2 ≡ out ++ run (fill cs ys)
 joined_is out out1 out2 cs ys m first m_is second =
     second
@@ -52,7 +61,8 @@ joined_is out out1 out2 cs ys m first m_is second =
 -- One byte more.
 pub over_next : (cs : Cells) (ys : Bytes) (i : ℕ) (d : ℕ) → i < length cs → i < length ys
     → over (drop i cs) (drop i ys) ≡ standing (cell cs i) (get_or ys i d) ∷ over (drop (i + 1) cs) (drop (i + 1) ys)
-over_next cs ys i d h g = let n : suc i ≡ i + 1 = omega arith in go cs ys i h g ∙ ap (λ k. standing (cell cs i) (get_or ys i d) ∷ over (drop k cs) (drop k ys)) n
+over_next cs ys i d h g = let n : suc i ≡ i + 1 = omega arith in
+    go cs ys i h g ∙ ap (λ k. standing (cell cs i) (get_or ys i d) ∷ over (drop k cs) (drop k ys)) n
   where
     go : (cs : Cells) (ys : Bytes) (i : ℕ) → i < length cs → i < length ys
         → over (drop i cs) (drop i ys) ≡ standing (cell cs i) (get_or ys i d) ∷ over (drop (suc i) cs) (drop (suc i) ys)
@@ -61,7 +71,8 @@ over_next cs ys i d h g = let n : suc i ≡ i + 1 = omega arith in go cs ys i h 
     go (c ∷ cs) (y ∷ ys) zero h g = refl
     go (c ∷ cs) (y ∷ ys) (suc i) h g = go cs ys i (omega (arith, h)) (omega (arith, g))
 
-pub appended_one : (out out' out0 all left left' : Bytes) (b : ℕ) → IsAppending out out0 left all → left ≡ b ∷ left' → out' ≡ out ++ b ∷ [] → IsAppending out' out0 left' all
+pub appended_one : (out out' out0 all left left' : Bytes) (b : ℕ) → IsAppending out out0 left all → left ≡ b ∷ left'
+    → out' ≡ out ++ b ∷ [] → IsAppending out' out0 left' all
 appended_one out out' out0 all left left' b a is put = record {
   is = ap (λ o. o ++ left') put ∙ append_assoc out (b ∷ []) left' ∙ ap (λ l. out ++ l) (sym is) ∙ a.is;
   more = (a.more.0 ++ b ∷ [], put ∙ ap (λ o. o ++ b ∷ []) a.more.1 ∙ append_assoc out0 a.more.0 (b ∷ []));
@@ -76,3 +87,43 @@ nothing_appended out all = record { is = refl; more = ([], sym (append-nil out))
 pub standing_is : (o : Option ℕ) (y : ℕ) → unwrap_or o y ≡ standing o y
 standing_is None y = refl
 standing_is (Some x) y = refl
+
+-- Places at which other bytes stand.
+pub differing_end : (cs : Cells) (ys : Bytes) (k : ℕ) → length cs ≤ k → differing k ys cs ≡ 0
+differing_end cs [] k h = refl
+differing_end cs (y ∷ ys) k h =
+    let none : ◌≡◌ {A = ℕ} (if differs (cell cs k) y then 1 else 0) 0 =
+    ap (λ o. if differs o y then 1 else 0) (cell_none cs k h) in
+    let rest = differing_end cs ys (suc k) (omega (arith, h)) in
+    omega (arith, none, rest)
+
+pub differing_one : (cs : Cells) (ys : Bytes) (k i : ℕ) → i < length ys
+    → differing (k + i) (drop i ys) cs
+    ≡ (if differs (cell cs (k + i)) (get_or ys i 0) then 1 else 0) + differing (k + (i + 1)) (drop (i + 1) ys) cs
+differing_one cs ys k i h =
+    let next : suc (k + i) ≡ k + (i + 1) = omega arith in
+    ap (λ l. differing (k + i) l cs) (drop_more ys i 0 h)
+    ∙ ap (λ n. (if differs (cell cs (k + i)) (get_or ys i 0) then 1 else 0) + differing n (drop (i + 1) ys) cs) next
+
+pub differing_rest : (cs : Cells) (ys : Bytes) (k i : ℕ) → min (length ys) (length cs - k) ≤ i
+    → differing (k + i) (drop i ys) cs ≡ 0
+differing_rest cs ys k i h = go (ltb i (length ys)) refl
+  where
+    go : (t : Bool) → ltb i (length ys) ≡ t → differing (k + i) (drop i ys) cs ≡ 0
+    go true e = let more = ltb-true i (length ys) e in differing_end cs (drop i ys) (k + i) (omega (arith, h, more))
+    go false e = ap (λ l. differing (k + i) l cs) (drop_all i ys (ltb-false i (length ys) e))
+
+cell_behind : (F : Bytes) (cs : Cells) (k : ℕ) → cell (map Some F ++ cs) (length F + k) ≡ cell cs k
+cell_behind [] cs k = let e : 0 + k ≡ k = omega arith in ap (cell cs) e
+cell_behind (x ∷ F) cs k =
+    let e : suc (length F) + k ≡ suc (length F + k) = omega arith in
+    ap (cell (Some x ∷ map Some F ++ cs)) e ∙ cell_behind F cs k
+
+pub differing_behind : (F : Bytes) (cs : Cells) (k : ℕ) (ys : Bytes)
+    → differing (length F + k) ys (map Some F ++ cs) ≡ differing k ys cs
+differing_behind F cs k [] = refl
+differing_behind F cs k (y ∷ ys) =
+    let next : suc (length F + k) ≡ length F + suc k = omega arith in
+    ap (λ o. (if differs o y then 1 else 0) + differing (suc (length F + k)) ys (map Some F ++ cs)) (cell_behind F cs k)
+    ∙ ap (λ n. (if differs (cell cs k) y then 1 else 0) + differing n ys (map Some F ++ cs)) next
+    ∙ ap (λ n. (if differs (cell cs k) y then 1 else 0) + n) (differing_behind F cs (suc k) ys)

@@ -1,5 +1,5 @@
 -- What is held of a stream, from one place on.
-use Rattle.std.specs.Prelude.{ℕ, zero, suc, ◌+◌, ◌-◌, ◌%◌, ◌^◌, ◌<◌, ◌⊎◌, Option, Some, None, List, [], ◌∷◌, length, map, drop, nat_lt, if◌then◌else◌}
+use Rattle.std.specs.Prelude.{ℕ, zero, suc, ◌+◌, ◌-◌, ◌%◌, ◌^◌, ◌<◌, ◌⊎◌, ◌==◌, Bool, false, not, Option, Some, None, List, [], ◌∷◌, length, map, drop, nat_lt, if◌then◌else◌}
 
 abbrev pub Bytes : Type 0
 Bytes = List ℕ
@@ -72,6 +72,16 @@ known_behind (Some x ∷ cs) = known_behind cs
 abbrev pub gap : Cells → ℕ
 gap cs = if nat_lt 0 (known cs) then empties cs else 0
 
+-- Another byte stands at a place than the one that is to be put there.
+abbrev pub differs : Option ℕ → ℕ → Bool
+differs None y = false
+differs (Some x) y = not (x == y)
+
+-- At how many places other bytes stand than those that are to be put from one place on.
+abbrev pub differing : ℕ → Bytes → Cells → ℕ
+differing k [] cs = 0
+differing k (y ∷ ys) cs = (if differs (cell cs k) y then 1 else 0) + differing (suc k) ys cs
+
 -- A stream that is held from the place `taken` on; what stands before it was handed out, or is missed.
 pub record Held : Type 0 where
   pub first : ℕ
@@ -98,7 +108,14 @@ with_located p h = record { first = h.first; limit = h.limit; taken = h.taken; c
 abbrev pub with_segment : ℕ → Bytes → Held → Held
 with_segment seq b h = with_located (located (ahead h.first (wanted h) seq) b) h
 
--- The same of bytes whose place in the stream is known.
+-- At how many places other bytes are held than those of a segment.
+abbrev pub differing_located : ℕ × Bytes → Held → ℕ
+differing_located p h = differing (length (run h.cells) + p.0) p.1 h.cells
+
+abbrev pub differing_in : ℕ → Bytes → Held → ℕ
+differing_in seq b h = differing_located (located (ahead h.first (wanted h) seq) b) h
+
+-- Bytes whose place in the stream is known.
 abbrev pub placed : ℕ → ℕ → Bytes → ℕ × Bytes
 placed w place b = if nat_lt place w then (0, drop (w - place) b) else (place - w, b)
 

@@ -1,6 +1,6 @@
 //! Places that a byte stands at or doesn't.
-ghost use Rattle.std.specs.Prelude.{◌≡◌, ◌≤◌, ◌+◌, ◌++◌, ℕ, length, drop, OnOk, OnErr};
-ghost use Rattle.segments.specs.Cells.{Bytes, empties, fill, run};
+ghost use Rattle.std.specs.Prelude.{◌≡◌, ◌<◌, ◌≤◌, ◌+◌, ◌++◌, ℕ, length, drop, OnOk, OnErr};
+ghost use Rattle.segments.specs.Cells.{Bytes, cell, differing, differs, empties, fill, run};
 ghost use Rattle.segments.specs.Places.{over};
 
 use crate::window::Window;
@@ -17,6 +17,32 @@ pub(crate) fn count_empty(window: &Window) -> usize
         }
     }
     window.len()
+}
+
+/// Whether another byte stands at a place.
+fn stands_otherwise(window: &Window, at: usize, byte: u8) -> bool
+    requires { at < length window.now }
+    ensures { result ≡ differs (cell window.now at) byte }
+{
+    match window.place(at) {
+        Some(standing) => standing != byte,
+        None => false,
+    }
+}
+
+/// At how many places other bytes stand than these, the first of which is for a place.
+pub(crate) fn count_differing(window: &Window, at: usize, bytes: &[u8]) -> usize
+    ensures is { result ≡ differing at bytes.now window.now }
+    ensures within { result ≤ length bytes.now }
+{
+    let common = bytes.len().min(window.len().saturating_sub(at));
+    let mut count = 0;
+    for i in 0..common {
+        if stands_otherwise(window, at + i, bytes[i]) {
+            count += 1;
+        }
+    }
+    count
 }
 
 /// Puts bytes behind `out`, but at each place the one that stands there, where one does.

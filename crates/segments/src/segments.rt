@@ -1,9 +1,9 @@
 //! What is held of a stream.
 ghost use Rattle.std.specs.Prelude.{◌≡◌, ◌≤◌, ◌<◌, ◌+◌, ◌^◌, ◌↔◌, [], length, Err, IfErr, IfOk, OnOk, OnErr};
-ghost use Rattle.segments.specs.Cells.{ahead, gap, known_behind, located, placed, run, wanted, with_located, with_part, with_segment, without_front, IsBeyond, IsTooMuch};
+ghost use Rattle.segments.specs.Cells.{ahead, differing_in, differing_located, gap, known_behind, located, placed, run, wanted, with_located, with_part, with_segment, without_front, IsBeyond, IsTooMuch};
 ghost use Rattle.segments.specs.declared.segments.SegmentError.TheVariants as segment_error;
 
-use crate::places::{append_joined, append_run, count_empty, drop_first};
+use crate::places::{append_joined, append_run, count_differing, count_empty, drop_first};
 use crate::window::Window;
 use std::alloc::{AllocError, Global};
 use std::error::Error;
@@ -263,6 +263,24 @@ impl Segments {
             self.hold(ahead, bytes)?;
         }
         Ok(())
+    }
+
+    /// At how many places other bytes are held than those of a segment whose first byte has the sequence number `seq`. Bytes that were
+    /// handed out, or are available, aren't held any more.
+    pub fn differing(&self, seq: u32, bytes: &[u8]) -> usize
+        ensures is { result ≡ differing_in seq bytes.now self.now }
+        ensures within { result ≤ length bytes.now }
+    {
+        let (ahead, rest) = locate(distance(self.first, self.wanted(), seq), bytes);
+        self.differing_at(ahead, rest)
+    }
+
+    /// The same of bytes that begin so far behind the first byte that is missing.
+    fn differing_at(&self, ahead: u32, bytes: &[u8]) -> usize
+        ensures is { result ≡ differing_located (ahead, bytes.now) self.now }
+        ensures within { result ≤ length bytes.now }
+    {
+        count_differing(&self.window, ahead as usize, bytes)
     }
 
     /// How many bytes are held behind the first that is missing, at most the limit: 0 where nothing shows that one is. It

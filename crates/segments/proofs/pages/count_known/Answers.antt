@@ -11,10 +11,12 @@ loop-i-preserved c =
     elim c.if-is_some.branch [
       | then-is_some w ↦ (
         omega (arith, inv.0, w.count-is),
-        counted_next c.loop-i.i c.args.first c.args.pages.now c.loop-i.count c.if-is_some.count _ inv.1 (sym w.if-is_some.true ∙ told) w.count-is,
+        counted_next c.loop-i.i c.args.first c.args.pages.now c.loop-i.count c.if-is_some.count _ inv.1
+            (sym w.if-is_some.true ∙ told) w.count-is,
       )
       | else-is_some w ↦ (
         omega (arith, inv.0, w.count-is),
-        counted_next c.loop-i.i c.args.first c.args.pages.now c.loop-i.count c.if-is_some.count _ inv.1 (sym w.if-is_some.false ∙ told) (omega (arith, w.count-is)),
+        counted_next c.loop-i.i c.args.first c.args.pages.now c.loop-i.count c.if-is_some.count _ inv.1
+            (sym w.if-is_some.false ∙ told) (omega (arith, w.count-is)),
       )
     ]

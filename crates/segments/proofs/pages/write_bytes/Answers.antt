@@ -14,7 +14,9 @@ loop-byte-preserved c =
     let len = length-take-le i ys (omega (arith, more)) in (
       omega (arith, inv.0, e.one),
       omega (arith, inv.1),
-      subst (λ xs. IsWritten c.args.at xs c.args.pages.now c.write_byte-count.new.pages (c.loop-byte.count + c.write_byte-count.result)) (sym (take_more ys i 0 more))
-          (written_on c.args.at c.loop-byte.at c.loop-byte.count c.write_byte-count.result (take i ys) _ c.args.pages.now c.loop-byte.pages c.write_byte-count.new.pages
+      subst (λ xs. IsWritten c.args.at xs c.args.pages.now c.write_byte-count.new.pages
+          (c.loop-byte.count + c.write_byte-count.result)) (sym (take_more ys i 0 more))
+          (written_on c.args.at c.loop-byte.at c.loop-byte.count c.write_byte-count.result (take i ys) _
+          c.args.pages.now c.loop-byte.pages c.write_byte-count.new.pages
           (inv.1 ∙ ap (λ n. c.args.at + n) (sym len)) inv.2 e.written),
     )

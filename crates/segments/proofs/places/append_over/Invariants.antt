@@ -4,4 +4,5 @@ use Rattle.segments.proofs.PlaceLemmas.{IsAppending}
 use Rattle.segments.proofs.places.append_over.Given as goal
 
 abbrev pub invariant-loop-i : goal.invariant-loop-i
-invariant-loop-i l = IsAppending l.out.items l.initial.out.items (over (drop l.i l.window) (drop l.i l.bytes)) (over l.window l.bytes)
+invariant-loop-i l = IsAppending l.out.items l.initial.out.items (over (drop l.i l.window) (drop l.i l.bytes))
+    (over l.window l.bytes)

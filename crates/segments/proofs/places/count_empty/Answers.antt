@@ -15,6 +15,7 @@ loop-i-preserved c =
     let w = c.args.window.now in
     let i = c.loop-i.i in
     let inv = c.loop-i.invariant in
-    let next = empties_next w i (omega (arith, c.loop-i-test.true, c.len-i-end.ensures)) (sym c.place.ensures ∙ none_of c.place.result (sym c.is_some.ensures ∙ c.if-is_some.false)) in
+    let next = empties_next w i (omega (arith, c.loop-i-test.true, c.len-i-end.ensures))
+    (sym c.place.ensures ∙ none_of c.place.result (sym c.is_some.ensures ∙ c.if-is_some.false)) in
     let e : empties w ≡ (i + 1) + empties (drop (i + 1) w) = omega (arith, inv, next) in
     e

@@ -10,5 +10,7 @@ returns-clause-front c =
     let steps = c.args.steps.now in
     let i = c.loop-step.step-index in
     let out = c.loop-step.out.items in
-    let ends = replaying_ends start c.loop-step.stream out (drop i steps) steps c.loop-step.invariant (drop_all i steps c.loop-step-test.false) in
-    replayed c.args.first_place c.args.limit steps out _ ends.1 (c.into_available.ensures ∙ ap (λ h. run h.cells) ends.0)
+    let ends = replaying_ends start c.loop-step.stream out (drop i steps) steps c.loop-step.invariant
+    (drop_all i steps c.loop-step-test.false) in
+    replayed c.args.first_place c.args.limit steps out _ ends.1
+    (c.into_available.ensures ∙ ap (λ h. run h.cells) ends.0)

@@ -1,4 +1,3 @@
-use Rattle.std.proofs.Common.{refl}
 use Rattle.connections.specs.Ends.{ends_between}
 use Rattle.connections.specs.Table.{TakesDatagram}
 use Rattle.connections.specs.declared.ends.Protocol.TheVariants.{Udp}
@@ -8,7 +7,8 @@ use Rattle.connections.proofs.table.Connections.accept_datagram.Goals as goal
 pub returns-in-Some-clause-put : goal.returns-in-Some-clause-put
 returns-in-Some-clause-put g c =
     let d = c.args.datagram.now in let e = ends_between Udp d.source d.destination in let xs = c.self.inside.live.entries in
-    rw (c.between-ends.ensures, ← c.self.view_is) (put_in e (TakesDatagram d) xs (record c.in-Some.exchange.now { last_time = d.time }) c.in-Some.exchange.now (rw c.between-ends.ensures at c.in-Some.ensures.value) refl)
+    rw (c.between-ends.ensures, ← c.self.view_is) (put_in e (TakesDatagram d) xs c.accept_datagram.new.self c.in-Some.exchange.now
+    (rw c.between-ends.ensures at c.in-Some.ensures.value) c.accept_datagram.ensures)
 
 pub returns-clause-put : goal.returns-clause-put
 returns-clause-put g c =

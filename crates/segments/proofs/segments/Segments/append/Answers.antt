@@ -7,7 +7,8 @@ pub invariant_of-self : goal.invariant_of-self
 invariant_of-self c =
     let i = c.self.inside in
     let ys = c.args.bytes.now in
-    let there = sym (ap wanted (c.self.view_is ∙ c.make_room.ensures)) ∙ (wanted_is i.first i.limit i.start i.taken i.front.items i.window c.self.invariant).0 in
+    let there = sym (ap wanted (c.self.view_is ∙ c.make_room.ensures))
+    ∙ (wanted_is i.first i.limit i.start i.taken i.front.items i.window c.self.invariant).0 in
     let small = subst (λ n. n + length ys ≤ 2 ^ 62) there c.requires in
     let n = c.len.result - c.len-held.result in
     let o = i.front.ok.0 in
@@ -15,7 +16,8 @@ invariant_of-self c =
     let l = c.len.ensures in
     let l' = c.len-held.ensures in
     let n_is : n ≡ length c.append_joined.new.out.items - length i.front.items = omega (arith, o, o', l, l') in
-    (appended i.first i.limit i.start i.taken i.front.items c.append_joined.new.out.items i.window c.drop_front.new.self ys n c.self.invariant small
+    (appended i.first i.limit i.start i.taken i.front.items c.append_joined.new.out.items i.window c.drop_front.new.self
+    ys n c.self.invariant small
     c.in-Ok.ensures.out
     n_is
     (c.drop_front.ensures ∙ ap (λ k. drop k i.window) (c.min-count.ensures ∙ ap (min n) c.len-in-Ok.ensures))).sound
@@ -24,7 +26,8 @@ pub returns-in-Ok-clause-ok : goal.returns-in-Ok-clause-ok
 returns-in-Ok-clause-ok c =
     let i = c.self.inside in
     let ys = c.args.bytes.now in
-    let there = sym (ap wanted (c.self.view_is ∙ c.make_room.ensures)) ∙ (wanted_is i.first i.limit i.start i.taken i.front.items i.window c.self.invariant).0 in
+    let there = sym (ap wanted (c.self.view_is ∙ c.make_room.ensures))
+    ∙ (wanted_is i.first i.limit i.start i.taken i.front.items i.window c.self.invariant).0 in
     let small = subst (λ n. n + length ys ≤ 2 ^ 62) there c.requires in
     let n = c.len.result - c.len-held.result in
     let o = i.front.ok.0 in
@@ -32,7 +35,8 @@ returns-in-Ok-clause-ok c =
     let l = c.len.ensures in
     let l' = c.len-held.ensures in
     let n_is : n ≡ length c.append_joined.new.out.items - length i.front.items = omega (arith, o, o', l, l') in
-    (appended i.first i.limit i.start i.taken i.front.items c.append_joined.new.out.items i.window c.drop_front.new.self ys n c.self.invariant small
+    (appended i.first i.limit i.start i.taken i.front.items c.append_joined.new.out.items i.window c.drop_front.new.self
+    ys n c.self.invariant small
     c.in-Ok.ensures.out
     n_is
     (c.drop_front.ensures ∙ ap (λ k. drop k i.window) (c.min-count.ensures ∙ ap (min n) c.len-in-Ok.ensures))).held

@@ -10,7 +10,8 @@ drop_front-requires c =
     let n = c.args.missed in
     let empty = ap (λ h. run h.cells) c.self.view_is ∙ c.requires.empty in
     let none = none_front i.start i.taken i.limit i.front.items i.window c.self.invariant empty in
-    let all = sym (ap (λ h. length h.cells) c.self.view_is) ∙ ap length (all_window i.start i.front.items i.window none) in
+    let all = sym (ap (λ h. length h.cells) c.self.view_is)
+    ∙ ap length (all_window i.start i.front.items i.window none) in
     let few = subst (λ k. n ≤ k) all c.requires.within in
     let front_is =
     c.in-Ok.ensures.out
@@ -29,7 +30,8 @@ invariant_of-self c =
     let n = c.args.missed in
     let empty = ap (λ h. run h.cells) c.self.view_is ∙ c.requires.empty in
     let none = none_front i.start i.taken i.limit i.front.items i.window c.self.invariant empty in
-    let all = sym (ap (λ h. length h.cells) c.self.view_is) ∙ ap length (all_window i.start i.front.items i.window none) in
+    let all = sym (ap (λ h. length h.cells) c.self.view_is)
+    ∙ ap length (all_window i.start i.front.items i.window none) in
     let few = subst (λ k. n ≤ k) all c.requires.within in
     let front_is =
     c.in-Ok.ensures.out
@@ -39,8 +41,10 @@ invariant_of-self c =
     let o' = c.append_run.new.out.ok.0 in
     let l = c.len-in-Ok.ensures in
     let l' = c.len-held.ensures in
-    let m_is : n + (c.len-in-Ok.result - c.len-held.result) ≡ n + (length c.append_run.new.out.items - length i.front.items) = omega (arith, o, o', l, l') in
-    (skipped i.first i.limit i.start i.taken n _ i.front.items c.append_run.new.out.items i.window c.drop_front.new.self c.self.invariant none few front_is m_is c.drop_front.ensures).sound
+    let m_is : n + (c.len-in-Ok.result - c.len-held.result)
+    ≡ n + (length c.append_run.new.out.items - length i.front.items) = omega (arith, o, o', l, l') in
+    (skipped i.first i.limit i.start i.taken n _ i.front.items c.append_run.new.out.items i.window c.drop_front.new.self
+    c.self.invariant none few front_is m_is c.drop_front.ensures).sound
 
 pub returns-in-Ok-clause-ok : goal.returns-in-Ok-clause-ok
 returns-in-Ok-clause-ok c =
@@ -48,7 +52,8 @@ returns-in-Ok-clause-ok c =
     let n = c.args.missed in
     let empty = ap (λ h. run h.cells) c.self.view_is ∙ c.requires.empty in
     let none = none_front i.start i.taken i.limit i.front.items i.window c.self.invariant empty in
-    let all = sym (ap (λ h. length h.cells) c.self.view_is) ∙ ap length (all_window i.start i.front.items i.window none) in
+    let all = sym (ap (λ h. length h.cells) c.self.view_is)
+    ∙ ap length (all_window i.start i.front.items i.window none) in
     let few = subst (λ k. n ≤ k) all c.requires.within in
     let front_is =
     c.in-Ok.ensures.out
@@ -58,6 +63,8 @@ returns-in-Ok-clause-ok c =
     let o' = c.append_run.new.out.ok.0 in
     let l = c.len-in-Ok.ensures in
     let l' = c.len-held.ensures in
-    let m_is : n + (c.len-in-Ok.result - c.len-held.result) ≡ n + (length c.append_run.new.out.items - length i.front.items) = omega (arith, o, o', l, l') in
-    (skipped i.first i.limit i.start i.taken n _ i.front.items c.append_run.new.out.items i.window c.drop_front.new.self c.self.invariant none few front_is m_is c.drop_front.ensures).held
+    let m_is : n + (c.len-in-Ok.result - c.len-held.result)
+    ≡ n + (length c.append_run.new.out.items - length i.front.items) = omega (arith, o, o', l, l') in
+    (skipped i.first i.limit i.start i.taken n _ i.front.items c.append_run.new.out.items i.window c.drop_front.new.self
+    c.self.invariant none few front_is m_is c.drop_front.ensures).held
     ∙ ap (without_front n) c.self.view_is

@@ -7,7 +7,8 @@ use Rattle.segments.proofs.segments.Segments.take.Goals as goal
 pub overflow_add-self : goal.overflow_add-self
 overflow_add-self c =
     let i = c.self.inside in
-    let front = ap (λ h. length (run h.cells)) (sym c.self.view_is) ∙ ap length (run_held i.start i.taken i.limit i.front.items i.window c.self.invariant) in
+    let front = ap (λ h. length (run h.cells)) (sym c.self.view_is)
+    ∙ ap length (run_held i.start i.taken i.limit i.front.items i.window c.self.invariant) in
     let few = c.requires in
     let len = length-drop i.start i.front.items in
     let ok = i.front.ok.0 in
@@ -17,7 +18,8 @@ overflow_add-self c =
 pub overflow_add-self-2 : goal.overflow_add-self-2
 overflow_add-self-2 c =
     let i = c.self.inside in
-    let front = ap (λ h. length (run h.cells)) (sym c.self.view_is) ∙ ap length (run_held i.start i.taken i.limit i.front.items i.window c.self.invariant) in
+    let front = ap (λ h. length (run h.cells)) (sym c.self.view_is)
+    ∙ ap length (run_held i.start i.taken i.limit i.front.items i.window c.self.invariant) in
     let few = c.requires in
     let len = length-drop i.start i.front.items in
     let small = (wanted_is i.first i.limit i.start i.taken i.front.items i.window c.self.invariant).1 in
@@ -26,12 +28,16 @@ overflow_add-self-2 c =
 pub invariant_of-self : goal.invariant_of-self
 invariant_of-self c =
     let i = c.self.inside in
-    let front = ap (λ h. run h.cells) (sym c.self.view_is) ∙ run_held i.start i.taken i.limit i.front.items i.window c.self.invariant in
-    (taken_front i.first i.limit i.start i.taken c.args.n i.front.items i.window c.self.invariant (subst (λ f. c.args.n ≤ length f) front c.requires)).0
+    let front = ap (λ h. run h.cells) (sym c.self.view_is)
+    ∙ run_held i.start i.taken i.limit i.front.items i.window c.self.invariant in
+    (taken_front i.first i.limit i.start i.taken c.args.n i.front.items i.window c.self.invariant
+    (subst (λ f. c.args.n ≤ length f) front c.requires)).0
 
 pub returns : goal.returns
 returns c =
     let i = c.self.inside in
-    let front = ap (λ h. run h.cells) (sym c.self.view_is) ∙ run_held i.start i.taken i.limit i.front.items i.window c.self.invariant in
-    (taken_front i.first i.limit i.start i.taken c.args.n i.front.items i.window c.self.invariant (subst (λ f. c.args.n ≤ length f) front c.requires)).1
+    let front = ap (λ h. run h.cells) (sym c.self.view_is)
+    ∙ run_held i.start i.taken i.limit i.front.items i.window c.self.invariant in
+    (taken_front i.first i.limit i.start i.taken c.args.n i.front.items i.window c.self.invariant
+    (subst (λ f. c.args.n ≤ length f) front c.requires)).1
     ∙ ap (without_front c.args.n) c.self.view_is

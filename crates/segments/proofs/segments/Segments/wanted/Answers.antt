@@ -17,7 +17,8 @@ returns-clause-is c =
     let l = c.len.ensures in
     let o = i.front.ok.0 in
     let same : i.taken + (c.len.result - i.start) ≡ i.taken + (length i.front.items - i.start) = omega (arith, l, o) in
-    same ∙ sym (wanted_is i.first i.limit i.start i.taken i.front.items i.window c.self.invariant).0 ∙ ap wanted c.self.view_is
+    same ∙ sym (wanted_is i.first i.limit i.start i.taken i.front.items i.window c.self.invariant).0
+    ∙ ap wanted c.self.view_is
 
 pub returns-clause-small : goal.returns-clause-small
 returns-clause-small c =

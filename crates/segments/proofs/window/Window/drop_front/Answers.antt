@@ -32,7 +32,8 @@ overflow_sub-self c =
     let i = c.self.inside in
     let l = places_length i.len i.begin i.pages in
     let same = ap length c.self.view_is in
-    few_known i.begin i.len i.held c.args.n c.count_known.result i.pages c.self.invariant (omega (arith, l, same, c.requires)) c.count_known.ensures.is
+    few_known i.begin i.len i.held c.args.n c.count_known.result i.pages c.self.invariant
+    (omega (arith, l, same, c.requires)) c.count_known.ensures.is
 
 pub overflow_sub-self-2 : goal.overflow_sub-self-2
 overflow_sub-self-2 c =
@@ -46,7 +47,8 @@ invariant_of-self-2 c =
     let i = c.self.inside in
     let l = places_length i.len i.begin i.pages in
     let same = ap length c.self.view_is in
-    fewer i.begin i.len i.held c.args.n c.count_known.result i.pages c.remove_pages.new.pages c.self.invariant c.remove_pages.ensures.whole c.remove_pages.ensures.places
+    fewer i.begin i.len i.held c.args.n c.count_known.result i.pages c.remove_pages.new.pages c.self.invariant
+    c.remove_pages.ensures.whole c.remove_pages.ensures.places
     (omega (arith, l, same, c.requires)) c.count_known.ensures.is
 
 pub returns : goal.returns

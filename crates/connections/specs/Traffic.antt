@@ -1,0 +1,15 @@
+-- What a side sent, counted.
+use Rattle.std.specs.Prelude.{ℕ, ◌+◌, ◌-◌, ◌^◌, min}
+use Rattle.connections.specs.declared.traffic.Traffic.{Traffic}
+
+-- A count with more: it stays where it can't be held.
+abbrev pub plus : ℕ → ℕ → ℕ
+plus n more = min (n + more) (2 ^ 64 - 1)
+
+-- Nothing was sent.
+abbrev pub nothing_sent : Traffic
+nothing_sent = record { packets = 0; bytes = 0 }
+
+-- One more packet, with so many bytes of data.
+abbrev pub with_packet : ℕ → Traffic → Traffic
+with_packet n t = record { packets = plus t.packets 1; bytes = plus t.bytes n }
