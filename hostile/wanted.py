@@ -18,10 +18,6 @@ VERSIONS = {
     0x300: "SSLv3", 0x301: "TLSv10", 0x302: "TLSv11", 0x303: "TLSv12", 0x304: "TLSv13",
     0xFEFF: "DTLSv10", 0xFEFD: "DTLSv12", 0xFEFC: "DTLSv13",
 }
-GROUPS = {
-    23: "secp256r1", 24: "secp384r1", 25: "secp521r1", 29: "x25519", 30: "x448", 256: "ffdhe2048", 257: "ffdhe3072", 258: "ffdhe4096",
-    4588: "X25519MLKEM768",
-}
 ALERTS = {
     0: "close_notify", 10: "unexpected_message", 20: "bad_record_mac", 22: "record_overflow", 40: "handshake_failure", 42: "bad_certificate",
     43: "unsupported_certificate", 44: "certificate_revoked", 45: "certificate_expired", 46: "certificate_unknown", 47: "illegal_parameter",
@@ -90,7 +86,7 @@ def is_told(field, value):
 
 
 def group(number):
-    return GROUPS.get(number, f"0x{number:04x}")
+    return wanted_hellos.GROUPS.get(number, f"0x{number:04x}")
 
 
 class Talk:
@@ -117,7 +113,7 @@ class Talk:
         self.is_tls |= bool(types or row["alert_message.desc"] or row["record.content_type"])
         if CLIENT_HELLO in types:
             self.said["server_name"] = first(row, "handshake.extensions_server_name")
-            self.said |= wanted_hellos.of_client(row, self.layer, VERSIONS, GROUPS)
+            self.said |= wanted_hellos.of_client(row, self.layer, VERSIONS)
         if SERVER_HELLO in types:
             self.note_server(row)
         if KEY_EXCHANGE in types and row["handshake.server_named_curve"]:
@@ -143,7 +139,7 @@ class Talk:
         if first(row, "handshake.random").replace(":", "") == RETRY:
             self.said["retried"] = True
             return
-        self.said |= wanted_hellos.of_server(row, VERSIONS, GROUPS)
+        self.said |= wanted_hellos.of_server(row, VERSIONS)
         version = int(first(row, "handshake.extensions.supported_version", "handshake.version"), 16)
         self.said["version"] = VERSIONS[version]
         self.said["cipher"] = first(row, "handshake.ciphersuite")

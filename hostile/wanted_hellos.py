@@ -18,23 +18,28 @@ ORDER = """
     ja3 ja3_string ja3s ja3s_string ja4
 """.split()
 TICKET, CERTIFICATE, CERTIFICATE_REQUEST, STATUS = "4", "11", "13", "22"
-# Names that tshark has otherwise than the registry.
-REGISTRY = {34: "delegated_credential", 0xFE0D: "encrypted_client_hello"}
 LETTERS = {
     0x304: "13", 0x303: "12", 0x302: "11", 0x301: "10", 0x300: "s3", 2: "s2", 0xFEFF: "d1", 0xFEFD: "d2", 0xFEFC: "d3",
 }
 
 
-def names_of(field):
-    """tshark's names of a field's numbers."""
+def names_of(*fields):
+    """tshark's names of the numbers of fields."""
     text = subprocess.run(["tshark", "-G", "values"], stdout=subprocess.PIPE, stderr=subprocess.DEVNULL, text=True, check=True).stdout
-    rows = (line.split("\t") for line in text.splitlines())
-    known = {int(row[2], 0): row[3] for row in rows if row[0] == "V" and row[1] == field}
-    return {number: name for number, name in known.items() if " " not in name}
+    known = {field: {} for field in fields}
+    for row in (line.split("\t") for line in text.splitlines()):
+        if row[0] == "V" and row[1] in known and " " not in row[3]:
+            known[row[1]][int(row[2], 0)] = row[3]
+    return [known[field] for field in fields]
 
 
-EXTENSIONS = {**names_of("tls.handshake.extension.type"), **REGISTRY}
-SCHEMES = {number: name for number, name in names_of("tls.handshake.sig_hash_alg").items() if number < 0xFE00}
+EXTENSIONS, SCHEMES, GROUPS = names_of(
+    "tls.handshake.extension.type", "tls.handshake.sig_hash_alg", "tls.handshake.extensions_supported_group"
+)
+EXTENSIONS |= {34: "delegated_credential", 0xFE0D: "encrypted_client_hello"}
+# Those for private use have no name in the registry.
+SCHEMES = {number: name for number, name in SCHEMES.items() if number < 0xFE00}
+GROUPS = {number: name for number, name in GROUPS.items() if number < 0x200} | {4588: "X25519MLKEM768"}
 
 
 def numbers(row, field):
@@ -77,7 +82,7 @@ def first(row, field):
     return row[field][0] if row[field] else None
 
 
-def of_client(row, layer, versions_by, groups_by):
+def of_client(row, layer, versions_by):
     """What a ClientHello says."""
     types = numbers(row, "handshake.extension.type")
     lengths = dict(zip(types, numbers(row, "handshake.extension.len")))
@@ -91,11 +96,11 @@ def of_client(row, layer, versions_by, groups_by):
         "client_ciphers": named({}, ciphers),
         "client_comp_methods": numbers(row, "handshake.comp_method"),
         "ssl_client_exts": named(EXTENSIONS, types),
-        "client_curves": named(groups_by, numbers(row, "handshake.extensions_supported_group")),
+        "client_curves": named(GROUPS, numbers(row, "handshake.extensions_supported_group")),
         "point_formats": numbers(row, "handshake.extensions_ec_point_format"),
         "sigalgs": named(SCHEMES, schemes),
         "orig_alpn": protocols,
-        "client_key_share_groups": named(groups_by, numbers(row, "handshake.extensions_key_share_group")),
+        "client_key_share_groups": named(GROUPS, numbers(row, "handshake.extensions_key_share_group")),
         "psk_key_exchange_modes": numbers(row, "tls.extension.psk_ke_mode"),
         "offers_psk": 41 in types, "offers_early_data": 42 in types, "offers_ticket": lengths.get(35, 0) > 0, "cookie": 44 in types,
         "ech": 0xFE0D in types, "delegated_credential": 34 in types,
@@ -104,7 +109,7 @@ def of_client(row, layer, versions_by, groups_by):
     }
 
 
-def of_server(row, versions_by, groups_by):
+def of_server(row, versions_by):
     """What a ServerHello says."""
     share = numbers(row, "handshake.extensions_key_share_group")
     return {
@@ -112,7 +117,7 @@ def of_server(row, versions_by, groups_by):
         "server_session_id": plain(first(row, "handshake.session_id") or ""),
         "comp_method": numbers(row, "handshake.comp_method")[0],
         "ssl_server_exts": named(EXTENSIONS, numbers(row, "handshake.extension.type")),
-        "server_key_share_group": named(groups_by, share)[0] if share else None,
+        "server_key_share_group": named(GROUPS, share)[0] if share else None,
         "scts": len(row["tls.sct.sct_length"]),
         "ja3s": first(row, "handshake.ja3s"), "ja3s_string": first(row, "handshake.ja3s_full"),
     }
