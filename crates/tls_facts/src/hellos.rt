@@ -112,7 +112,8 @@ pub(crate) fn algorithms<'a>(ext: Option<&'a [u8]>) -> Items<'a, u16>
 pub(crate) fn modes<'a>(ext: Option<&'a [u8]>) -> &'a [u8]
     ensures { result.now ≡ modes_in (held (option_map (λ x. x.now) ext.entry)) }
 {
-    let Ok(Some(content)) = first_content(extensions(ext), TlsExtensionType::PskExchangeModes) else {
+    let Ok(Some(content)) = first_content(extensions(ext), TlsExtensionType::PskExchangeModes)
+    else {
         return &[];
     };
     match psk_key_exchange_modes(content) {

@@ -102,7 +102,8 @@ impl Facts {
     pub fn has_session(&self) -> bool
         ensures { result ≡ told.has_session (view_facts self.now) }
     {
-        self.server_extension(TlsExtensionType::PreSharedKey).is_some()
+        self.server_extension(TlsExtensionType::PreSharedKey)
+            .is_some()
     }
 
     /// The version in the ClientHello itself: 0x0303 in TLS 1.3.
@@ -212,7 +213,8 @@ impl Facts {
     pub fn offers_pre_shared_key(&self) -> bool
         ensures { result ≡ told.offers_pre_shared_key (view_facts self.now) }
     {
-        self.client_extension(TlsExtensionType::PreSharedKey).is_some()
+        self.client_extension(TlsExtensionType::PreSharedKey)
+            .is_some()
     }
 
     /// Whether the client says that it sends data early (RFC 8446, section 4.2.10).
