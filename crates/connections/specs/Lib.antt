@@ -1,5 +1,6 @@
 pub mod Ends
 pub mod Segment
+pub mod Datagram
 pub mod Stream
 pub mod Connection
 pub mod Table

@@ -1,7 +1,6 @@
 //! A datagram of UDP.
 ghost use Rattle.std.specs.Prelude.{◌≡◌};
-ghost use Rattle.connections.specs.Ends.{ends_between};
-ghost use Rattle.connections.specs.declared.ends.Protocol.TheVariants.{Udp};
+ghost use Rattle.connections.specs.Datagram.{ends_of_datagram};
 
 use crate::ends::{End, Ends, Protocol};
 
@@ -21,7 +20,7 @@ pub struct Datagram<'a> {
 impl<'a> Datagram<'a> {
     /// Between whom it goes.
     pub fn between(&self) -> Ends
-        ensures { result ≡ ends_between Udp self.now.source self.now.destination }
+        ensures { result ≡ ends_of_datagram self.now }
     {
         Ends::between(Protocol::Udp, self.source, self.destination)
     }

@@ -4,8 +4,7 @@ ghost use Rattle.std.specs.Borrow.{sem};
 ghost use Rattle.std.specs.Option.{option_copied_mut};
 ghost use Rattle.connections.specs.Segment.{ends_of};
 ghost use Rattle.connections.specs.Table.{at, others, belongs, Puts, IsPut, TakesDatagram, WasLast, IsForgotten, IsOver, NoneIsOver, replaced, without_replaced, ended, without_ended};
-ghost use Rattle.connections.specs.Ends.{ends_between};
-ghost use Rattle.connections.specs.declared.ends.Protocol.TheVariants.{Udp};
+ghost use Rattle.connections.specs.Datagram.{ends_of_datagram};
 ghost use Rattle.connections.specs.Lends.{lends_connection};
 
 use crate::connection::{Connection, Listener};
@@ -114,7 +113,7 @@ impl<T: Listener> Connections<T> {
     ///
     /// `AllocError` where a new one could not be held: it is left out.
     pub fn accept_datagram(&mut self, datagram: &Datagram<'_>) -> Result<(), AllocError>
-        ensures put { OnOk result (IsPut (ends_between Udp datagram.now.source datagram.now.destination) (TakesDatagram datagram.now) self.old.live self.new.live) }
+        ensures put { OnOk result (IsPut (ends_of_datagram datagram.now) (TakesDatagram datagram.now) self.old.live self.new.live) }
         ensures err { OnErr result (self.new.live ≡ self.old.live) }
         ensures closed { self.new.closed ≡ self.old.closed }
     {
