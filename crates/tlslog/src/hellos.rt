@@ -51,9 +51,9 @@ fn protocols(alloc: Global, list: Items<'_, Counted1>) -> Result<Option<Cell>, A
     Ok(some_texts(all))
 }
 
-fn share_groups(
+fn share_groups<'a>(
     alloc: Global,
-    list: Items<'_, KeyShareEntry<'_>>,
+    list: Items<'a, KeyShareEntry<'a>>,
 ) -> Result<Option<Cell>, AllocError> {
     let mut all = Vec::new(alloc);
     for one in list {

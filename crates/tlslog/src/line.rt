@@ -1,6 +1,6 @@
 //! The line of a connection.
 use crate::cell::{Cell, Row, StopCell};
-use crate::columns::{Column, Course, End, Field, Named};
+use crate::columns::{Course, End, FIELDS, Field, Named};
 use crate::heard::Heard;
 use crate::hellos::{answer_cell, chain_cell, offer_cell};
 use crate::names::{kind_name, outcome_name, sender_name};
@@ -142,16 +142,18 @@ fn cell_of(
     }
 }
 
-/// The line of a connection, with these fields.
+/// The line of a connection, with the fields at these places of [`FIELDS`].
 pub fn row_of(
     alloc: Global,
     suites: &Suites,
-    columns: &[Column<Field>],
+    places: &[usize],
     connection: &Connection<Heard>,
 ) -> Result<Row, AllocError> {
-    let mut cells = Vec::with_capacity(alloc, columns.len())?;
-    for (name, field) in columns {
-        cells.push((*name, cell_of(alloc, suites, connection, *field)?))?;
+    let mut cells = Vec::with_capacity(alloc, places.len())?;
+    for place in places {
+        if let Some((name, field)) = FIELDS.get(*place) {
+            cells.push((*name, cell_of(alloc, suites, connection, *field)?))?;
+        }
     }
     Ok(Row { cells })
 }

@@ -90,10 +90,10 @@ fn print_one<R: Runtime + AllocGlobal>(
     if gap_name(&connection).is_some() {
         log.counts.gaps = log.counts.gaps.saturating_add(1);
     }
-    let Lines::Connections(columns) = &style.lines else {
+    let Lines::Connections(places) = &style.lines else {
         return Ok(());
     };
-    let row = row_of(rt.alloc(), &style.suites, columns.as_slice(), &connection)?;
+    let row = row_of(rt.alloc(), &style.suites, places.as_slice(), &connection)?;
     let line = style.text(rt.alloc(), row)?;
     println!(rt; "{line}").map_err(|_e| Failure::Writing)
 }
@@ -105,11 +105,11 @@ fn print_messages<R: Runtime + AllocGlobal>(
     connection: &mut Connection<Heard>,
     time: u64,
 ) -> Result<(), Failure> {
-    let Lines::Messages(columns) = &style.lines else {
+    let Lines::Messages(places) = &style.lines else {
         return Ok(());
     };
     for spoken in connection.listener.take_messages() {
-        let row = message_row(rt.alloc(), columns.as_slice(), connection, time, spoken)?;
+        let row = message_row(rt.alloc(), places.as_slice(), connection, time, spoken)?;
         let line = style.text(rt.alloc(), row)?;
         println!(rt; "{line}").map_err(|_e| Failure::Writing)?;
     }

@@ -218,13 +218,18 @@ impl Speech {
 
     /// The place of a side's next message.
     fn next_place(&mut self, direction: Direction) -> u64 {
-        let count = match direction {
-            Direction::ToServer => &mut self.client_count,
-            Direction::FromServer => &mut self.server_count,
-        };
-        let place = *count;
-        *count = place.saturating_add(1);
-        place
+        match direction {
+            Direction::ToServer => {
+                let place = self.client_count;
+                self.client_count = place.saturating_add(1);
+                place
+            }
+            Direction::FromServer => {
+                let place = self.server_count;
+                self.server_count = place.saturating_add(1);
+                place
+            }
+        }
     }
 
     /// Takes out the messages that are kept.

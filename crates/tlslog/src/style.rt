@@ -1,6 +1,6 @@
 //! What is printed, and how.
 use crate::cell::{Cell, Row};
-use crate::columns::{Column, FIELDS, Field, PARTS, Part};
+use crate::columns::{Column, FIELDS, PARTS};
 use crate::suites::Suites;
 use csv::WriterBuilder;
 use std::alloc::{AllocError, Global};
@@ -17,10 +17,10 @@ pub enum Format {
 /// What has a line of its own, and the fields of that.
 #[derive(Drop)]
 pub enum Lines {
-    /// Each connection, at its end.
-    Connections(Vec<Column<Field>>),
-    /// Each message, as it comes.
-    Messages(Vec<Column<Part>>),
+    /// Each connection, at its end: places in [`FIELDS`].
+    Connections(Vec<usize>),
+    /// Each message, as it comes: places in [`PARTS`].
+    Messages(Vec<usize>),
 }
 
 /// What is printed, and how.
@@ -51,25 +51,27 @@ impl From<AllocError> for StyleError<'_> {
     }
 }
 
-/// The fields of these names, in the names' order; all of the table where none are named.
-fn chosen<'a, T: Copy>(
+/// The places of the fields of these names, in the names' order; all of the table where none are named.
+fn chosen<'a, T>(
     alloc: Global,
     table: &[Column<T>],
     names: Option<&'a str>,
-) -> Result<Vec<Column<T>>, StyleError<'a>> {
-    let mut all = Vec::new(alloc);
+) -> Result<Vec<usize>, StyleError<'a>> {
+    let mut all: Vec<usize> = Vec::new(alloc);
     let Some(names) = names else {
-        all.extend_from_slice(table).map_err(|_e| StyleError::OutOfMemory)?;
+        for place in 0..table.len() {
+            all.push(place).map_err(|_e| StyleError::OutOfMemory)?;
+        }
         return Ok(all);
     };
     for name in names.split(',') {
-        if all.iter().any(|column| column.0 == name) {
+        let Some(place) = table.iter().position(|column| column.0 == name) else {
+            return Err(StyleError::UnknownField(name));
+        };
+        if all.contains(&place) {
             return Err(StyleError::DoubledField(name));
         }
-        match table.iter().find(|column| column.0 == name) {
-            Some(column) => all.push(*column).map_err(|_e| StyleError::OutOfMemory)?,
-            None => return Err(StyleError::UnknownField(name)),
-        }
+        all.push(place).map_err(|_e| StyleError::OutOfMemory)?;
     }
     Ok(all)
 }
@@ -113,10 +115,16 @@ fn record(alloc: Global, fields: &[String]) -> Result<String, AllocError> {
     Ok(text)
 }
 
-fn names_of<T>(alloc: Global, columns: &[Column<T>]) -> Result<Vec<String>, AllocError> {
+fn names_of<T>(
+    alloc: Global,
+    table: &[Column<T>],
+    places: &[usize],
+) -> Result<Vec<String>, AllocError> {
     let mut names = Vec::new(alloc);
-    for column in columns {
-        names.push(String::from_str(alloc, column.0)?)?;
+    for place in places {
+        if let Some(column) = table.get(*place) {
+            names.push(String::from_str(alloc, column.0)?)?;
+        }
     }
     Ok(names)
 }
@@ -128,8 +136,8 @@ impl Style {
             return Ok(None);
         }
         let names = match &self.lines {
-            Lines::Connections(columns) => names_of(alloc, columns.as_slice())?,
-            Lines::Messages(columns) => names_of(alloc, columns.as_slice())?,
+            Lines::Connections(places) => names_of(alloc, FIELDS, places.as_slice())?,
+            Lines::Messages(places) => names_of(alloc, PARTS, places.as_slice())?,
         };
         Ok(Some(record(alloc, names.as_slice())?))
     }
