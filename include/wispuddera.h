@@ -93,7 +93,7 @@ typedef struct {
     bool has_extensions;
 } wispuddera_client_hello;
 
-/* The body of a ServerHello (RFC 5246, section 7.4.1.3; RFC 8446, section 4.1.3). */
+/* The body of a ServerHello (RFC 5246, section 7.4.1.3; RFC 8446, section 4.1.3; of DTLS RFC 6347, section 4.3.2). */
 typedef struct {
     size_t missing;
     wispuddera_place random;     /* 32 bytes */
@@ -147,12 +147,14 @@ typedef struct {
 /* The body of a ClientHello of DTLS (RFC 6347, section 4.2.1). */
 typedef struct {
     size_t missing;
-    wispuddera_place random;     /* 32 bytes */
-    wispuddera_place session_id; /* of no bytes where there is none */
-    wispuddera_place cookie;     /* without its length */
-    wispuddera_place extensions; /* without their length; of no bytes where there are none */
+    wispuddera_place random;              /* 32 bytes */
+    wispuddera_place session_id;          /* of no bytes where there is none */
+    wispuddera_place cookie;              /* without its length */
+    wispuddera_place cipher_suites;       /* 2 bytes each: wispuddera_number_at */
+    wispuddera_place compression_methods; /* 1 byte each */
+    wispuddera_place extensions;          /* without their length; of no bytes where there are none */
     size_t next;
-    uint16_t version;
+    uint16_t version; /* 0xfeff in DTLS 1.0, 0xfefd in DTLS 1.2 */
     bool has_extensions;
 } wispuddera_dtls_client_hello;
 
@@ -202,6 +204,9 @@ uint32_t wispuddera_read_server_hello(const uint8_t *bytes, size_t count, wispud
 /* A ClientHello of DTLS (RFC 6347, section 4.2.1). */
 uint32_t wispuddera_read_dtls_client_hello(const uint8_t *bytes, size_t count, wispuddera_dtls_client_hello *out);
 
+/* A ServerHello of DTLS (RFC 6347, section 4.3.2), whatever its version. */
+uint32_t wispuddera_read_dtls_server_hello(const uint8_t *bytes, size_t count, wispuddera_server_hello *out);
+
 /* ---- What is found ----
  *
  * WISPUDDERA_NONE where what was asked for isn't there, and all bytes were seen; a refusal where bytes on the way to it, or its
@@ -240,6 +245,12 @@ uint32_t wispuddera_find_certificates(const uint8_t *bytes, size_t count, wispud
 
 /* Of numbers of 2 bytes each, as the cipher suites of a ClientHello. Nothing is refused; a last odd byte is left out. */
 uint32_t wispuddera_number_at(const uint8_t *bytes, size_t count, size_t index, wispuddera_number *out);
+
+/* Of the cipher suites that a ClientHello offers, in its body (RFC 5246, section 7.4.1.2); it refuses as wispuddera_read_client_hello. */
+uint32_t wispuddera_cipher_suite_at(const uint8_t *bytes, size_t count, size_t index, wispuddera_number *out);
+
+/* The same of a ClientHello of DTLS (RFC 6347, section 4.2.1); it refuses as wispuddera_read_dtls_client_hello. */
+uint32_t wispuddera_dtls_cipher_suite_at(const uint8_t *bytes, size_t count, size_t index, wispuddera_number *out);
 
 /* Of the versions in the content of a supported_versions of either hello (RFC 8446, section 4.2.1). */
 uint32_t wispuddera_version_at(const uint8_t *bytes, size_t count, size_t index, wispuddera_number *out);

@@ -117,6 +117,8 @@ static void test_layout(void) {
                                          offsetof(wispuddera_dtls_client_hello, random),
                                          offsetof(wispuddera_dtls_client_hello, session_id),
                                          offsetof(wispuddera_dtls_client_hello, cookie),
+                                         offsetof(wispuddera_dtls_client_hello, cipher_suites),
+                                         offsetof(wispuddera_dtls_client_hello, compression_methods),
                                          offsetof(wispuddera_dtls_client_hello, extensions),
                                          offsetof(wispuddera_dtls_client_hello, next),
                                          offsetof(wispuddera_dtls_client_hello, version),
@@ -246,6 +248,12 @@ static void test_found(void) {
 
 static void test_numbers(void) {
     wispuddera_number n = WISPUDDERA_EMPTY;
+    IS(wispuddera_cipher_suite_at(record + BODY, BODY_LENGTH, 2, &n), WISPUDDERA_READ);
+    IS(n.value, 0xc02f);
+    IS(n.count, 3);
+    IS(wispuddera_cipher_suite_at(record + BODY, BODY_LENGTH, 3, &n), WISPUDDERA_NONE);
+    IS(n.count, 3);
+    IS(wispuddera_cipher_suite_at(record + BODY, 40, 0, &n), WISPUDDERA_LENGTH_VALUE);
     IS(wispuddera_number_at(record + 48, 6, 2, &n), WISPUDDERA_READ);
     IS(n.value, 0xc02f);
     IS(n.count, 3);
@@ -275,7 +283,8 @@ static void test_dtls(void) {
     static const uint8_t datagram[] = {0x16, 0xfe, 0xfd, 0x00, 0x01, 0x00, 0x00, 0x00, 0x00, 0x12, 0x34, 0x00, 0x0e, /* 0 */
                                        0x0b, 0x00, 0x00, 0x09, 0x00, 0x05, 0x00, 0x00, 0x03, 0x00, 0x00, 0x02, 0xd1, 0xd2};
     uint8_t body[48] = {0xfe, 0xfd};
-    const uint8_t tail[] = {0x00, 0x02, 0xe1, 0xe2, 0x00, 0x02, 0xc0, 0x2f, 0x01, 0x00, 0x00, 0x00};
+    const uint8_t tail[] = {0x00, 0x02, 0xe1, 0xe2, 0x00, 0x04, 0xc0, 0x2f, 0x13, 0x01, 0x01, 0x00, 0x00, 0x00};
+    wispuddera_number n = WISPUDDERA_EMPTY;
     wispuddera_dtls_record r = WISPUDDERA_EMPTY;
     wispuddera_dtls_message m = WISPUDDERA_EMPTY;
     wispuddera_dtls_client_hello h = WISPUDDERA_EMPTY;
@@ -299,14 +308,44 @@ static void test_dtls(void) {
     IS(wispuddera_read_dtls_message(datagram, 26, 13, &m), WISPUDDERA_INCOMPLETE);
     IS(m.missing, 1);
     memcpy(body + 34, tail, sizeof tail);
-    IS(wispuddera_read_dtls_client_hello(body, 46, &h), WISPUDDERA_READ);
+    IS(wispuddera_read_dtls_client_hello(body, 48, &h), WISPUDDERA_READ);
     PLACE(h.random, 2, 32);
     IS(h.session_id.length, 0);
     PLACE(h.cookie, 36, 2);
-    PLACE(h.extensions, 46, 0);
-    IS(h.next, 46);
+    PLACE(h.cipher_suites, 40, 4);
+    PLACE(h.compression_methods, 45, 1);
+    PLACE(h.extensions, 48, 0);
+    IS(h.next, 48);
     IS(h.version, 0xfefd);
     IS(h.has_extensions, 1);
+    IS(wispuddera_dtls_cipher_suite_at(body, 48, 1, &n), WISPUDDERA_READ);
+    IS(n.value, 0x1301);
+    IS(n.count, 2);
+    IS(wispuddera_dtls_cipher_suite_at(body, 48, 2, &n), WISPUDDERA_NONE);
+    IS(wispuddera_dtls_cipher_suite_at(body, 43, 0, &n), WISPUDDERA_LENGTH_VALUE);
+    IS(wispuddera_dtls_cipher_suite_at(body, 33, 0, &n), WISPUDDERA_INCOMPLETE);
+    IS(n.missing, 1);
+}
+
+static void test_dtls_server_hello(void) {
+    uint8_t body[46] = {0xfe, 0xfd};
+    const uint8_t tail[] = {0x02, 0xc1, 0xc2, 0xc0, 0x2f, 0x01, 0x00, 0x04, 0x00, 0x17, 0x00, 0x00};
+    wispuddera_server_hello h = WISPUDDERA_EMPTY;
+    memcpy(body + 34, tail, sizeof tail);
+    IS(wispuddera_read_dtls_server_hello(body, sizeof body, &h), WISPUDDERA_READ);
+    PLACE(h.random, 2, 32);
+    PLACE(h.session_id, 35, 2);
+    PLACE(h.extensions, 42, 4);
+    IS(h.next, 46);
+    IS(h.version, 0xfefd);
+    IS(h.cipher_suite, 0xc02f);
+    IS(h.compression_method, 1);
+    IS(h.has_extensions, 1);
+    IS(wispuddera_read_server_hello(body, sizeof body, &h), WISPUDDERA_TAG);
+    IS(wispuddera_read_dtls_server_hello(body, 38, &h), WISPUDDERA_INCOMPLETE);
+    IS(h.missing, 1);
+    body[34] = 33;
+    IS(wispuddera_read_dtls_server_hello(body, sizeof body, &h), WISPUDDERA_VERIFY);
 }
 
 static void test_stream(void) {
@@ -417,6 +456,7 @@ int main(void) {
     test_found();
     test_numbers();
     test_dtls();
+    test_dtls_server_hello();
     test_stream();
     test_outcome();
     test_no_state();

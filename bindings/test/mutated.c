@@ -48,8 +48,8 @@ static void call_parts(const uint8_t *b, size_t n, size_t at) {
     static const finder finders[] = {wispuddera_find_server_name_in_record, wispuddera_find_server_name_in_hello,
                                      wispuddera_find_server_name, wispuddera_find_protocols, wispuddera_find_key_shares,
                                      wispuddera_find_certificates};
-    static const number_reader numbers[] = {wispuddera_number_at, wispuddera_version_at, wispuddera_group_at,
-                                            wispuddera_signature_scheme_at};
+    static const number_reader numbers[] = {wispuddera_number_at, wispuddera_cipher_suite_at, wispuddera_dtls_cipher_suite_at,
+                                            wispuddera_version_at, wispuddera_group_at, wispuddera_signature_scheme_at};
     size_t i;
     for (i = 0; i < sizeof readers / sizeof *readers; i++) {
         wispuddera_part p = WISPUDDERA_EMPTY;
@@ -101,13 +101,25 @@ static void call_others(const uint8_t *b, size_t n, size_t at) {
         lies(n, s.session_id);
         lies(n, s.extensions);
     }
+    if (is_read(wispuddera_read_dtls_server_hello(b, n, &s), &s.missing)) {
+        lies(n, s.random);
+        lies(n, s.session_id);
+        lies(n, s.extensions);
+    }
     if (is_read(wispuddera_read_dtls_client_hello(b, n, &h), &h.missing)) {
         lies(n, h.random);
+        lies(n, h.session_id);
         lies(n, h.cookie);
+        lies(n, h.cipher_suites);
+        lies(n, h.compression_methods);
         lies(n, h.extensions);
     }
-    is_read(wispuddera_find_extension(b, n, (uint16_t)at, &f), &f.missing);
-    is_read(wispuddera_find_body(b, n, (uint8_t)at, &f), &f.missing);
+    if (is_read(wispuddera_find_extension(b, n, (uint16_t)at, &f), &f.missing)) {
+        lies(n, f.place);
+    }
+    if (is_read(wispuddera_find_body(b, n, (uint8_t)at, &f), &f.missing)) {
+        lies(n, f.place);
+    }
     if (wispuddera_event_of_message(b, n, (uint8_t)(at % 4)) > WISPUDDERA_EVENT_UNKNOWN) {
         printf("mutated: no kind of event\n");
         exit(1);
@@ -140,8 +152,14 @@ static void call_streams(const uint8_t *b, size_t n, size_t at) {
     }
     memset(buffer, 0x16, n + 1);
     is_read(wispuddera_feed(buffer, n + 1, &held, b, n, &taken), &none);
-    is_read(wispuddera_next_record(buffer, n + 1, &held, &r), &r.missing);
-    is_read(wispuddera_next_message(buffer, n + 1, &held, &p), &p.missing);
+    if (is_read(wispuddera_next_record(buffer, n + 1, &held, &r), &r.missing)) {
+        lies(n + 1, r.fragment);
+        lies(n + 1, held);
+    }
+    if (is_read(wispuddera_next_message(buffer, n + 1, &held, &p), &p.missing)) {
+        lies(n + 1, p.content);
+        lies(n + 1, held);
+    }
     free(buffer);
 }
 
@@ -167,7 +185,7 @@ int main(int argc, char **argv) {
         call_others(block, count, at);
         call_streams(block, count, at);
         call_flow(block, count, at);
-        calls += 28 + 2 * (long)count;
+        calls += 31 + 2 * (long)count;
         free(block);
     }
     printf("mutated: %ld calls, each with a status and its places within the bytes\n", calls);

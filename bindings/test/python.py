@@ -96,8 +96,15 @@ def test_dtls():
     (message,) = w.dtls_messages(record.fragment)
     assert (message.kind, message.length, message.message_seq, message.fragment_offset, message.is_part) == (11, 9, 5, 3, True)
     assert message.body == b"\xd1\xd2"
-    hello = w.dtls_client_hello(b"\xfe\xfd" + RANDOM + bytes.fromhex("00 02e1e2 0002c02f 0100 0000"))
-    assert hello.random == RANDOM and hello.cookie == b"\xe1\xe2" and hello.extensions == b""
+    body = b"\xfe\xfd" + RANDOM + bytes.fromhex("00 02e1e2 0004c02f1301 0100 0000")
+    hello = w.dtls_client_hello(body)
+    assert (hello.version, hello.random, hello.session_id, hello.cookie) == (0xFEFD, RANDOM, b"", b"\xe1\xe2")
+    assert (hello.cipher_suites, hello.compression_methods, hello.extensions) == ((0xC02F, 0x1301), (0,), b"")
+    assert hello.next == len(body) and refusal_of(w.dtls_client_hello, body[:33]) == (w.Incomplete, 1)
+    body = b"\xfe\xfd" + RANDOM + bytes.fromhex("02c1c2 c02f 01 0004 00170000")
+    hello = w.dtls_server_hello(body)
+    assert (hello.version, hello.session_id, hello.cipher_suite, hello.compression_method) == (0xFEFD, b"\xc1\xc2", 0xC02F, 1)
+    assert hello.extensions == bytes.fromhex("00170000") and refusal_of(w.server_hello, body) == (w.Refused, "Tag")
 
 
 def test_outcome():

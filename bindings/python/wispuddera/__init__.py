@@ -49,6 +49,7 @@ __all__ = [
     "dtls_messages",
     "dtls_record",
     "dtls_records",
+    "dtls_server_hello",
     "event_of_alert",
     "event_of_dtls_message",
     "event_of_message",
@@ -184,12 +185,14 @@ class DtlsMessage:
 
 @dataclass(frozen=True)
 class DtlsClientHello:
-    """The body of a ClientHello of DTLS (RFC 6347, section 4.2.1); its lists aren't told."""
+    """The body of a ClientHello of DTLS (RFC 6347, section 4.2.1). No bytes are no session id, `None` no block of extensions."""
 
     version: int
     random: memoryview
     session_id: memoryview
     cookie: memoryview
+    cipher_suites: tuple[int, ...]
+    compression_methods: tuple[int, ...]
     extensions: Optional[memoryview]
     next: int
 
@@ -423,16 +426,19 @@ def server_name_of_record(data: Data) -> Optional[bytes]:
     return _name(_c.find_server_name_in_record, data)
 
 
+def _suites(listed: memoryview) -> tuple[int, ...]:
+    return struct.unpack(f">{len(listed) // 2}H", listed)
+
+
 def client_hello(body: Data) -> ClientHello:
     """The body of a ClientHello (RFC 5246, section 7.4.1.2)."""
     given, out = _Given(body), _room.client_hello
     _check(_c.read_client_hello(given.address, given.count, out), out.missing)
-    suites = given.part(out.cipher_suites)
     return ClientHello(
         out.version,
         given.part(out.random),
         given.part(out.session_id),
-        struct.unpack(f">{len(suites) // 2}H", suites),
+        _suites(given.part(out.cipher_suites)),
         tuple(given.part(out.compression_methods)),
         given.part(out.extensions) if out.has_extensions else None,
         out.next,
@@ -441,8 +447,17 @@ def client_hello(body: Data) -> ClientHello:
 
 def server_hello(body: Data) -> ServerHello:
     """The body of a ServerHello (RFC 5246, section 7.4.1.3)."""
+    return _server_hello(_c.read_server_hello, body)
+
+
+def dtls_server_hello(body: Data) -> ServerHello:
+    """The body of a ServerHello of DTLS (RFC 6347, section 4.3.2), whatever its version."""
+    return _server_hello(_c.read_dtls_server_hello, body)
+
+
+def _server_hello(read: Callable, body: Data) -> ServerHello:
     given, out = _Given(body), _room.server_hello
-    _check(_c.read_server_hello(given.address, given.count, out), out.missing)
+    _check(read(given.address, given.count, out), out.missing)
     return ServerHello(
         out.version,
         given.part(out.random),
@@ -496,6 +511,8 @@ def dtls_client_hello(body: Data) -> DtlsClientHello:
         given.part(out.random),
         given.part(out.session_id),
         given.part(out.cookie),
+        _suites(given.part(out.cipher_suites)),
+        tuple(given.part(out.compression_methods)),
         given.part(out.extensions) if out.has_extensions else None,
         out.next,
     )

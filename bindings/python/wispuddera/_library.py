@@ -116,6 +116,8 @@ class DtlsClientHello(ctypes.Structure):
         ("random", Place),
         ("session_id", Place),
         ("cookie", Place),
+        ("cipher_suites", Place),
+        ("compression_methods", Place),
         ("extensions", Place),
         ("next", _SIZE),
         ("version", _U16),
@@ -151,6 +153,7 @@ read_dtls_record = _function("read_dtls_record", _BYTES, _SIZE, _SIZE, _OUT(Dtls
 read_dtls_message = _function("read_dtls_message", _BYTES, _SIZE, _SIZE, _OUT(DtlsMessage))
 read_client_hello = _function("read_client_hello", _BYTES, _SIZE, _OUT(ClientHello))
 read_server_hello = _function("read_server_hello", _BYTES, _SIZE, _OUT(ServerHello))
+read_dtls_server_hello = _function("read_dtls_server_hello", _BYTES, _SIZE, _OUT(ServerHello))
 read_dtls_client_hello = _function("read_dtls_client_hello", _BYTES, _SIZE, _OUT(DtlsClientHello))
 find_server_name_in_record = _function("find_server_name_in_record", _BYTES, _SIZE, _OUT(Found))
 find_server_name_in_hello = _function("find_server_name_in_hello", _BYTES, _SIZE, _OUT(Found))
@@ -161,6 +164,8 @@ find_body = _function("find_body", _BYTES, _SIZE, _U8, _OUT(Found))
 find_key_shares = _function("find_key_shares", _BYTES, _SIZE, _OUT(Found))
 find_certificates = _function("find_certificates", _BYTES, _SIZE, _OUT(Found))
 number_at = _function("number_at", _BYTES, _SIZE, _SIZE, _OUT(Number))
+cipher_suite_at = _function("cipher_suite_at", _BYTES, _SIZE, _SIZE, _OUT(Number))
+dtls_cipher_suite_at = _function("dtls_cipher_suite_at", _BYTES, _SIZE, _SIZE, _OUT(Number))
 version_at = _function("version_at", _BYTES, _SIZE, _SIZE, _OUT(Number))
 group_at = _function("group_at", _BYTES, _SIZE, _SIZE, _OUT(Number))
 signature_scheme_at = _function("signature_scheme_at", _BYTES, _SIZE, _SIZE, _OUT(Number))

@@ -1,5 +1,6 @@
 //! Records and handshake messages of DTLS.
 use crate::error::{check, Error};
+use crate::number::Numbers;
 use crate::part::{Items, Read};
 use crate::sys;
 
@@ -77,7 +78,7 @@ pub fn dtls_messages(fragment: &[u8]) -> Items<'_, DtlsMessage<'_>> {
 }
 
 /// The body of a ClientHello of DTLS (RFC 6347, section 4.2.1).
-#[derive(Clone, Copy, Debug, PartialEq, Eq)]
+#[derive(Clone, Debug)]
 pub struct DtlsClientHello<'a> {
     /// The version, as it stands there.
     pub version: u16,
@@ -87,6 +88,10 @@ pub struct DtlsClientHello<'a> {
     pub session_id: &'a [u8],
     /// The cookie; of no bytes where there is none.
     pub cookie: &'a [u8],
+    /// The cipher suites.
+    pub cipher_suites: Numbers<'a>,
+    /// The compression methods, a byte each.
+    pub compression_methods: &'a [u8],
     /// The block of extensions, for [`extensions`](crate::extensions); `None` where no whole block follows.
     pub extensions: Option<&'a [u8]>,
 }
@@ -104,6 +109,8 @@ impl<'a> DtlsClientHello<'a> {
             random: out.random.of(body),
             session_id: out.session_id.of(body),
             cookie: out.cookie.of(body),
+            cipher_suites: Numbers::new(sys::wispuddera_number_at, out.cipher_suites.of(body))?,
+            compression_methods: out.compression_methods.of(body),
             extensions: out.has_extensions.then(|| out.extensions.of(body)),
         };
         Ok((hello, &body[out.next..]))

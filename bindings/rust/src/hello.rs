@@ -41,7 +41,7 @@ impl<'a> ClientHello<'a> {
     }
 }
 
-/// The body of a ServerHello (RFC 5246, section 7.4.1.3; RFC 8446, section 4.1.3).
+/// The body of a ServerHello (RFC 5246, section 7.4.1.3; RFC 8446, section 4.1.3; of DTLS RFC 6347, section 4.3.2).
 #[derive(Clone, Copy, Debug, PartialEq, Eq)]
 pub struct ServerHello<'a> {
     /// The version: 0x0303 in TLS 1.3, where [`best_version`](crate::best_version) tells more.
@@ -64,7 +64,19 @@ impl<'a> ServerHello<'a> {
     /// # Errors
     /// Where it isn't whole; where its session id has more than 32 bytes; where its version is none of SSL 3.0 to TLS 1.2.
     pub fn read(body: &'a [u8]) -> Result<(Self, &'a [u8]), Error> {
-        let (status, out) = sys::read_front(sys::wispuddera_read_server_hello, body);
+        Self::read_by(sys::wispuddera_read_server_hello, body)
+    }
+
+    /// Reads that of DTLS (RFC 6347, section 4.3.2), whatever its version.
+    ///
+    /// # Errors
+    /// Where it isn't whole; where its session id has more than 32 bytes.
+    pub fn read_dtls(body: &'a [u8]) -> Result<(Self, &'a [u8]), Error> {
+        Self::read_by(sys::wispuddera_read_dtls_server_hello, body)
+    }
+
+    fn read_by(call: sys::ReadFront<sys::ServerHello>, body: &'a [u8]) -> Result<(Self, &'a [u8]), Error> {
+        let (status, out) = sys::read_front(call, body);
         check(status, out.missing)?;
         let hello = ServerHello {
             version: out.version,

@@ -122,6 +122,8 @@ pub struct DtlsClientHello {
     pub random: Place,
     pub session_id: Place,
     pub cookie: Place,
+    pub cipher_suites: Place,
+    pub compression_methods: Place,
     pub extensions: Place,
     pub next: usize,
     pub version: u16,
@@ -153,6 +155,7 @@ extern "C" {
 
     pub fn wispuddera_read_client_hello(bytes: *const u8, count: usize, out: *mut ClientHello) -> u32;
     pub fn wispuddera_read_server_hello(bytes: *const u8, count: usize, out: *mut ServerHello) -> u32;
+    pub fn wispuddera_read_dtls_server_hello(bytes: *const u8, count: usize, out: *mut ServerHello) -> u32;
     pub fn wispuddera_read_dtls_client_hello(bytes: *const u8, count: usize, out: *mut DtlsClientHello) -> u32;
 
     pub fn wispuddera_find_server_name_in_record(bytes: *const u8, count: usize, out: *mut Found) -> u32;
@@ -229,7 +232,8 @@ mod tests {
             layout!(Number: missing, count, value),
             layout!(DtlsRecord: missing, fragment, next, sequence_number, version, epoch, length, content_type),
             layout!(DtlsMessage: missing, body, next, length, fragment_offset, fragment_length, message_seq, kind, is_part),
-            layout!(DtlsClientHello: missing, random, session_id, cookie, extensions, next, version, has_extensions),
+            layout!(DtlsClientHello: missing, random, session_id, cookie, cipher_suites, compression_methods, extensions, next, version,
+                has_extensions),
             layout!(Event: kind, to_server),
             layout!(Flow: state),
             ("none", &[0]),

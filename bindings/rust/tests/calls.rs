@@ -117,10 +117,18 @@ fn dtls_is_read() {
     let wanted = DtlsMessage { kind: 11, length: 9, message_seq: 5, fragment_offset: 3, is_part: true, body: b"\xd1\xd2" };
     assert_eq!(dtls_messages(&datagram[13..]).collect::<Vec<_>>(), [Ok(wanted)]);
     assert_eq!(dtls_messages(&datagram[13..26]).next(), Some(incomplete(1)));
-    let text = [&b"\xfe\xfd"[..], &random(), b"\x00\x02\xe1\xe2\x00\x02\xc0\x2f\x01\x00\x00\x00"].concat();
+    let text = [&b"\xfe\xfd"[..], &random(), b"\x00\x02\xe1\xe2\x00\x04\xc0\x2f\x13\x01\x01\x00\x00\x00"].concat();
     let (hello, rest) = DtlsClientHello::read(&text).unwrap();
     assert_eq!((hello.version, hello.random, hello.session_id), (0xfefd, &random()[..], &b""[..]));
     assert_eq!((hello.cookie, hello.extensions, rest), (&b"\xe1\xe2"[..], Some(&b""[..]), &b""[..]));
+    assert_eq!((hello.cipher_suites.collect::<Vec<_>>(), hello.compression_methods), (vec![0xc02f, 0x1301], &[0][..]));
+    let text = [&b"\xfe\xfd"[..], &random(), b"\x02\xc1\xc2\xc0\x2f\x01\x00\x04\x00\x17\x00\x00"].concat();
+    let (hello, rest) = ServerHello::read_dtls(&text).unwrap();
+    assert_eq!((hello.version, hello.random, hello.session_id), (0xfefd, &random()[..], &b"\xc1\xc2"[..]));
+    assert_eq!((hello.cipher_suite, hello.compression_method), (0xc02f, 1));
+    assert_eq!((hello.extensions, rest), (Some(&b"\x00\x17\x00\x00"[..]), &b""[..]));
+    assert_eq!(ServerHello::read(&text), Err(Error::Refused(Kind::Tag)));
+    assert_eq!(ServerHello::read_dtls(&text[..38]), incomplete(1));
 }
 
 #[test]

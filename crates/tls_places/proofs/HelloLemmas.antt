@@ -205,6 +205,10 @@ parts b r v (d, (version, m, d1, d2, (same, e1, looked), s, e)) =
     (subst (λ x. Spells (choose (version == 0x0300) server_hello_ssl30
     (choose (nat_le 0x0301 version && nat_le version 0x0303) server_hello_any (refuse Tag))) x v r d2) (sym same) s)
 
+pub parts_of_any : (b r : Bytes) (v : ServerHello) → Allows server_hello_any b (Ok (v, r)) → Parts b v r
+unfolding Allows
+parts_of_any b r v (d, s) = parts_any b v r d s
+
 -- parts that are read of an end of w
 pub block_ends : (n : ℕ) (w b x r : Bytes) → EndsWith w b → Allows (block n) b (Ok (x, r)) → EndsWith w (x ++ r)
 unfolding Allows

@@ -10,4 +10,6 @@ pub record DtlsClientHelloStands (b : Bytes) (h : DTLSClientHelloView) (p : Dtls
   pub random : Stands b p.random h.random.now
   pub session_id : MayStand b p.session_id (option_map (λ x. x.now) h.session_id)
   pub cookie : Stands b p.cookie h.cookie.now
+  pub cipher_suites : Stands b p.ciphers h.ciphers.bytes.now
+  pub compression_methods : Stands b p.comp h.comp.bytes.now
   pub extensions : MayStand b p.ext (option_map (λ x. x.now) h.ext)

@@ -1,4 +1,5 @@
 pub mod Place
 pub mod Last
+pub mod Find
 pub mod Hello
 pub mod DtlsHello

@@ -42,6 +42,10 @@ MayStand b (Some p) (Some x) = Stands b p x
 MayStand b None None = ⊤
 MayStand b p x = ⊥
 
+-- What may be there begins behind so many bytes.
+abbrev pub MayBeginAt : Bytes → ℕ → Option Bytes → Type 0
+MayBeginAt b o v = (x : Bytes) → v ≡ Some x → Stands b (place_from o x) x
+
 -- r is the end of b: what is left behind as many bytes as b has more.
 pub record IsEnd (b r : Bytes) : Type 0 where
   pub fits : length r ≤ length b

@@ -3,15 +3,22 @@
 
 ghost use Rattle.std.specs.Prelude.{IfOk};
 ghost use Rattle.tls_fields.specs.Answers.{Gives};
+ghost use Rattle.tls_fields.specs.Items.{items_in};
+ghost use Rattle.tls_fields.specs.Layout.{number};
+ghost use Rattle.tls_fields.specs.Meaning.{EndsWith};
+ghost use Rattle.tls_hs.specs.Hello.{cipher_suites, compression_methods};
 ghost use Rattle.tls_parser.specs.DtlsHello.{client_hello};
 ghost use Rattle.tls_parser.specs.DtlsInPlace.{view_client_hello_in_place};
 ghost use Rattle.tls_places.specs.DtlsHello.{DtlsClientHelloStands};
+ghost use Rattle.tls_places.specs.Place.{Stands};
 
 use crate::frame::frame_at;
 use crate::place::{held_before, place_before};
-use tls_base::TlsVersion;
-use tls_fields::{Counted1, IResult, Place, block, maybe2};
-use tls_hs::parts::{cipher_suites_in_place, compressions_in_place, session_id};
+use tls_base::{TlsCipherSuiteID, TlsCompressionID, TlsVersion};
+use tls_fields::{
+    Counted1, ErrorKind, IResult, Items, Place, block, maybe2, number1, number2, refused,
+};
+use tls_hs::parts::session_id;
 use tls_parser::DTLSClientHelloView;
 
 /// Where the parts of a ClientHello of DTLS stand in its body.
@@ -23,8 +30,54 @@ pub struct DtlsClientHelloPlaces {
     pub session_id: Option<Place>,
     /// The cookie, without its length.
     pub cookie: Place,
+    /// The cipher suites, without their length.
+    pub ciphers: Place,
+    /// The compression methods, without their length.
+    pub comp: Place,
     /// The extensions, without their length; `None` where no whole block follows.
     pub ext: Option<Place>,
+}
+
+/// Cipher suites, and where they stand in `whole`, whose end is `i`.
+#[tactic(auto, using(tls_fields::proofs::OneAnswerLemmas::read_allowed, tls_fields::proofs::NumbersLemmas::numbers_in), unfolding(tls_hs::specs::Hello::cipher_suites))]
+#[inline(always)]
+fn suites_at<'a>(
+    whole: &[u8],
+    i: &'a [u8],
+) -> IResult<&'a [u8], (Items<'a, TlsCipherSuiteID>, Place)>
+    ensures gives { Gives (λ x. items_in (number 2) x.0.bytes.now) cipher_suites i.now result }
+    ensures stands { EndsWith whole.now i.now → IfOk result (λ x. Stands whole.now x.1.1 x.1.0.bytes.now) }
+    ensures ends { EndsWith whole.now i.now → IfOk result (λ x. EndsWith whole.now x.0.now) }
+{
+    let (after, k) = number2(i)?;
+    let k = k as usize;
+    if k % 2 != 0 || k > after.len() {
+        return refused(i, ErrorKind::LengthValue);
+    }
+    let (suites, rest) = after.split_at(2 * (k / 2));
+    let place = place_before(whole, suites, rest);
+    Ok((rest, (Items::new(suites), place)))
+}
+
+/// Compression methods, and where they stand in `whole`, whose end is `i`.
+#[tactic(auto, using(tls_fields::proofs::OneAnswerLemmas::read_allowed, tls_fields::proofs::NumbersLemmas::numbers_in), unfolding(tls_hs::specs::Hello::compression_methods))]
+#[inline(always)]
+fn methods_at<'a>(
+    whole: &[u8],
+    i: &'a [u8],
+) -> IResult<&'a [u8], (Items<'a, TlsCompressionID>, Place)>
+    ensures gives { Gives (λ x. items_in (number 1) x.0.bytes.now) compression_methods i.now result }
+    ensures stands { EndsWith whole.now i.now → IfOk result (λ x. Stands whole.now x.1.1 x.1.0.bytes.now) }
+    ensures ends { EndsWith whole.now i.now → IfOk result (λ x. EndsWith whole.now x.0.now) }
+{
+    let (after, k) = number1(i)?;
+    let k = k as usize;
+    if k > after.len() {
+        return refused(i, ErrorKind::LengthValue);
+    }
+    let (methods, rest) = after.split_at(1 * k);
+    let place = place_before(whole, methods, rest);
+    Ok((rest, (Items::new(methods), place)))
 }
 
 /// Reads the body of a ClientHello of DTLS as [`DTLSClientHelloView::parse`], and says where its parts stand in `whole`.
@@ -41,8 +94,8 @@ pub fn dtls_client_hello_with_places(
     let (i, id) = session_id(i)?;
     let id_place = held_before(whole, id, i);
     let (i, (cookie, cookie_place)) = frame_at::<Counted1>(whole, i)?;
-    let (i, ciphers) = cipher_suites_in_place(i)?;
-    let (i, comp) = compressions_in_place(i)?;
+    let (i, (ciphers, suites_place)) = suites_at(whole, i)?;
+    let (i, (comp, methods_place)) = methods_at(whole, i)?;
     let (i, ext) = maybe2(i)?;
     let ext_place = held_before(whole, ext, i);
     let hello = DTLSClientHelloView {
@@ -58,6 +111,8 @@ pub fn dtls_client_hello_with_places(
         random: random_place,
         session_id: id_place,
         cookie: cookie_place,
+        ciphers: suites_place,
+        comp: methods_place,
         ext: ext_place,
     };
     Ok((i, (hello, places)))

@@ -12,6 +12,7 @@ ghost use Rattle.tls_fields.specs.Reading.{reading};
 ghost use Rattle.tls_ext.specs.Content as content;
 ghost use Rattle.tls_ext.specs.Extension as extension;
 ghost use Rattle.tls_ext.specs.InPlace.{content_of, first_name, host_name, picked, protocol_names};
+ghost use Rattle.tls_places.specs.Find.{protocol_names_in};
 ghost use Rattle.tls_places.specs.Place.{IsWithin, Stands};
 
 use crate::frame::{Placed, frame_at};
@@ -93,7 +94,7 @@ pub fn host_name_place(block: &[u8]) -> Result<Option<Place>, Err<Error<&[u8]>>>
 #[tactic(auto, using(tls_fields::proofs::OneAnswerLemmas::read_allowed, tls_fields::proofs::PlaceLemmas::ends_here), unfolding(tls_ext::specs::Content::application_layer_protocol_negotiation))]
 #[inline(always)]
 fn protocol_names_placed(i: &[u8]) -> IResult<&[u8], (Items<Counted1>, Place)>
-    ensures gives { Gives (λ x. extension.application_layer_protocol_negotiation (items_in (counted 1) x.0.bytes.now)) content.application_layer_protocol_negotiation i.now result }
+    ensures gives { Gives (λ x. protocol_names_in x.0.bytes.now) content.application_layer_protocol_negotiation i.now result }
     ensures stands { IfOk result (λ x. Stands i.now x.1.1 x.1.0.bytes.now) }
 {
     let (rest, (window, place)) = frame_at::<Counted2>(i, i)?;

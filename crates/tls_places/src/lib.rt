@@ -20,4 +20,6 @@ pub use frame::{Frame, Placed, frame_at};
 pub use host_name::{body_place, host_name_place_of_hello, host_name_place_of_record};
 pub use place::{bytes_at, place_before, place_within};
 pub use record::{DtlsRecord, Record};
-pub use server_hello::{ServerHelloPlaces, server_hello_with_places};
+pub use server_hello::{
+    ServerHelloPlaces, dtls_server_hello_with_places, server_hello_with_places,
+};

@@ -1,11 +1,11 @@
 //! Where parts stand in the bytes that they were read from.
-ghost use Rattle.std.specs.Prelude.{◌≡◌, ◌++◌, Option, Some, Result};
+ghost use Rattle.std.specs.Prelude.{◌≡◌, ◌++◌, Option, Result};
 ghost use Rattle.tls_fields.specs.Bytes.{Bytes};
 ghost use Rattle.std.specs.Option.{option_map};
 ghost use Rattle.tls_fields.specs.Meaning.{EndsWith, Refusal};
 ghost use Rattle.tls_fields.specs.Items.{Tells};
 ghost use Rattle.tls_fields.specs.Place.{bytes_at as bytes_there};
-ghost use Rattle.tls_places.specs.Place.{EndsIn, IsWithin, Lies, MayStand, Stands, place_from};
+ghost use Rattle.tls_places.specs.Place.{EndsIn, IsWithin, Lies, MayBeginAt, MayStand, Stands};
 
 use tls_fields::{Err, Error, Place};
 
@@ -62,7 +62,7 @@ pub(crate) fn held_before(whole: &[u8], part: Option<&[u8]>, rest: &[u8]) -> Opt
 /// Where what may be there stands in `whole`, if it begins at `offset`.
 #[inline(always)]
 pub(crate) fn held_from(whole: &[u8], offset: usize, part: Option<&[u8]>) -> Option<Place>
-    ensures { ((x : Bytes) → option_map (λ y. y.now) part.entry ≡ Some x → Stands whole.now (place_from offset x) x) → MayStand whole.now result (option_map (λ y. y.now) part.entry) }
+    ensures { MayBeginAt whole.now offset (option_map (λ x. x.now) part.entry) → MayStand whole.now result (option_map (λ x. x.now) part.entry) }
 {
     match part {
         Some(bytes) => Some(Place {

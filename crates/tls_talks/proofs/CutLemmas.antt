@@ -21,6 +21,7 @@ use Rattle.tls_conversations.specs.declared.ear.Ear.{Ear}
 use Rattle.tls_conversations.specs.declared.ear.Standing.{Standing}
 use Rattle.tls_conversations.specs.declared.ear.Standing.TheVariants.{Speaks, AtFault, Over}
 use Rattle.tls_facts.specs.Facts.{Facts, view_facts}
+use Rattle.tls_talks.specs.History.{history, letter_of, with_letter}
 use Rattle.tls_talks.specs.Noting.{facts, has_sealed, is_sealed, noted}
 use Rattle.tls_talks.specs.Hearing.{AreHeard, IsHeard, onto, turns}
 use Rattle.tls_talks.specs.declared.hearer.Hearer.{Hearer}
@@ -204,6 +205,10 @@ facts_on : (s : Side) (f : Facts) (vs ws : List Said) → facts s (facts s f vs)
 facts_on s f vs [] = refl
 facts_on s f vs (w ∷ ws) = ap (λ g. noted s g w) (facts_on s f vs ws)
 
+history_on : (s : Side) (h : List ℕ) (vs ws : List Said) → history s (history s h vs) ws ≡ history s h (ws ++ vs)
+history_on s h vs [] = refl
+history_on s h vs (w ∷ ws) = ap (λ g. with_letter s g (letter_of w)) (history_on s h vs ws)
+
 or_false : (b : Bool) → b ≡ (b || false)
 or_false true = refl
 or_false false = refl
@@ -234,6 +239,7 @@ both_heard h m i s p q a b first last =
       fed = whole.fed;
       past = whole.past;
       facts = last.facts ∙ ap (λ f. facts s f last.said) first.facts ∙ facts_on s (view_facts h.facts) first.said last.said;
+      history = last.history ∙ ap (λ g. history s g last.said) first.history ∙ history_on s h.history.items first.said last.said;
       all = all_on first.said last.said (2 ^ 64 - 1) last.all;
       sealed = ap (λ x. x || b) first.sealed ∙ ap (λ x. has_sealed first.said || x) last.sealed ∙ sym (sealed_on first.said last.said);
     }

@@ -1,5 +1,5 @@
 -- What a talk over datagrams comes to.
-use Rattle.std.proofs.Common.{◌≡◌, Bool, Result, Ok, Err, sym, ◌∙◌, ap, subst}
+use Rattle.std.proofs.Common.{◌≡◌, ℕ, List, Bool, Result, Ok, Err, sym, ◌∙◌, ap, subst}
 use Rattle.std.specs.Prelude.{OnOk}
 use Rattle.tls_fields.specs.Bytes.{Bytes}
 use Rattle.dtls_messages.specs.Messages.{Heard, Stands}
@@ -13,18 +13,20 @@ use Rattle.tls_talks.specs.declared.account.Account.{Account}
 use Rattle.tls_talks.specs.declared.datagram_talk.Speaker.{Speaker}
 use Rattle.tls_talks.specs.declared.datagram_talk.DatagramTalk.{DatagramTalk}
 
-abbrev told_by : Flow → Facts → Bool → Bool → Told
-told_by f a h e = record { flow = f; facts = a; has_changed = h; is_encrypted = e }
+abbrev told_by : Flow → Facts → List ℕ → Bool → Bool → Told
+told_by f a l h e = record { flow = f; facts = a; history = l; has_changed = h; is_encrypted = e }
 
-told_same : (f g : Flow) (a b : Facts) (h i e d : Bool) → f ≡ g → a ≡ b → h ≡ i → e ≡ d → told_by f a h e ≡ told_by g b i d
-told_same f g a b h i e d flow facts changed sealed =
-    ap (λ x. told_by x a h e) flow ∙ ap (λ x. told_by g x h e) facts ∙ ap (λ x. told_by g b x e) changed ∙ ap (λ x. told_by g b i x) sealed
+told_same : (f g : Flow) (a b : Facts) (l m : List ℕ) (h i e d : Bool) → f ≡ g → a ≡ b → l ≡ m → h ≡ i → e ≡ d
+    → told_by f a l h e ≡ told_by g b m i d
+told_same f g a b l m h i e d flow facts letters changed sealed =
+    ap (λ x. told_by x a l h e) flow ∙ ap (λ x. told_by g x l h e) facts ∙ ap (λ x. told_by g b x h e) letters
+    ∙ ap (λ x. told_by g b m x e) changed ∙ ap (λ x. told_by g b m i x) sealed
 
 -- What the program holds is what is known.
 told_is : (k : Talk) (p : Spoken) (t : DatagramTalk) (q : Speaker) → IsKnown k t → IsSpoken p q → told_of t.account q.progress ≡ told_to k p
 told_is k p t q is side =
-    told_same t.account.flow k.flow (view_facts t.account.facts) k.facts q.progress.has_changed p.has_changed q.progress.is_encrypted
-    p.is_encrypted is.flow is.facts side.has_changed side.is_encrypted
+    told_same t.account.flow k.flow (view_facts t.account.facts) k.facts t.account.history.items k.history q.progress.has_changed p.has_changed
+    q.progress.is_encrypted p.is_encrypted is.flow is.facts is.history side.has_changed side.is_encrypted
 
 -- What a side came to, by a datagram.
 abbrev pub Hears : Side → Bytes → Account → Speaker → Account → Speaker → Type 0
@@ -51,6 +53,7 @@ client_hears k t b q d hears is =
       server = is.server;
       flow = ap (λ (x : Told). x.flow) told;
       facts = ap (λ (x : Told). x.facts) told;
+      history = ap (λ (x : Told). x.history) told;
       is_dtls = is.is_dtls;
     }
 
@@ -67,6 +70,7 @@ server_hears k t b q d hears is =
       };
       flow = ap (λ (x : Told). x.flow) told;
       facts = ap (λ (x : Told). x.facts) told;
+      history = ap (λ (x : Told). x.history) told;
       is_dtls = is.is_dtls;
     }
 

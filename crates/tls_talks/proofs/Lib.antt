@@ -1,3 +1,4 @@
 mod CutLemmas
 mod HearerLemmas
+mod TalkLemmas
 mod DatagramLemmas

@@ -12,6 +12,7 @@ use Rattle.tls_flow.specs.declared.letter.Direction.TheVariants.{ToServer, FromS
 use Rattle.tls_conversations.specs.Events.{event_in_datagram}
 use Rattle.tls_facts.specs.Facts.{Facts, nothing, of_alert, of_datagram_message, view_facts}
 use Rattle.tls_talks.specs.Front.{front_epoch}
+use Rattle.tls_talks.specs.History.{letter_in_datagram, with_letter}
 use Rattle.tls_talks.specs.declared.account.Account.{Account}
 use Rattle.tls_talks.specs.declared.account.Progress.{Progress}
 use Rattle.tls_talks.specs.declared.datagram_talk.Speaker.{Speaker}
@@ -43,6 +44,7 @@ followed s f e = followed_by f (event_in_datagram s e)
 pub record Told : Type 0 where
   pub flow : Flow
   pub facts : Facts
+  pub history : List ℕ
   pub has_changed : Bool
   pub is_encrypted : Bool
 
@@ -50,6 +52,7 @@ abbrev pub told_of : Account → Progress → Told
 told_of a p = record {
   flow = a.flow;
   facts = view_facts a.facts;
+  history = a.history.items;
   has_changed = p.has_changed;
   is_encrypted = p.is_encrypted;
 }
@@ -59,6 +62,7 @@ abbrev pub said : Side → Told → Event → Told
 said s t e = record {
   flow = if t.has_changed && is_change e then t.flow else followed s t.flow e;
   facts = noted_in_datagram s t.facts e;
+  history = if t.has_changed && is_change e then t.history else with_letter s t.history (letter_in_datagram e);
   has_changed = t.has_changed || is_change e;
   is_encrypted = t.is_encrypted || is_sealed e;
 }
@@ -84,6 +88,7 @@ pub record Talk : Type 0 where
   pub server : Spoken
   pub flow : Flow
   pub facts : Facts
+  pub history : List ℕ
   -- whether a datagram began with a record of DTLS of epoch 0
   pub is_dtls : Bool
 
@@ -92,7 +97,7 @@ none_spoken = record { heard = none_heard; has_changed = false; is_encrypted = f
 
 -- Nothing came.
 abbrev pub untold : Talk
-untold = record { client = none_spoken; server = none_spoken; flow = silence; facts = nothing; is_dtls = false }
+untold = record { client = none_spoken; server = none_spoken; flow = silence; facts = nothing; history = []; is_dtls = false }
 
 abbrev pub spoken : Talk → Side → Spoken
 spoken k ToServer = k.client
@@ -103,14 +108,14 @@ abbrev pub is_over : Talk → Side → Bool
 is_over k s = (spoken k s).is_encrypted && not (is_waiting (outcome_at k.flow.state))
 
 abbrev pub told_to : Talk → Spoken → Told
-told_to k p = record { flow = k.flow; facts = k.facts; has_changed = p.has_changed; is_encrypted = p.is_encrypted }
+told_to k p = record { flow = k.flow; facts = k.facts; history = k.history; has_changed = p.has_changed; is_encrypted = p.is_encrypted }
 
 abbrev pub spoken_by : Heard → Told → Spoken
 spoken_by h t = record { heard = h; has_changed = t.has_changed; is_encrypted = t.is_encrypted }
 
 abbrev pub with_told : Talk → Side → Heard → Told → Talk
-with_told k ToServer h t = record k { client = spoken_by h t; flow = t.flow; facts = t.facts }
-with_told k FromServer h t = record k { server = spoken_by h t; flow = t.flow; facts = t.facts }
+with_told k ToServer h t = record k { client = spoken_by h t; flow = t.flow; facts = t.facts; history = t.history }
+with_told k FromServer h t = record k { server = spoken_by h t; flow = t.flow; facts = t.facts; history = t.history }
 
 -- A side's messages and other records are followed and noted.
 abbrev pub stepped : Talk → Side → Step → Talk
@@ -144,6 +149,7 @@ pub record IsKnown (k : Talk) (t : DatagramTalk) : Type 0 where
   pub server : IsSpoken k.server t.server
   pub flow : t.account.flow ≡ k.flow
   pub facts : view_facts t.account.facts ≡ k.facts
+  pub history : t.account.history.items ≡ k.history
   pub is_dtls : t.is_dtls ≡ k.is_dtls
 
 -- A side was heard.

@@ -8,6 +8,7 @@ use Rattle.tls_conversations.specs.Conversations.{IsBegun, IsPast, IsFedBy, ear}
 use Rattle.tls_conversations.specs.Ears.{says}
 use Rattle.tls_conversations.specs.declared.conversation.Conversation.{Conversation}
 use Rattle.tls_facts.specs.Facts.{nothing, view_facts}
+use Rattle.tls_talks.specs.History.{history}
 use Rattle.tls_talks.specs.Noting.{facts, has_sealed}
 use Rattle.tls_talks.specs.declared.hearer.Hearer.{Hearer}
 
@@ -19,6 +20,7 @@ pub record IsHeard (h : Hearer) (s : Side) (p : Bytes) (i : Hearer) (found : Boo
   pub fed : IsFedBy h.conversation s p begun
   pub past : IsPast begun s said i.conversation
   pub facts : view_facts i.facts ≡ facts s (view_facts h.facts) said
+  pub history : i.history.items ≡ history s h.history.items said
   pub all : (says (ear i.conversation s) [] ≡ []) ⊎ (2 ^ 64 - 1 ≤ length said)
   pub sealed : found ≡ has_sealed said
 
@@ -48,4 +50,5 @@ pub record IsHeardOf (limit : ℕ) (ps : List (Side × Bytes)) (i : Hearer) : Ty
   pub begun : Hearer
   pub silent : IsBegun limit begun.conversation
   pub unknown : view_facts begun.facts ≡ nothing
+  pub unlettered : begun.history.items ≡ []
   pub heard : AreHeard begun (turns ps) i

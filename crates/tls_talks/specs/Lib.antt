@@ -1,4 +1,5 @@
 pub mod Noting
+pub mod History
 pub mod Hearing
 pub mod Ends
 pub mod Front

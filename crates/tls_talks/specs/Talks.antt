@@ -1,5 +1,5 @@
 -- What is heard of a connection, and of which side (RFC 8446, section 5.1).
-use Rattle.std.specs.Prelude.{◌≡◌, ℕ, Bool, true, false, not, nat_lt, length, take}
+use Rattle.std.specs.Prelude.{◌≡◌, ℕ, Bool, true, false, not, nat_lt, [], length, take}
 use Rattle.tls_fields.specs.Bytes.{Bytes}
 use Rattle.tls_flow.specs.Table.{is_waiting, outcome_at}
 use Rattle.tls_flow.specs.declared.letter.Direction.{Direction as Side}
@@ -27,6 +27,7 @@ with_hearing t FromServer h = record t { server = h }
 pub record IsNew (t : Talk) : Type 0 where
   pub begun : IsBegun 131072 t.hearer.conversation
   pub facts : view_facts t.hearer.facts ≡ nothing
+  pub history : t.hearer.history.items ≡ []
   pub is_tls : t.is_tls ≡ false
   pub client : t.client ≡ Unknown
   pub server : t.server ≡ Unknown

@@ -4,6 +4,7 @@ ghost use Rattle.dtls_messages.specs.Messages.{view_event, view_events};
 ghost use Rattle.tls_facts.specs.Facts.{view_facts};
 ghost use Rattle.tls_talks.specs.Datagrams.{followed, is_change as changes, is_sealed as seals, noted_in_datagram, said, said_all, told_of};
 
+use crate::history::{add_letter, datagram_letter};
 use dtls_stream::Event;
 use std::alloc::{AllocError, Global};
 use tls_conversations::{Direction, Flow, dtls_event};
@@ -18,11 +19,13 @@ pub(crate) struct Progress {
     pub(crate) is_encrypted: bool,
 }
 
-/// The flow of both sides' events, and what they say.
+/// The flow of both sides' events, what they say, and their history.
 #[derive(Drop)]
 pub(crate) struct Account {
     pub(crate) flow: Flow,
     pub(crate) facts: Facts,
+    // A letter for each event.
+    pub(crate) history: Vec<u8>,
 }
 
 fn is_change(event: &Event<'_>) -> bool
@@ -66,7 +69,7 @@ fn follow(flow: &mut Flow, event: &Event<'_>, side: Direction)
 }
 
 impl Account {
-    /// Follows and notes an event of a side. A ChangeCipherSpec that it says again is sent again, and says nothing
+    /// Follows and notes an event of a side, and puts its letter behind the others. A ChangeCipherSpec that it says again is sent again, and says nothing
     /// (RFC 6347, section 4.2.4).
     fn add(
         &mut self,
@@ -80,6 +83,7 @@ impl Account {
         note(&mut self.facts, alloc, side, event)?;
         if !(progress.has_changed && is_change(event)) {
             follow(&mut self.flow, event, side);
+            add_letter(&mut self.history, side, datagram_letter(event))?;
         }
         progress.has_changed = progress.has_changed || is_change(event);
         progress.is_encrypted = progress.is_encrypted || is_sealed(event);

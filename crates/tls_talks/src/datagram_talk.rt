@@ -73,6 +73,7 @@ impl DatagramTalk {
             account: Account {
                 flow: Flow::new(),
                 facts: Facts::new(),
+                history: Vec::new(alloc),
             },
             is_dtls: false,
         }
@@ -90,6 +91,13 @@ impl DatagramTalk {
         ensures { (k : Talk) → IsKnown k self.now → view_facts result.now ≡ k.facts }
     {
         &self.account.facts
+    }
+
+    /// A letter for each event, as [`Talk::history`](crate::Talk::history) has them. What is sent again has none.
+    pub fn history(&self) -> &[u8]
+        ensures { (k : Talk) → IsKnown k self.now → result.now ≡ k.history }
+    {
+        self.account.history.as_slice()
     }
 
     /// How the handshake stands.

@@ -1,11 +1,12 @@
 //! A conversation whose events are noted.
-ghost use Rattle.std.specs.Prelude.{◌≡◌, IfOk, OnOk};
+ghost use Rattle.std.specs.Prelude.{◌≡◌, [], IfOk, OnOk};
 ghost use Rattle.tls_conversations.specs.Conversations.{IsBegun, views};
 ghost use Rattle.tls_conversations.specs.Events.{view_said};
 ghost use Rattle.tls_facts.specs.Facts.{nothing, view_facts};
 ghost use Rattle.tls_talks.specs.Noting.{is_sealed, noted};
 ghost use Rattle.tls_talks.specs.Hearing.{IsHeard, IsHeardOf};
 
+use crate::history::{add_letter, said_letter};
 use std::alloc::{AllocError, Global};
 use tls_conversations::{Conversation, Direction, Event, Said};
 use tls_events::DEFAULT_LIMIT;
@@ -18,6 +19,8 @@ pub struct Hearer {
     pub conversation: Conversation,
     /// What they said.
     pub facts: Facts,
+    // A letter for each event.
+    pub(crate) history: Vec<u8>,
 }
 
 /// Whether what follows in its direction can't be read.
@@ -56,10 +59,12 @@ impl Hearer {
     pub fn new(alloc: Global) -> Hearer
         ensures begun { IsBegun DEFAULT_LIMIT result.conversation }
         ensures unknown { view_facts result.facts ≡ nothing }
+        ensures unlettered { result.history.items ≡ [] }
     {
         Hearer {
             conversation: Conversation::new(alloc),
             facts: Facts::new(),
+            history: Vec::new(alloc),
         }
     }
 
@@ -79,6 +84,7 @@ impl Hearer {
                 Some(said) => {
                     has_encrypted = has_encrypted || is_encrypted(&said);
                     note(&mut self.facts, alloc, side, &said)?;
+                    add_letter(&mut self.history, side, said_letter(&said))?;
                 }
                 None => break,
             }

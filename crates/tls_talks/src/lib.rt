@@ -5,6 +5,8 @@
 //! encrypted: so nothing behind the handshake is kept. What a [`Hearer`] knows is what the turns of both sides say, however these
 //! are cut: [`hear_all`] states it.
 //!
+//! Both have a history: a letter for each event, up to [`HISTORY_LIMIT`].
+//!
 //! Over datagrams, [`DatagramTalk`] does the same of DTLS up to 1.2. What it came to is a definition over the datagrams in their
 //! order: [`talk_of`] states it.
 #![tactic(auto)]
@@ -14,8 +16,10 @@ mod datagram_talk;
 mod ends;
 mod front;
 mod hearer;
+mod history;
 mod talk;
 
 pub use datagram_talk::{DatagramTalk, talk_of};
 pub use hearer::{Hearer, hear_all};
+pub use history::HISTORY_LIMIT;
 pub use talk::Talk;

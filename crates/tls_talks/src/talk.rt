@@ -62,6 +62,14 @@ impl Talk {
         &self.hearer.facts
     }
 
+    /// A letter for each event, as Zeek's ssl_history has it: those of the client in upper case, in the order of the capture, of messages that
+    /// can be read, up to [`HISTORY_LIMIT`](crate::HISTORY_LIMIT).
+    pub fn history(&self) -> &[u8]
+        ensures { result.now ≡ self.now.hearer.history.items }
+    {
+        self.hearer.history.as_slice()
+    }
+
     /// How the handshake stands.
     pub fn outcome(&self) -> Outcome
         ensures { result ≡ outcome_at self.now.hearer.conversation.flow.state }

@@ -1,9 +1,30 @@
 -- Places in C's numbers.
-use Rattle.std.proofs.Common.{◌≡◌, ℕ, ◌-◌, List, [], length, take, drop, min, Option, Some, None, refl, sym, subst, ◌∙◌, ap, arith}
+use Rattle.std.proofs.Common.{
+  ◌≡◌,
+  ℕ,
+  ◌-◌,
+  List,
+  [],
+  length,
+  take,
+  drop,
+  min,
+  Option,
+  Some,
+  None,
+  refl,
+  sym,
+  subst,
+  ◌∙◌,
+  ap,
+  arith,
+}
 use Rattle.std.specs.Borrow.{Bor}
-use Rattle.std.specs.Option.{option_map}
+use Rattle.std.specs.Option.{is_some, option_map}
 use Rattle.std.proofs.lemmas.List.{take-append-drop, length-drop}
 use Rattle.tls_fields.specs.Bytes.{Bytes}
+use Rattle.tls_fields.specs.Items.{items_in}
+use Rattle.tls_fields.specs.Layout.{Layout}
 use Rattle.tls_fields.specs.Meaning.{EndsWith}
 use Rattle.tls_fields.specs.Place.{bytes_at}
 use Rattle.tls_fields.specs.Text.{held}
@@ -11,7 +32,8 @@ use Rattle.tls_fields.specs.declared.places.Place.{Place}
 use Rattle.tls_hs.specs.Places.{StandsAt as MayStandAt}
 use Rattle.tls_places.specs.Place.{Stands, Lies, MayStand, IsEnd}
 use Rattle.tls_places.proofs.PlaceLemmas.{is_end, cut_there}
-use Rattle.wispuddera_c.specs.Place.{Follows}
+use Rattle.wispuddera_c.specs.declared.place.Place.{Place as CPlace}
+use Rattle.wispuddera_c.specs.Place.{Follows, ItemsStandAt, place_of}
 
 nothing : (b : Bytes) → Stands b (record { offset = 0; length = 0 }) []
 nothing b = record { is = refl; within = omega arith }
@@ -21,9 +43,21 @@ pub held_some : (b : Bytes) (p q : Place) (x : Option Bytes) → q ≡ p → May
 held_some b p q (Some x) same s = subst (λ z. Stands b z x) (sym same) s
 held_some b p q None same s = absurd s
 
-pub held_none : (b : Bytes) (x : Option Bytes) → MayStand b None x → Stands b (record { offset = 0; length = 0 }) (held x)
+pub held_none : (b : Bytes) (x : Option Bytes) → MayStand b None x
+    → Stands b (record { offset = 0; length = 0 }) (held x)
 held_none b None s = nothing b
 held_none b (Some x) s = absurd s
+
+-- the items of bytes that stand at a place
+pub items_stand : {A : Type 0} (l : Layout A) (b : Bytes) (p : CPlace) (q : Place) (x : Bytes) → place_of p ≡ q
+    → Stands b q x → ItemsStandAt l b p (items_in l x)
+items_stand l b p q x same s =
+    let there : Stands b (place_of p) x = subst (λ z. Stands b z x) (sym same) s in
+    record { are = ap (items_in l) there.is; within = there.within }
+
+pub some_of_map : {A B : Type 0} (f : A → B) (x : Option A) → is_some x ≡ is_some (option_map f x)
+some_of_map f (Some y) = refl
+some_of_map f None = refl
 
 pub cut_some : (b : Bytes) (p q : Place) (x : Option (Bor (List ℕ))) → bytes_at b q ≡ bytes_at b p → Lies b q
     → MayStandAt b (Some p) x → Stands b q (held (option_map (λ y. y.now) x))

@@ -19,8 +19,8 @@ told l Shows b i r v offset is near read shown = record {
 }
 
 pub refused : {A : Type 0} (l : Layout A) (Shows : A → Bytes → Type 0) (b i : Bytes) (e : Refusal)
-    (offset status missing : ℕ) → i ≡ drop offset b → offset ≤ length b → reading l i ≡ Err e → IsRefused e status missing
-    → IsAnsweredAt l Shows b offset status missing
+    (offset status missing : ℕ) → i ≡ drop offset b → offset ≤ length b → reading l i ≡ Err e
+    → IsRefused e status missing → IsAnsweredAt l Shows b offset status missing
 refused l Shows b i e offset status missing is near read told = record {
   inside = λ _. subst (λ x. IsAnswered Shows x status missing) (sym (ap (reading l) (sym is) ∙ read)) told;
   behind = λ far. absurd (omega (arith, near, far));

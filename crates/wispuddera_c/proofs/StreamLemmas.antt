@@ -23,13 +23,15 @@ pub fed_stands : (b moved new piece : Bytes) (o a n : ℕ) → o + a ≤ length 
     → moved ≡ paste b 0 (drop o b) a → new ≡ paste moved a (take n piece) n
     → Stands new (record { offset = 0; length = a + n }) (take a (drop o b) ++ take n piece)
 fed_stands b moved new piece o a n lies short fits em en =
-    let behind : a ≤ length (drop o b) = (let e : length (drop o b) ≡ length b - o = length-drop o b in omega (arith, lies, e)) in
+    let left : length (drop o b) ≡ length b - o = length-drop o b in
+    let behind : a ≤ length (drop o b) = omega (arith, lies, left) in
     let same : length moved ≡ length b =
     ap length em ∙ length-paste b 0 (drop o b) a (omega (arith, fits)) behind in
     let size : length (take n piece) ≡ n = length-take-le n piece short in
     let zero : 0 + a ≡ a = omega arith in
     let front : take a moved ≡ take a (drop o b) = ap (take a) em
-    ∙ subst (λ k. take k (paste b 0 (drop o b) a) ≡ take a (drop o b)) zero (take-paste b 0 (drop o b) a (omega arith) behind) in
+    ∙ subst (λ k. take k (paste b 0 (drop o b) a) ≡ take a (drop o b)) zero
+    (take-paste b 0 (drop o b) a (omega arith) behind) in
     let within : a ≤ length moved = omega (arith, same, fits) in
     let all : length new ≡ length moved =
     ap length en ∙ length-paste moved a (take n piece) n (omega (arith, same, fits)) (omega (arith, size)) in

@@ -2,6 +2,7 @@
 use Rattle.std.specs.Prelude.{◌≡◌}
 use Rattle.std.specs.Option.{is_some}
 use Rattle.tls_fields.specs.Bytes.{Bytes}
+use Rattle.tls_fields.specs.Layout.{number}
 use Rattle.tls_fields.specs.Text.{held}
 use Rattle.tls_parser.specs.DtlsHello as hello
 use Rattle.tls_parser.specs.DtlsRecord as dtls
@@ -10,7 +11,7 @@ use Rattle.tls_parser.specs.DtlsInPlace.{is_part}
 use Rattle.wispuddera_c.specs.declared.dtls.DtlsRecord.{DtlsRecord}
 use Rattle.wispuddera_c.specs.declared.dtls.DtlsClientHello.{DtlsClientHello}
 use Rattle.wispuddera_c.specs.declared.dtls.DtlsMessage.{DtlsMessage}
-use Rattle.wispuddera_c.specs.Place.{StandsAt, Follows}
+use Rattle.wispuddera_c.specs.Place.{StandsAt, ItemsStandAt, Follows}
 
 -- The numbers show the record v in b, and r behind it.
 pub record ShowsDtlsRecord (b : Bytes) (c : DtlsRecord) (v : dtls.RawRecord) (r : Bytes) : Type 0 where
@@ -33,12 +34,14 @@ pub record ShowsDtlsMessage (b : Bytes) (c : DtlsMessage) (v : in_place.RawHands
   pub body : StandsAt b c.body v.body
   pub next : Follows b c.next r
 
--- The numbers show the ClientHello v in b, and r behind it; its lists have no place.
+-- The numbers show the ClientHello v in b, and r behind it.
 pub record ShowsDtlsClientHello (b : Bytes) (c : DtlsClientHello) (v : hello.ClientHello) (r : Bytes) : Type 0 where
   pub version : c.version ≡ v.hello.client_version
   pub random : StandsAt b c.random v.hello.random
   pub session_id : StandsAt b c.session_id (held v.hello.session_id)
   pub cookie : StandsAt b c.cookie v.cookie
+  pub cipher_suites : ItemsStandAt (number 2) b c.cipher_suites v.hello.cipher_suites
+  pub compression_methods : ItemsStandAt (number 1) b c.compression_methods v.hello.compression_methods
   pub has_extensions : c.has_extensions ≡ is_some v.hello.extensions
   pub extensions : StandsAt b c.extensions (held v.hello.extensions)
   pub next : Follows b c.next r

@@ -1,8 +1,16 @@
 -- What is found in bytes, in C's numbers.
 use Rattle.std.specs.Prelude.{◌≡◌, ℕ, List, Option, Some, None, Result, Ok, Err}
+use Rattle.std.specs.Borrow.{Bor}
+use Rattle.std.specs.Option.{option_map}
 use Rattle.tls_fields.specs.Bytes.{Bytes}
+use Rattle.tls_fields.specs.Items.{Tells, items_in}
 use Rattle.tls_fields.specs.Layout.{Layout}
 use Rattle.tls_fields.specs.Meaning.{Refusal}
+use Rattle.tls_fields.specs.Place.{bytes_at}
+use Rattle.tls_fields.specs.declared.places.Place.{Place}
+use Rattle.tls_fields.specs.declared.result.Err.{Err as Failed}
+use Rattle.tls_fields.specs.declared.result.Error.{Error}
+use Rattle.tls_places.specs.Place.{IsWithin}
 use Rattle.wispuddera_c.specs.declared.found.Found.{Found}
 use Rattle.wispuddera_c.specs.Place.{StandsAt, ItemsStandAt}
 use Rattle.wispuddera_c.specs.Status.{none, IsRefused}
@@ -18,3 +26,17 @@ abbrev pub AreFound : {A : Type 0} → Layout A → Bytes → Result (Option (Li
 AreFound l b (Ok (Some xs)) status c = (status ≡ 0) × (c.missing ≡ 0) × ItemsStandAt l b c.place xs
 AreFound l b (Ok None) status c = (status ≡ none) × (c.missing ≡ 0)
 AreFound l b (Err e) status c = IsRefused e status c.missing
+
+-- A place that a call of the library found, or none, or what it refused.
+abbrev pub PlaceFound : Type 0
+PlaceFound = Result (Option Place) (Failed (Error (Bor (List ℕ))))
+
+-- Where the call found bytes of b, the status and the numbers tell the same.
+abbrev pub TellsPart : PlaceFound → ℕ → Found → Type 0
+TellsPart found status c = (b : Bytes) (a : Result (Option Bytes) Refusal) → Tells (option_map (bytes_at b)) a found
+    → IsWithin b found → IsFound b a status c
+
+-- Where it found a list of items in b, they tell that.
+abbrev pub TellsList : {A : Type 0} → Layout A → PlaceFound → ℕ → Found → Type 0
+TellsList {A} l found status c = (b : Bytes) (a : Result (Option (List A)) Refusal)
+    → Tells (option_map (λ p. items_in l (bytes_at b p))) a found → IsWithin b found → AreFound l b a status c

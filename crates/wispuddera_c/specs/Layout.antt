@@ -4,7 +4,7 @@ use Rattle.std.specs.Option.{unwrap_or}
 
 -- Place, Record, Part, ClientHello, ServerHello, Found, Number, DtlsRecord, DtlsMessage, DtlsClientHello, Event, Flow.
 abbrev pub struct_sizes : List ℕ
-struct_sizes = 16 ∷ 40 ∷ 40 ∷ 104 ∷ 72 ∷ 24 ∷ 24 ∷ 48 ∷ 48 ∷ 88 ∷ 2 ∷ 4 ∷ []
+struct_sizes = 16 ∷ 40 ∷ 40 ∷ 104 ∷ 72 ∷ 24 ∷ 24 ∷ 48 ∷ 48 ∷ 120 ∷ 2 ∷ 4 ∷ []
 
 abbrev pub size_of_struct : ℕ → ℕ
 size_of_struct index = unwrap_or (slice_get struct_sizes index) 0
@@ -21,11 +21,12 @@ field_offsets =
     ∷ (0 ∷ 8 ∷ 16 ∷ [])
     ∷ (0 ∷ 8 ∷ 24 ∷ 32 ∷ 40 ∷ 42 ∷ 44 ∷ 46 ∷ [])
     ∷ (0 ∷ 8 ∷ 24 ∷ 32 ∷ 36 ∷ 40 ∷ 44 ∷ 46 ∷ 47 ∷ [])
-    ∷ (0 ∷ 8 ∷ 24 ∷ 40 ∷ 56 ∷ 72 ∷ 80 ∷ 82 ∷ [])
+    ∷ (0 ∷ 8 ∷ 24 ∷ 40 ∷ 56 ∷ 72 ∷ 88 ∷ 104 ∷ 112 ∷ 114 ∷ [])
     ∷ (0 ∷ 1 ∷ [])
     ∷ (0 ∷ [])
     ∷ []
 
 -- Behind a struct's last field it is the struct's size.
 abbrev pub offset_of_field : ℕ → ℕ → ℕ
-offset_of_field index field = unwrap_or (slice_get (unwrap_or (slice_get field_offsets index) []) field) (size_of_struct index)
+offset_of_field index field =
+    unwrap_or (slice_get (unwrap_or (slice_get field_offsets index) []) field) (size_of_struct index)

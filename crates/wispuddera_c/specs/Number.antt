@@ -1,6 +1,6 @@
 -- One of the numbers of a list, in C's numbers.
 use Rattle.std.specs.Prelude.{◌≡◌, ℕ, List, length, Option, Some, None, Result, Ok, Err, slice_get}
-use Rattle.tls_fields.specs.Meaning.{Refusal}
+use Rattle.tls_fields.specs.Meaning.{Answer, Refusal}
 use Rattle.tls_ext.specs.Extension as ext
 use Rattle.tls_ext.specs.Extension.{Extension}
 use Rattle.wispuddera_c.specs.declared.number.Number.{Number}
@@ -22,6 +22,11 @@ abbrev pub IsNumberIn : Result (Option (List ℕ)) Refusal → ℕ → ℕ → N
 IsNumberIn (Ok (Some xs)) index status c = IsNumberOf xs index status c
 IsNumberIn (Ok None) index status c = status ≡ none
 IsNumberIn (Err e) index status c = IsRefused e status c.missing
+
+-- The cipher suites that a hello offers; or its refusal.
+abbrev pub offered : {A : Type 0} → (A → List ℕ) → Answer A → Result (Option (List ℕ)) Refusal
+offered suites (Ok x) = Ok (Some (suites x.0))
+offered suites (Err e) = Err e
 
 abbrev pub listed_groups : Extension → Option (List ℕ)
 listed_groups (ext.supported_groups groups) = Some groups

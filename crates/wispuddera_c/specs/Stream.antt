@@ -1,17 +1,30 @@
 -- A stream that comes in pieces, of which a buffer of the caller's holds what isn't read yet.
-use Rattle.std.specs.Prelude.{◌≡◌, ℕ, ◌-◌, ◌++◌, length, take, min}
+use Rattle.std.specs.Prelude.{◌≡◌, ℕ, ◌<◌, ◌+◌, ◌-◌, ◌++◌, length, take, min}
 use Rattle.tls_fields.specs.Bytes.{Bytes}
 use Rattle.tls_fields.specs.Framed.{Framed}
+use Rattle.tls_fields.specs.Layout.{Layout}
 use Rattle.tls_fields.specs.Place.{bytes_at}
+use Rattle.tls_fields.specs.Reading.{reading}
 use Rattle.tls_parser.specs.Record.{RawRecord}
 use Rattle.wispuddera_c.specs.declared.place.Place.{Place}
 use Rattle.wispuddera_c.specs.declared.record.Record.{Record}
 use Rattle.wispuddera_c.specs.declared.part.Part.{Part}
+use Rattle.tls_places.specs.Place.{Lies}
 use Rattle.wispuddera_c.specs.Place.{StandsAt, place_of}
+use Rattle.wispuddera_c.specs.Status.{IsAnswered}
 
 -- The bytes that the buffer holds.
 abbrev pub bytes_held : Bytes → Place → Bytes
 bytes_held buffer held = bytes_at buffer (place_of held)
+
+-- The place lies behind the end of the buffer, at least in part.
+abbrev pub LiesBehind : Bytes → Place → Type 0
+LiesBehind buffer held = length buffer < held.offset + held.length
+
+-- What stands in front of the bytes that the buffer holds is told, where these lie within it.
+abbrev pub IsTaken : {A : Type 0} → Layout A → (A → Bytes → Type 0) → Bytes → Place → ℕ → ℕ → Type 0
+IsTaken l Takes buffer held status missing =
+    Lies buffer (place_of held) → IsAnswered Takes (reading l (bytes_held buffer held)) status missing
 
 -- The buffer holds what it held, and then as much of the piece as there is room for.
 pub record IsFed (old new : Bytes) (was is : Place) (piece : Bytes) (taken : ℕ) : Type 0 where

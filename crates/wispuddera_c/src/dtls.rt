@@ -69,6 +69,10 @@ pub struct DtlsClientHello {
     pub session_id: Place,
     /// The cookie, without its length.
     pub cookie: Place,
+    /// The cipher suites, 2 bytes each, without their length.
+    pub cipher_suites: Place,
+    /// The compression methods, 1 byte each, without their length.
+    pub compression_methods: Place,
     /// The extensions, without their length; of no bytes where no whole block follows.
     pub extensions: Place,
     /// The offset of what follows.
@@ -165,6 +169,8 @@ pub extern "C" fn wispuddera_read_dtls_client_hello(bytes: &[u8], out: &mut Dtls
                 random: in_c(places.random),
                 session_id: held_in_c(places.session_id),
                 cookie: in_c(places.cookie),
+                cipher_suites: in_c(places.ciphers),
+                compression_methods: in_c(places.comp),
                 extensions: held_in_c(places.ext),
                 next: offset_of(bytes, rest),
                 version: hello.version.0,

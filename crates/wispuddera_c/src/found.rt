@@ -1,18 +1,12 @@
 //! What is found in records, hellos and extensions: names, lists, contents.
-ghost use Rattle.std.specs.Prelude.{◌≡◌, Option, Result, List};
-ghost use Rattle.std.specs.Option.{option_map};
 ghost use Rattle.tls_ext.specs.InPlace.{client_shares, content_of, host_name, key_share_entry, protocol_names};
-ghost use Rattle.tls_fields.specs.Bytes.{Bytes};
-ghost use Rattle.tls_fields.specs.Items.{IsTold, Tells, items_in};
+ghost use Rattle.tls_fields.specs.Items.{IsTold};
 ghost use Rattle.tls_fields.specs.Layout.{counted};
-ghost use Rattle.tls_fields.specs.Meaning.{Refusal as Refused};
-ghost use Rattle.tls_fields.specs.Place.{bytes_at};
 ghost use Rattle.tls_fields.specs.Reading.{reading};
 ghost use Rattle.tls_hs.specs.Certificate.{certificate};
 ghost use Rattle.tls_hs.specs.Hello.{client_hello};
 ghost use Rattle.tls_parser.specs.InPlace.{body_of_type, host_name_of_record, name_in_hello};
-ghost use Rattle.tls_places.specs.Place.{IsWithin};
-ghost use Rattle.wispuddera_c.specs.Found.{AreFound, IsFound};
+ghost use Rattle.wispuddera_c.specs.Found.{AreFound, IsFound, TellsList, TellsPart};
 ghost use Rattle.wispuddera_c.specs.Place.{ItemsStandAt};
 ghost use Rattle.wispuddera_c.specs.Status.{IsAnswered};
 
@@ -40,8 +34,8 @@ pub struct Found {
 #[inline(always)]
 fn tell(found: Result<Option<Within>, Err<Error<&[u8]>>>, out: &mut Found) -> u32
     requires { IsTold found }
-    ensures part { (b : Bytes) (a : Result (Option Bytes) Refused) → Tells (option_map (bytes_at b)) a found.entry → IsWithin b found.entry → IsFound b a result out.new }
-    ensures names { (b : Bytes) (a : Result (Option (List Bytes)) Refused) → Tells (option_map (λ p. items_in (counted 1) (bytes_at b p))) a found.entry → IsWithin b found.entry → AreFound (counted 1) b a result out.new }
+    ensures part { TellsPart found.entry result out.new }
+    ensures list { TellsList (counted 1) found.entry result out.new }
 {
     out.missing = 0;
     match found {

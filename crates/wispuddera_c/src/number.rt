@@ -4,12 +4,16 @@ ghost use Rattle.tls_ext.specs.InPlace.{best_version as best_version_in, listed_
 ghost use Rattle.tls_fields.specs.Items.{items_in};
 ghost use Rattle.tls_fields.specs.Layout.{number};
 ghost use Rattle.tls_fields.specs.Reading.{reading};
-ghost use Rattle.wispuddera_c.specs.Number.{IsAnsweredNumber, IsNumberIn, IsNumberOf, listed_groups, listed_schemes};
+ghost use Rattle.tls_hs.specs.Hello.{client_hello};
+ghost use Rattle.tls_parser.specs.DtlsHello.{client_hello as dtls_client_hello};
+ghost use Rattle.wispuddera_c.specs.Number.{IsAnsweredNumber, IsNumberIn, IsNumberOf, listed_groups, listed_schemes, offered};
 
 use crate::status::{NONE, READ, Refusal};
 use tls_base::{NamedGroup, TlsVersion};
 use tls_ext::{best_version, signature_algorithms, supported_groups, supported_versions};
 use tls_fields::Items;
+use tls_hs::ClientHelloView;
+use tls_parser::DTLSClientHelloView;
 
 /// A number of a list, and how many the list has.
 #[repr(C)]
@@ -45,6 +49,40 @@ pub extern "C" fn wispuddera_number_at(bytes: &[u8], index: usize, out: &mut Num
     ensures { IsNumberOf (items_in (number 2) bytes.now) index result out.new }
 {
     tell(Items::new(bytes), index, out)
+}
+
+/// Finds the cipher suite at that index of those that a ClientHello offers, in its body (RFC 5246, section 7.4.1.2).
+#[unsafe(no_mangle)]
+pub extern "C" fn wispuddera_cipher_suite_at(bytes: &[u8], index: usize, out: &mut Number) -> u32
+    ensures { IsNumberIn (offered (λ h. h.cipher_suites) (reading client_hello bytes.now)) index result out.new }
+{
+    match ClientHelloView::parse(bytes) {
+        Ok((_, hello)) => tell(Items::new(hello.ciphers.bytes()), index, out),
+        Err(e) => {
+            let refusal = Refusal::of(e);
+            out.missing = refusal.missing;
+            refusal.status
+        }
+    }
+}
+
+/// The same of a ClientHello of DTLS (RFC 6347, section 4.2.1).
+#[unsafe(no_mangle)]
+pub extern "C" fn wispuddera_dtls_cipher_suite_at(
+    bytes: &[u8],
+    index: usize,
+    out: &mut Number,
+) -> u32
+    ensures { IsNumberIn (offered (λ h. h.hello.cipher_suites) (reading dtls_client_hello bytes.now)) index result out.new }
+{
+    match DTLSClientHelloView::parse(bytes) {
+        Ok((_, hello)) => tell(Items::new(hello.ciphers.bytes()), index, out),
+        Err(e) => {
+            let refusal = Refusal::of(e);
+            out.missing = refusal.missing;
+            refusal.status
+        }
+    }
 }
 
 /// Finds the version at that index of the content of a supported_versions (RFC 8446, section 4.2.1).

@@ -1,12 +1,16 @@
 //! ServerHellos.
+ghost use Rattle.std.specs.Prelude.{◌≡◌};
+ghost use Rattle.tls_fields.specs.Meaning.{EndsWith};
 ghost use Rattle.tls_fields.specs.Reading.{reading};
-ghost use Rattle.tls_hs.specs.ServerHello.{server_hello};
+ghost use Rattle.tls_hs.specs.ServerHello.{server_hello, server_hello_any, view_server_hello};
+ghost use Rattle.tls_places.specs.Hello.{ServerHelloStands};
 ghost use Rattle.wispuddera_c.specs.Hello.{ShowsServerHello};
 ghost use Rattle.wispuddera_c.specs.Status.{IsAnswered};
 
 use crate::place::{Place, held_in_c, in_c, offset_of};
 use crate::status::{READ, Refusal};
-use tls_places::server_hello_with_places;
+use tls_hs::TlsServerHelloContents;
+use tls_places::{ServerHelloPlaces, dtls_server_hello_with_places, server_hello_with_places};
 
 /// A ServerHello (RFC 5246, section 7.4.1.3): its numbers, where its parts stand in its body, and the offset of what follows it.
 #[repr(C)]
@@ -32,6 +36,32 @@ pub struct ServerHello {
     pub has_extensions: bool,
 }
 
+/// A hello that was read of `bytes`, its places in these, and what follows it, in C's numbers.
+#[tactic(auto, using(tls_fields::proofs::OneAnswerLemmas::read_allowed))]
+#[inline(always)]
+fn in_numbers(
+    bytes: &[u8],
+    hello: &TlsServerHelloContents,
+    places: ServerHelloPlaces,
+    rest: &[u8],
+) -> ServerHello
+    ensures shows { ServerHelloStands bytes.now hello.now places → EndsWith bytes.now rest.now
+        → ShowsServerHello bytes.now result (view_server_hello hello.now) rest.now }
+    ensures missing { result.missing ≡ 0 }
+{
+    ServerHello {
+        missing: 0,
+        random: in_c(places.random),
+        session_id: held_in_c(places.session_id),
+        extensions: held_in_c(places.ext),
+        next: offset_of(bytes, rest),
+        version: hello.version.0,
+        cipher_suite: hello.cipher.0,
+        compression_method: hello.compression.0,
+        has_extensions: hello.ext.is_some(),
+    }
+}
+
 /// Reads the body of a ServerHello.
 #[tactic(auto, using(tls_fields::proofs::OneAnswerLemmas::read_allowed, tls_fields::proofs::PlaceLemmas::ends_here, tls_fields::proofs::PlaceLemmas::ends_read))]
 #[unsafe(no_mangle)]
@@ -40,17 +70,26 @@ pub extern "C" fn wispuddera_read_server_hello(bytes: &[u8], out: &mut ServerHel
 {
     match server_hello_with_places(bytes) {
         Ok((rest, (hello, places))) => {
-            *out = ServerHello {
-                missing: 0,
-                random: in_c(places.random),
-                session_id: held_in_c(places.session_id),
-                extensions: held_in_c(places.ext),
-                next: offset_of(bytes, rest),
-                version: hello.version.0,
-                cipher_suite: hello.cipher.0,
-                compression_method: hello.compression.0,
-                has_extensions: hello.ext.is_some(),
-            };
+            *out = in_numbers(bytes, &hello, places, rest);
+            READ
+        }
+        Err(e) => {
+            let refusal = Refusal::of(e);
+            out.missing = refusal.missing;
+            refusal.status
+        }
+    }
+}
+
+/// Reads the body of a ServerHello of DTLS (RFC 6347, section 4.3.2): as that of TLS, whatever its version.
+#[tactic(auto, using(tls_fields::proofs::OneAnswerLemmas::read_allowed, tls_fields::proofs::PlaceLemmas::ends_here, tls_fields::proofs::PlaceLemmas::ends_read))]
+#[unsafe(no_mangle)]
+pub extern "C" fn wispuddera_read_dtls_server_hello(bytes: &[u8], out: &mut ServerHello) -> u32
+    ensures { IsAnswered (ShowsServerHello bytes.now out.new) (reading server_hello_any bytes.now) result out.new.missing }
+{
+    match dtls_server_hello_with_places(bytes) {
+        Ok((rest, (hello, places))) => {
+            *out = in_numbers(bytes, &hello, places, rest);
             READ
         }
         Err(e) => {

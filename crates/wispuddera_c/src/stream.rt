@@ -1,13 +1,12 @@
 //! Streams that come in pieces: what isn't read yet is held in a buffer of the caller's, at a place that the caller keeps.
-ghost use Rattle.std.specs.Prelude.{◌≡◌, ◌≢◌, ◌<◌, ◌+◌, IfSome, IfNone, length};
+ghost use Rattle.std.specs.Prelude.{◌≡◌, ◌≢◌, IfSome, IfNone, length};
 ghost use Rattle.tls_fields.specs.Meaning.{EndsWith};
-ghost use Rattle.tls_fields.specs.Reading.{reading};
 ghost use Rattle.tls_hs.specs.InPlace.{raw_handshake};
 ghost use Rattle.tls_parser.specs.Record.{raw_record};
 ghost use Rattle.tls_places.specs.Place.{Lies, Stands};
 ghost use Rattle.wispuddera_c.specs.Place.{StandsAt, place_of};
-ghost use Rattle.wispuddera_c.specs.Status.{IsAnswered, outside};
-ghost use Rattle.wispuddera_c.specs.Stream.{IsFed, TakesPart, TakesRecord, bytes_held};
+ghost use Rattle.wispuddera_c.specs.Status.{outside};
+ghost use Rattle.wispuddera_c.specs.Stream.{IsFed, IsTaken, LiesBehind, TakesPart, TakesRecord};
 
 use crate::part::Part;
 use crate::place::{Place, in_c};
@@ -28,7 +27,7 @@ pub extern "C" fn wispuddera_feed(
     ensures room { length buffer.new ≡ length buffer.old }
     ensures fed { Lies buffer.old (place_of held.old) → IsFed buffer.old buffer.new held.old held.new piece.now taken.new }
     ensures inside { Lies buffer.old (place_of held.old) → result ≡ 0 }
-    ensures behind { length buffer.old < held.old.offset + held.old.length → (result ≡ outside) × (buffer.new ≡ buffer.old) × (held.new ≡ held.old) × (taken.new ≡ 0) }
+    ensures behind { LiesBehind buffer.old held.old → (result ≡ outside) × (buffer.new ≡ buffer.old) × (held.new ≡ held.old) × (taken.new ≡ 0) }
 {
     *taken = 0;
     if held.offset > buffer.len() || held.length > buffer.len() - held.offset {
@@ -50,7 +49,7 @@ pub extern "C" fn wispuddera_feed(
 #[inline(always)]
 fn held_bytes(buffer: &[u8], held: Place) -> Option<&[u8]>
     ensures some { IfSome result (λ x. Stands buffer.now (place_of held) x.now) }
-    ensures none { IfNone result (length buffer.now < held.offset + held.length) }
+    ensures none { IfNone result (LiesBehind buffer.now held) }
 {
     if held.offset > buffer.len() || held.length > buffer.len() - held.offset {
         return None;
@@ -79,9 +78,9 @@ fn place_of_rest(buffer: &[u8], held: Place, bytes: &[u8], rest: &[u8]) -> Place
 #[tactic(auto, using(tls_fields::proofs::OneAnswerLemmas::read_allowed, tls_fields::proofs::PlaceLemmas::ends_here, crate::proofs::StatusLemmas::answered))]
 #[unsafe(no_mangle)]
 pub extern "C" fn wispuddera_next_record(buffer: &[u8], held: &mut Place, out: &mut Record) -> u32
-    ensures read { Lies buffer.now (place_of held.old) → IsAnswered (TakesRecord buffer.now held.new out.new) (reading raw_record (bytes_held buffer.now held.old)) result out.new.missing }
+    ensures read { IsTaken raw_record (TakesRecord buffer.now held.new out.new) buffer.now held.old result out.new.missing }
     ensures stays { result ≢ 0 → held.new ≡ held.old }
-    ensures behind { length buffer.now < held.old.offset + held.old.length → (result ≡ outside) × (out.new.missing ≡ 0) }
+    ensures behind { LiesBehind buffer.now held.old → (result ≡ outside) × (out.new.missing ≡ 0) }
 {
     let Some(bytes) = held_bytes(buffer, *held) else {
         out.missing = 0;
@@ -117,9 +116,9 @@ pub extern "C" fn wispuddera_next_record(buffer: &[u8], held: &mut Place, out: &
 #[tactic(auto, using(tls_fields::proofs::OneAnswerLemmas::read_allowed, tls_fields::proofs::PlaceLemmas::ends_here, crate::proofs::StatusLemmas::answered))]
 #[unsafe(no_mangle)]
 pub extern "C" fn wispuddera_next_message(buffer: &[u8], held: &mut Place, out: &mut Part) -> u32
-    ensures read { Lies buffer.now (place_of held.old) → IsAnswered (TakesPart buffer.now held.new out.new) (reading raw_handshake (bytes_held buffer.now held.old)) result out.new.missing }
+    ensures read { IsTaken raw_handshake (TakesPart buffer.now held.new out.new) buffer.now held.old result out.new.missing }
     ensures stays { result ≢ 0 → held.new ≡ held.old }
-    ensures behind { length buffer.now < held.old.offset + held.old.length → (result ≡ outside) × (out.new.missing ≡ 0) }
+    ensures behind { LiesBehind buffer.now held.old → (result ≡ outside) × (out.new.missing ≡ 0) }
 {
     let Some(bytes) = held_bytes(buffer, *held) else {
         out.missing = 0;

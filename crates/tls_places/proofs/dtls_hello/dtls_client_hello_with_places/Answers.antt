@@ -1,7 +1,7 @@
 use Rattle.tls_fields.specs.Layout.{number, block}
 use Rattle.tls_fields.specs.Meaning.{EndsWith}
 use Rattle.tls_fields.proofs.PlaceLemmas.{ends_here, ends_read}
-use Rattle.tls_hs.specs.Hello.{session_id, cipher_suites, compression_methods}
+use Rattle.tls_hs.specs.Hello.{session_id}
 use Rattle.tls_places.proofs.HelloLemmas.{block_ends, id_ends, extensions_end}
 use Rattle.tls_places.proofs.dtls_hello.dtls_client_hello_with_places.Goals as goal
 
@@ -15,16 +15,16 @@ returns-clause-places c =
     let third : EndsWith w c.in_ok-i-3.i.now =
     ends_read session_id w c.in_ok-i-2.i.now _ c.in_ok-i-3.i.now second c.in_ok-i-3.ensures.allowed in
     let fourth : EndsWith w c.in_ok-i-4.i.now = c.in_ok-i-4.ensures.ends third in
-    let fifth : EndsWith w c.in_ok-i-5.i.now =
-    ends_read cipher_suites w c.in_ok-i-4.i.now _ c.in_ok-i-5.i.now fourth c.in_ok-i-5.ensures.allowed in
-    let sixth : EndsWith w c.in_ok-i-6.i.now =
-    ends_read compression_methods w c.in_ok-i-5.i.now _ c.in_ok-i-6.i.now fifth c.in_ok-i-6.ensures.allowed in
+    let fifth : EndsWith w c.in_ok-i-5.i.now = c.in_ok-i-5.ensures.ends fourth in
+    let sixth : EndsWith w c.in_ok-i-6.i.now = c.in_ok-i-6.ensures.ends fifth in
     record {
       random = c.place_before-random_place.ensures
           (block_ends 32 w c.in_ok-i.i.now c.in_ok-i-2.random.now c.in_ok-i-2.i.now first c.in_ok-i-2.ensures.allowed);
       session_id = c.held_before-id_place.ensures
           (id_ends w c.in_ok-i-2.i.now _ c.in_ok-i-3.i.now second c.in_ok-i-3.ensures.allowed);
       cookie = c.in_ok-i-4.ensures.stands third;
+      cipher_suites = c.in_ok-i-5.ensures.stands fourth;
+      compression_methods = c.in_ok-i-6.ensures.stands fifth;
       extensions = c.held_before-ext_place.ensures
           (extensions_end w c.in_ok-i-6.i.now _ c.in_ok-i-7.i.now sixth c.in_ok-i-7.ensures.allowed);
     }

@@ -14,4 +14,6 @@ returns-in-Some-clause-tells c =
     (part_told c.args.block.now c.bytes_at.result.now c.in-Some.outer
     (λ x. picked first_name (reading content.server_names x))
     (in_content content.server_names first_name) _ c.first_name_place.result (λ y. refl)
-    c.bytes_at.ensures (told_there c.args.block.now c.in-Some.outer c.in_ok-outer.field-0 _ c.in-Some.is c.in_ok-outer.ensures.tells) c.first_name_place.ensures.tells)
+    c.bytes_at.ensures
+    (told_there c.args.block.now c.in-Some.outer c.in_ok-outer.field-0 _ c.in-Some.is
+    c.in_ok-outer.ensures.tells) c.first_name_place.ensures.tells)

@@ -17,14 +17,16 @@ list_stands c =
     (lies_stands c.args.block.now c.in-Some.outer
     (lies_there c.args.block.now c.in-Some.outer c.in_ok-outer.field-0 c.in-Some.is c.in_ok-outer.ensures.within))
     (stands_same c.bytes_at.result.now
-    (bytes_at c.args.block.now c.in-Some.outer) c.in_ok-inner.field-0-1-0.bytes.now c.in_ok-inner.inner c.bytes_at.ensures c.in_ok-inner.ensures.stands)
+    (bytes_at c.args.block.now c.in-Some.outer) c.in_ok-inner.field-0-1-0.bytes.now c.in_ok-inner.inner
+    c.bytes_at.ensures c.in_ok-inner.ensures.stands)
 
 pub returns-clause-tells : goal.returns-clause-tells
 returns-clause-tells c = record {
   answers = tt;
   is = ap (λ y. Ok (Some (items_in (counted 1) y))) (list_stands c).is
       ∙ sym (ap (in_content content.application_layer_protocol_negotiation names_of_protocols)
-      (sym (told_there c.args.block.now c.in-Some.outer c.in_ok-outer.field-0 _ c.in-Some.is c.in_ok-outer.ensures.tells))
+      (sym (told_there c.args.block.now c.in-Some.outer c.in_ok-outer.field-0 _ c.in-Some.is
+      c.in_ok-outer.ensures.tells))
       ∙ ap (λ x. picked names_of_protocols (reading content.application_layer_protocol_negotiation x))
       (sym c.bytes_at.ensures)
       ∙ ap (picked names_of_protocols) c.in_ok-inner.ensures.gives.read);

@@ -24,7 +24,8 @@ pub returns-in-Some-clause-tells : goal.returns-in-Some-clause-tells
 returns-in-Some-clause-tells c =
     c.outward.ensures.tells (name_in_hello (reading client_hello c.args.body.now)) (lies c) (found c)
     (name_told c.args.body.now c.in_ok-rest.rest.now
-    (view_client_hello_in_place c.in_ok-rest.hello) c.in_ok-rest.ensures.read c.in-Some.outer c.bytes_at.result.now c.host_name_place.result (stand c)
+    (view_client_hello_in_place c.in_ok-rest.hello) c.in_ok-rest.ensures.read c.in-Some.outer c.bytes_at.result.now
+    c.host_name_place.result (stand c)
     c.bytes_at.ensures c.host_name_place.ensures.tells)
 
 pub returns-in-Some-clause-within : goal.returns-in-Some-clause-within

@@ -6,8 +6,5 @@ pub returns-clause-places : goal.returns-clause-places
 returns-clause-places c =
     let p : Parts c.args.i.now (view_server_hello c.in_ok-rest.hello) c.in_ok-rest.rest.now =
     parts c.args.i.now c.in_ok-rest.rest.now (view_server_hello c.in_ok-rest.hello) c.in_ok-rest.ensures.allowed in
-    record {
-      random = p.front.random;
-      session_id = c.held_from.ensures p.front.id;
-      extensions = c.held_before.ensures p.extensions;
-    }
+    c.places_in-places.ensures
+    (record { random = p.front.random; session_id = p.front.id; extensions = p.extensions })

@@ -7,4 +7,4 @@ pub loop-preserved : goal.loop-preserved
 loop-preserved c =
     on_more c.args.self.now c.loop.self _ c.args.side c.args.piece.now c.loop.counter (view_said c.in-Some.said) c.take_front.result
     c.loop.has_encrypted _ c.loop.invariant (search rules) (search rules) (search rules) (search rules)
-    (search rules)
+    (search rules) (search rules)
