@@ -79,8 +79,7 @@ fn client_hello(bytes: &[u8]) -> Answer {
     Ok((rest.len().to_string(), value))
 }
 
-fn server_hello(bytes: &[u8]) -> Answer {
-    let (h, rest) = ServerHello::read(bytes)?;
+fn server_hello((h, rest): (ServerHello, &[u8])) -> Answer {
     let front = format!(
         "version: TlsVersion({}), random: {}, session_id: {}",
         h.version,
@@ -93,6 +92,30 @@ fn server_hello(bytes: &[u8]) -> Answer {
     );
     let value = format!(
         "TlsServerHelloContents {{ {front}, {picked}, ext: {} }}",
+        option(h.extensions)
+    );
+    Ok((rest.len().to_string(), value))
+}
+
+fn dtls_client_hello(bytes: &[u8]) -> Answer {
+    let (h, rest) = DtlsClientHello::read(bytes)?;
+    let methods = h
+        .compression_methods
+        .iter()
+        .map(|method| u16::from(*method));
+    let front = format!(
+        "version: TlsVersion({}), random: {}, session_id: {}, cookie: {}",
+        h.version,
+        shown(h.random),
+        held(h.session_id),
+        shown(h.cookie)
+    );
+    let (ciphers, comp) = (
+        numbers("TlsCipherSuiteID", h.cipher_suites),
+        numbers("TlsCompressionID", methods),
+    );
+    let value = format!(
+        "DTLSClientHello {{ {front}, ciphers: {ciphers}, comp: {comp}, ext: {} }}",
         option(h.extensions)
     );
     Ok((rest.len().to_string(), value))
@@ -142,7 +165,9 @@ fn answer(call: &str, bytes: &[u8]) -> Answer {
     match call {
         "parse_tls_raw_record" => raw_record(bytes),
         "parse_tls_handshake_client_hello" => client_hello(bytes),
-        "parse_tls_handshake_server_hello" => server_hello(bytes),
+        "parse_tls_handshake_server_hello" => server_hello(ServerHello::read(bytes)?),
+        "dtls_server_hello" => server_hello(ServerHello::read_dtls(bytes)?),
+        "dtls_client_hello" => dtls_client_hello(bytes),
         "parse_tls_handshake_msg_certificate" => certificate(bytes),
         "parse_tls_extension_unknown" => unknown(bytes),
         "parse_tls_extension_elliptic_curves_content" => Ok((

@@ -34,7 +34,7 @@ def rows(file):
             head, *clauses = CLAUSE.split(f"{row} ")
             match = re.match(r"([A-Za-z_][\w:.]*(?:\s*,\s*[A-Za-z_][\w:.]*)*)(.*)", head)
             calls = [call.strip() for call in match[1].split(",")]
-            yield calls, match[2], dict(zip(clauses[::2], (text.strip() for text in clauses[1::2]))), names
+            yield calls, match[2], list(zip(clauses[::2], (text.strip() for text in clauses[1::2]))), names
 
 
 def bytes_of(text, names):
@@ -86,11 +86,22 @@ def client_hello(data):
     return h.next, f"TlsClientHelloContents {{ {front}, {lists}, ext: {option(h.extensions)} }}"
 
 
-def server_hello(data):
-    h = w.server_hello(data)
+def server_hello(data, read=w.server_hello):
+    h = read(data)
     front = f"version: TlsVersion({h.version}), random: {shown(h.random)}, session_id: {option(h.session_id if len(h.session_id) else None)}"
     picked = f"cipher: TlsCipherSuiteID({h.cipher_suite}), compression: TlsCompressionID({h.compression_method})"
     return h.next, f"TlsServerHelloContents {{ {front}, {picked}, ext: {option(h.extensions)} }}"
+
+
+def dtls_server_hello(data):
+    return server_hello(data, w.dtls_server_hello)
+
+
+def dtls_client_hello(data):
+    h = w.dtls_client_hello(data)
+    lists = f"ciphers: {numbers('TlsCipherSuiteID', h.cipher_suites)}, comp: {numbers('TlsCompressionID', h.compression_methods)}"
+    front = f"version: TlsVersion({h.version}), random: {shown(h.random)}, session_id: {option(h.session_id if len(h.session_id) else None)}"
+    return h.next, f"DTLSClientHello {{ {front}, cookie: {shown(h.cookie)}, {lists}, ext: {option(h.extensions)} }}"
 
 
 def unknown(data):
@@ -137,6 +148,9 @@ WHOLE = {
     "parse_tls_extension_signature_algorithms_content": signature_schemes,
     "parse_tls_extension_alpn_content": names_of_protocols,
 }
+# Bodies of DTLS's messages, by type, of which the rows of the call on whole messages tell the cuts, and in part the value.
+BODIES = {1: "dtls_client_hello", 2: "dtls_server_hello"}
+WHOLE.update({"dtls_client_hello": dtls_client_hello, "dtls_server_hello": dtls_server_hello})
 # Calls that decode what the module leaves as it stands.
 FRONT = {
     "parse_tls_plaintext": w.record,
@@ -202,19 +216,34 @@ def ask_cut(call, data, parts, where):
     return begin
 
 
+def ask_body(data, clauses, where):
+    """Compares a body of DTLS with what the row says of it within the message's lengths, and answers how many answers there were."""
+    call, asked = BODIES[data[0]], 0
+    for kind, text in clauses:
+        if kind == "within:" and text.startswith("3,11 "):
+            asked += ask_cut(call, data[12:], text, where)
+        elif kind == "=>" and (body := re.search(r"body: ServerHello\((.*)\) \}\)$", plain(text))):
+            ask(call, data[12:], f"Ok rest 0, {body[1].strip()}", where)
+            asked += 1
+    return asked
+
+
 def main():
     counts = dict.fromkeys([*WHOLE, *FRONT], 0)
     for file in sorted(DATA.glob("*.rows")):
         for number, (calls, text, clauses, names) in enumerate(rows(file), 1):
             for call in calls:
-                if call not in counts or not clauses.keys() & {"=>", "cut:"}:
+                told_of = dict(clauses)
+                if call not in counts or not told_of.keys() & {"=>", "cut:"}:
                     continue
                 data, where = bytes_of(text, names), f"{file.name}, row {number}"
-                if "=>" in clauses:
-                    ask(call, data, plain(clauses["=>"]), where)
+                if "=>" in told_of:
+                    ask(call, data, plain(told_of["=>"]), where)
                     counts[call] += 1
-                if "cut:" in clauses and call in WHOLE:
-                    counts[call] += ask_cut(call, data, clauses["cut:"], where)
+                if "cut:" in told_of and call in WHOLE:
+                    counts[call] += ask_cut(call, data, told_of["cut:"], where)
+                if call == "parse_dtls_message_handshake" and data[:1] and data[0] in BODIES:
+                    counts[BODIES[data[0]]] += ask_body(data, clauses, where)
     if lacking := [call for call, count in counts.items() if count == 0]:
         sys.exit(f"rows: no row asks {lacking}")
     beside = " in Python and in Rust" if program else ""

@@ -1,5 +1,5 @@
 -- What is read of a direction.
-use Rattle.std.specs.Prelude.{◌≡◌, ◌⊎◌, ℕ, ◌+◌, ◌-◌, ◌%◌, ◌^◌, ◌==◌, Bool, true, false, nat_lt, ◌&&◌, ◌||◌, if◌then◌else◌, Option, Some, None, [], length, take}
+use Rattle.std.specs.Prelude.{◌≡◌, ◌⊎◌, ℕ, ◌+◌, ◌-◌, ◌%◌, ◌^◌, ◌==◌, Bool, true, false, nat_lt, ◌&&◌, ◌||◌, if◌then◌else◌, Option, Some, None, [], length, take, drop}
 use Rattle.segments.specs.Cells.{Bytes, Held, differing_in, known_behind, run, with_segment, without_front, IsTooMuch}
 use Rattle.connections.specs.Segment.{breaks, ends, first_of, behind_of}
 use Rattle.connections.specs.Traffic.{plus}
@@ -39,7 +39,7 @@ behind_front n Over = Over
 
 -- One of which nothing came.
 abbrev pub silent_stream : Stream
-silent_stream = record { reading = Unbegun; next = 0; last = 0; fin = None; is_broken = false; has_gap = false; length = 0; repeated = 0; disagreeing = 0 }
+silent_stream = record { reading = Unbegun; next = 0; last = 0; fin = None; is_broken = false; has_gap = false; length = 0; repeated = 0; disagreeing = 0; passing = None }
 
 -- The number of the first byte that was not handed out, when more are.
 abbrev pub next_behind : ℕ → Reading → ℕ → ℕ
@@ -83,6 +83,28 @@ with_disagreeing seq b (Open h) Unbegun count = count
 with_disagreeing seq b (Open h) Over count = count
 with_disagreeing seq b Unbegun r count = count
 with_disagreeing seq b Over r count = count
+
+-- It is read no further; where it was read, its next byte is the next that is passed on.
+abbrev pub stopped : Stream → Reading → Stream
+stopped t (Open h) = record t { reading = Over; passing = Some t.next }
+stopped t Unbegun = record t { reading = Over }
+stopped t Over = t
+
+-- The bytes of a segment from a number on, where it doesn't begin behind that.
+abbrev pub is_next : ℕ → Segment → Bool
+is_next n s = nat_lt (ahead_of n (first_of s)) (2 ^ 31)
+
+abbrev pub bytes_from : ℕ → Segment → Bytes
+bytes_from n s = if is_next n s then drop (ahead_of n (first_of s)) s.payload.now else []
+
+-- Those that are passed on, and the number of the next: none is passed on behind bytes that are missing.
+abbrev pub passed : Option ℕ → Segment → Bytes
+passed None s = []
+passed (Some n) s = bytes_from n s
+
+abbrev pub passing_behind : Option ℕ → Segment → Option ℕ
+passing_behind None s = None
+passing_behind (Some n) s = if is_next n s then Some ((n + length (bytes_from n s)) % 2 ^ 32) else None
 
 -- What the numbers of a segment say: how far its sender has come, and with FIN where the stream ends.
 abbrev pub with_numbers : Segment → Stream → Stream

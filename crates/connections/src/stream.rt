@@ -1,7 +1,7 @@
 //! One direction of a connection.
 ghost use Rattle.std.specs.Prelude.{◌≡◌, ◌%◌, ◌^◌, length, OnOk};
 ghost use Rattle.connections.specs.Segment.{first_of};
-ghost use Rattle.connections.specs.Stream.{begun_by, next_bytes, behind_front, next_behind, silent_stream, is_behind as comes_behind, advance as advance_of, came, with_numbers, HasPut, HasTaken, is_over, lacks};
+ghost use Rattle.connections.specs.Stream.{begun_by, next_bytes, behind_front, next_behind, passed, passing_behind, silent_stream, stopped, is_behind as comes_behind, advance as advance_of, came, with_numbers, HasPut, HasTaken, is_over, lacks};
 ghost use Rattle.connections.specs.declared.stream.Reading.TheVariants.{Over};
 
 use crate::segment::Segment;
@@ -42,6 +42,8 @@ pub struct Stream {
     repeated: u64,
     // At how many places another byte came than the one that stands there.
     disagreeing: u64,
+    // Where it is read no further: the number of the next byte that is passed on, as long as none is missing.
+    passing: Option<u32>,
 }
 
 /// Whether a number comes behind another, among the numbers around it.
@@ -93,6 +95,7 @@ impl Stream {
             length: 0,
             repeated: 0,
             disagreeing: 0,
+            passing: None,
         }
     }
 
@@ -203,11 +206,36 @@ impl Stream {
         self.disagreeing
     }
 
-    /// Reads no further: what is held and what comes is let go.
+    /// Reads no further: what is held and what comes is let go. Where it was read, what comes next is passed on by
+    /// [`Stream::pass`].
     pub fn stop(&mut self)
-        ensures { self.new ≡ record self.old { reading = Over } }
+        ensures { self.new ≡ stopped self.old self.old.reading }
     {
+        match &self.reading {
+            Reading::Open(_) => self.passing = Some(self.next),
+            Reading::Unbegun => {}
+            Reading::Over => return,
+        }
         self.reading = Reading::Over;
+    }
+
+    /// The bytes of a segment that come next in a stream that is read no further: those behind all that were taken or passed on. None of
+    /// them is kept. Where bytes are missing in front of a segment, neither its bytes nor any that follow are passed on.
+    pub fn pass<'a>(&mut self, segment: &Segment<'a>) -> &'a [u8]
+        ensures bytes { result.now ≡ passed self.old.passing segment.now }
+        ensures passing { self.new ≡ record self.old { passing = passing_behind self.old.passing segment.now } }
+    {
+        let Some(next) = self.passing else {
+            return &[];
+        };
+        let begun = next.wrapping_sub(segment.first());
+        if begun >= HALF {
+            self.passing = None;
+            return &[];
+        }
+        let bytes = &segment.payload[segment.payload.len().min(begun as usize)..];
+        self.passing = Some(next.wrapping_add(count(bytes)));
+        bytes
     }
 
     /// Whether its sender said its last: it broke the connection off, or all in front of its FIN came.

@@ -1,7 +1,45 @@
 -- Bytes of a message that fragments give.
-use Rattle.std.proofs.Common.{◌≡◌, ℕ, ◌+◌, ◌-◌, ◌<◌, ◌≤◌, Bool, true, false, cond, nat_le, nat_lt, nat_eq, Option, Some, None, List, length, sum_by, refl, sym, ◌∙◌, ap, arith, get_or, slice_set}
+use Rattle.std.proofs.Common.{
+  ◌≡◌,
+  ℕ,
+  ◌+◌,
+  ◌-◌,
+  ◌<◌,
+  ◌≤◌,
+  Bool,
+  true,
+  false,
+  cond,
+  nat_le,
+  nat_lt,
+  nat_eq,
+  Option,
+  Some,
+  None,
+  List,
+  length,
+  sum_by,
+  refl,
+  sym,
+  ◌∙◌,
+  ap,
+  arith,
+  get_or,
+  slice_set,
+}
 use Rattle.std.specs.Prelude.{slice_index}
-use Rattle.std.proofs.lemmas.Bool.{lt-ltb, le-ltb, le-leb, lt-leb, ltb-true, ltb-false, leb-true, leb-false, eqb-true, eqb-false}
+use Rattle.std.proofs.lemmas.Bool.{
+  lt-ltb,
+  le-ltb,
+  le-leb,
+  lt-leb,
+  ltb-true,
+  ltb-false,
+  leb-true,
+  leb-false,
+  eqb-true,
+  eqb-false,
+}
 use Rattle.std.proofs.lemmas.List.{get_or-set_same, get_or-set_other}
 use Rattle.std.proofs.lemmas.List.Sums.{sum_by-set}
 use Rattle.tls_fields.specs.Bytes.{Bytes}
@@ -13,7 +51,8 @@ given_in o n i b h g =
     ∙ ap (λ t. cond t (Some (slice_index b (i - o))) None) (lt-ltb i (o + n) g)
 
 pub given_below : (o n i : ℕ) (b : Bytes) → i < o → given o b n i ≡ None
-given_below o n i b h = ap (λ t. cond t (cond (nat_lt i (o + n)) (Some (slice_index b (i - o))) None) None) (lt-leb o i h)
+given_below o n i b h = ap (λ t. cond t (cond (nat_lt i (o + n)) (Some (slice_index b (i - o))) None) None)
+    (lt-leb o i h)
 
 cond_none : (t : Bool) → cond {A = Option ℕ} t None None ≡ None
 cond_none true = refl
@@ -51,7 +90,8 @@ given_elsewhere o k i b not = go (nat_le o i) (nat_lt i (o + k)) refl refl
             go_eq false e = let other = eqb-false i (o + k) e in omega (arith, from, other)
 
 given_here : (o k i : ℕ) (b : Bytes) → i ≡ o + k → given o b (k + 1) i ≡ Some (slice_index b k)
-given_here o k i b e = given_in o (k + 1) i b (omega (arith, e)) (omega (arith, e)) ∙ ap (λ j. Some (slice_index b j)) (omega (arith, e))
+given_here o k i b e = given_in o (k + 1) i b (omega (arith, e)) (omega (arith, e))
+    ∙ ap (λ j. Some (slice_index b j)) (omega (arith, e))
 
 given_not_here : (o k i : ℕ) (b : Bytes) → i ≡ o + k → given o b k i ≡ None
 given_not_here o k i b e = given_above o k i b (omega (arith, e))
@@ -59,21 +99,26 @@ given_not_here o k i b e = given_above o k i b (omega (arith, e))
 cell_absent : (have : List Bool) (held : Bytes) (i : ℕ) → get_or have i false ≡ false → cell have held i ≡ None
 cell_absent have held i e = ap (λ t. cond t (Some (slice_index held i)) None) e
 
-cell_there : (have : List Bool) (held : Bytes) (i : ℕ) → get_or have i false ≡ true → cell have held i ≡ Some (slice_index held i)
+cell_there : (have : List Bool) (held : Bytes) (i : ℕ) → get_or have i false ≡ true
+    → cell have held i ≡ Some (slice_index held i)
 cell_there have held i e = ap (λ t. cond t (Some (slice_index held i)) None) e
 
 -- a place that is filled
 pub filled_now : (c : ℕ → Option ℕ) (have : List Bool) (held : Bytes) (o k at x : ℕ) (b : Bytes) →
-    ((i : ℕ) → cell have held i ≡ or_else (c i) (given o b k i)) → at ≡ o + k → at < length have → at < length held → get_or have at false ≡ false → x ≡ slice_index b k →
+    ((i : ℕ) → cell have held i ≡ or_else (c i) (given o b k i)) → at ≡ o + k → at < length have → at < length held
+    → get_or have at false ≡ false → x ≡ slice_index b k →
     (i : ℕ) → cell (slice_set have at true) (slice_set held at x) i ≡ or_else (c i) (given o b (k + 1) i)
 filled_now c have held o k at x b was is h g none same i = go (nat_eq i at) refl
   where
-    go : (t : Bool) → nat_eq i at ≡ t → cell (slice_set have at true) (slice_set held at x) i ≡ or_else (c i) (given o b (k + 1) i)
+    go : (t : Bool) → nat_eq i at ≡ t
+        → cell (slice_set have at true) (slice_set held at x) i ≡ or_else (c i) (given o b (k + 1) i)
     go true e =
         let here : i ≡ at = eqb-true i at e in
         let first : c i ≡ None =
-        sym (or_none (c i)) ∙ ap (or_else (c i)) (sym (given_not_here o k i b (here ∙ is))) ∙ sym (was i) ∙ cell_absent have held i (ap (λ j. get_or have j false) here ∙ none) in
-        cell_there (slice_set have at true) (slice_set held at x) i (ap (λ j. get_or (slice_set have at true) j false) here ∙ get_or-set_same have at true false h)
+        sym (or_none (c i)) ∙ ap (or_else (c i)) (sym (given_not_here o k i b (here ∙ is))) ∙ sym (was i)
+        ∙ cell_absent have held i (ap (λ j. get_or have j false) here ∙ none) in
+        cell_there (slice_set have at true) (slice_set held at x) i
+        (ap (λ j. get_or (slice_set have at true) j false) here ∙ get_or-set_same have at true false h)
         ∙ ap Some (ap (λ j. slice_index (slice_set held at x) j) here ∙ get_or-set_same held at x 0 g ∙ same)
         ∙ sym (given_here o k i b (here ∙ is))
         ∙ sym (ap (λ d. or_else d (given o b (k + 1) i)) first)
@@ -94,13 +139,16 @@ filled_before c have held o k at b was is there i = go (nat_eq i at) refl
     go true e =
         let here : i ≡ at = eqb-true i at e in
         let some : c i ≡ Some (slice_index held i) =
-        sym (or_none (c i)) ∙ ap (or_else (c i)) (sym (given_not_here o k i b (here ∙ is))) ∙ sym (was i) ∙ cell_there have held i (ap (λ j. get_or have j false) here ∙ there) in
-        cell_there have held i (ap (λ j. get_or have j false) here ∙ there) ∙ sym (ap (λ d. or_else d (given o b (k + 1) i)) some)
+        sym (or_none (c i)) ∙ ap (or_else (c i)) (sym (given_not_here o k i b (here ∙ is))) ∙ sym (was i)
+        ∙ cell_there have held i (ap (λ j. get_or have j false) here ∙ there) in
+        cell_there have held i (ap (λ j. get_or have j false) here ∙ there)
+        ∙ sym (ap (λ d. or_else d (given o b (k + 1) i)) some)
     go false e =
         let other : i ≡ at → ⊥ = eqb-false i at e in
         was i ∙ ap (or_else (c i)) (sym (given_elsewhere o k i b (λ h. other (h ∙ sym is))))
 
 -- the count of what is absent
-pub one_less : (have : List Bool) (at filled all : ℕ) → at < length have → get_or have at false ≡ false → filled + sum_by absent have ≡ all → (filled + 1) + sum_by absent (slice_set have at true) ≡ all
+pub one_less : (have : List Bool) (at filled all : ℕ) → at < length have → get_or have at false ≡ false
+    → filled + sum_by absent have ≡ all → (filled + 1) + sum_by absent (slice_set have at true) ≡ all
 one_less have at filled all h none was =
     omega (arith, sum_by-set absent have at true false h, ap absent none, was)

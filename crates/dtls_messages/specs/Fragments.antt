@@ -1,5 +1,5 @@
 -- Fragments of a handshake message of DTLS (RFC 6347, sections 4.2.2 and 4.2.3), in any order, with repeats and overlaps.
-use Rattle.std.specs.Prelude.{◌≡◌, ℕ, ◌+◌, ◌-◌, ◌<◌, ◌≤◌, Bool, true, false, cond, nat_le, nat_lt, Option, Some, None, IsSome, Result, Ok, Err, ◌==◌, List, [], ◌∷◌, length, take, drop, map, slice_index}
+use Rattle.std.specs.Prelude.{◌≡◌, ℕ, ◌+◌, ◌-◌, ◌<◌, ◌≤◌, Bool, true, false, cond, nat_le, nat_lt, Option, Some, None, IsSome, Result, Ok, Err, ◌==◌, List, [], ◌∷◌, length, take, drop, map, slice_index, sum_by}
 use Rattle.std.proofs.Common.{get_or}
 use Rattle.tls_fields.specs.Bytes.{Bytes}
 use Rattle.tls_fields.specs.Layout.{Layout, done, number, block, ◌>>=◌}
@@ -142,3 +142,8 @@ pub record IsBody (h : Held) (b : Bytes) : Type 0 where
 abbrev pub absent : Bool → ℕ
 absent true = 0
 absent false = 1
+
+-- Each place that is held has a byte beside it, none lies behind the message's size, and so many of the bytes are there.
+abbrev pub IsCounted : ℕ → ℕ → List Bool → Bytes → Type 0
+IsCounted size filled there held =
+    (length there ≡ length held) × (length held ≤ size) × (filled + sum_by absent there ≡ length there)

@@ -1,7 +1,7 @@
 //! Fragments of a handshake message of DTLS (RFC 6347, section 4.2.3).
 ghost use Rattle.std.specs.Prelude.{◌≡◌, ◌↔◌, ◌⊎◌, ◌+◌, ◌≤◌, ◌<◌, ℕ, length, sum_by, true, false, Ok, Err, Some, None, IsErr, IsSome, IfSome, OnOk};
 ghost use Rattle.tls_fields.specs.Answers.{Gives};
-ghost use Rattle.dtls_messages.specs.Fragments.{Fragment as Value, fragment as fragment_layout, Held, IsAdded, IsBegun, IsBody, IsComplete, absent, byte, cell, given, judged, or_else, view_fragment};
+ghost use Rattle.dtls_messages.specs.Fragments.{Fragment as Value, fragment as fragment_layout, Held, IsAdded, IsBegun, IsBody, IsComplete, IsCounted, absent, byte, cell, given, judged, or_else, view_fragment};
 ghost use Rattle.dtls_messages.specs.Messages.{view_message};
 ghost use Rattle.dtls_messages.specs.declared.fragments.FragmentError.TheVariants as fragment_error;
 
@@ -135,7 +135,7 @@ impl Model for Fragments {
 
     ghost view = { λ s. record { msg_type = s.msg_type.0; message_seq = s.message_seq; size = s.size; there = s.have.items; held = s.bytes.items } };
 
-    ghost invariant = { λ s. (length s.have.items ≡ length s.bytes.items) × (length s.bytes.items ≤ s.size) × (s.filled + sum_by absent s.have.items ≡ length s.have.items) };
+    ghost invariant = { λ s. IsCounted s.size s.filled s.have.items s.bytes.items };
 }
 
 impl Fragments {

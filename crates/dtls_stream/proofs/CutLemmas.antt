@@ -1,8 +1,44 @@
 -- What stands where memory ran out.
-use Rattle.std.proofs.Common.{◌≡◌, ℕ, List, [], ◌∷◌, ◌++◌, take, drop, map, refl, sym, ◌∙◌, ap, subst, arith, append_assoc, append-nil}
+use Rattle.std.proofs.Common.{
+  ◌≡◌,
+  ℕ,
+  List,
+  [],
+  ◌∷◌,
+  ◌++◌,
+  take,
+  drop,
+  map,
+  refl,
+  sym,
+  ◌∙◌,
+  ap,
+  subst,
+  arith,
+  append_assoc,
+  append-nil,
+}
 use Rattle.std.proofs.lemmas.List.{map-append, take-append-drop}
 use Rattle.dtls_messages.specs.Fragments.{Fragment}
-use Rattle.dtls_messages.specs.Messages.{Alert, AreHeard, ChangeCipherSpec, Encrypted, Event, Failed, Handshake, Heard, IsStopped, Kept, Limits, Message, Refused, Stands, after, events, messages}
+use Rattle.dtls_messages.specs.Messages.{
+  Alert,
+  AreHeard,
+  ChangeCipherSpec,
+  Encrypted,
+  Event,
+  Failed,
+  Handshake,
+  Heard,
+  IsStopped,
+  Kept,
+  Limits,
+  Message,
+  Refused,
+  Stands,
+  after,
+  events,
+  messages,
+}
 use Rattle.dtls_messages.proofs.StoppedLemmas.{after_append, events_append}
 use Rattle.dtls_stream.specs.Datagrams.{AreToldInPart, IsCut}
 
@@ -30,7 +66,8 @@ front_none [] ns e = refl
 front_none (m ∷ ms) ns e = absurd cc
 
 -- Nothing of it was heard or told.
-pub cut_none : (l : Limits) (h : Heard) (fs : List Fragment) (all es : List Event) (k : Kept) → Stands l h k → IsCut l h fs all es es k
+pub cut_none : (l : Limits) (h : Heard) (fs : List Fragment) (all es : List Event) (k : Kept) → Stands l h k
+    → IsCut l h fs all es es k
 unfolding events after
 cut_none l h fs all es k st = record {
   first = [];
@@ -47,11 +84,13 @@ cut_none l h fs all es k st = record {
   stands = st;
 }
 
-pub cut_same : (l : Limits) (h : Heard) (fs : List Fragment) (all es es' : List Event) (k : Kept) → es' ≡ es → Stands l h k → IsCut l h fs all es es' k
+pub cut_same : (l : Limits) (h : Heard) (fs : List Fragment) (all es es' : List Event) (k : Kept) → es' ≡ es
+    → Stands l h k → IsCut l h fs all es es' k
 cut_same l h fs all es es' k same st = subst (λ x. IsCut l h fs all es x k) (sym same) (cut_none l h fs all es k st)
 
 -- There are no fragments and no messages in it.
-pub cut_part : (l : Limits) (h : Heard) (all es es' : List Event) (k : Kept) → messages all ≡ [] → AreToldInPart all es es' → Stands l h k → IsCut l h [] all es es' k
+pub cut_part : (l : Limits) (h : Heard) (all es es' : List Event) (k : Kept) → messages all ≡ []
+    → AreToldInPart all es es' → Stands l h k → IsCut l h [] all es es' k
 unfolding events after
 cut_part l h all es es' k none was st = record {
   first = [];
@@ -61,7 +100,8 @@ cut_part l h all es es' k none was st = record {
   told = was.told;
   kept = [];
   none_lost = append-nil (messages was.front)
-      ∙ front_none (messages was.front) (messages was.untold) (sym (messages_append was.front was.untold) ∙ ap messages (sym was.split) ∙ none);
+      ∙ front_none (messages was.front) (messages was.untold)
+      (sym (messages_append was.front was.untold) ∙ ap messages (sym was.split) ∙ none);
   untold = was.untold;
   in_order = ap (λ x. x ++ was.untold) (append-nil was.front) ∙ sym was.split;
   next = h.next;
@@ -70,7 +110,8 @@ cut_part l h all es es' k none was st = record {
 }
 
 -- All fragments were heard, and what comes behind their events isn't told.
-pub cut_all : (l : Limits) (h : Heard) (fs : List Fragment) (more es es' es'' : List Event) (k : Kept) → AreHeard l h fs es es' k → es'' ≡ es' →
+pub cut_all : (l : Limits) (h : Heard) (fs : List Fragment) (more es es' es'' : List Event) (k : Kept)
+    → AreHeard l h fs es es' k → es'' ≡ es' →
     IsCut l h fs (events l h fs ++ more) es es'' k
 cut_all l h fs more es es' es'' k was same = record {
   first = fs;
@@ -88,7 +129,8 @@ cut_all l h fs more es es' es'' k was same = record {
 }
 
 -- Memory ran out within the fragments.
-pub cut_stopped : (l : Limits) (h : Heard) (fs : List Fragment) (more es es' : List Event) (k : Kept) → IsStopped l h fs es es' k →
+pub cut_stopped : (l : Limits) (h : Heard) (fs : List Fragment) (more es es' : List Event) (k : Kept)
+    → IsStopped l h fs es es' k →
     IsCut l h fs (events l h fs ++ more) es es' k
 cut_stopped l h fs more es es' k was =
     let rest : List Event = events l (after l h was.first) was.behind in
@@ -99,9 +141,11 @@ cut_stopped l h fs more es es' k was =
       front = was.front;
       told = was.told;
       kept = was.kept;
-      none_lost = ap (λ ms. messages was.front ++ ms) (sym (messages_told was.kept)) ∙ sym (messages_append was.front (map Handshake was.kept)) ∙ ap messages was.all;
+      none_lost = ap (λ ms. messages was.front ++ ms) (sym (messages_told was.kept))
+          ∙ sym (messages_append was.front (map Handshake was.kept)) ∙ ap messages was.all;
       untold = rest ++ more;
-      in_order = sym (append_assoc (was.front ++ map Handshake was.kept) rest more) ∙ ap (λ x. x ++ rest ++ more) was.all
+      in_order = sym (append_assoc (was.front ++ map Handshake was.kept) rest more)
+          ∙ ap (λ x. x ++ rest ++ more) was.all
           ∙ ap (λ x. x ++ more) (sym (ap (events l h) was.split ∙ events_append l h was.first was.behind));
       next = was.next;
       count = was.count;
@@ -109,11 +153,13 @@ cut_stopped l h fs more es es' k was =
     }
 
 -- It was cut behind fragments that were heard.
-pub cut_behind : (l : Limits) (h : Heard) (first fs more : List Fragment) (so_far all rest total es es' es'' : List Event) (k : Kept) →
+pub cut_behind : (l : Limits) (h : Heard) (first fs more : List Fragment)
+    (so_far all rest total es es' es'' : List Event) (k : Kept) →
     es' ≡ es ++ so_far → messages so_far ≡ messages (events l h first) → so_far ++ (all ++ rest) ≡ total →
     IsCut l (after l h first) fs all es' es'' k → IsCut l h (first ++ (fs ++ more)) total es es'' k
 cut_behind l h first fs more so_far all rest total es es' es'' k told none_lost in_order cut =
-    let same : after l (after l h first) cut.first ≡ after l h (first ++ cut.first) = sym (after_append l h first cut.first) in
+    let same : after l (after l h first) cut.first ≡ after l h (first ++ cut.first) =
+    sym (after_append l h first cut.first) in
     let kept : List Event = map Handshake cut.kept in
     record {
       first = first ++ cut.first;
@@ -123,12 +169,16 @@ cut_behind l h first fs more so_far all rest total es es' es'' k told none_lost 
       front = so_far ++ cut.front;
       told = cut.told ∙ ap (λ x. x ++ cut.front) told ∙ append_assoc es so_far cut.front;
       kept = cut.kept;
-      none_lost = ap (λ ms. ms ++ cut.kept) (messages_append so_far cut.front) ∙ append_assoc (messages so_far) (messages cut.front) cut.kept
-          ∙ ap (λ ms. messages so_far ++ ms) cut.none_lost ∙ ap (λ ms. ms ++ messages (events l (after l h first) cut.first)) none_lost
+      none_lost = ap (λ ms. ms ++ cut.kept) (messages_append so_far cut.front)
+          ∙ append_assoc (messages so_far) (messages cut.front) cut.kept
+          ∙ ap (λ ms. messages so_far ++ ms) cut.none_lost
+          ∙ ap (λ ms. ms ++ messages (events l (after l h first) cut.first)) none_lost
           ∙ messages_joined l h first cut.first;
       untold = cut.untold ++ rest;
-      in_order = ap (λ x. x ++ (cut.untold ++ rest)) (append_assoc so_far cut.front kept) ∙ append_assoc so_far (cut.front ++ kept) (cut.untold ++ rest)
-          ∙ ap (λ x. so_far ++ x) (sym (append_assoc (cut.front ++ kept) cut.untold rest) ∙ ap (λ x. x ++ rest) cut.in_order) ∙ in_order;
+      in_order = ap (λ x. x ++ (cut.untold ++ rest)) (append_assoc so_far cut.front kept)
+          ∙ append_assoc so_far (cut.front ++ kept) (cut.untold ++ rest)
+          ∙ ap (λ x. so_far ++ x) (sym (append_assoc (cut.front ++ kept) cut.untold rest)
+          ∙ ap (λ x. x ++ rest) cut.in_order) ∙ in_order;
       next = cut.next;
       count = cut.count ∙ ap (λ g. g.next) same;
       stands = subst (λ g. Stands l (record { taken = g.taken; next = cut.next }) k) same cut.stands;
@@ -149,7 +199,8 @@ part_behind all more es es' was = record {
   told = was.told;
 }
 
-pub part_taken : {X : Type 0} (f : X → Event) (xs : List X) (i : ℕ) (es es' es'' : List Event) → es' ≡ es ++ map f (take i xs) → es'' ≡ es' → AreToldInPart (map f xs) es es''
+pub part_taken : {X : Type 0} (f : X → Event) (xs : List X) (i : ℕ) (es es' es'' : List Event)
+    → es' ≡ es ++ map f (take i xs) → es'' ≡ es' → AreToldInPart (map f xs) es es''
 part_taken f xs i es es' es'' told same = record {
   front = map f (take i xs);
   untold = map f (drop i xs);

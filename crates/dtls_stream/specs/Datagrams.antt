@@ -81,6 +81,10 @@ abbrev pub content_step : Answer (List dtls_record.Message) → Heard → Step
 content_step (Ok x) h = (h, map event_of x.0 ++ left_over x.1)
 content_step (Err e) h = (h, Failed (kind_of e) ∷ [])
 
+-- A record of another type than handshake.
+abbrev pub content_record_step : RawRecord → Heard → Step
+content_record_step r h = content_step (reading (record_content r.header) r.fragment) h
+
 -- A record of an epoch above 0, whose fragment isn't read.
 abbrev pub encrypted : RawRecord → EncryptedRecord
 encrypted r = record {
@@ -95,8 +99,7 @@ encrypted r = record {
 abbrev pub record_step : Limits → Heard → RawRecord → Step
 record_step l h r =
     cond (nat_lt 0 r.header.epoch) (h, Encrypted (encrypted r) ∷ []) (
-    cond (r.header.content_type == 22) (fragment_record_step r.fragment l h)
-    (content_step (reading (record_content r.header) r.fragment) h))
+    cond (r.header.content_type == 22) (fragment_record_step r.fragment l h) (content_record_step r h))
 
 -- Where no record can be read, what is left is a fault.
 abbrev pub unread : Bytes → Refusal → List Event
@@ -134,11 +137,15 @@ abbrev pub those_read : Answer (List Fragment) → List Fragment
 those_read (Ok x) = x.0
 those_read (Err e) = []
 
+-- The fragments in the content of a record of type 22.
+abbrev pub fragments_in_content : Bytes → List Fragment
+fragments_in_content b = those_read (reading (list1 fragment) b)
+
 -- The fragments in a record: it holds some where its epoch is 0 and its type is 22.
 abbrev pub fragments_in_record : RawRecord → List Fragment
 fragments_in_record r =
     cond (nat_lt 0 r.header.epoch) [] (
-    cond (r.header.content_type == 22) (those_read (reading (list1 fragment) r.fragment)) [])
+    cond (r.header.content_type == 22) (fragments_in_content r.fragment) [])
 
 abbrev pub fragments_from : Answer RawRecord → (Bytes → List Fragment) → List Fragment
 fragments_from (Err e) more = []
@@ -176,3 +183,10 @@ pub record IsCut (l : Limits) (h : Heard) (fs : List Fragment) (all : List Event
   pub next : ℕ
   pub count : next + length kept ≡ (after l h first).next
   pub stands : Stands l (record { taken = (after l h first).taken; next = next }) k'
+
+-- The same, of one record, and of a datagram.
+abbrev pub IsRecordCut : Limits → Heard → RawRecord → List Event → List Event → Kept → Type 0
+IsRecordCut l h r es es' k' = IsCut l h (fragments_in_record r) (record_step l h r).1 es es' k'
+
+abbrev pub IsDatagramCut : Limits → Heard → Bytes → List Event → List Event → Kept → Type 0
+IsDatagramCut l h b es es' k' = IsCut l h (fragments_of b) (datagram l h b).1 es es' k'

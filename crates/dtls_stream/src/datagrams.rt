@@ -1,7 +1,7 @@
 //! Datagrams of one direction.
 ghost use Rattle.std.specs.Prelude.{◌≡◌, OnErr, OnOk, IfOk};
 ghost use Rattle.dtls_messages.specs.Messages.{Heard, Limits as Allowed, Stands, nothing, view_events, view_limits};
-ghost use Rattle.dtls_stream.specs.Datagrams.{IsCut, IsStep, datagram as datagram_step, datagrams as datagrams_step, fragments_of, views};
+ghost use Rattle.dtls_stream.specs.Datagrams.{IsDatagramCut, IsStep, datagram as datagram_step, datagrams as datagrams_step, views};
 
 use crate::records::{hear_record, read_record, tell_unread};
 use dtls_messages::{Event, Limits, Messages};
@@ -25,7 +25,7 @@ pub fn read_datagram<'a>(
     ensures told { (l : Allowed) (h : Heard) → Stands l h messages.old
         → OnOk result (IsStep l (datagram_step l h datagram.now) (view_events events.old.items) (view_events events.new.items) messages.new) }
     ensures stopped { (l : Allowed) (h : Heard) → Stands l h messages.old
-        → OnErr result (IsCut l h (fragments_of datagram.now) (datagram_step l h datagram.now).1 (view_events events.old.items) (view_events events.new.items) messages.new) }
+        → OnErr result (IsDatagramCut l h datagram.now (view_events events.old.items) (view_events events.new.items) messages.new) }
 {
     let mut left = datagram;
     'records: for taken in 0..datagram.len() {

@@ -1,14 +1,12 @@
 //! Records of a datagram, and what is told of each.
 ghost use Rattle.std.specs.Prelude.{◌≡◌, ◌++◌, OnErr, OnOk, map};
 ghost use Rattle.tls_fields.specs.Answers.{Gives, refusal_of};
-ghost use Rattle.tls_fields.specs.Layout.{list1};
-ghost use Rattle.tls_fields.specs.Reading.{reading};
-ghost use Rattle.tls_parser.specs.DtlsRecord.{record_content, view_header, view_message as view_content, view_raw_record};
+ghost use Rattle.tls_parser.specs.DtlsRecord.{view_header, view_message as view_content, view_raw_record};
 ghost use Rattle.std.specs.Option.{option_map};
 ghost use Rattle.tls_parser.specs.DtlsHandshake.{view_handshake};
-ghost use Rattle.dtls_messages.specs.Fragments.{fragment as fragment_layout, view_fragment};
+ghost use Rattle.dtls_messages.specs.Fragments.{view_fragment};
 ghost use Rattle.dtls_messages.specs.Messages.{Heard, Limits as Allowed, Stands, view_event, view_events};
-ghost use Rattle.dtls_stream.specs.Datagrams.{AreToldInPart, IsCut, IsStep, content as content_layout, content_step, datagram_record, event_of, fragment_in, fragment_record_step, fragments_in_record, kind_of as kind_told, left_over, limit, record_step, those_read, unread};
+ghost use Rattle.dtls_stream.specs.Datagrams.{AreToldInPart, IsCut, IsRecordCut, IsStep, content as content_layout, content_record_step, datagram_record, event_of, fragment_in, fragment_record_step, fragments_in_content, kind_of as kind_told, left_over, limit, record_step, unread};
 
 use dtls_messages::{EncryptedRecord, Event, Fragment, Messages, read_all};
 use std::alloc::Global;
@@ -126,7 +124,8 @@ fn tell_messages<'a>(
     events: &mut Vec<Event<'a>>,
 ) -> Result<(), OutOfMemory>
     ensures told { OnOk result (view_events events.new.items ≡ view_events events.old.items ++ map (λ m. event_of (view_content m)) messages.now) }
-    ensures stopped { OnErr result (AreToldInPart (map (λ m. event_of (view_content m)) messages.now) (view_events events.old.items) (view_events events.new.items)) }
+    ensures stopped { OnErr result (AreToldInPart (map (λ m. event_of (view_content m)) messages.now)
+        (view_events events.old.items) (view_events events.new.items)) }
 {
     for message in messages {
         events.push(told_as(message))?;
@@ -141,9 +140,9 @@ fn tell_content<'a>(
     events: &mut Vec<Event<'a>>,
 ) -> Result<(), OutOfMemory>
     ensures told { (h : Heard)
-        → OnOk result (view_events events.new.items ≡ view_events events.old.items ++ (content_step (reading (record_content (view_header raw.now.header)) raw.now.fragment.now) h).1) }
+        → OnOk result (view_events events.new.items ≡ view_events events.old.items ++ (content_record_step (view_raw_record raw.now) h).1) }
     ensures stopped { (h : Heard)
-        → OnErr result (AreToldInPart (content_step (reading (record_content (view_header raw.now.header)) raw.now.fragment.now) h).1 (view_events events.old.items) (view_events events.new.items)) }
+        → OnErr result (AreToldInPart (content_record_step (view_raw_record raw.now) h).1 (view_events events.old.items) (view_events events.new.items)) }
 {
     match parse_dtls_record_with_header(alloc, raw.fragment, &raw.header) {
         Ok((rest, messages)) => {
@@ -168,7 +167,8 @@ fn read_handshake(
     ensures told { (l : Allowed) (h : Heard) → Stands l h messages.old
         → OnOk result (IsStep l (fragment_record_step bytes.now l h) (view_events events.old.items) (view_events events.new.items) messages.new) }
     ensures stopped { (l : Allowed) (h : Heard) → Stands l h messages.old
-        → OnErr result (IsCut l h (those_read (reading (list1 fragment_layout) bytes.now)) (fragment_record_step bytes.now l h).1 (view_events events.old.items) (view_events events.new.items) messages.new) }
+        → OnErr result (IsCut l h (fragments_in_content bytes.now) (fragment_record_step bytes.now l h).1
+        (view_events events.old.items) (view_events events.new.items) messages.new) }
 {
     match items1::<Fragment>(alloc, bytes) {
         Ok((rest, fragments)) => {
@@ -193,7 +193,7 @@ pub(crate) fn hear_record<'a>(
     ensures told { (l : Allowed) (h : Heard) → Stands l h messages.old
         → OnOk result (IsStep l (record_step l h (view_raw_record raw.entry)) (view_events events.old.items) (view_events events.new.items) messages.new) }
     ensures stopped { (l : Allowed) (h : Heard) → Stands l h messages.old
-        → OnErr result (IsCut l h (fragments_in_record (view_raw_record raw.entry)) (record_step l h (view_raw_record raw.entry)).1 (view_events events.old.items) (view_events events.new.items) messages.new) }
+        → OnErr result (IsRecordCut l h (view_raw_record raw.entry) (view_events events.old.items) (view_events events.new.items) messages.new) }
 {
     if raw.header.epoch > 0 {
         events.push(Event::Encrypted(EncryptedRecord {

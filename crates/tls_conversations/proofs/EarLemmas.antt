@@ -1,5 +1,26 @@
 -- Sides of conversations.
-use Rattle.std.proofs.Common.{◌≡◌, ℕ, List, [], ◌∷◌, ◌++◌, Bool, true, false, Option, Some, None, Ok, refl, sym, ◌∙◌, ap, subst, append_assoc, append-nil}
+use Rattle.std.proofs.Common.{
+  ◌≡◌,
+  ℕ,
+  List,
+  [],
+  ◌∷◌,
+  ◌++◌,
+  Bool,
+  true,
+  false,
+  Option,
+  Some,
+  None,
+  Ok,
+  refl,
+  sym,
+  ◌∙◌,
+  ap,
+  subst,
+  append_assoc,
+  append-nil,
+}
 use Rattle.std.specs.Prelude.{IsSome, option_map}
 use Rattle.tls_fields.specs.Bytes.{Bytes}
 use Rattle.tls_events.specs.Item.{Event as Said, Failed}
@@ -27,13 +48,15 @@ none_to_come d = ap events (fed_nothing d)
 pub same_waits : (d n : Direction) → SaysTheSame n d → SaysAs (speaking d) (speaking n)
 same_waits d n same t = sym (same t)
 
-pub same_fails : (d n m : Direction) (f : Fault) → SaysTheSame n d → SaysOnly n (Failed f ∷ []) → SaysAs (speaking d) (faulty m f)
+pub same_fails : (d n m : Direction) (f : Fault) → SaysTheSame n d → SaysOnly n (Failed f ∷ [])
+    → SaysAs (speaking d) (faulty m f)
 same_fails d n m f same only t = sym (same t) ∙ only t
 
 pub ready_some : (d : Direction) → IsSome (first d) → IsReady (speaking d)
 ready_some d some = go (first d) refl some
   where
-    go : (a : Option (Said × Direction)) → first d ≡ a → IsSome a → first_in (events (fed d [])) ≡ option_map (λ x. x.0) a
+    go : (a : Option (Said × Direction)) → first d ≡ a → IsSome a
+        → first_in (events (fed d [])) ≡ option_map (λ x. x.0) a
     go None is some = absurd cc
     go (Some x) is some = ap first_in (first_event d x.1 x.0 [] is)
 
@@ -61,13 +84,18 @@ taken_is d n e off same = go (first d) refl off
     go : (a : Option (Said × Direction)) → first d ≡ a → FirstTaken a d true n
         → IsTaken (option_map (λ x. x.0) a) (speaking d) true e
     go None is off = let t : true ≡ false = off.0 in absurd cc
-    go (Some x) is off =
-        (refl, λ t. first_event d x.1 x.0 t is ∙ ap (λ m. x.0 ∷ events (fed m t)) (sym off.1) ∙ ap (λ vs. x.0 ∷ vs) (same t))
+    go (Some x) is off = (
+      refl,
+      λ t. first_event d x.1 x.0 t is ∙ ap (λ m. x.0 ∷ events (fed m t)) (sym off.1)
+          ∙ ap (λ vs. x.0 ∷ vs) (same t),
+    )
 
-pub none_taken : (d n : Direction) → FirstTaken (first d) d false n → IsTaken (front_of (speaking d)) (speaking d) false (speaking n)
+pub none_taken : (d n : Direction) → FirstTaken (first d) d false n
+    → IsTaken (front_of (speaking d)) (speaking d) false (speaking n)
 none_taken d n off = go (first d) off
   where
-    go : (a : Option (Said × Direction)) → FirstTaken a d false n → IsTaken (option_map (λ x. x.0) a) (speaking d) false (speaking n)
+    go : (a : Option (Said × Direction)) → FirstTaken a d false n
+        → IsTaken (option_map (λ x. x.0) a) (speaking d) false (speaking n)
     go None off = (refl, ap speaking off.1)
     go (Some x) off = let t : false ≡ true = off.0 in absurd cc
 
@@ -82,19 +110,24 @@ ready_silent Speaks d other = absurd (other refl)
 ready_silent (AtFault f) d other = refl
 ready_silent Over d other = refl
 
-pub taken_by : (s : Standing) (d n : Direction) (e : Ear) (t : Bool) → s ≡ Speaks → t ≡ true → FirstTaken (first d) d t n
+pub taken_by : (s : Standing) (d n : Direction) (e : Ear) (t : Bool) → s ≡ Speaks → t ≡ true
+    → FirstTaken (first d) d t n
     → SaysAs (record { direction = n; standing = s }) e
     → IsTaken (front_of (record { direction = d; standing = s })) (record { direction = d; standing = s }) t e
 taken_by s d n e t is took off same =
     let at : IsTaken (front_of (speaking d)) (speaking d) true e
-    = taken_is d n e (subst (λ t. FirstTaken (first d) d t n) took off) (subst (λ s. SaysAs (record { direction = n; standing = s }) e) is same) in
-    subst (λ t. IsTaken (front_of (record { direction = d; standing = s })) (record { direction = d; standing = s }) t e) (sym took)
-    (subst (λ s. IsTaken (front_of (record { direction = d; standing = s })) (record { direction = d; standing = s }) true e) (sym is) at)
+    = taken_is d n e (subst (λ t. FirstTaken (first d) d t n) took off)
+    (subst (λ s. SaysAs (record { direction = n; standing = s }) e) is same) in
+    subst (λ t. IsTaken (front_of (record { direction = d; standing = s })) (record { direction = d; standing = s }) t
+    e) (sym took)
+    (subst (λ s. IsTaken (front_of (record { direction = d; standing = s })) (record { direction = d; standing = s })
+    true e) (sym is) at)
 
 pub kept_ready : (s : Standing) (d n : Direction) (t : Bool) → t ≡ false → FirstTaken (first d) d t n
     → IsReady (record { direction = d; standing = s }) → IsReady (record { direction = n; standing = s })
 kept_ready s d n t none off ready =
-    subst (λ m. IsReady (record { direction = m; standing = s })) (sym (is (first d) (subst (λ t. FirstTaken (first d) d t n) none off))) ready
+    subst (λ m. IsReady (record { direction = m; standing = s }))
+    (sym (is (first d) (subst (λ t. FirstTaken (first d) d t n) none off))) ready
   where
     is : (a : Option (Said × Direction)) → FirstTaken a d false n → n ≡ d
     is None off = off.1

@@ -40,6 +40,7 @@ use Rattle.tls_flow.specs.declared.state.State.TheVariants as state
 use Rattle.tls_flow.specs.declared.state.Outcome.{Outcome}
 use Rattle.tls_flow.specs.declared.state.Outcome.TheVariants as outcome
 use Rattle.tls_flow.specs.declared.table.TheConstants.{ROWS}
+use Rattle.tls_flow.proofs.NumberLemmas.{state_number, step_at, step_is, awaited_at, awaited_is}
 use Rattle.tls_flow.proofs.LetterLemmas.{same_letter, letters, passes}
 use Rattle.tls_flow.proofs.ConversationLemmas.{
   is_done,
@@ -66,14 +67,21 @@ both_same false false h = refl
 abbrev awaits : State → Letter → Bool
 awaits q l = is_waiting (outcome_at q) && (not (is_noise l) && is_alive (outcome_at (step q l)))
 
-abbrev await_test : State → List Letter → Letter → Bool
-await_test q xs l = same_bool (is_in same_letter xs l) (awaits q l)
+-- The same by numbers.
+abbrev awaits_at : State → Letter → Bool
+awaits_at q l = is_waiting (outcome_at q) && (not (is_noise l) && is_alive (outcome_at (step_at q l)))
 
-awaits_pass : (q : State) → list_all (await_test q (awaited_in ROWS q)) letters ≡ true
+abbrev await_test : State → List Letter → Letter → Bool
+await_test q xs l = same_bool (is_in same_letter xs l) (awaits_at q l)
+
+awaits_pass : (q : State) → list_all (await_test q (awaited_at ROWS (state_number q))) letters ≡ true
 awaits_pass = elim [ state.Start ↦ refl | _ ↦ refl ]
 
 awaits_is : (q : State) (l : Letter) → is_in same_letter (awaited_in ROWS q) l ≡ awaits q l
-awaits_is q l = both_same _ _ (passes (await_test q (awaited_in ROWS q)) l (awaits_pass q))
+awaits_is q l =
+    ap (λ xs. is_in same_letter xs l) (awaited_is ROWS q)
+    ∙ both_same _ _ (passes (await_test q (awaited_at ROWS (state_number q))) l (awaits_pass q))
+    ∙ ap (λ r. is_waiting (outcome_at q) && (not (is_noise l) && is_alive (outcome_at r))) (sym (step_is q l))
 
 not_true : (t : Bool) → not t ≡ true → t ≡ false
 not_true true h = cc

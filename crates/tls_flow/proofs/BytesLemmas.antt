@@ -85,7 +85,8 @@ module _ (n : ℕ) (w : Bytes) (x : handshakes.Handshake × Bytes) where
   at t k is same = subst Same (sym is) same
 
   from_finished : (t : ℕ) → reading (handshakes.body_from_finished t n) w ≡ Ok x → Same t
-  unfolding handshakes.body_from_finished handshakes.finished_body handshakes.certificate_status_body handshakes.key_update_body handshakes.next_protocol_body
+  unfolding handshakes.body_from_finished handshakes.finished_body handshakes.certificate_status_body
+      handshakes.key_update_body handshakes.next_protocol_body
   from_finished t e = elim (pick t 20 _ _ w x e) [
     | inl h ↦ at t 20 h.0 (row handshakes.Finished (block n) kind.Other w x (λ a. refl) h.1)
     | inr e ↦ elim (pick t 22 _ _ w x e) [
@@ -102,7 +103,9 @@ module _ (n : ℕ) (w : Bytes) (x : handshakes.Handshake × Bytes) where
   ]
 
   from_certificate : (t : ℕ) → reading (handshakes.body_from_certificate t n) w ≡ Ok x → Same t
-  unfolding handshakes.body_from_certificate handshakes.certificate_body handshakes.server_key_exchange_body handshakes.certificate_request_body handshakes.server_done_body handshakes.certificate_verify_body handshakes.client_key_exchange_body
+  unfolding handshakes.body_from_certificate handshakes.certificate_body handshakes.server_key_exchange_body
+      handshakes.certificate_request_body handshakes.server_done_body handshakes.certificate_verify_body
+      handshakes.client_key_exchange_body
   from_certificate t e = elim (pick t 11 _ _ w x e) [
     | inl h ↦ at t 11 h.0 (row handshakes.Certificate certificates.certificate kind.Certificate w x (λ a. refl) h.1)
     | inr e ↦ elim (pick t 12 _ _ w x e) [
@@ -128,7 +131,8 @@ module _ (n : ℕ) (w : Bytes) (x : handshakes.Handshake × Bytes) where
   ]
 
   pub same_body : (t : ℕ) → reading (handshakes.handshake_body t n) w ≡ Ok x → Same t
-  unfolding handshakes.handshake_body handshakes.hello_request_body handshakes.client_hello_body handshakes.new_session_ticket_body handshakes.hello_retry_request_body
+  unfolding handshakes.handshake_body handshakes.hello_request_body handshakes.client_hello_body
+      handshakes.new_session_ticket_body handshakes.hello_retry_request_body
   same_body t e = elim (pick t 0 _ _ w x e) [
     | inl h ↦ at t 0 h.0 (let same : ◌≡◌ {A = handshakes.Handshake × Bytes} (handshakes.HelloRequest, w) x =
         cc in ap (λ (p : handshakes.Handshake × Bytes). kind_of_handshake p.0) same)
@@ -218,7 +222,8 @@ same_kind b m e =
     let is_y : ◌≡◌ {A = handshakes.Handshake × Bytes} (x.0.0, w.0.1) y.0 = ok_is (x.0.0, w.0.1) y.0 x.2 in
     let is_m : ◌≡◌ {A = messages.Message × Bytes} (messages.Handshake y.0.0, y.0.1) (m, []) =
     ok_is (messages.Handshake y.0.0, y.0.1) (m, []) y.2 in
-    same_parts b t.0.1 n.0.1 w.0.0 w.0.1 t.0.0 n.0.0 x.0.0 read_t.0 read_t.1 read_t.2 read_n.0 read_n.2 read_w.0 read_w.1 read_w.2
+    same_parts b t.0.1 n.0.1 w.0.0 w.0.1 t.0.0 n.0.0 x.0.0 read_t.0 read_t.1 read_t.2 read_n.0 read_n.2 read_w.0
+    read_w.1 read_w.2
     (ap (λ (p : handshakes.Handshake × Bytes). p.1) is_y ∙ ap (λ (p : messages.Message × Bytes). p.1) is_m)
     (same_body n.0.0 w.0.0 x.0 t.0.0 x.1)
     ∙ ap (λ (p : handshakes.Handshake × Bytes). kind_of_handshake p.0) is_y

@@ -1,5 +1,5 @@
 -- What each state still waits for, by a word that leads to it.
-use Rattle.std.proofs.Common.{◌≡◌, [], ◌∷◌, Bool, true, false, cond, refl}
+use Rattle.std.proofs.Common.{◌≡◌, [], ◌∷◌, Bool, true, false, cond, refl, ◌∙◌, ap}
 use Rattle.std.specs.List.{list_all}
 use Rattle.tls_words.specs.Words.{Pattern, none, all, chain, Pattern-discrete}
 use Rattle.tls_words.proofs.PatternLemmas.{behind, behind_all}
@@ -14,6 +14,7 @@ use Rattle.tls_flow.specs.declared.state.State.{State}
 use Rattle.tls_flow.specs.declared.state.State.TheVariants as state
 use Rattle.tls_flow.specs.declared.state.Outcome.{Outcome}
 use Rattle.tls_flow.specs.declared.state.Outcome.TheVariants as outcome
+use Rattle.tls_flow.proofs.NumberLemmas.{step_at, step_is}
 use Rattle.tls_flow.proofs.LetterLemmas.{same_letter, letters, passes}
 
 -- A word that leads to a state, and to one that waits for nothing a word that no handshake begins with.
@@ -31,7 +32,8 @@ after_request w = after_certificate (letter kind.CertificateRequest FromServer �
 
 abbrev after_change : Word → Word
 after_change w =
-    after_server_hello (letter kind.ServerDone FromServer ∷ letter kind.ClientKeyExchange ToServer ∷ letter kind.ChangeCipherSpec ToServer ∷ w)
+    after_server_hello (letter kind.ServerDone FromServer ∷ letter kind.ClientKeyExchange ToServer
+    ∷ letter kind.ChangeCipherSpec ToServer ∷ w)
 
 abbrev road : State → Word
 road state.Start = []
@@ -55,7 +57,8 @@ road state.Request = after_request []
 road state.RequestDone = after_request (letter kind.ServerDone FromServer ∷ [])
 road state.ClientCertificate = after_request (letter kind.ServerDone FromServer ∷ letter kind.Certificate ToServer ∷ [])
 road state.ClientKeys =
-    after_request (letter kind.ServerDone FromServer ∷ letter kind.Certificate ToServer ∷ letter kind.ClientKeyExchange ToServer ∷ [])
+    after_request (letter kind.ServerDone FromServer ∷ letter kind.Certificate ToServer
+    ∷ letter kind.ClientKeyExchange ToServer ∷ [])
 road state.Done = after_server_hello (letter kind.ServerDone FromServer ∷ [])
 road state.ClientDone = after_server_hello
     (letter kind.ServerDone FromServer ∷ letter kind.ClientKeyExchange ToServer ∷ [])
@@ -69,9 +72,11 @@ road state.Resumed =
 road state.Tls13 = after_hello (letter kind.ServerHello13 FromServer ∷ [])
 road state.EarlyTls13 = after_hello (letter kind.Encrypted ToServer ∷ letter kind.ServerHello13 FromServer ∷ [])
 road state.RetriedTls13 =
-    after_hello (letter kind.HelloRetryRequest FromServer ∷ letter kind.ClientHello ToServer ∷ letter kind.ServerHello13 FromServer ∷ [])
+    after_hello (letter kind.HelloRetryRequest FromServer ∷ letter kind.ClientHello ToServer
+    ∷ letter kind.ServerHello13 FromServer ∷ [])
 road state.EarlyRetriedTls13 = after_hello
-    (letter kind.HelloRetryRequest FromServer ∷ letter kind.Encrypted ToServer ∷ letter kind.ClientHello ToServer ∷ letter kind.ServerHello13 FromServer ∷ [])
+    (letter kind.HelloRetryRequest FromServer ∷ letter kind.Encrypted ToServer ∷ letter kind.ClientHello ToServer
+    ∷ letter kind.ServerHello13 FromServer ∷ [])
 road state.BrokenOff = letter kind.Other ToServer ∷ []
 road state.Unknown = letter kind.Other ToServer ∷ []
 road state.NoHandshake = letter kind.Other ToServer ∷ []
@@ -94,7 +99,7 @@ abbrev waits_next : Pattern Letter → Letter → Pattern Letter
 waits_next x l = cond (is_noise l) x (behind same_letter x l)
 
 abbrev next_test : Pattern Letter → State → Pattern Letter → Letter → Bool
-next_test p q x l = is_yes (same_pattern (waits p (step q l)) (waits_next x l))
+next_test p q x l = is_yes (same_pattern (waits p (step_at q l)) (waits_next x l))
 
 abbrev tests_at : Pattern Letter → State → Bool
 tests_at p q = list_all (next_test p q (waits p q)) letters
@@ -138,5 +143,6 @@ pub follows : (o : Outcome) (q : State) (l : Letter)
     → waits (pattern_of o) (step q l) ≡ cond (is_noise l) (waits (pattern_of o) q)
     (behind same_letter (waits (pattern_of o) q) l)
 follows o q l =
-    yes_is (same_pattern (waits (pattern_of o) (step q l)) (waits_next (waits (pattern_of o) q) l))
+    ap (waits (pattern_of o)) (step_is q l)
+    ∙ yes_is (same_pattern (waits (pattern_of o) (step_at q l)) (waits_next (waits (pattern_of o) q) l))
     (passes (next_test (pattern_of o) q (waits (pattern_of o) q)) l (form_passes o q))

@@ -10,13 +10,15 @@ use Rattle.tls_flow.specs.declared.letter.Direction.{Direction}
 use Rattle.tls_flow.specs.declared.letter.Direction.TheVariants.{ToServer, FromServer}
 use Rattle.tls_flow.specs.contracts.letter.Kind.{the_type as kinds_type}
 use Rattle.tls_flow.specs.contracts.letter.Direction.{the_type as directions_type}
-use denote.Enum.Bare.{sameb}
+use Rattle.tls_flow.proofs.NumberLemmas.{kind_number, direction_number, same_kinds, same_directions}
+use lib.Dec.{eqb}
 
 abbrev same_kind : (a b : Kind) → Dec (a ≡ b)
-same_kind a b = decided kinds_type tt a b (sameb kinds_type a b) refl
+same_kind a b = decided kinds_type tt a b (eqb (kind_number a) (kind_number b)) (same_kinds a b)
 
 abbrev same_direction : (a b : Direction) → Dec (a ≡ b)
-same_direction a b = decided directions_type tt a b (sameb directions_type a b) refl
+same_direction a b =
+    decided directions_type tt a b (eqb (direction_number a) (direction_number b)) (same_directions a b)
 
 pub letter_is : (a b : Letter) → a.kind ≡ b.kind → a.direction ≡ b.direction → a ≡ b
 letter_is a b p q = subst (λ x. a ≡ letter x b.direction) p (ap (λ y. letter a.kind y) q)

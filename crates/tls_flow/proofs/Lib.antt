@@ -1,3 +1,4 @@
+pub mod NumberLemmas
 pub mod LetterLemmas
 pub mod RowLemmas
 pub mod FollowLemmas

@@ -80,6 +80,7 @@ fn first_name_place(i: &[u8]) -> Result<Option<Place>, Err<Error<&[u8]>>>
 /// first name, of whatever type, in the first server_name extension (RFC 6066, section 3).
 ///
 /// It answers and refuses as [`tls_ext::server_name`].
+#[inline(always)]
 pub fn host_name_place(block: &[u8]) -> Result<Option<Place>, Err<Error<&[u8]>>>
     ensures tells { Tells (option_map (bytes_there block.now)) (host_name block.now) result }
     ensures within { IsWithin block.now result }

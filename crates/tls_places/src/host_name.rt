@@ -44,6 +44,7 @@ pub fn body_place(
 ///
 /// Refused as [`ClientHelloView::parse`] refuses the body, and as [`tls_ext::server_name`] the extensions.
 #[tactic(auto, using(tls_fields::proofs::OneAnswerLemmas::read_allowed, crate::proofs::HostNameLemmas::none_told))]
+#[inline(always)]
 pub fn host_name_place_of_hello(body: &[u8]) -> Result<Option<Place>, Err<Error<&[u8]>>>
     ensures tells { Tells (option_map (bytes_there body.now)) (name_in_hello (reading client_hello body.now)) result }
     ensures within { IsWithin body.now result }

@@ -2,3 +2,4 @@ mod CutLemmas
 mod HearerLemmas
 mod TalkLemmas
 mod DatagramLemmas
+mod RecordLemmas

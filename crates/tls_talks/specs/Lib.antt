@@ -5,3 +5,4 @@ pub mod Ends
 pub mod Front
 pub mod Datagrams
 pub mod Talks
+pub mod Records

@@ -5,7 +5,8 @@
 //! encrypted: so nothing behind the handshake is kept. What a [`Hearer`] knows is what the turns of both sides say, however these
 //! are cut: [`hear_all`] states it.
 //!
-//! Both have a history: a letter for each event, up to [`HISTORY_LIMIT`].
+//! Both have a history: a letter for each event, up to [`HISTORY_LIMIT`]. [`Records`] counts the records of a stream, encrypted ones too, and
+//! keeps no byte of them.
 //!
 //! Over datagrams, [`DatagramTalk`] does the same of DTLS up to 1.2. What it came to is a definition over the datagrams in their
 //! order: [`talk_of`] states it.
@@ -17,9 +18,11 @@ mod ends;
 mod front;
 mod hearer;
 mod history;
+mod records;
 mod talk;
 
 pub use datagram_talk::{DatagramTalk, talk_of};
 pub use hearer::{Hearer, hear_all};
 pub use history::HISTORY_LIMIT;
+pub use records::Records;
 pub use talk::Talk;

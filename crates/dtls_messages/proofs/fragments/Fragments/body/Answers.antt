@@ -7,5 +7,10 @@ use Rattle.dtls_messages.proofs.fragments.Fragments.body.Goals as goal
 pub returns-then-self-clause-complete : goal.returns-then-self-clause-complete
 returns-then-self-clause-complete c = (
   λ e. absurd cc,
-  λ all. absurd (omega (arith, c.if-self.true, complete_full (the_view c.self.inside) c.self.inside.filled c.self.invariant (subst IsComplete (sym c.self.view_is) all))),
+  λ all. absurd (omega (
+    arith,
+    c.if-self.true,
+    complete_full (the_view c.self.inside) c.self.inside.filled c.self.invariant
+        (subst IsComplete (sym c.self.view_is) all),
+  )),
 )

@@ -17,4 +17,5 @@ returns-clause-message c l h st =
     let same : c.in-Some-Some.part ≡ c.in_ok-part.part = cc in
     ap Some c.into_message.ensures
     ∙ front_some l h c.args.self.now c.in_ok-part.part c.in_ok-part.part.held st taken
-    (subst (λ p. IsBody p p.held) same (body_held c.body.result c.in-Some-Some.part c.body.ensures.body c.body.ensures.held c.if-is_none.ensures))
+    (subst (λ p. IsBody p p.held) same
+    (body_held c.body.result c.in-Some-Some.part c.body.ensures.body c.body.ensures.held c.if-is_none.ensures))

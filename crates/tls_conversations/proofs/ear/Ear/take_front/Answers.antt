@@ -3,7 +3,8 @@ use Rattle.tls_conversations.proofs.ear.Ear.take_front.Goals as goal
 
 pub returns-then-taken-clause-taken : goal.returns-then-taken-clause-taken
 returns-then-taken-clause-taken c =
-    taken_by c.args.self.now.standing c.args.self.now.direction c.take_front-taken.new.self c.settle.new.self c.take_front-taken.result
+    taken_by c.args.self.now.standing c.args.self.now.direction c.take_front-taken.new.self c.settle.new.self
+    c.take_front-taken.result
     c.in-Speaks.is c.if-taken.true c.take_front-taken.ensures c.settle.ensures.same
 
 pub returns-else-taken-clause-ready : goal.returns-else-taken-clause-ready

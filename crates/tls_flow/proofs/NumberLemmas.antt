@@ -1,0 +1,150 @@
+-- States, kinds and directions by their numbers: numbers are compared at once, where tags are counted up first.
+use Rattle.std.proofs.Common.{◌≡◌, ℕ, List, [], ◌∷◌, Option, Some, None, Bool, ◌&&◌, if◌then◌else◌, refl, ◌∙◌, ap}
+use Rattle.tls_flow.specs.Letters.{letter}
+use Rattle.tls_flow.specs.Table.{awaited_in, next_after, row_or, rule, step}
+use Rattle.tls_flow.specs.declared.letter.Letter.{Letter}
+use Rattle.tls_flow.specs.declared.letter.Kind.{Kind}
+use Rattle.tls_flow.specs.declared.letter.Kind.TheVariants as kind
+use Rattle.tls_flow.specs.declared.letter.Direction.{Direction}
+use Rattle.tls_flow.specs.declared.letter.Direction.TheVariants.{ToServer, FromServer}
+use Rattle.tls_flow.specs.declared.state.State.{State}
+use Rattle.tls_flow.specs.declared.state.State.TheVariants as state
+use Rattle.tls_flow.specs.declared.table.Row.{Row}
+use Rattle.tls_flow.specs.declared.table.TheConstants.{ROWS}
+use Rattle.tls_flow.specs.contracts.state.State.{the_type as states}
+use Rattle.tls_flow.specs.contracts.letter.Kind.{the_type as kinds}
+use Rattle.tls_flow.specs.contracts.letter.Direction.{the_type as directions}
+use denote.Enum.Bare.{sameb}
+use denote.Enum.Declared.{tag_of}
+use lib.Dec.{eqb}
+
+abbrev pub state_number : State → ℕ
+state_number state.Start = 0
+state_number state.Hello = 1
+state_number state.Verify = 2
+state_number state.VerifiedHello = 3
+state_number state.ChangedHello = 4
+state_number state.EarlyHello = 5
+state_number state.Retry = 6
+state_number state.EarlyRetry = 7
+state_number state.SecondHello = 8
+state_number state.EarlySecondHello = 9
+state_number state.ServerHello = 10
+state_number state.Certificate = 11
+state_number state.CertificateStatus = 12
+state_number state.CertifiedKeys = 13
+state_number state.Keys = 14
+state_number state.Request = 15
+state_number state.RequestDone = 16
+state_number state.ClientCertificate = 17
+state_number state.ClientKeys = 18
+state_number state.Done = 19
+state_number state.ClientDone = 20
+state_number state.ClientChange = 21
+state_number state.Ticket = 22
+state_number state.ResumedTicket = 23
+state_number state.ServerChange = 24
+state_number state.Full = 25
+state_number state.Resumed = 26
+state_number state.Tls13 = 27
+state_number state.EarlyTls13 = 28
+state_number state.RetriedTls13 = 29
+state_number state.EarlyRetriedTls13 = 30
+state_number state.BrokenOff = 31
+state_number state.Unknown = 32
+state_number state.NoHandshake = 33
+
+abbrev pub kind_number : Kind → ℕ
+kind_number kind.HelloRequest = 0
+kind_number kind.ClientHello = 1
+kind_number kind.HelloVerifyRequest = 2
+kind_number kind.ServerHello = 3
+kind_number kind.HelloRetryRequest = 4
+kind_number kind.ServerHello13 = 5
+kind_number kind.NewSessionTicket = 6
+kind_number kind.Certificate = 7
+kind_number kind.ServerKeyExchange = 8
+kind_number kind.CertificateRequest = 9
+kind_number kind.ServerDone = 10
+kind_number kind.CertificateVerify = 11
+kind_number kind.ClientKeyExchange = 12
+kind_number kind.CertificateStatus = 13
+kind_number kind.ChangeCipherSpec = 14
+kind_number kind.Encrypted = 15
+kind_number kind.Warning = 16
+kind_number kind.NoCertificate = 17
+kind_number kind.Fatal = 18
+kind_number kind.Heartbeat = 19
+kind_number kind.Unknown = 20
+kind_number kind.Other = 21
+
+abbrev pub direction_number : Direction → ℕ
+direction_number FromServer = 0
+direction_number ToServer = 1
+
+pub state_tag : (q : State) → tag_of states q ≡ state_number q
+state_tag = elim [ state.Start ↦ refl | _ ↦ refl ]
+
+pub kind_tag : (k : Kind) → tag_of kinds k ≡ kind_number k
+kind_tag = elim [ kind.HelloRequest ↦ refl | _ ↦ refl ]
+
+pub direction_tag : (d : Direction) → tag_of directions d ≡ direction_number d
+direction_tag = elim [ ToServer ↦ refl | _ ↦ refl ]
+
+pub same_states : (a b : State) → sameb states a b ≡ eqb (state_number a) (state_number b)
+same_states a b = ap (λ n. eqb n (tag_of states b)) (state_tag a) ∙ ap (eqb (state_number a)) (state_tag b)
+
+pub same_kinds : (a b : Kind) → sameb kinds a b ≡ eqb (kind_number a) (kind_number b)
+same_kinds a b = ap (λ n. eqb n (tag_of kinds b)) (kind_tag a) ∙ ap (eqb (kind_number a)) (kind_tag b)
+
+pub same_directions : (a b : Direction) → sameb directions a b ≡ eqb (direction_number a) (direction_number b)
+same_directions a b =
+    ap (λ n. eqb n (tag_of directions b)) (direction_tag a) ∙ ap (eqb (direction_number a)) (direction_tag b)
+
+-- The step.
+abbrev is_letter : ℕ → ℕ → Row → Bool
+is_letter k d r = eqb (kind_number r.kind) k && eqb (direction_number r.direction) d
+
+abbrev next_at : List Row → ℕ → ℕ → ℕ → Option State
+next_at [] q k d = None
+next_at (r ∷ rows) q k d =
+    if eqb (state_number r.state) q && is_letter k d r then Some r.next else next_at rows q k d
+
+same_row : (r : Row) (q : State) (k : Kind) (d : Direction)
+    → (sameb states r.state q && (sameb kinds r.kind k && sameb directions r.direction d))
+    ≡ (eqb (state_number r.state) (state_number q) && is_letter (kind_number k) (direction_number d) r)
+same_row r q k d =
+    ap (λ t. t && (sameb kinds r.kind k && sameb directions r.direction d)) (same_states r.state q)
+    ∙ ap (λ t. eqb (state_number r.state) (state_number q) && (t && sameb directions r.direction d))
+    (same_kinds r.kind k)
+    ∙ ap (λ t. eqb (state_number r.state) (state_number q) && (eqb (kind_number r.kind) (kind_number k) && t))
+    (same_directions r.direction d)
+
+next_is : (rows : List Row) (q : State) (k : Kind) (d : Direction)
+    → next_after rows q k d ≡ next_at rows (state_number q) (kind_number k) (direction_number d)
+next_is [] q k d = refl
+next_is (r ∷ rows) q k d =
+    ap (λ t. if t then Some r.next else next_after rows q k d) (same_row r q k d)
+    ∙ ap (λ o. if eqb (state_number r.state) (state_number q) && is_letter (kind_number k) (direction_number d) r
+    then Some r.next else o) (next_is rows q k d)
+
+abbrev pub step_at : State → Letter → State
+step_at q l =
+    row_or (next_at ROWS (state_number q) (kind_number l.kind) (direction_number l.direction))
+    (rule q l.kind l.direction)
+
+pub step_is : (q : State) (l : Letter) → step q l ≡ step_at q l
+step_is q l = ap (λ o. row_or o (rule q l.kind l.direction)) (next_is ROWS q l.kind l.direction)
+
+-- What a state waits for.
+abbrev pub awaited_at : List Row → ℕ → List Letter
+awaited_at [] q = []
+awaited_at (r ∷ rows) q =
+    if eqb (state_number r.state) q then letter r.kind r.direction ∷ awaited_at rows q else awaited_at rows q
+
+pub awaited_is : (rows : List Row) (q : State) → awaited_in rows q ≡ awaited_at rows (state_number q)
+awaited_is [] q = refl
+awaited_is (r ∷ rows) q =
+    ap (λ t. if t then letter r.kind r.direction ∷ awaited_in rows q else awaited_in rows q) (same_states r.state q)
+    ∙ ap (λ ls. if eqb (state_number r.state) (state_number q) then letter r.kind r.direction ∷ ls else ls)
+    (awaited_is rows q)
