@@ -9,11 +9,12 @@ FIELDS = """
     handshake.type handshake.version handshake.random handshake.extensions.supported_version handshake.ciphersuite
     handshake.extensions_key_share_group handshake.extensions_key_share_selected_group handshake.server_named_curve
     handshake.extensions_server_name handshake.extensions_alpn_str handshake.extension.type record.content_type
-    alert_message.level alert_message.desc
+    alert_message.level alert_message.desc record.length
 """.split()
 OUTER = ["frame.time_epoch", "ip.src", "ipv6.src", "ip.dst", "ipv6.dst"]
-OF_TCP = ["tcp.stream", "tcp.srcport", "tcp.dstport", "tcp.flags.fin", "tcp.flags.reset"]
-OF_UDP = ["udp.stream", "udp.srcport", "udp.dstport"]
+OF_TCP = ["tcp.stream", "tcp.srcport", "tcp.dstport", "tcp.flags.syn", "tcp.flags.fin", "tcp.flags.reset", "tcp.seq_raw", "tcp.len"]
+OF_UDP = ["udp.stream", "udp.srcport", "udp.dstport", "udp.length"]
+UDP_HEADER = 8
 VERSIONS = {
     0x300: "SSLv3", 0x301: "TLSv10", 0x302: "TLSv11", 0x303: "TLSv12", 0x304: "TLSv13",
     0xFEFF: "DTLSv10", 0xFEFD: "DTLSv12", 0xFEFC: "DTLSv13",
@@ -33,7 +34,8 @@ CHANGE, PRE_SHARED_KEY = "20", "41"
 ALWAYS = ["comp_method", "cert_count", "client_cert_count"]
 ORDER = """
     ts id.orig_h id.orig_p id.resp_h id.resp_p proto duration version cipher curve server_name next_protocol resumed established
-    last_alert outcome stop gap
+    last_alert outcome stop gap orig_pkts resp_pkts orig_bytes resp_bytes orig_records resp_records orig_repeated_bytes resp_repeated_bytes
+    orig_disagreeing_bytes resp_disagreeing_bytes
 """.split() + wanted_hellos.ORDER
 
 
@@ -89,6 +91,43 @@ def group(number):
     return wanted_hellos.GROUPS.get(number, f"0x{number:04x}")
 
 
+def is_set(row, flag):
+    return bool({*row[flag]} & {"1", "True"})
+
+
+class Sent:
+    """What one side of a connection sends. Of bytes that are sent again none are missing in front."""
+
+    def __init__(self):
+        self.packets, self.bytes, self.records, self.repeated, self.behind = 0, 0, 0, 0, None
+
+    def note(self, row, layer):
+        self.packets += 1
+        self.records += len(row["record.length"])
+        if layer == "udp":
+            self.bytes += int(first(row, "udp.length")) - UDP_HEADER
+        elif not is_set(row, "tcp.flags.reset"):
+            self.note_segment(int(first(row, "tcp.seq_raw")) + is_set(row, "tcp.flags.syn"), int(first(row, "tcp.len")))
+
+    def note_segment(self, begin, count):
+        """By the numbers of its bytes, in the circle of 2^32."""
+        self.behind = begin if self.behind is None else self.behind
+        further = (begin + count - self.behind) % 2**32
+        if further < 2**31:
+            self.bytes += further
+            self.behind += further
+            self.repeated += count - min(further, count)
+        else:
+            self.repeated += count
+
+    def told(self, front, layer):
+        records = self.records if layer == "tcp" else None
+        return {
+            f"{front}_pkts": self.packets, f"{front}_bytes": self.bytes, f"{front}_records": records,
+            f"{front}_repeated_bytes": self.repeated or None,
+        }
+
+
 class Talk:
     """What one connection says."""
 
@@ -98,7 +137,7 @@ class Talk:
         self.ends = self.source(row), (first(row, "ip.dst", "ipv6.dst"), int(first(row, f"{layer}.dstport")))
         self.is_tls, self.said, self.messages = False, {}, 0
         self.closed, self.changed, self.has_done, self.is_13 = set(), [], False, False
-        self.stop = None
+        self.stop, self.sent = None, {True: Sent(), False: Sent()}
 
     def source(self, row):
         return first(row, "ip.src", "ipv6.src"), int(first(row, f"{self.layer}.srcport"))
@@ -109,6 +148,7 @@ class Talk:
     def note(self, row):
         self.last = float(first(row, "frame.time_epoch"))
         side = self.source(row) == self.ends[0]
+        self.sent[side].note(row, self.layer)
         types = row["handshake.type"]
         self.is_tls |= bool(types or row["alert_message.desc"] or row["record.content_type"])
         if CLIENT_HELLO in types:
@@ -125,7 +165,7 @@ class Talk:
         for kind in row["record.content_type"]:
             self.note_record(kind, side)
         self.note_alerts(row, side)
-        if self.layer == "tcp" and {*row["tcp.flags.fin"], *row["tcp.flags.reset"]} & {"1", "True"}:
+        if self.layer == "tcp" and (is_set(row, "tcp.flags.fin") or is_set(row, "tcp.flags.reset")):
             self.closed.add(side)
 
     def note_record(self, kind, side):
@@ -172,5 +212,6 @@ class Talk:
             "id.orig_h": self.ends[0][0], "id.orig_p": self.ends[0][1], "id.resp_h": self.ends[1][0], "id.resp_p": self.ends[1][1],
             **self.said, "resumed": is_short or (self.is_13 and self.said["resumed"]),
             "established": self.is_established(), "outcome": outcome, "stop": self.stop,
+            **self.sent[True].told("orig", self.layer), **self.sent[False].told("resp", self.layer),
         }
         return {field: known[field] for field in ORDER if is_told(field, known.get(field))}

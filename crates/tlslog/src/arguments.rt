@@ -98,7 +98,11 @@ pub fn style_of<'a, R: Runtime + AllocGlobal>(
         Some("csv") => Format::Csv,
         _ => Format::Json,
     };
-    let lines = Lines::new(alloc, matches.get_flag("messages"), matches.get_str("fields"))?;
+    let lines = Lines::new(
+        alloc,
+        matches.get_flag("messages"),
+        matches.get_str("fields"),
+    )?;
     let suites = match matches.get_str("ciphers") {
         Some(path) => suites_of(rt, path)?,
         None => Suites::new(alloc),

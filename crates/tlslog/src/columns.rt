@@ -1,4 +1,5 @@
 //! The fields of a line, and their names.
+use connections::Side;
 
 /// Who talks, over what, and when.
 #[derive(Clone, Copy, Debug, PartialEq, Eq)]
@@ -92,6 +93,16 @@ pub enum Print {
     Ja4,
 }
 
+/// What a side sent, counted.
+#[derive(Clone, Copy, Debug, PartialEq, Eq)]
+pub enum Sent {
+    Packets,
+    Bytes,
+    Records,
+    Repeated,
+    Disagreeing,
+}
+
 /// A field of a connection's line.
 #[derive(Clone, Copy, Debug, PartialEq, Eq)]
 pub enum Field {
@@ -102,6 +113,7 @@ pub enum Field {
     Answer(Answer),
     Chain(Chain),
     Print(Print),
+    Sent(Side, Sent),
 }
 
 /// A field of a message's line.
@@ -138,7 +150,29 @@ pub static FIELDS: &[Column<Field>] = &[
     ("outcome", Field::Course(Course::Outcome)),
     ("stop", Field::Course(Course::Stop)),
     ("gap", Field::Course(Course::Gap)),
+    ("orig_pkts", Field::Sent(Side::Originator, Sent::Packets)),
+    ("resp_pkts", Field::Sent(Side::Responder, Sent::Packets)),
+    ("orig_bytes", Field::Sent(Side::Originator, Sent::Bytes)),
+    ("resp_bytes", Field::Sent(Side::Responder, Sent::Bytes)),
+    ("orig_records", Field::Sent(Side::Originator, Sent::Records)),
+    ("resp_records", Field::Sent(Side::Responder, Sent::Records)),
     ("retried", Field::Course(Course::Retried)),
+    (
+        "orig_repeated_bytes",
+        Field::Sent(Side::Originator, Sent::Repeated),
+    ),
+    (
+        "resp_repeated_bytes",
+        Field::Sent(Side::Responder, Sent::Repeated),
+    ),
+    (
+        "orig_disagreeing_bytes",
+        Field::Sent(Side::Originator, Sent::Disagreeing),
+    ),
+    (
+        "resp_disagreeing_bytes",
+        Field::Sent(Side::Responder, Sent::Disagreeing),
+    ),
     ("client_version", Field::Offer(Offer::Version)),
     ("client_supported_versions", Field::Offer(Offer::Versions)),
     ("client_session_id", Field::Offer(Offer::SessionId)),
@@ -149,19 +183,28 @@ pub static FIELDS: &[Column<Field>] = &[
     ("point_formats", Field::Offer(Offer::PointFormats)),
     ("sigalgs", Field::Offer(Offer::SignatureAlgorithms)),
     ("orig_alpn", Field::Offer(Offer::Protocols)),
-    ("client_key_share_groups", Field::Offer(Offer::KeyShareGroups)),
+    (
+        "client_key_share_groups",
+        Field::Offer(Offer::KeyShareGroups),
+    ),
     ("psk_key_exchange_modes", Field::Offer(Offer::PskModes)),
     ("offers_psk", Field::Offer(Offer::Psk)),
     ("offers_early_data", Field::Offer(Offer::EarlyData)),
     ("offers_ticket", Field::Offer(Offer::Ticket)),
     ("cookie", Field::Offer(Offer::Cookie)),
     ("ech", Field::Offer(Offer::EncryptedClientHello)),
-    ("delegated_credential", Field::Offer(Offer::DelegatedCredentials)),
+    (
+        "delegated_credential",
+        Field::Offer(Offer::DelegatedCredentials),
+    ),
     ("server_version", Field::Answer(Answer::Version)),
     ("server_session_id", Field::Answer(Answer::SessionId)),
     ("comp_method", Field::Answer(Answer::Compression)),
     ("ssl_server_exts", Field::Answer(Answer::ExtensionTypes)),
-    ("server_key_share_group", Field::Answer(Answer::KeyShareGroup)),
+    (
+        "server_key_share_group",
+        Field::Answer(Answer::KeyShareGroup),
+    ),
     ("scts", Field::Answer(Answer::Timestamps)),
     ("ticket_issued", Field::Answer(Answer::Ticket)),
     ("ocsp_stapled", Field::Answer(Answer::Status)),

@@ -1,10 +1,10 @@
 //! What is heard of a connection, by what carries it.
 use crate::speech::{Speech, Spoken};
-use connections::{Listener, Protocol, Stream};
+use connections::{Listener, Protocol, Side, Stream};
 use std::alloc::{AllocError, Global};
 use tls_facts::Facts;
 use tls_flow::{Direction, Outcome, Stop};
-use tls_talks::{DatagramTalk, Talk};
+use tls_talks::{DatagramTalk, Records, Talk};
 
 /// What both sides of a connection said.
 #[derive(Drop)]
@@ -23,6 +23,9 @@ pub struct Heard {
     said: Said,
     // The messages, where they are kept.
     speech: Option<Speech>,
+    // Over TCP, the records of each side, encrypted ones too.
+    from_originator: Records,
+    from_responder: Records,
 }
 
 impl Listener for Heard {
@@ -36,6 +39,8 @@ impl Listener for Heard {
             protocol,
             said,
             speech: None,
+            from_originator: Records::new(),
+            from_responder: Records::new(),
         }
     }
 }
@@ -104,6 +109,23 @@ impl Heard {
         }
     }
 
+    /// How many records a side said over TCP, up to the first bytes that are missing.
+    pub fn records(&self, side: Side) -> Option<u64> {
+        match (self.protocol, side) {
+            (Protocol::Tcp, Side::Originator) => Some(self.from_originator.count()),
+            (Protocol::Tcp, Side::Responder) => Some(self.from_responder.count()),
+            (Protocol::Udp, _) => None,
+        }
+    }
+
+    /// Counts the records in the bytes that a side says next.
+    pub fn count_records(&mut self, direction: Direction, bytes: &[u8]) {
+        match direction {
+            Direction::ToServer => self.from_originator.add(bytes),
+            Direction::FromServer => self.from_responder.add(bytes),
+        }
+    }
+
     /// Hears what a side's stream says next.
     pub fn hear_stream(
         &mut self,
@@ -116,13 +138,17 @@ impl Heard {
         let was_over = talk.is_over(direction);
         let bytes = stream.available();
         let n = talk.hear(self.alloc, direction, bytes)?;
+        let is_over = talk.is_over(direction);
         if let (Some(speech), Some(heard)) = (&mut self.speech, bytes.get(..n)) {
             if talk.is_tls() && !was_over {
                 speech.hear(direction, heard)?;
             }
         }
+        if let Some(heard) = bytes.get(..n) {
+            self.count_records(direction, heard);
+        }
         stream.take(n);
-        if talk.is_over(direction) {
+        if is_over {
             stream.stop();
         }
         Ok(())

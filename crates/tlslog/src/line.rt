@@ -1,6 +1,6 @@
 //! The line of a connection.
 use crate::cell::{Cell, Row, StopCell};
-use crate::columns::{Course, End, FIELDS, Field, Named};
+use crate::columns::{Course, End, FIELDS, Field, Named, Sent};
 use crate::heard::Heard;
 use crate::hellos::{answer_cell, chain_cell, offer_cell};
 use crate::names::{kind_name, outcome_name, sender_name};
@@ -123,6 +123,33 @@ fn course_cell(connection: &Connection<Heard>, field: Course) -> Option<Cell> {
     }
 }
 
+/// A count, where there is something to count.
+fn some_count(count: u64) -> Option<Cell> {
+    if count == 0 {
+        return None;
+    }
+    Some(Cell::Number(count))
+}
+
+/// What a side sent.
+fn sent_cell(connection: &Connection<Heard>, side: Side, field: Sent) -> Option<Cell> {
+    let sent = connection.sent(side);
+    let stream = connection.stream(side);
+    match field {
+        Sent::Packets => Some(Cell::Number(sent.packets)),
+        Sent::Bytes => Some(Cell::Number(match connection.protocol {
+            Protocol::Tcp => stream.length(),
+            Protocol::Udp => sent.bytes,
+        })),
+        Sent::Records => match connection.listener.records(side) {
+            Some(count) => Some(Cell::Number(count)),
+            None => None,
+        },
+        Sent::Repeated => some_count(stream.repeated()),
+        Sent::Disagreeing => some_count(stream.disagreeing()),
+    }
+}
+
 /// What one field says of a connection; nothing where it is missing.
 fn cell_of(
     alloc: Global,
@@ -139,6 +166,7 @@ fn cell_of(
         Field::Answer(field) => answer_cell(alloc, facts, field),
         Field::Chain(field) => chain_cell(alloc, facts, field),
         Field::Print(field) => print_cell(alloc, facts, connection.protocol, field),
+        Field::Sent(side, field) => Ok(sent_cell(connection, side, field)),
     }
 }
 

@@ -106,23 +106,27 @@ fn direction_of(side: Side) -> Direction {
     }
 }
 
-/// Lets the listener hear what the side's stream says next.
-fn hear(connection: &mut Connection<Heard>, side: Side) -> Result<(), AllocError> {
+/// Lets the listener hear what the side's stream says next, and count what the segment adds to one that it hears no further.
+fn hear(
+    connection: &mut Connection<Heard>,
+    side: Side,
+    segment: &Segment<'_>,
+) -> Result<(), AllocError> {
     let heard = &mut connection.listener;
-    match side {
-        Side::Originator => heard.hear_stream(&mut connection.from_originator, Direction::ToServer),
-        Side::Responder => heard.hear_stream(&mut connection.from_responder, Direction::FromServer),
-    }
+    let stream = match side {
+        Side::Originator => &mut connection.from_originator,
+        Side::Responder => &mut connection.from_responder,
+    };
+    let direction = direction_of(side);
+    heard.hear_stream(stream, direction)?;
+    heard.count_records(direction, stream.pass(segment));
+    Ok(())
 }
 
 impl Log {
     /// That of a capture of which nothing was read, with keys for the hashes of its table. It keeps the messages of connections where they
     /// are to be taken.
-    pub fn new(
-        alloc: Global,
-        keys: RandomState,
-        keeps_messages: bool,
-    ) -> Result<Log, AllocError> {
+    pub fn new(alloc: Global, keys: RandomState, keeps_messages: bool) -> Result<Log, AllocError> {
         Ok(Log {
             connections: Connections::new(alloc, keys)?,
             keeps_messages,
@@ -197,7 +201,7 @@ impl Log {
             if self.keeps_messages {
                 connection.listener.keep_messages();
             }
-            hear(connection, side)?;
+            hear(connection, side, segment)?;
             if !connection.is_closed() {
                 return Ok(None);
             }

@@ -247,10 +247,7 @@ pub fn log_file<R: Runtime + AllocGlobal + RandomSource>(
 }
 
 /// The same of the capture that is standard input.
-pub fn log_standard_input<R: Runtime + AllocGlobal + RandomSource>(
-    rt: &R,
-    style: &Style,
-) -> Exit {
+pub fn log_standard_input<R: Runtime + AllocGlobal + RandomSource>(rt: &R, style: &Style) -> Exit {
     let name = "standard input";
     log_input(
         rt,

@@ -195,7 +195,12 @@ impl Speech {
     /// Hears the bytes that a side says next, and keeps the messages that are whole then.
     pub fn hear(&mut self, direction: Direction, bytes: &[u8]) -> Result<(), AllocError> {
         let words = match (&mut self.ears, direction) {
-            (Ears::Stream(conversation), _) => words_of(self.alloc, conversation, direction, bytes)?,
+            (Ears::Stream(conversation), _) => words_of(
+                self.alloc,
+                conversation,
+                direction,
+                bytes,
+            )?,
             (Ears::Datagrams(client, _), Direction::ToServer) => {
                 words_in_datagram(self.alloc, client, bytes)?
             }

@@ -1,6 +1,6 @@
 //! Names of cipher suites.
-use crate::text::{name_or_number, some_texts};
 use crate::cell::Cell;
+use crate::text::{name_or_number, some_texts};
 use std::alloc::{AllocError, Global};
 use std::collections::BTreeMap;
 use tls_base::TlsCipherSuiteID;
@@ -44,10 +44,7 @@ impl Suites {
                 return Ok(None);
             };
             let name = String::from_str(alloc, name)?;
-            suites
-                .names
-                .insert(number, name)
-                .map_err(|_e| AllocError)?;
+            suites.names.insert(number, name).map_err(|_e| AllocError)?;
         }
         Ok(Some(suites))
     }
