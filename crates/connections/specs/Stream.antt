@@ -1,5 +1,5 @@
 -- What is read of a direction.
-use Rattle.std.specs.Prelude.{◌≡◌, ◌⊎◌, ℕ, ◌+◌, ◌-◌, ◌%◌, ◌^◌, ◌==◌, Bool, true, false, nat_lt, ◌&&◌, ◌||◌, if◌then◌else◌, Option, Some, None, [], length, take, drop}
+use Rattle.std.specs.Prelude.{◌≡◌, ◌⊎◌, ℕ, ◌+◌, ◌-◌, ◌%◌, ◌^◌, ◌==◌, Bool, true, false, nat_lt, ◌&&◌, ◌||◌, if◌then◌else◌, Option, Some, None, [], length, min, take, drop}
 use Rattle.segments.specs.Cells.{Bytes, Held, differing_in, known_behind, run, with_segment, without_front, IsTooMuch}
 use Rattle.connections.specs.Segment.{breaks, ends, first_of, behind_of}
 use Rattle.connections.specs.Traffic.{plus}
@@ -68,14 +68,6 @@ advance n m = if is_behind n m then ahead_of n m else 0
 abbrev pub came : Held → ℕ
 came h = plus (length (run h.cells)) (known_behind h.cells)
 
--- Of so many bytes those stood already by which no more are held: they are added to a count. Of a stream that isn't read none are known.
-abbrev pub with_repeated : ℕ → Reading → Reading → ℕ → ℕ
-with_repeated n (Open h) (Open k) count = plus count (n - (came k - came h))
-with_repeated n (Open h) Unbegun count = count
-with_repeated n (Open h) Over count = count
-with_repeated n Unbegun r count = count
-with_repeated n Over r count = count
-
 -- At so many places another byte was held: they are added to a count. Of a stream that isn't read none are known.
 abbrev pub with_disagreeing : ℕ → Bytes → Reading → Reading → ℕ → ℕ
 with_disagreeing seq b (Open h) (Open k) count = plus count (differing_in seq b h)
@@ -106,6 +98,19 @@ abbrev pub passing_behind : Option ℕ → Segment → Option ℕ
 passing_behind None s = None
 passing_behind (Some n) s = if is_next n s then Some ((n + length (bytes_from n s)) % 2 ^ 32) else None
 
+-- Of so many bytes those stood already by which no more are held; of a stream that is read no further, those in front of what is passed
+-- on. They are added to a count.
+abbrev pub passed_before : Option ℕ → Segment → ℕ → ℕ
+passed_before None s count = count
+passed_before (Some n) s count = plus count (if is_next n s then min (ahead_of n (first_of s)) (length s.payload.now) else 0)
+
+abbrev pub with_repeated : Segment → Option ℕ → Reading → Reading → ℕ → ℕ
+with_repeated s passing (Open h) (Open k) count = plus count (length s.payload.now - (came k - came h))
+with_repeated s passing (Open h) Unbegun count = count
+with_repeated s passing (Open h) Over count = count
+with_repeated s passing Unbegun r count = count
+with_repeated s passing Over r count = passed_before passing s count
+
 -- What the numbers of a segment say: how far its sender has come, and with FIN where the stream ends.
 abbrev pub with_numbers : Segment → Stream → Stream
 with_numbers s t = record t {
@@ -117,7 +122,7 @@ with_numbers s t = record t {
 -- Its bytes are taken, and those of them that stood, or don't agree with those that stand, are counted. Where the stream is read no further from then on, bytes are missing.
 pub record HasPut (s : Segment) (old new : Stream) : Type 0 where
   pub bytes : Accepts (first_of s) s.payload.now old.reading new.reading
-  pub repeated : new.repeated ≡ with_repeated (length s.payload.now) old.reading new.reading old.repeated
+  pub repeated : new.repeated ≡ with_repeated s old.passing old.reading new.reading old.repeated
   pub disagreeing : new.disagreeing ≡ with_disagreeing (first_of s) s.payload.now old.reading new.reading old.disagreeing
   pub gap : new.reading ≡ Over → (old.reading ≡ Over → ⊥) → new.has_gap ≡ true
   pub others : new ≡ record old { reading = new.reading; repeated = new.repeated; disagreeing = new.disagreeing; has_gap = new.has_gap }

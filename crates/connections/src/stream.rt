@@ -1,7 +1,7 @@
 //! One direction of a connection.
 ghost use Rattle.std.specs.Prelude.{◌≡◌, ◌%◌, ◌^◌, length, OnOk};
 ghost use Rattle.connections.specs.Segment.{first_of};
-ghost use Rattle.connections.specs.Stream.{begun_by, next_bytes, behind_front, next_behind, passed, passing_behind, silent_stream, stopped, is_behind as comes_behind, advance as advance_of, came, with_numbers, HasPut, HasTaken, is_over, lacks};
+ghost use Rattle.connections.specs.Stream.{begun_by, next_bytes, behind_front, next_behind, passed, passed_before, passing_behind, silent_stream, stopped, is_behind as comes_behind, advance as advance_of, came, with_numbers, HasPut, HasTaken, is_over, lacks};
 ghost use Rattle.connections.specs.declared.stream.Reading.TheVariants.{Over};
 
 use crate::segment::Segment;
@@ -124,26 +124,46 @@ impl Stream {
         }
     }
 
+    /// Counts the bytes of the segment that stand in front of the next that is passed on.
+    fn count_passed(&mut self, segment: &Segment<'_>)
+        ensures { self.new ≡ record self.old { repeated = passed_before self.old.passing segment.now self.old.repeated } }
+    {
+        let Some(next) = self.passing else {
+            return;
+        };
+        let begun = next.wrapping_sub(segment.first());
+        let again = if begun < HALF {
+            (begun as usize).min(segment.payload.len())
+        } else {
+            0
+        };
+        self.repeated = self.repeated.saturating_add(again as u64);
+    }
+
     /// Puts the segment's bytes into what is held, and counts those of them that stood there.
     fn put(&mut self, segment: &Segment<'_>) -> Result<(), AllocError>
         ensures { OnOk result (HasPut segment.now self.old self.new) }
     {
-        if let Reading::Open(segments) = &mut self.reading {
-            let before = held(segments);
-            let differing = segments.differing(segment.first(), segment.payload);
-            match segments.segment(segment.first(), segment.payload) {
-                Ok(()) => {
-                    let new = held(segments).saturating_sub(before);
-                    let again = (segment.payload.len() as u64).saturating_sub(new);
-                    self.repeated = self.repeated.saturating_add(again);
-                    self.disagreeing = self.disagreeing.saturating_add(differing as u64);
+        match &mut self.reading {
+            Reading::Open(segments) => {
+                let before = held(segments);
+                let differing = segments.differing(segment.first(), segment.payload);
+                match segments.segment(segment.first(), segment.payload) {
+                    Ok(()) => {
+                        let new = held(segments).saturating_sub(before);
+                        let again = (segment.payload.len() as u64).saturating_sub(new);
+                        self.repeated = self.repeated.saturating_add(again);
+                        self.disagreeing = self.disagreeing.saturating_add(differing as u64);
+                    }
+                    Err(SegmentError::TooMuch) => {
+                        self.has_gap = true;
+                        self.reading = Reading::Over;
+                    }
+                    Err(SegmentError::OutOfMemory) => return Err(AllocError),
                 }
-                Err(SegmentError::TooMuch) => {
-                    self.has_gap = true;
-                    self.reading = Reading::Over;
-                }
-                Err(SegmentError::OutOfMemory) => return Err(AllocError),
             }
+            Reading::Unbegun => {}
+            Reading::Over => self.count_passed(segment),
         }
         Ok(())
     }
@@ -191,7 +211,7 @@ impl Stream {
         self.length
     }
 
-    /// How many bytes came at places where others had come. It is known as long as the stream is read.
+    /// How many bytes came at places where others had come. It is known as long as the stream is read, or its bytes are passed on.
     pub fn repeated(&self) -> u64
         ensures { result ≡ self.now.repeated }
     {

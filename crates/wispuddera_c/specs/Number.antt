@@ -20,7 +20,7 @@ pub record IsNumberOf (xs : List ℕ) (index status : ℕ) (c : Number) : Type 0
 -- The same of a list that bytes say; or their refusal is told.
 abbrev pub IsNumberIn : Result (Option (List ℕ)) Refusal → ℕ → ℕ → Number → Type 0
 IsNumberIn (Ok (Some xs)) index status c = IsNumberOf xs index status c
-IsNumberIn (Ok None) index status c = status ≡ none
+IsNumberIn (Ok None) index status c = (status ≡ none) × (c.missing ≡ 0)
 IsNumberIn (Err e) index status c = IsRefused e status c.missing
 
 -- The cipher suites that a hello offers; or its refusal.

@@ -11,7 +11,8 @@ pub record ShowsPart (b : Bytes) (c : Part) (v : Framed) (r : Bytes) : Type 0 wh
   pub content : StandsAt b c.content v.content
   pub next : Follows b c.next r
 
--- The numbers show bytes behind their length, and r behind them.
+-- The numbers show bytes behind their length, which have no kind, and r behind them.
 pub record ShowsBytes (b : Bytes) (c : Part) (v : Bytes) (r : Bytes) : Type 0 where
+  pub kind : c.kind ≡ 0
   pub content : StandsAt b c.content v
   pub next : Follows b c.next r
