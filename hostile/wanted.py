@@ -11,7 +11,7 @@ FIELDS = """
     handshake.extensions_server_name handshake.extensions_alpn_str handshake.extension.type record.content_type
     alert_message.level alert_message.desc record.length
 """.split()
-OUTER = ["frame.time_epoch", "ip.src", "ipv6.src", "ip.dst", "ipv6.dst"]
+OUTER = ["frame.time_epoch", "ip.src", "ipv6.src", "ip.dst", "ipv6.dst", "_ws.col.Info"]
 OF_TCP = ["tcp.stream", "tcp.srcport", "tcp.dstport", "tcp.flags.syn", "tcp.flags.fin", "tcp.flags.reset", "tcp.seq_raw", "tcp.len"]
 OF_UDP = ["udp.stream", "udp.srcport", "udp.dstport", "udp.length"]
 UDP_HEADER = 8
@@ -30,12 +30,19 @@ ALERTS = {
 RETRY = "cf21ad74e59a6111be1d8c021e65b891c2a211167abb8c5e079e09e2c8a8339c"
 CLIENT_HELLO, SERVER_HELLO, KEY_EXCHANGE, SERVER_DONE = "1", "2", "12", "14"
 CHANGE, PRE_SHARED_KEY = "20", "41"
+# The letter of Zeek's ssl_history by tshark's name of a message; the client's are in upper case.
+LETTERS = {
+    "Hello Request": "h", "Client Hello": "c", "Server Hello": "s", "Hello Verify Request": "v", "Hello Retry Request": "j",
+    "New Session Ticket": "t", "Certificate": "x", "Server Key Exchange": "k", "Certificate Request": "r", "Server Hello Done": "n",
+    "Certificate Verify": "y", "Client Key Exchange": "g", "Finished": "f", "Certificate Status": "u", "Change Cipher Spec": "i", "Alert": "l",
+    "Heartbeat Request": "b", "Heartbeat Response": "b",
+}
 # Of these, 0 is told too.
 ALWAYS = ["comp_method", "cert_count", "client_cert_count"]
 ORDER = """
     ts id.orig_h id.orig_p id.resp_h id.resp_p proto duration version cipher curve server_name next_protocol resumed established
-    last_alert outcome stop gap orig_pkts resp_pkts orig_bytes resp_bytes orig_records resp_records orig_repeated_bytes resp_repeated_bytes
-    orig_disagreeing_bytes resp_disagreeing_bytes
+    last_alert outcome stop gap ssl_history orig_pkts resp_pkts orig_bytes resp_bytes orig_records resp_records orig_repeated_bytes
+    resp_repeated_bytes orig_disagreeing_bytes resp_disagreeing_bytes
 """.split() + wanted_hellos.ORDER
 
 
@@ -137,7 +144,7 @@ class Talk:
         self.ends = self.source(row), (first(row, "ip.dst", "ipv6.dst"), int(first(row, f"{layer}.dstport")))
         self.is_tls, self.said, self.messages = False, {}, 0
         self.closed, self.changed, self.has_done, self.is_13 = set(), [], False, False
-        self.stop, self.sent = None, {True: Sent(), False: Sent()}
+        self.stop, self.history, self.sent = None, "", {True: Sent(), False: Sent()}
 
     def source(self, row):
         return first(row, "ip.src", "ipv6.src"), int(first(row, f"{self.layer}.srcport"))
@@ -158,6 +165,7 @@ class Talk:
             self.note_server(row)
         if KEY_EXCHANGE in types and row["handshake.server_named_curve"]:
             self.said["curve"] = group(int(row["handshake.server_named_curve"][0], 16))
+        self.note_names(row, side)
         if side not in self.changed or self.is_13:
             self.said |= wanted_hellos.of_messages(row, side)
         self.has_done |= SERVER_DONE in types
@@ -167,6 +175,15 @@ class Talk:
         self.note_alerts(row, side)
         if self.layer == "tcp" and (is_set(row, "tcp.flags.fin") or is_set(row, "tcp.flags.reset")):
             self.closed.add(side)
+
+    def note_names(self, row, side):
+        """Adds the letters of what a packet says, by tshark's column of names. Of fragments the last one counts."""
+        names = re.sub(r" [(]Level: [^)]*[)]", "", ";".join(row["_ws.col.Info"]))
+        for name in re.split(", ", names.replace(" (Reassembled)", "")):
+            letter = LETTERS.get(name, "")
+            if letter == "i" and self.layer == "udp" and side in self.changed:
+                continue
+            self.history += letter.upper() if side else letter
 
     def note_record(self, kind, side):
         """Counts a ChangeCipherSpec, and a record behind that of its side, which is encrypted."""
@@ -211,7 +228,7 @@ class Talk:
             "ts": round(self.begun, 6), "proto": self.layer, "duration": round(self.last - self.begun, 6),
             "id.orig_h": self.ends[0][0], "id.orig_p": self.ends[0][1], "id.resp_h": self.ends[1][0], "id.resp_p": self.ends[1][1],
             **self.said, "resumed": is_short or (self.is_13 and self.said["resumed"]),
-            "established": self.is_established(), "outcome": outcome, "stop": self.stop,
+            "established": self.is_established(), "outcome": outcome, "stop": self.stop, "ssl_history": self.history or None,
             **self.sent[True].told("orig", self.layer), **self.sent[False].told("resp", self.layer),
         }
         return {field: known[field] for field in ORDER if is_told(field, known.get(field))}

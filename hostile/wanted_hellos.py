@@ -62,7 +62,7 @@ def ja4(layer, version, ciphers, types, versions, schemes, protocols):
     """JA4 of a ClientHello (github.com/FoxIO-LLC/ja4, technical_details/JA4.md)."""
     ciphers, types, schemes = ([n for n in ns if not is_grease(n)] for ns in (ciphers, types, schemes))
     versions = [n for n in versions if not is_grease(n)] or [version]
-    best = min(versions) if layer == "udp" else max(versions)
+    best = max(versions)
     first = (protocols or [""])[0]
     ends = (first[0] + first[-1]) if first else "00"
     if not all(c.isascii() and c.isalnum() for c in ends):

@@ -32,6 +32,7 @@ pub enum Course {
     Outcome,
     Stop,
     Gap,
+    History,
     Retried,
 }
 
@@ -150,6 +151,7 @@ pub static FIELDS: &[Column<Field>] = &[
     ("outcome", Field::Course(Course::Outcome)),
     ("stop", Field::Course(Course::Stop)),
     ("gap", Field::Course(Course::Gap)),
+    ("ssl_history", Field::Course(Course::History)),
     ("orig_pkts", Field::Sent(Side::Originator, Sent::Packets)),
     ("resp_pkts", Field::Sent(Side::Responder, Sent::Packets)),
     ("orig_bytes", Field::Sent(Side::Originator, Sent::Bytes)),

@@ -62,6 +62,14 @@ impl Heard {
         }
     }
 
+    /// A letter for each event, as Zeek's ssl_history has it.
+    pub fn history(&self) -> &[u8] {
+        match &self.said {
+            Said::Stream(talk) => talk.history(),
+            Said::Datagrams(talk) => talk.history(),
+        }
+    }
+
     /// How the handshake stands.
     pub fn outcome(&self) -> Outcome {
         match &self.said {

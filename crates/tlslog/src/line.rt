@@ -107,10 +107,22 @@ fn named_cell(
     }
 }
 
+/// The letters of a connection's events; nothing where none was heard.
+fn history_cell(alloc: Global, letters: &[u8]) -> Result<Option<Cell>, AllocError> {
+    if letters.is_empty() {
+        return Ok(None);
+    }
+    some_text(escaped(alloc, letters))
+}
+
 /// What a connection came to.
-fn course_cell(connection: &Connection<Heard>, field: Course) -> Option<Cell> {
+fn course_cell(
+    alloc: Global,
+    connection: &Connection<Heard>,
+    field: Course,
+) -> Result<Option<Cell>, AllocError> {
     let heard = &connection.listener;
-    match field {
+    Ok(match field {
         Course::Resumed => Some(Cell::Mark(heard.is_resumed())),
         Course::Established => Some(Cell::Mark(heard.is_established())),
         Course::Outcome => Some(Cell::Name(outcome_name(heard.outcome()))),
@@ -120,7 +132,8 @@ fn course_cell(connection: &Connection<Heard>, field: Course) -> Option<Cell> {
             None => None,
         },
         Course::Retried => some_mark(heard.facts().is_retried),
-    }
+        Course::History => return history_cell(alloc, heard.history()),
+    })
 }
 
 /// A count, where there is something to count.
@@ -161,7 +174,7 @@ fn cell_of(
     match field {
         Field::End(field) => end_cell(alloc, connection, connection.first_time, field),
         Field::Named(field) => named_cell(alloc, suites, facts, field),
-        Field::Course(field) => Ok(course_cell(connection, field)),
+        Field::Course(field) => course_cell(alloc, connection, field),
         Field::Offer(field) => offer_cell(alloc, suites, facts, field),
         Field::Answer(field) => answer_cell(alloc, facts, field),
         Field::Chain(field) => chain_cell(alloc, facts, field),
