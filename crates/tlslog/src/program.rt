@@ -1,4 +1,5 @@
 //! The run over one capture.
+use crate::counts::{Counts, add_one};
 use crate::heard::Heard;
 use crate::line::{gap_name, row_of};
 use crate::log::Log;
@@ -77,25 +78,35 @@ impl From<VisitError<Failure>> for Failure {
 }
 
 /// Counts a connection that is over, and prints its line, if it is TLS or DTLS and connections have lines.
-fn print_one<R: Runtime + AllocGlobal>(
+fn print_line<R: Runtime + AllocGlobal>(
     rt: &R,
     style: &Style,
-    log: &mut Log,
-    connection: Connection<Heard>,
+    counts: &mut Counts,
+    connection: &Connection<Heard>,
 ) -> Result<(), Failure> {
     if !connection.listener.is_spoken() {
-        log.counts.other_connections = log.counts.other_connections.saturating_add(1);
+        add_one(&mut counts.other_connections);
         return Ok(());
     }
-    if gap_name(&connection).is_some() {
-        log.counts.gaps = log.counts.gaps.saturating_add(1);
+    if gap_name(connection).is_some() {
+        add_one(&mut counts.gaps);
     }
     let Lines::Connections(places) = &style.lines else {
         return Ok(());
     };
-    let row = row_of(rt.alloc(), &style.suites, places.as_slice(), &connection)?;
+    let row = row_of(rt.alloc(), &style.suites, places.as_slice(), connection)?;
     let line = style.text(rt.alloc(), row)?;
     println!(rt; "{line}").map_err(|_e| Failure::Writing)
+}
+
+/// The same, and lets the connection go. It has one exit, since letting a connection go is much to prove.
+fn print_one<R: Runtime + AllocGlobal>(
+    rt: &R,
+    style: &Style,
+    counts: &mut Counts,
+    connection: Connection<Heard>,
+) -> Result<(), Failure> {
+    print_line(rt, style, counts, &connection)
 }
 
 /// Prints the messages of a connection that were whole at this time, if messages have lines.
@@ -116,6 +127,30 @@ fn print_messages<R: Runtime + AllocGlobal>(
     Ok(())
 }
 
+/// Prints the last messages of a connection that is over, and its line, if these have lines.
+fn print_both<R: Runtime + AllocGlobal>(
+    rt: &R,
+    style: &Style,
+    counts: &mut Counts,
+    connection: &mut Connection<Heard>,
+    time: u64,
+) -> Result<(), Failure> {
+    print_messages(rt, style, connection, time)?;
+    print_line(rt, style, counts, connection)
+}
+
+/// The same, and lets the connection go.
+fn print_last<R: Runtime + AllocGlobal>(
+    rt: &R,
+    style: &Style,
+    counts: &mut Counts,
+    connection: Connection<Heard>,
+    time: u64,
+) -> Result<(), Failure> {
+    let mut connection = connection;
+    print_both(rt, style, counts, &mut connection, time)
+}
+
 /// Logs one packet.
 fn log_packet<R: Runtime + AllocGlobal>(
     rt: &R,
@@ -128,15 +163,12 @@ fn log_packet<R: Runtime + AllocGlobal>(
     };
     for _ in 0..u64::MAX {
         match log.take_over(&arrival) {
-            Some(connection) => print_one(rt, style, log, connection)?,
+            Some(connection) => print_one(rt, style, &mut log.counts, connection)?,
             None => break,
         }
     }
     match log.accept(&arrival)? {
-        Some(mut connection) => {
-            print_messages(rt, style, &mut connection, arrival.time())?;
-            print_one(rt, style, log, connection)
-        }
+        Some(connection) => print_last(rt, style, &mut log.counts, connection, arrival.time()),
         None => match log.connection(&arrival) {
             Some(connection) => print_messages(rt, style, connection, arrival.time()),
             None => Ok(()),
@@ -183,7 +215,7 @@ fn print_left<R: Runtime + AllocGlobal>(
 ) -> Result<(), Failure> {
     for _ in 0..u64::MAX {
         match log.take_left() {
-            Some(connection) => print_one(rt, style, log, connection)?,
+            Some(connection) => print_one(rt, style, &mut log.counts, connection)?,
             None => break,
         }
     }
