@@ -80,7 +80,7 @@ behind_further c d FromServer v q behind = record {
   flow = behind.flow;
 }
 
-past_further : (c d : Conversation) (s : Side) (vs : List Said) (q : Bytes) → IsPast c s vs d → IsPast (further c s q) s vs (further d s q)
+pub past_further : (c d : Conversation) (s : Side) (vs : List Said) (q : Bytes) → IsPast c s vs d → IsPast (further c s q) s vs (further d s q)
 past_further c d s [] q past = ap (λ x. further x s q) past
 past_further c d s (v ∷ vs) q past =
     (further past.0 s q, past_further c past.0 s vs q past.1, behind_further past.0 d s v q past.2)
@@ -150,7 +150,7 @@ fed_alike c d FromServer q fed = record {
   flow = sym fed.flow;
 }
 
-fed_further : (c d : Conversation) (s : Side) (p q : Bytes) → IsFedBy c s p d → IsFedBy c s (p ++ q) (further d s q)
+pub fed_further : (c d : Conversation) (s : Side) (p q : Bytes) → IsFedBy c s p d → IsFedBy c s (p ++ q) (further d s q)
 fed_further c d ToServer p q fed = record {
   side = λ t. ap (says c.client) (append_assoc p q t) ∙ fed.side (q ++ t) ∙ sym (says_further d.client q t);
   other = fed.other;
@@ -201,11 +201,11 @@ joined c a m b d s p q (v ∷ vs) [] fed past fed_again past_again = record {
   );
 }
 
-facts_on : (s : Side) (f : Facts) (vs ws : List Said) → facts s (facts s f vs) ws ≡ facts s f (ws ++ vs)
+pub facts_on : (s : Side) (f : Facts) (vs ws : List Said) → facts s (facts s f vs) ws ≡ facts s f (ws ++ vs)
 facts_on s f vs [] = refl
 facts_on s f vs (w ∷ ws) = ap (λ g. noted s g w) (facts_on s f vs ws)
 
-history_on : (s : Side) (h : List ℕ) (vs ws : List Said) → history s (history s h vs) ws ≡ history s h (ws ++ vs)
+pub history_on : (s : Side) (h : List ℕ) (vs ws : List Said) → history s (history s h vs) ws ≡ history s h (ws ++ vs)
 history_on s h vs [] = refl
 history_on s h vs (w ∷ ws) = ap (λ g. with_letter s g (letter_of w)) (history_on s h vs ws)
 
@@ -217,11 +217,11 @@ or_on : (a b c : Bool) → ((a || b) || c) ≡ (a || (b || c))
 or_on true b c = refl
 or_on false b c = refl
 
-sealed_on : (vs ws : List Said) → has_sealed (ws ++ vs) ≡ (has_sealed vs || has_sealed ws)
+pub sealed_on : (vs ws : List Said) → has_sealed (ws ++ vs) ≡ (has_sealed vs || has_sealed ws)
 sealed_on vs [] = or_false (has_sealed vs)
 sealed_on vs (w ∷ ws) = ap (λ b. b || is_sealed w) (sealed_on vs ws) ∙ or_on (has_sealed vs) (has_sealed ws) (is_sealed w)
 
-longer : (vs ws : List Said) (n : ℕ) → n ≤ length ws → n ≤ length (ws ++ vs)
+pub longer : (vs ws : List Said) (n : ℕ) → n ≤ length ws → n ≤ length (ws ++ vs)
 longer vs ws n few = let e : length (ws ++ vs) ≡ length ws + length vs = length-append ws vs in omega (arith, few, e)
 
 all_on : {P : Type 0} (vs ws : List Said) (n : ℕ) → P ⊎ (n ≤ length ws) → P ⊎ (n ≤ length (ws ++ vs))

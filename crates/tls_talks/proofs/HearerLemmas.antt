@@ -1,15 +1,16 @@
 -- What is heard of a side, event by event.
-use Rattle.std.proofs.Common.{◌≡◌, ℕ, ◌+◌, ◌-◌, ◌^◌, inl, inr, List, [], ◌∷◌, length, Bool, false, ◌||◌, Some, None, refl, sym, ◌∙◌, ap, subst, arith}
+use Rattle.std.proofs.Common.{◌≡◌, ℕ, ◌+◌, ◌-◌, ◌^◌, inl, inr, List, [], ◌∷◌, length, Bool, false, ◌||◌, Option, Some, None, refl, sym, ◌∙◌, ap, subst, arith}
+use Rattle.std.specs.Global.{Vec}
 use Rattle.tls_fields.specs.Bytes.{Bytes}
 use Rattle.tls_events.specs.Item.{Event as Said}
 use Rattle.tls_flow.specs.declared.letter.Direction.{Direction as Side}
-use Rattle.tls_conversations.specs.Conversations.{IsPast, IsFedBy, IsTakenBy, ear}
+use Rattle.tls_conversations.specs.Conversations.{IsPast, IsFedBy, ear}
 use Rattle.tls_conversations.specs.Ears.{IsReady, first_in, front_of, says}
 use Rattle.tls_conversations.specs.declared.conversation.Conversation.{Conversation}
 use Rattle.tls_facts.specs.Facts.{view_facts}
 use Rattle.tls_talks.specs.History.{history, letter_of, with_letter}
 use Rattle.tls_talks.specs.Noting.{facts, has_sealed, is_sealed, noted}
-use Rattle.tls_talks.specs.Hearing.{IsHeard}
+use Rattle.tls_talks.specs.Hearing.{IsFed, IsHeard, IsNextTaken, IsNoted}
 use Rattle.tls_talks.specs.declared.hearer.Hearer.{Hearer}
 
 -- It was fed, and n events were taken off, followed and noted.
@@ -24,47 +25,71 @@ pub record IsOn (h : Hearer) (s : Side) (p : Bytes) (i : Hearer) (n : ℕ) (b : 
   pub sealed : b ≡ has_sealed said
   pub ready : IsReady (ear i.conversation s)
 
-pub on_begun : (h i : Hearer) (s : Side) (p : Bytes) → IsFedBy h.conversation s p i.conversation → IsReady (ear i.conversation s)
-    → view_facts i.facts ≡ view_facts h.facts → i.history.items ≡ h.history.items → IsOn h s p i 0 false
-on_begun h i s p fed ready same letters =
-    record { begun = i.conversation; said = []; fed = fed; past = refl; facts = same; history = letters; count = refl; sealed = refl; ready = ready }
+pub on_begun : (h i : Hearer) (s : Side) (p : Bytes) → IsFed h s p i → IsReady (ear i.conversation s) → IsOn h s p i 0 false
+on_begun h i s p fed ready = record {
+  begun = i.conversation;
+  said = [];
+  fed = fed.conversation;
+  past = refl;
+  facts = ap view_facts fed.facts;
+  history = ap (λ (v : Vec ℕ). v.items) fed.history;
+  count = refl;
+  sealed = refl;
+  ready = ready;
+}
 
-pub on_more : (h i j : Hearer) (s : Side) (p : Bytes) (n : ℕ) (v : Said) (t b c : Bool) → IsOn h s p i n b
-    → Some v ≡ front_of (ear i.conversation s) → IsTakenBy (front_of (ear i.conversation s)) i.conversation s t j.conversation
-    → (IsReady (ear i.conversation s) → IsReady (ear j.conversation s))
-    → view_facts j.facts ≡ noted s (view_facts i.facts) v → j.history.items ≡ with_letter s i.history.items (letter_of v)
-    → c ≡ (b || is_sealed v) → IsOn h s p j (n + 1) c
-on_more h i j s p n v t b c on front off kept step_facts step_history step_sealed =
-    let step : IsTakenBy (Some v) i.conversation s t j.conversation =
-    subst (λ o. IsTakenBy o i.conversation s t j.conversation) (sym front) off in
-    record {
-      begun = on.begun;
-      said = v ∷ on.said;
-      fed = on.fed;
-      past = (i.conversation, on.past, step.1);
-      facts = step_facts ∙ ap (λ f. noted s f v) on.facts;
-      history = step_history ∙ ap (λ h. with_letter s h (letter_of v)) on.history;
-      count = omega (arith, on.count);
-      sealed = step_sealed ∙ ap (λ x. x || is_sealed v) on.sealed;
-      ready = kept on.ready;
-    }
+on_some : (h i j : Hearer) (s : Side) (p : Bytes) (n : ℕ) (v : Said) (b : Bool) → IsOn h s p i n b → IsNoted i s v j
+    → (IsReady (ear i.conversation s) → IsReady (ear j.conversation s)) → IsOn h s p j (n + 1) (b || is_sealed v)
+on_some h i j s p n v b on noted_it kept = record {
+  begun = on.begun;
+  said = v ∷ on.said;
+  fed = on.fed;
+  past = (i.conversation, on.past, noted_it.behind);
+  facts = noted_it.facts ∙ ap (λ f. noted s f v) on.facts;
+  history = noted_it.history ∙ ap (λ h. with_letter s h (letter_of v)) on.history;
+  count = omega (arith, on.count);
+  sealed = ap (λ x. x || is_sealed v) on.sealed;
+  ready = kept on.ready;
+}
+
+-- An event was taken off.
+pub on_next : (h i j : Hearer) (s : Side) (p : Bytes) (n : ℕ) (b r c : Bool) → IsOn h s p i n b
+    → IsNextTaken (front_of (ear i.conversation s)) i s (Some r) j
+    → (IsReady (ear i.conversation s) → IsReady (ear j.conversation s)) → c ≡ (b || r) → IsOn h s p j (n + 1) c
+on_next h i j s p n b r c on taken kept sealed = go (front_of (ear i.conversation s)) taken
+  where
+    value : {r q : Bool} → Some r ≡ Some q → r ≡ q
+    value e = cc
+
+    go : (o : Option Said) → IsNextTaken o i s (Some r) j → IsOn h s p j (n + 1) c
+    go (Some v) some = subst (λ x. IsOn h s p j (n + 1) x) (sym (sealed ∙ ap (λ x. b || x) (value some.0)))
+        (on_some h i j s p n v b on some.1 kept)
+    go None none = absurd cc
 
 silent : (vs : List Said) → first_in vs ≡ None → vs ≡ []
 silent [] e = refl
 silent (v ∷ vs) e = absurd cc
 
-pub on_none : (h i : Hearer) (s : Side) (p : Bytes) (n : ℕ) (b : Bool) → IsOn h s p i n b → None ≡ front_of (ear i.conversation s)
-    → IsHeard h s p i b
-on_none h i s p n b on front = record {
-  begun = on.begun;
-  said = on.said;
-  fed = on.fed;
-  past = on.past;
-  facts = on.facts;
-  history = on.history;
-  all = inl (silent (says (ear i.conversation s) []) (on.ready ∙ sym front));
-  sealed = on.sealed;
-}
+-- None was left.
+pub on_none : (h i j : Hearer) (s : Side) (p : Bytes) (n : ℕ) (b : Bool) → IsOn h s p i n b
+    → IsNextTaken (front_of (ear i.conversation s)) i s None j → IsHeard h s p j b
+on_none h i j s p n b on taken = go (front_of (ear i.conversation s)) refl taken
+  where
+    heard : None ≡ front_of (ear i.conversation s) → IsHeard h s p i b
+    heard front = record {
+      begun = on.begun;
+      said = on.said;
+      fed = on.fed;
+      past = on.past;
+      facts = on.facts;
+      history = on.history;
+      all = inl (silent (says (ear i.conversation s) []) (on.ready ∙ sym front));
+      sealed = on.sealed;
+    }
+
+    go : (o : Option Said) → o ≡ front_of (ear i.conversation s) → IsNextTaken o i s None j → IsHeard h s p j b
+    go (Some v) front some = absurd cc
+    go None front none = subst (λ x. IsHeard h s p x b) (sym none.1) (heard front)
 
 pub on_end : (h i : Hearer) (s : Side) (p : Bytes) (n : ℕ) (b : Bool) → IsOn h s p i n b → n ≡ 2 ^ 64 - 1 → IsHeard h s p i b
 on_end h i s p n b on end = record {

@@ -1,26 +1,189 @@
--- What a talk is behind a piece of a side.
-use Rattle.std.proofs.Common.{◌≡◌, Bool, true, false, length, take, nat_lt, refl, sym, subst}
+-- A side's piece that is cut in two is heard as it is whole, up to the event by which the side is over.
+use Rattle.std.proofs.Common.{◌≡◌, ◌-◌, ◌^◌, inl, inr, List, [], ◌∷◌, ◌++◌, Bool, true, false, ◌||◌, refl, sym, ◌∙◌, ap, subst}
 use Rattle.tls_fields.specs.Bytes.{Bytes}
+use Rattle.tls_events.specs.Item.{Event as Said}
+use Rattle.tls_flow.specs.Steps.{follow}
+use Rattle.tls_flow.specs.Table.{outcome_at}
+use Rattle.tls_flow.specs.declared.flow.Flow.{Flow}
 use Rattle.tls_flow.specs.declared.letter.Direction.{Direction as Side}
 use Rattle.tls_flow.specs.declared.letter.Direction.TheVariants.{ToServer, FromServer}
-use Rattle.tls_talks.specs.Front.{begins_tls}
-use Rattle.tls_talks.specs.Talks.{IsFirstBy, IsFirstHeard, IsFollowed, hearing, told_tls, with_hearing}
+use Rattle.tls_conversations.specs.Conversations.{IsPast}
+use Rattle.tls_conversations.specs.Events.{event_of}
+use Rattle.tls_conversations.specs.declared.conversation.Conversation.{Conversation}
+use Rattle.tls_facts.specs.Facts.{view_facts}
+use Rattle.tls_talks.specs.History.{history}
+use Rattle.tls_talks.specs.Noting.{facts, has_sealed}
+use Rattle.tls_talks.specs.Talks.{AreHeard, IsFollowed, IsHeardBy, IsHeardOn, IsLeft, IsNext, IsNextBy, flow_behind, hearing, hearing_behind, is_over, over_behind, over_by, sealed_if, with_hearing}
 use Rattle.tls_talks.specs.declared.hearer.Hearer.{Hearer}
-use Rattle.tls_talks.specs.declared.talk.Hearing.TheVariants.{Other}
+use Rattle.tls_talks.specs.declared.talk.Hearing.{Hearing}
+use Rattle.tls_talks.specs.declared.talk.Hearing.TheVariants.{Unknown, Clear, Encrypted, Other}
 use Rattle.tls_talks.specs.declared.talk.Talk.{Talk}
+use Rattle.tls_talks.proofs.CutLemmas.{facts_on, fed_further, further, history_on, joined, longer, past_further, sealed_on}
 
-pub with_same : (t : Talk) (s : Side) (h : Hearer) → record t { hearer = h } ≡ with_hearing (record t { hearer = h }) s (hearing t s)
-with_same t ToServer h = refl
-with_same t FromServer h = refl
+pub flow_is : (c d : Conversation) (s : Side) (vs : List Said) → IsPast c s vs d → d.flow ≡ flow_behind s c.flow vs
+flow_is c d s [] past = ap (λ (x : Conversation). x.flow) past
+flow_is c d s (v ∷ vs) past = past.2.flow ∙ ap (λ f. follow f (event_of s v)) (flow_is c past.0 s vs past.1)
 
-pub first_tls : (t u : Talk) (s : Side) (b : Bytes) → nat_lt (length b) 5 ≡ false → begins_tls b ≡ true → IsFollowed (told_tls t s) s b u
-    → IsFirstHeard t s b (length b) u
-first_tls t u s b long tls followed =
-    subst (λ x. IsFirstBy x (begins_tls b) t s b (length b) u) (sym long)
-    (subst (λ x. IsFirstBy false x t s b (length b) u) (sym tls) (refl, followed))
+flow_on : (s : Side) (f : Flow) (vs ws : List Said) → flow_behind s (flow_behind s f vs) ws ≡ flow_behind s f (ws ++ vs)
+flow_on s f vs [] = refl
+flow_on s f vs (w ∷ ws) = ap (λ g. follow g (event_of s w)) (flow_on s f vs ws)
 
-pub first_other : (t m : Talk) (s : Side) (b : Bytes) → nat_lt (length b) 5 ≡ false → begins_tls b ≡ false → IsFollowed t s (take 5 b) m
-    → IsFirstHeard t s b (length b) (with_hearing m s Other)
-first_other t m s b long other followed =
-    subst (λ x. IsFirstBy x (begins_tls b) t s b (length b) (with_hearing m s Other)) (sym long)
-    (subst (λ x. IsFirstBy false x t s b (length b) (with_hearing m s Other)) (sym other) (refl, m, followed, refl))
+pub sealed_twice : (a b : Bool) (h : Hearing) → sealed_if b (sealed_if a h) ≡ sealed_if (a || b) h
+sealed_twice true true h = refl
+sealed_twice true false h = refl
+sealed_twice false b h = refl
+
+hearing_on : (h : Hearing) (vs ws : List Said) → hearing_behind (hearing_behind h vs) ws ≡ hearing_behind h (ws ++ vs)
+hearing_on h vs ws = sealed_twice (has_sealed vs) (has_sealed ws) h ∙ ap (λ b. sealed_if b h) (sym (sealed_on vs ws))
+
+over_on : (h : Hearing) (s : Side) (f : Flow) (vs ws : List Said)
+    → over_behind (hearing_behind h vs) s (flow_behind s f vs) ws ≡ over_behind h s f (ws ++ vs)
+over_on h s f vs ws =
+    ap (λ x. over_by x (outcome_at (flow_behind s (flow_behind s f vs) ws).state)) (hearing_on h vs ws)
+    ∙ ap (λ (x : Flow). over_by (hearing_behind h (ws ++ vs)) (outcome_at x.state)) (flow_on s f vs ws)
+
+heard_on : (h : Hearing) (s : Side) (f : Flow) (vs ws : List Said) → AreHeard h s f vs
+    → AreHeard (hearing_behind h vs) s (flow_behind s f vs) ws → AreHeard h s f (ws ++ vs)
+heard_on h s f vs [] first last = first
+heard_on h s f vs (w ∷ ws) first last = (sym (over_on h s f vs ws) ∙ last.0, heard_on h s f vs ws first last.1)
+
+-- What a talk is but for how a side is heard, and that.
+pub hearing_with : (t : Talk) (s : Side) (h : Hearing) → hearing (with_hearing t s h) s ≡ h
+hearing_with t ToServer h = refl
+hearing_with t FromServer h = refl
+
+pub with_again : (t : Talk) (s : Side) (a b : Hearer) (h g : Hearing)
+    → with_hearing (record (with_hearing (record t { hearer = a }) s h) { hearer = b }) s g ≡ with_hearing (record t { hearer = b }) s g
+with_again t ToServer a b h g = refl
+with_again t FromServer a b h g = refl
+
+pub hearing_is : (t u : Talk) (s : Side) (h : Hearing) → u ≡ with_hearing (record t { hearer = u.hearer }) s h → hearing u s ≡ h
+hearing_is t u s h same = ap (λ x. hearing x s) same ∙ hearing_with (record t { hearer = u.hearer }) s h
+
+left_flow : (b : Bool) (s : Side) (vs : List Said) (c d : Conversation) → IsLeft b s vs c d → d.flow ≡ c.flow
+left_flow true s vs c d left = left.2
+left_flow false s vs c d left = ap (λ (x : Conversation). x.flow) left.0
+
+-- The flow and the hearing behind a piece are those behind what was said by it.
+flow_of : (t u : Talk) (s : Side) (p : Bytes) (heard : IsFollowed t s p u)
+    → u.hearer.conversation.flow ≡ flow_behind s t.hearer.conversation.flow heard.said
+flow_of t u s p heard =
+    left_flow (over_behind (hearing t s) s t.hearer.conversation.flow heard.said) s heard.said heard.behind u.hearer.conversation heard.left
+    ∙ flow_is heard.begun heard.behind s heard.said heard.past ∙ ap (λ f. flow_behind s f heard.said) heard.fed.flow
+
+hearing_of : (t u : Talk) (s : Side) (p : Bytes) (heard : IsFollowed t s p u) → hearing u s ≡ hearing_behind (hearing t s) heard.said
+hearing_of t u s p heard = hearing_is t u s (hearing_behind (hearing t s) heard.said) heard.same
+
+over_of : (t u : Talk) (s : Side) (p : Bytes) (heard : IsFollowed t s p u)
+    → is_over u s ≡ over_behind (hearing t s) s t.hearer.conversation.flow heard.said
+over_of t u s p heard =
+    ap (λ h. over_by h (outcome_at u.hearer.conversation.flow.state)) (hearing_of t u s p heard)
+    ∙ ap (λ (f : Flow). over_by (hearing_behind (hearing t s) heard.said) (outcome_at f.state)) (flow_of t u s p heard)
+
+left_further : (s : Side) (vs : List Said) (q : Bytes) (c d : Conversation) → IsLeft true s vs c d → IsLeft true s vs (further c s q) d
+left_further ToServer vs q c d left = left
+left_further FromServer vs q c d left = left
+
+left_longer : (b : Bool) (s : Side) (vs ws : List Said) (c d : Conversation) → IsLeft b s ws c d → IsLeft b s (ws ++ vs) c d
+left_longer true s vs ws c d left = left
+left_longer false s vs ws c d (same, inl none) = (same, inl none)
+left_longer false s vs ws c d (same, inr few) = (same, inr (longer vs ws (2 ^ 64 - 1) few))
+
+-- Behind the event by which the side is over nothing more is heard.
+over_still : (t m : Talk) (s : Side) (p q : Bytes) (first : IsFollowed t s p m)
+    → over_behind (hearing t s) s t.hearer.conversation.flow first.said ≡ true → IsFollowed t s (p ++ q) m
+over_still t m s p q first over = record {
+  begun = further first.begun s q;
+  behind = further first.behind s q;
+  said = first.said;
+  fed = fed_further t.hearer.conversation first.begun s p q first.fed;
+  past = past_further first.begun first.behind s first.said q first.past;
+  heard = first.heard;
+  left = subst (λ b. IsLeft b s first.said (further first.behind s q) m.hearer.conversation) (sym over)
+      (left_further s first.said q first.behind m.hearer.conversation
+      (subst (λ b. IsLeft b s first.said first.behind m.hearer.conversation) over first.left));
+  facts = first.facts;
+  history = first.history;
+  same = first.same;
+}
+
+both_followed : (t m u : Talk) (s : Side) (p q : Bytes) (first : IsFollowed t s p m)
+    → over_behind (hearing t s) s t.hearer.conversation.flow first.said ≡ false → IsFollowed m s q u → IsFollowed t s (p ++ q) u
+both_followed t m u s p q first over last =
+    let left : IsLeft false s first.said first.behind m.hearer.conversation =
+    subst (λ b. IsLeft b s first.said first.behind m.hearer.conversation) over first.left in
+    let whole = joined t.hearer.conversation first.begun m.hearer.conversation last.begun last.behind s p q first.said last.said first.fed
+    (subst (λ c. IsPast first.begun s first.said c) (sym left.0) first.past) last.fed last.past in
+    let at_flow : m.hearer.conversation.flow ≡ flow_behind s t.hearer.conversation.flow first.said = flow_of t m s p first in
+    let at_hearing : hearing m s ≡ hearing_behind (hearing t s) first.said = hearing_of t m s p first in
+    record {
+      begun = whole.begun;
+      behind = last.behind;
+      said = last.said ++ first.said;
+      fed = whole.fed;
+      past = whole.past;
+      heard = heard_on (hearing t s) s t.hearer.conversation.flow first.said last.said first.heard
+          (subst (λ h. AreHeard h s (flow_behind s t.hearer.conversation.flow first.said) last.said) at_hearing
+          (subst (λ f. AreHeard (hearing m s) s f last.said) at_flow last.heard));
+      left = left_longer (over_behind (hearing t s) s t.hearer.conversation.flow (last.said ++ first.said)) s first.said last.said last.behind
+          u.hearer.conversation (subst (λ b. IsLeft b s last.said last.behind u.hearer.conversation)
+          (ap (λ h. over_behind h s m.hearer.conversation.flow last.said) at_hearing
+          ∙ ap (λ f. over_behind (hearing_behind (hearing t s) first.said) s f last.said) at_flow
+          ∙ over_on (hearing t s) s t.hearer.conversation.flow first.said last.said) last.left);
+      facts = last.facts ∙ ap (λ f. facts s f last.said) first.facts ∙ facts_on s (view_facts t.hearer.facts) first.said last.said;
+      history = last.history ∙ ap (λ h. history s h last.said) first.history ∙ history_on s t.hearer.history.items first.said last.said;
+      same = last.same ∙ ap (λ x. with_hearing (record x { hearer = u.hearer }) s (hearing_behind (hearing m s) last.said)) first.same
+          ∙ with_again t s m.hearer u.hearer (hearing_behind (hearing t s) first.said) (hearing_behind (hearing m s) last.said)
+          ∙ ap (λ h. with_hearing (record t { hearer = u.hearer }) s (hearing_behind h last.said)) at_hearing
+          ∙ ap (λ h. with_hearing (record t { hearer = u.hearer }) s h) (hearing_on (hearing t s) first.said last.said);
+    }
+
+pub followed_on : (t m u : Talk) (s : Side) (p q : Bytes) → IsFollowed t s p m → IsNext m s q u → IsFollowed t s (p ++ q) u
+followed_on t m u s p q first last =
+    go (over_behind (hearing t s) s t.hearer.conversation.flow first.said) refl
+    (subst (λ b. IsNextBy b m s q u) (over_of t m s p first) last)
+  where
+    go : (b : Bool) → over_behind (hearing t s) s t.hearer.conversation.flow first.said ≡ b → IsNextBy b m s q u → IsFollowed t s (p ++ q) u
+    go true over next = subst (λ x. IsFollowed t s (p ++ q) x) (sym next) (over_still t m s p q first over)
+    go false over next = both_followed t m u s p q first over next
+
+pub next_on : (t m u : Talk) (s : Side) (p q : Bytes) → IsNext t s p m → IsNext m s q u → IsNext t s (p ++ q) u
+next_on t m u s p q first last = go (is_over t s) refl first
+  where
+    go : (b : Bool) → is_over t s ≡ b → IsNextBy b t s p m → IsNextBy b t s (p ++ q) u
+    go true over next = subst (λ b. IsNextBy b t s q u) over (subst (λ x. IsNext x s q u) next last)
+    go false over next = followed_on t m u s p q next last
+
+-- Whether it is known how a side is heard.
+abbrev pub IsKnown : Hearing → Type 0
+IsKnown h = h ≡ Unknown → ⊥
+
+known_behind : (h : Hearing) (b : Bool) → IsKnown h → IsKnown (sealed_if b h)
+known_behind h true known = λ e. absurd cc
+known_behind h false known = known
+
+pub known_next : (t u : Talk) (s : Side) (p : Bytes) → IsKnown (hearing t s) → IsNext t s p u → IsKnown (hearing u s)
+known_next t u s p known next = go (is_over t s) next
+  where
+    go : (b : Bool) → IsNextBy b t s p u → IsKnown (hearing u s)
+    go true same = subst (λ x. IsKnown (hearing x s)) (sym same) known
+    go false followed = subst IsKnown (sym (hearing_of t u s p followed))
+        (known_behind (hearing t s) (has_sealed followed.said) known)
+
+pub heard_next : (t u : Talk) (s : Side) (b : Bytes) (h : Hearing) → IsKnown h → IsHeardBy h t s b u → IsNext t s b u
+heard_next t u s b Unknown known heard = absurd (known refl)
+heard_next t u s b Clear known heard = heard
+heard_next t u s b Encrypted known heard = heard
+heard_next t u s b Other known heard = heard
+
+next_heard : (t u : Talk) (s : Side) (b : Bytes) (h : Hearing) → IsKnown h → IsNext t s b u → IsHeardBy h t s b u
+next_heard t u s b Unknown known heard = absurd (known refl)
+next_heard t u s b Clear known heard = heard
+next_heard t u s b Encrypted known heard = heard
+next_heard t u s b Other known heard = heard
+
+pub both_known : (t m u : Talk) (s : Side) (p q : Bytes) → IsKnown (hearing t s) → IsHeardOn t s p m → IsHeardOn m s q u → IsHeardOn t s (p ++ q) u
+both_known t m u s p q known first last =
+    let next : IsNext t s p m = heard_next t m s p (hearing t s) known first in
+    next_heard t u s (p ++ q) (hearing t s) known (next_on t m u s p q next
+    (heard_next m u s q (hearing m s) (known_next t m s p known next) last))

@@ -1,16 +1,33 @@
 -- What is known behind a piece of one side's stream.
-use Rattle.std.specs.Prelude.{◌≡◌, ◌^◌, ◌-◌, ◌⊎◌, ◌≤◌, Bool, true, false, cond, List, [], ◌∷◌, ◌++◌, ℕ, length}
+use Rattle.std.specs.Prelude.{◌≡◌, ◌^◌, ◌-◌, ◌⊎◌, ◌≤◌, Bool, true, false, cond, Option, Some, None, List, [], ◌∷◌, ◌++◌, ℕ, length}
 use Rattle.tls_fields.specs.Bytes.{Bytes}
 use Rattle.tls_events.specs.Item.{Event as Said}
 use Rattle.tls_flow.specs.declared.letter.Direction.{Direction as Side}
 use Rattle.tls_flow.specs.declared.letter.Direction.TheVariants.{ToServer, FromServer}
-use Rattle.tls_conversations.specs.Conversations.{IsBegun, IsPast, IsFedBy, ear}
+use Rattle.tls_conversations.specs.Conversations.{IsBegun, IsBehind, IsPast, IsFedBy, ear}
 use Rattle.tls_conversations.specs.Ears.{says}
 use Rattle.tls_conversations.specs.declared.conversation.Conversation.{Conversation}
 use Rattle.tls_facts.specs.Facts.{nothing, view_facts}
-use Rattle.tls_talks.specs.History.{history}
-use Rattle.tls_talks.specs.Noting.{facts, has_sealed}
+use Rattle.tls_talks.specs.History.{history, letter_of, with_letter}
+use Rattle.tls_talks.specs.Noting.{facts, has_sealed, is_sealed, noted}
 use Rattle.tls_talks.specs.declared.hearer.Hearer.{Hearer}
+
+-- The side gets a further piece, and nothing is noted.
+pub record IsFed (h : Hearer) (s : Side) (p : Bytes) (i : Hearer) : Type 0 where
+  pub conversation : IsFedBy h.conversation s p i.conversation
+  pub facts : i.facts ≡ h.facts
+  pub history : i.history ≡ h.history
+
+-- The side says v next, which is followed and noted.
+pub record IsNoted (h : Hearer) (s : Side) (v : Said) (i : Hearer) : Type 0 where
+  pub behind : IsBehind h.conversation s v i.conversation
+  pub facts : view_facts i.facts ≡ noted s (view_facts h.facts) v
+  pub history : i.history.items ≡ with_letter s h.history.items (letter_of v)
+
+-- What the side says next is taken off, if it says something: whether it is encrypted.
+abbrev pub IsNextTaken : Option Said → Hearer → Side → Option Bool → Hearer → Type 0
+IsNextTaken (Some v) h s r i = (r ≡ Some (is_sealed v)) × IsNoted h s v i
+IsNextTaken None h s r i = (r ≡ None) × (i ≡ h)
 
 -- The side gets a further piece; each event that it says by it is followed and noted, in order, until it says no more, or
 -- as many were as a u64 counts. The last says whether one of them is encrypted.

@@ -1,15 +1,23 @@
 -- What is heard of a connection, and of which side (RFC 8446, section 5.1).
-use Rattle.std.specs.Prelude.{◌≡◌, ℕ, Bool, true, false, not, nat_lt, [], length, take}
+use Rattle.std.specs.Prelude.{◌≡◌, ◌^◌, ◌-◌, ◌⊎◌, ◌≤◌, ⊤, ℕ, Bool, true, false, not, nat_lt, Option, Some, None, List, [], ◌∷◌, ◌++◌, length, take}
+use Rattle.std.specs.Global.{Vec}
 use Rattle.tls_fields.specs.Bytes.{Bytes}
+use Rattle.tls_events.specs.Item.{Event as Said}
+use Rattle.tls_flow.specs.Steps.{follow}
 use Rattle.tls_flow.specs.Table.{is_waiting, outcome_at}
+use Rattle.tls_flow.specs.declared.flow.Flow.{Flow}
 use Rattle.tls_flow.specs.declared.letter.Direction.{Direction as Side}
 use Rattle.tls_flow.specs.declared.letter.Direction.TheVariants.{ToServer, FromServer}
 use Rattle.tls_flow.specs.declared.state.Outcome.{Outcome}
-use Rattle.tls_conversations.specs.Conversations.{IsBegun}
+use Rattle.tls_conversations.specs.Conversations.{IsBegun, IsFedBy, IsPast, ear, other}
+use Rattle.tls_conversations.specs.Ears.{says}
+use Rattle.tls_conversations.specs.Events.{event_of}
+use Rattle.tls_conversations.specs.declared.conversation.Conversation.{Conversation}
 use Rattle.tls_facts.specs.Facts.{nothing, view_facts}
 use Rattle.tls_talks.specs.Front.{begins_tls}
-use Rattle.tls_talks.specs.Hearing.{IsHeard}
-use Rattle.tls_talks.specs.declared.hearer.Hearer.{Hearer}
+use Rattle.tls_talks.specs.Hearing.{IsNoted, turns}
+use Rattle.tls_talks.specs.History.{history}
+use Rattle.tls_talks.specs.Noting.{facts, has_sealed, is_sealed}
 use Rattle.tls_talks.specs.declared.talk.Hearing.{Hearing}
 use Rattle.tls_talks.specs.declared.talk.Hearing.TheVariants.{Unknown, Clear, Encrypted, Other}
 use Rattle.tls_talks.specs.declared.talk.Talk.{Talk}
@@ -23,6 +31,19 @@ abbrev pub with_hearing : Talk → Side → Hearing → Talk
 with_hearing t ToServer h = record t { client = h }
 with_hearing t FromServer h = record t { server = h }
 
+-- The bytes of a side that wait: too few came to tell whether it speaks TLS.
+abbrev pub waiting : Talk → Side → Vec ℕ
+waiting t ToServer = t.client_first
+waiting t FromServer = t.server_first
+
+abbrev pub with_waiting : Talk → Side → Vec ℕ → Talk
+with_waiting t ToServer v = record t { client_first = v }
+with_waiting t FromServer v = record t { server_first = v }
+
+-- The same talk, but for those, which are w.
+abbrev pub Waits : Talk → Side → Bytes → Talk → Type 0
+Waits t s w u = (v : Vec ℕ) × (v.items ≡ w) × (u ≡ with_waiting t s v)
+
 -- Nothing came.
 pub record IsNew (t : Talk) : Type 0 where
   pub begun : IsBegun 131072 t.hearer.conversation
@@ -31,6 +52,8 @@ pub record IsNew (t : Talk) : Type 0 where
   pub is_tls : t.is_tls ≡ false
   pub client : t.client ≡ Unknown
   pub server : t.server ≡ Unknown
+  pub client_first : t.client_first.items ≡ []
+  pub server_first : t.server_first.items ≡ []
 
 abbrev pub over_by : Hearing → Outcome → Bool
 over_by Encrypted o = not (is_waiting o)
@@ -46,37 +69,92 @@ abbrev pub sealed_if : Bool → Hearing → Hearing
 sealed_if true h = Encrypted
 sealed_if false h = h
 
--- These bytes of the side are heard.
-abbrev pub IsFollowed : Talk → Side → Bytes → Talk → Type 0
-IsFollowed t s b u =
-    (h : Hearer) × (sealed : Bool) × IsHeard t.hearer s b h sealed
-    × (u ≡ with_hearing (record t { hearer = h }) s (sealed_if sealed (hearing t s)))
+-- What stands in front of a side is followed, noted and taken off.
+abbrev pub IsTaken : Option Said → Talk → Side → Bool → Talk → Type 0
+IsTaken (Some v) t s taken u =
+    (taken ≡ true) × IsNoted t.hearer s v u.hearer
+    × (u ≡ with_hearing (record t { hearer = u.hearer }) s (sealed_if (is_sealed v) (hearing t s)))
+IsTaken None t s taken u = (taken ≡ false) × (u ≡ t)
 
--- The side speaks TLS.
-abbrev pub told_tls : Talk → Side → Talk
-told_tls t s = with_hearing (record t { is_tls = true }) s Clear
+-- The flow behind these events of a side, the latest of them in front; how the side is heard then, and whether it is over.
+abbrev pub flow_behind : Side → Flow → List Said → Flow
+flow_behind s f [] = f
+flow_behind s f (v ∷ vs) = follow (flow_behind s f vs) (event_of s v)
 
--- By whether they are fewer than 5, and by whether they begin with the header of a record: of what doesn't, the bytes of such a
--- header are heard.
-abbrev pub IsFirstBy : Bool → Bool → Talk → Side → Bytes → ℕ → Talk → Type 0
-IsFirstBy true tls t s b n u = (n ≡ 0) × (u ≡ t)
-IsFirstBy false true t s b n u = (n ≡ length b) × IsFollowed (told_tls t s) s b u
-IsFirstBy false false t s b n u =
-    (n ≡ length b) × (m : Talk) × IsFollowed t s (take 5 b) m × (u ≡ with_hearing m s Other)
+abbrev pub hearing_behind : Hearing → List Said → Hearing
+hearing_behind h vs = sealed_if (has_sealed vs) h
 
--- The first bytes of a side are heard; n of them are done with.
-abbrev pub IsFirstHeard : Talk → Side → Bytes → ℕ → Talk → Type 0
-IsFirstHeard t s b n u = IsFirstBy (nat_lt (length b) 5) (begins_tls b) t s b n u
+abbrev pub over_behind : Hearing → Side → Flow → List Said → Bool
+over_behind h s f vs = over_by (hearing_behind h vs) (outcome_at (flow_behind s f vs).state)
+
+-- The side wasn't over in front of any of these.
+abbrev pub AreHeard : Hearing → Side → Flow → List Said → Type 0
+AreHeard h s f [] = ⊤
+AreHeard h s f (v ∷ vs) = (over_behind h s f vs ≡ false) × AreHeard h s f vs
+
+-- What is left: of a side that is over whatever it says; of another nothing for now, unless as many events were taken as a u64
+-- counts.
+abbrev pub IsLeft : Bool → Side → List Said → Conversation → Conversation → Type 0
+IsLeft true s vs c d = (ear d (other s) ≡ ear c (other s)) × (d.is_tls13 ≡ c.is_tls13) × (d.flow ≡ c.flow)
+IsLeft false s vs c d = (d ≡ c) × ((says (ear c s) [] ≡ []) ⊎ (2 ^ 64 - 1 ≤ length vs))
+
+-- A side that isn't over gets a further piece. Each event that it says by it is followed and noted, in order, up to the one by which it
+-- is over.
+pub record IsFollowed (t : Talk) (s : Side) (p : Bytes) (u : Talk) : Type 0 where
+  pub begun : Conversation
+  pub behind : Conversation
+  pub said : List Said
+  pub fed : IsFedBy t.hearer.conversation s p begun
+  pub past : IsPast begun s said behind
+  pub heard : AreHeard (hearing t s) s t.hearer.conversation.flow said
+  pub left : IsLeft (over_behind (hearing t s) s t.hearer.conversation.flow said) s said behind u.hearer.conversation
+  pub facts : view_facts u.hearer.facts ≡ facts s (view_facts t.hearer.facts) said
+  pub history : u.hearer.history.items ≡ history s t.hearer.history.items said
+  pub same : u ≡ with_hearing (record t { hearer = u.hearer }) s (hearing_behind (hearing t s) said)
 
 -- Of a side that is over nothing is heard.
 abbrev pub IsNextBy : Bool → Talk → Side → Bytes → Talk → Type 0
 IsNextBy true t s b u = u ≡ t
 IsNextBy false t s b u = IsFollowed t s b u
 
-abbrev pub IsHeardBy : Hearing → Talk → Side → Bytes → ℕ → Talk → Type 0
-IsHeardBy Unknown t s b n u = IsFirstHeard t s b n u
-IsHeardBy h t s b n u = (n ≡ length b) × IsNextBy (is_over t s) t s b u
+abbrev pub IsNext : Talk → Side → Bytes → Talk → Type 0
+IsNext t s b u = IsNextBy (is_over t s) t s b u
 
--- The bytes that a side says next are heard; n of them are done with.
-abbrev pub IsHeardOn : Talk → Side → Bytes → ℕ → Talk → Type 0
-IsHeardOn t s b n u = IsHeardBy (hearing t s) t s b n u
+-- The side speaks TLS.
+abbrev pub told_tls : Talk → Side → Talk
+told_tls t s = with_hearing (record t { is_tls = true }) s Clear
+
+-- The first bytes of a side, of which w wait and b come: as many as the header of a record has, 5.
+abbrev pub front : Bytes → Bytes → Bytes
+front w b = w ++ take (5 - length w) b
+
+-- By whether they are fewer, and by whether they begin with such a header: of what doesn't, the bytes of a header are heard.
+abbrev pub IsFirstBy : Bool → Bool → Talk → Side → Bytes → Bytes → Talk → Type 0
+IsFirstBy true tls t s w b u = Waits t s (w ++ b) u
+IsFirstBy false true t s w b u = (m : Talk) × Waits t s [] m × IsNext (told_tls m s) s (w ++ b) u
+IsFirstBy false false t s w b u =
+    (m n : Talk) × Waits t s [] m × IsNext m s (front w b) n × (u ≡ with_hearing n s Other)
+
+-- The first bytes of a side are heard.
+abbrev pub IsFirstHeard : Talk → Side → Bytes → Bytes → Talk → Type 0
+IsFirstHeard t s w b u = IsFirstBy (nat_lt (length b) (5 - length w)) (begins_tls (front w b)) t s w b u
+
+abbrev pub IsHeardBy : Hearing → Talk → Side → Bytes → Talk → Type 0
+IsHeardBy Unknown t s b u = IsFirstHeard t s (waiting t s).items b u
+IsHeardBy h t s b u = IsNext t s b u
+
+-- The bytes that a side says next are heard.
+abbrev pub IsHeardOn : Talk → Side → Bytes → Talk → Type 0
+IsHeardOn t s b u = IsHeardBy (hearing t s) t s b u
+
+-- These pieces are heard one after the other, each of its side.
+abbrev pub AreHeardOn : Talk → List (Side × Bytes) → Talk → Type 0
+AreHeardOn t [] u = u ≡ t
+AreHeardOn t (p ∷ ps) u = (m : Talk) × IsHeardOn t p.0 p.1 m × AreHeardOn m ps u
+
+-- It is what was heard of these pieces from the beginning, whatever the cuts: what the turns say that they make, in which a side's pieces
+-- up to the other side's next are joined.
+pub record IsTalkOf (ps : List (Side × Bytes)) (t : Talk) : Type 0 where
+  pub begun : Talk
+  pub new : IsNew begun
+  pub heard : AreHeardOn begun (turns ps) t

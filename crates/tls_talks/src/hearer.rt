@@ -1,10 +1,11 @@
 //! A conversation whose events are noted.
 ghost use Rattle.std.specs.Prelude.{◌≡◌, [], IfOk, OnOk};
-ghost use Rattle.tls_conversations.specs.Conversations.{IsBegun, views};
+ghost use Rattle.tls_conversations.specs.Conversations.{IsBegun, ear, views};
+ghost use Rattle.tls_conversations.specs.Ears.{IsReady, front_of};
 ghost use Rattle.tls_conversations.specs.Events.{view_said};
 ghost use Rattle.tls_facts.specs.Facts.{nothing, view_facts};
 ghost use Rattle.tls_talks.specs.Noting.{is_sealed, noted};
-ghost use Rattle.tls_talks.specs.Hearing.{IsHeard, IsHeardOf};
+ghost use Rattle.tls_talks.specs.Hearing.{IsFed, IsHeard, IsHeardOf, IsNextTaken};
 
 use crate::history::{add_letter, said_letter};
 use std::alloc::{AllocError, Global};
@@ -68,6 +69,35 @@ impl Hearer {
         }
     }
 
+    /// Puts a piece behind what came of that side's stream.
+    pub(crate) fn feed(&mut self, side: Direction, piece: &[u8]) -> Result<(), AllocError>
+        ensures fed { OnOk result (IsFed self.old side piece.now self.new) }
+        ensures ready { OnOk result (IsReady (ear self.new.conversation side)) }
+    {
+        self.conversation.feed(side, piece).map_err(|_e| AllocError)
+    }
+
+    /// Follows and notes what the side says next, and takes it off: whether it is encrypted. `None` where it says no more for now.
+    pub(crate) fn take_next(
+        &mut self,
+        alloc: Global,
+        side: Direction,
+    ) -> Result<Option<bool>, AllocError>
+        ensures taken { IfOk result (λ r. IsNextTaken (front_of (ear self.old.conversation side)) self.old side r self.new) }
+        ensures ready { OnOk result (IsReady (ear self.old.conversation side) → IsReady (ear self.new.conversation side)) }
+    {
+        let is_encrypted = match self.conversation.front(side) {
+            Some(said) => {
+                note(&mut self.facts, alloc, side, &said)?;
+                add_letter(&mut self.history, side, said_letter(&said))?;
+                is_encrypted(&said)
+            }
+            None => return Ok(None),
+        };
+        self.conversation.take_front(side);
+        Ok(Some(is_encrypted))
+    }
+
     /// Puts a piece behind what came of that side's stream, and follows and notes each event that the side says by it: whether one
     /// of them is encrypted.
     ///
@@ -76,19 +106,12 @@ impl Hearer {
         ensures { IfOk result (λ sealed. IsHeard self.old side piece.now self.new sealed) }
     {
         let mut has_encrypted = false;
-        self.conversation
-            .feed(side, piece)
-            .map_err(|_e| AllocError)?;
+        self.feed(side, piece)?;
         for _ in 0..u64::MAX {
-            match self.conversation.front(side) {
-                Some(said) => {
-                    has_encrypted = has_encrypted || is_encrypted(&said);
-                    note(&mut self.facts, alloc, side, &said)?;
-                    add_letter(&mut self.history, side, said_letter(&said))?;
-                }
+            match self.take_next(alloc, side)? {
+                Some(is_encrypted) => has_encrypted = has_encrypted || is_encrypted,
                 None => break,
             }
-            self.conversation.take_front(side);
         }
         Ok(has_encrypted)
     }

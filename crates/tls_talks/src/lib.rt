@@ -2,8 +2,8 @@
 //!
 //! Over a stream, [`Hearer`] follows both sides, and its facts are a fold over what they say, in the order of the capture. [`Talk`]
 //! tells from the first bytes of a side whether they are TLS, and hears a side no further once its handshake ended and it is
-//! encrypted: so nothing behind the handshake is kept. What a [`Hearer`] knows is what the turns of both sides say, however these
-//! are cut: [`hear_all`] states it.
+//! encrypted: so nothing behind the handshake is kept. What a [`Hearer`] and a [`Talk`] know is what the turns of both sides say, however
+//! these are cut: [`hear_all`] and [`talk_all`] state it.
 //!
 //! Both have a history: a letter for each event, up to [`HISTORY_LIMIT`]. [`Records`] counts the records of a stream, encrypted ones too, and
 //! keeps no byte of them.
@@ -25,4 +25,4 @@ pub use datagram_talk::{DatagramTalk, talk_of};
 pub use hearer::{Hearer, hear_all};
 pub use history::HISTORY_LIMIT;
 pub use records::Records;
-pub use talk::Talk;
+pub use talk::{Talk, talk_all};

@@ -1,15 +1,17 @@
 //! What a connection says, as far as it is TLS.
-ghost use Rattle.std.specs.Prelude.{◌≡◌, IfOk, OnOk};
-ghost use Rattle.tls_conversations.specs.Conversations.{IsBegun};
-ghost use Rattle.tls_facts.specs.Facts.{nothing, view_facts};
+ghost use Rattle.std.specs.Prelude.{◌≡◌, ◌++◌, [], IfOk, OnOk};
+ghost use Rattle.tls_conversations.specs.Conversations.{ear, views};
+ghost use Rattle.tls_conversations.specs.Ears.{IsReady, front_of};
+ghost use Rattle.tls_facts.specs.Facts.{view_facts};
 ghost use Rattle.tls_flow.specs.Table.{outcome_at};
 ghost use Rattle.tls_talks.specs.Ends.{is_established as established_by, is_resumed as resumed_by};
-ghost use Rattle.tls_talks.specs.Talks.{IsFirstHeard, IsFollowed, IsHeardOn, IsNew, hearing as hearing_of, is_over as is_over_in, with_hearing};
+ghost use Rattle.tls_talks.specs.Talks.{IsFirstHeard, IsHeardOn, IsNew, IsNext, IsTaken, IsTalkOf, Waits, hearing as hearing_of, is_over as is_over_in, waiting as waiting_of, with_hearing};
 
 use crate::ends;
 use crate::front::{HEADER_LEN, begins_tls};
 use crate::hearer::Hearer;
 use std::alloc::{AllocError, Global};
+use std::mem;
 use tls_conversations::{Direction, Outcome, Stop};
 use tls_facts::Facts;
 
@@ -33,6 +35,9 @@ pub struct Talk {
     is_tls: bool,
     client: Hearing,
     server: Hearing,
+    // The first bytes of each side, while they are too few to tell whether it speaks TLS.
+    client_first: Vec<u8>,
+    server_first: Vec<u8>,
 }
 
 impl Talk {
@@ -45,6 +50,8 @@ impl Talk {
             is_tls: false,
             client: Hearing::Unknown,
             server: Hearing::Unknown,
+            client_first: Vec::new(alloc),
+            server_first: Vec::new(alloc),
         }
     }
 
@@ -128,58 +135,114 @@ impl Talk {
         }
     }
 
-    /// Hears a piece of a side.
-    fn follow(&mut self, alloc: Global, side: Direction, piece: &[u8]) -> Result<(), AllocError>
-        ensures { OnOk result (IsFollowed self.old side piece.now self.new) }
+    /// The bytes of a side that wait.
+    fn waiting(&self, side: Direction) -> &[u8]
+        ensures { result.now ≡ (waiting_of self.now side).items }
     {
-        if self.hearer.hear(alloc, side, piece)? {
-            self.set_hearing(side, Hearing::Encrypted);
+        match side {
+            Direction::ToServer => self.client_first.as_slice(),
+            Direction::FromServer => self.server_first.as_slice(),
+        }
+    }
+
+    /// Puts bytes behind those that wait.
+    fn wait(&mut self, side: Direction, bytes: &[u8]) -> Result<(), AllocError>
+        ensures { OnOk result (Waits self.old side ((waiting_of self.old side).items ++ bytes.now) self.new) }
+    {
+        match side {
+            Direction::ToServer => self.client_first.extend_from_slice(bytes),
+            Direction::FromServer => self.server_first.extend_from_slice(bytes),
+        }
+    }
+
+    /// Takes those that wait.
+    fn take_waiting(&mut self, alloc: Global, side: Direction) -> Vec<u8>
+        ensures value { result ≡ waiting_of self.old side }
+        ensures taken { Waits self.old side [] self.new }
+    {
+        match side {
+            Direction::ToServer => mem::replace(&mut self.client_first, Vec::new(alloc)),
+            Direction::FromServer => mem::replace(&mut self.server_first, Vec::new(alloc)),
+        }
+    }
+
+    /// Follows and notes what the side says next, and takes it off: true. False where it says no more for now.
+    fn take_next(&mut self, alloc: Global, side: Direction) -> Result<bool, AllocError>
+        ensures taken { IfOk result (λ taken. IsTaken (front_of (ear self.old.hearer.conversation side)) self.old side taken self.new) }
+        ensures ready { OnOk result (IsReady (ear self.old.hearer.conversation side) → IsReady (ear self.new.hearer.conversation side)) }
+    {
+        match self.hearer.take_next(alloc, side)? {
+            Some(true) => {
+                self.set_hearing(side, Hearing::Encrypted);
+                Ok(true)
+            }
+            Some(false) => Ok(true),
+            None => Ok(false),
+        }
+    }
+
+    /// Hears a piece of a side, up to what it says last before it is over.
+    fn follow(&mut self, alloc: Global, side: Direction, piece: &[u8]) -> Result<(), AllocError>
+        ensures { OnOk result (IsNext self.old side piece.now self.new) }
+    {
+        if self.is_over(side) {
+            return Ok(());
+        }
+        self.hearer.feed(side, piece)?;
+        for _ in 0..u64::MAX {
+            if self.is_over(side) || !self.take_next(alloc, side)? {
+                break;
+            }
         }
         Ok(())
     }
 
     /// Hears the first bytes of a side, which tell whether it speaks TLS.
-    fn hear_first(
-        &mut self,
-        alloc: Global,
-        side: Direction,
-        bytes: &[u8],
-    ) -> Result<usize, AllocError>
-        ensures { IfOk result (λ n. IsFirstHeard self.old side bytes.now n self.new) }
+    fn hear_first(&mut self, alloc: Global, side: Direction, bytes: &[u8]) -> Result<(), AllocError>
+        ensures { OnOk result (IsFirstHeard self.old side (waiting_of self.old side).items bytes.now self.new) }
     {
-        if bytes.len() < HEADER_LEN {
-            return Ok(0);
+        let missing = HEADER_LEN.saturating_sub(self.waiting(side).len());
+        if bytes.len() < missing {
+            return self.wait(side, bytes);
         }
-        if begins_tls(bytes) {
+        let (front, rest) = bytes.split_at(missing);
+        let mut first = self.take_waiting(alloc, side);
+        first.extend_from_slice(front)?;
+        if begins_tls(first.as_slice()) {
             self.is_tls = true;
             self.set_hearing(side, Hearing::Clear);
-            self.follow(alloc, side, bytes)?;
-        } else {
-            self.follow(alloc, side, &bytes[..HEADER_LEN])?;
-            self.set_hearing(side, Hearing::Other);
+            self.follow(alloc, side, first.as_slice())?;
+            return self.follow(alloc, side, rest);
         }
-        Ok(bytes.len())
+        self.follow(alloc, side, first.as_slice())?;
+        self.set_hearing(side, Hearing::Other);
+        Ok(())
     }
 
-    /// Hears the bytes that a side says next: how many of them are done with. None are where they are too few to tell whether
-    /// the side speaks TLS. Of a side that doesn't, no more than these are heard, as what they are: a fault. Of a side that is
-    /// over nothing is heard.
+    /// Hears the bytes that a side says next. The first wait until 5 are there, which tell whether it speaks TLS: of a side that doesn't, no
+    /// more than these are heard, as what they are: a fault. Of a side that is over nothing is heard, from the event on by which it is.
     ///
     /// `AllocError` where they could not be held. The talk is then of no further use.
-    pub fn hear(
-        &mut self,
-        alloc: Global,
-        side: Direction,
-        bytes: &[u8],
-    ) -> Result<usize, AllocError>
-        ensures { IfOk result (λ n. IsHeardOn self.old side bytes.now n self.new) }
+    pub fn hear(&mut self, alloc: Global, side: Direction, bytes: &[u8]) -> Result<(), AllocError>
+        ensures { OnOk result (IsHeardOn self.old side bytes.now self.new) }
     {
         if self.hearing(side) == Hearing::Unknown {
             return self.hear_first(alloc, side, bytes);
         }
-        if !self.is_over(side) {
-            self.follow(alloc, side, bytes)?;
-        }
-        Ok(bytes.len())
+        self.follow(alloc, side, bytes)
     }
+}
+
+/// The talk of which these pieces come, one after the other, each of the side that speaks. It is that of the turns that they make, in which
+/// a side's pieces up to the other side's next are joined: however they are cut, and the records in them.
+///
+/// `AllocError` where a piece, or what it says, could not be held.
+pub fn talk_all(alloc: Global, pieces: &[(Direction, &[u8])]) -> Result<Talk, AllocError>
+    ensures { IfOk result (λ t. IsTalkOf (views pieces.now) t) }
+{
+    let mut talk = Talk::new(alloc);
+    for (side, piece) in pieces {
+        talk.hear(alloc, *side, piece)?;
+    }
+    Ok(talk)
 }

@@ -6,6 +6,9 @@ use tls_facts::Facts;
 use tls_flow::{Direction, Outcome, Stop};
 use tls_talks::{DatagramTalk, Records, Talk};
 
+/// How many bytes tell whether a side speaks TLS: the header of a record (RFC 8446, section 5.1).
+const HEADER_LEN: usize = 5;
+
 /// What both sides of a connection said.
 #[derive(Drop)]
 enum Said {
@@ -126,6 +129,15 @@ impl Heard {
         }
     }
 
+    /// Whether no byte of that side's stream was heard.
+    fn has_said_nothing(&self, direction: Direction) -> bool {
+        let records = match direction {
+            Direction::ToServer => self.from_originator,
+            Direction::FromServer => self.from_responder,
+        };
+        records == Records::new()
+    }
+
     /// Counts the records in the bytes that a side says next.
     pub fn count_records(&mut self, direction: Direction, bytes: &[u8]) {
         match direction {
@@ -134,27 +146,29 @@ impl Heard {
         }
     }
 
-    /// Hears what a side's stream says next.
+    /// Hears what a side's stream says next; its first bytes once they tell whether it speaks TLS.
     pub fn hear_stream(
         &mut self,
         stream: &mut Stream,
         direction: Direction,
     ) -> Result<(), AllocError> {
+        let bytes = stream.available();
+        if bytes.len() < HEADER_LEN && self.has_said_nothing(direction) {
+            return Ok(());
+        }
         let Said::Stream(talk) = &mut self.said else {
             return Ok(());
         };
         let was_over = talk.is_over(direction);
-        let bytes = stream.available();
-        let n = talk.hear(self.alloc, direction, bytes)?;
+        talk.hear(self.alloc, direction, bytes)?;
         let is_over = talk.is_over(direction);
-        if let (Some(speech), Some(heard)) = (&mut self.speech, bytes.get(..n)) {
+        if let Some(speech) = &mut self.speech {
             if talk.is_tls() && !was_over {
-                speech.hear(direction, heard)?;
+                speech.hear(direction, bytes)?;
             }
         }
-        if let Some(heard) = bytes.get(..n) {
-            self.count_records(direction, heard);
-        }
+        self.count_records(direction, bytes);
+        let n = bytes.len();
         stream.take(n);
         if is_over {
             stream.stop();
