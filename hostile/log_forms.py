@@ -131,7 +131,7 @@ def wanted_of_uses(lines):
     servers = Counter(chain[:2] for chain in chains)
     said = [line.split() for line in (TOP / "captures" / "messages").read_text().splitlines()]
     return {
-        "TLS 1.0": counted(line["id.orig_h"] for line in lines if line.get("version") in ("TLSv10", "TLSv11")),
+        "still speaks": counted(line["id.orig_h"] for line in lines if line.get("version") in ("TLSv10", "TLSv11")),
         "hosts": counted(line["server_name"] for line in lines if "server_name" in line),
         "changed their certificate": sorted("\t".join(server) for server, count in servers.items() if count > 1),
         "broken off": sorted(
@@ -141,9 +141,9 @@ def wanted_of_uses(lines):
         "which suites": counted(line["cipher"] for line in named(lines) if "cipher" in line),
         "which programs": counted(only(line, "ja4", "ja3") for line in lines),
         "resumed": counted(only(line, "version", "resumed") for line in lines),
-        "doesn't take it": sorted(
-            line.get("server_name", "null") for line in lines
-            if line.get("version") == "TLSv12" and "TLSv13" in line.get("client_supported_versions", [])
+        "would still take": sorted(
+            str(line["id.orig_p"]) for line in lines
+            if "TLSv10" in line.get("client_supported_versions", [line.get("client_version")])
         ),
         "asked for a certificate": sorted(
             plain([line["id.orig_p"], line.get("client_cert_count")]) for line in lines if "client_cert_requested" in line

@@ -181,7 +181,9 @@ class Talk:
         names = re.sub(r" [(]Level: [^)]*[)]", "", ";".join(row["_ws.col.Info"]))
         for name in re.split(", ", names.replace(" (Reassembled)", "")):
             letter = LETTERS.get(name, "")
-            if letter == "i" and self.layer == "udp" and side in self.changed:
+            is_again = letter == "i" and self.layer == "udp"
+            # Where the bytes of an encrypted alert happen to be a level and a name, tshark takes them for these.
+            if side in self.changed and not self.is_13 and (is_again or letter == "l"):
                 continue
             self.history += letter.upper() if side else letter
 
