@@ -19,7 +19,7 @@ __attribute__((noinline)) uint64_t c_names(const uint8_t *bytes, size_t count, s
     uint64_t sum = 0;
     size_t half = count / 2, round;
     for (round = 0; round < rounds; round++) {
-        const uint8_t *copy = bytes + round % 2 * half;
+        const uint8_t *copy = round % 2 == 0 ? bytes : bytes + half;
         wispuddera_found name = WISPUDDERA_EMPTY;
         if (wispuddera_find_server_name_in_record(copy, half, &name) == WISPUDDERA_READ && name.place.length > 0) {
             sum += name.place.length * 256 + copy[name.place.offset];

@@ -101,7 +101,7 @@ impl Hearer {
     /// Puts a piece behind what came of that side's stream, and follows and notes each event that the side says by it: whether one
     /// of them is encrypted.
     ///
-    /// `AllocError` where the piece, or a name in it, could not be held.
+    /// `AllocError` where the piece, or a hello in it, could not be held.
     pub fn hear(&mut self, alloc: Global, side: Direction, piece: &[u8]) -> Result<bool, AllocError>
         ensures { IfOk result (λ sealed. IsHeard self.old side piece.now self.new sealed) }
     {
@@ -120,7 +120,7 @@ impl Hearer {
 /// What is heard where these pieces come, one after the other, each of the side that speaks. It is what is heard of the turns that they
 /// make, in which a side's pieces up to the other side's next are joined: however they are cut, and the records in them.
 ///
-/// `AllocError` where a piece, or a name in it, could not be held.
+/// `AllocError` where a piece, or a hello in it, could not be held.
 pub fn hear_all(alloc: Global, pieces: &[(Direction, &[u8])]) -> Result<Hearer, AllocError>
     ensures { IfOk result (λ h. IsHeardOf DEFAULT_LIMIT (views pieces.now) h) }
 {

@@ -31,6 +31,14 @@ struct At<'a> {
     call: &'a str,
 }
 
+/// So many bytes of the parts are there, the last of which ends at that place, and what is answered then.
+#[derive(Clone, Copy)]
+struct Cut<'t> {
+    there: usize,
+    end: usize,
+    wanted: Expected<'t>,
+}
+
 /// What is told is what the row says.
 pub fn is_right(told: &str, said: &str) -> bool
     ensures { (result ≡ true) ↔ (told.now ≡ said.now) }
@@ -128,28 +136,39 @@ impl Tally {
     ) -> Result<(), Fault> {
         let parts = parts_of(alloc, &clause.words)?;
         let size = size_of(&parts);
-        let Some(begin) = i.len().checked_sub(size) else {
-            return Err(Fault::Form("parts of more bytes than there are"));
-        };
-        if clause.subject == Subject::Cut && begin != 0 {
-            return Err(Fault::Form("parts that aren't all of the bytes"));
-        }
+        let begin = begin_of(i, clause.subject, size)?;
         for there in 0..size {
-            let wanted = answer_at(&parts, there);
-            let Some(end) = begin.checked_add(there) else {
-                continue;
-            };
-            if clause.subject == Subject::Cut {
-                self.compare_cut(alloc, at, end, front_of(i, end), wanted)?;
-                continue;
-            }
-            let told = with_length(alloc, i, clause.places, there)?;
-            self.compare_cut(alloc, at, end, &told, wanted)?;
-            if clause.subject == Subject::Within {
-                self.compare_cut(alloc, at, end, front_of(&told, end), wanted)?;
+            if let Some(end) = begin.checked_add(there) {
+                let cut = Cut {
+                    there,
+                    end,
+                    wanted: answer_at(&parts, there),
+                };
+                self.compare_part(alloc, at, i, clause, cut)?;
             }
         }
         self.compare_cut(alloc, at, i.len(), i, Expected::Value)
+    }
+
+    /// Compares the answers where the parts that the clause names are cut there.
+    fn compare_part(
+        &mut self,
+        alloc: Global,
+        at: At,
+        i: &[u8],
+        clause: &Clause,
+        cut: Cut,
+    ) -> Result<(), Fault> {
+        let Cut { there, end, wanted } = cut;
+        if clause.subject == Subject::Cut {
+            return self.compare_cut(alloc, at, end, front_of(i, end), wanted);
+        }
+        let told = with_length(alloc, i, clause.places, there)?;
+        self.compare_cut(alloc, at, end, &told, wanted)?;
+        if clause.subject == Subject::Within {
+            self.compare_cut(alloc, at, end, front_of(&told, end), wanted)?;
+        }
+        Ok(())
     }
 
     /// Compares the answer on bytes that are cut at that place.
@@ -169,6 +188,17 @@ impl Tally {
         let clause = format!(in alloc; "cut at {place}:")?;
         self.compare(at, clause.as_str(), told.as_str(), text.as_str())
     }
+}
+
+/// Where parts of so many bytes begin, which end with the bytes: at the first, where these are cut and say no length.
+fn begin_of(i: &[u8], subject: Subject, size: usize) -> Result<usize, Fault> {
+    let Some(begin) = i.len().checked_sub(size) else {
+        return Err(Fault::Form("parts of more bytes than there are"));
+    };
+    if subject == Subject::Cut && begin != 0 {
+        return Err(Fault::Form("parts that aren't all of the bytes"));
+    }
+    Ok(begin)
 }
 
 /// The first bytes, up to `end`.

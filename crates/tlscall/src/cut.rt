@@ -4,14 +4,14 @@ use crate::fault::Fault;
 use std::alloc::{AllocError, Global};
 
 /// What a call answers while a part of its layout, of so many bytes, isn't whole.
-#[derive(Clone, Copy, PartialEq)]
+#[derive(Clone, Copy)]
 pub struct Part<'t> {
     pub size: usize,
     pub lack: Lack<'t>,
 }
 
 /// What the lack of a byte of the part means.
-#[derive(Clone, Copy, PartialEq)]
+#[derive(Clone, Copy)]
 pub enum Lack<'t> {
     /// `Missing(4)`: `Incomplete`, of the bytes that the part lacks.
     Missing,
@@ -22,7 +22,7 @@ pub enum Lack<'t> {
 }
 
 /// What is answered: a value, or why there is none, as it is told.
-#[derive(Clone, Copy, PartialEq)]
+#[derive(Clone, Copy)]
 pub enum Expected<'t> {
     Value,
     Incomplete(usize),

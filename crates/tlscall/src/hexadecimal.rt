@@ -62,6 +62,18 @@ fn listed(alloc: Global, text: &str) -> Result<Option<Vec<u8>>, AllocError> {
     Ok(Some(bytes))
 }
 
+/// Adds what stands behind a `[`: a list of bytes up to a `]`, or anything else.
+fn add_part(alloc: Global, told: &mut String, part: &str) -> Result<(), AllocError> {
+    let (list, behind) = part.split_once(']').unwrap_or((part, ""));
+    match listed(alloc, list)? {
+        Some(bytes) => {
+            let bytes = hexadecimal(alloc, &bytes)?;
+            write!(told, "<{}>{behind}", bytes.as_str().trim())
+        }
+        None => write!(told, "[{part}"),
+    }
+}
+
 /// The text of a value, with each list of bytes in hexadecimal, between `<` and `>`. An empty list stays `[]`.
 pub fn with_hexadecimal(alloc: Global, text: &str) -> Result<String, AllocError> {
     let mut told = String::new(alloc);
@@ -70,14 +82,7 @@ pub fn with_hexadecimal(alloc: Global, text: &str) -> Result<String, AllocError>
         told.push_str(front)?;
     }
     for part in parts {
-        let (list, behind) = part.split_once(']').unwrap_or((part, ""));
-        match listed(alloc, list)? {
-            Some(bytes) => {
-                let bytes = hexadecimal(alloc, &bytes)?;
-                write!(told, "<{}>{behind}", bytes.as_str().trim())?;
-            }
-            None => write!(told, "[{part}")?,
-        }
+        add_part(alloc, &mut told, part)?;
     }
     Ok(told)
 }

@@ -129,6 +129,22 @@ impl<'t> Reading<'t> {
     }
 }
 
+impl<'t> Reading<'t> {
+    /// Adds what a word without a mark says: a name, or hexadecimal. `|` says nothing.
+    fn add_word(&mut self, alloc: Global, word: &str, names: &[Named<'t>]) -> Result<(), Fault> {
+        if word.is_empty() || word == "|" {
+            return Ok(());
+        }
+        match word.strip_prefix('$') {
+            Some(name) => match names.iter().find(|named| named.name == name) {
+                Some(named) => Ok(self.add_named(alloc, named)?),
+                None => Err(Fault::Form("a name that isn't given")),
+            },
+            None => self.add_bytes(alloc, word),
+        }
+    }
+}
+
 /// The mark that the word begins with, and what is behind it.
 fn marked(word: &str) -> Option<(char, &str)> {
     let mark = word.chars().next()?;
@@ -148,22 +164,13 @@ pub fn input_of<'t>(
 ) -> Result<Input<'t>, Fault> {
     let mut reading = Reading::new(alloc);
     for word in words {
-        let word = match marked(word) {
+        let word: &'t str = *word;
+        match marked(word) {
             Some((mark, behind)) => {
                 reading.next(alloc, mark)?;
-                behind
+                reading.add_word(alloc, behind, names)?;
             }
-            None => word,
-        };
-        if word.is_empty() || word == "|" {
-            continue;
-        }
-        match word.strip_prefix('$') {
-            Some(name) => match names.iter().find(|named| named.name == name) {
-                Some(named) => reading.add_named(alloc, named)?,
-                None => return Err(Fault::Form("a name that isn't given")),
-            },
-            None => reading.add_bytes(alloc, word)?,
+            None => reading.add_word(alloc, word, names)?,
         }
     }
     reading.next(alloc, ' ')?;

@@ -31,32 +31,51 @@ fn tell(rt: &impl Print, place: &str, fault: Fault) -> Result<u8, Fault> {
     }
 }
 
-/// Compares the rows of the files, and counts them, or tells each answer.
-fn compare_files(
+/// Compares the rows of a file, and answers the exit status where one of them isn't of the form.
+fn compare_file(
     rt: &(impl AllocGlobal + Files + Print),
-    files: &[String],
-    is_told: bool,
-) -> Result<u8, Fault> {
+    file: &str,
+    tally: &mut Tally,
+) -> Result<Option<u8>, Fault> {
     let alloc = rt.alloc();
-    let mut tally = Tally::new(alloc, is_told);
-    for file in files {
-        let text = fs::read_to_string(rt, file.as_str())?;
-        if let Err(e) = compare_rows(alloc, file.as_str(), text.as_str(), &mut tally) {
+    let text = fs::read_to_string(rt, file)?;
+    match compare_rows(alloc, file, text.as_str(), tally) {
+        Ok(()) => Ok(None),
+        Err(e) => {
             let line = e.line;
             let place = format!(in alloc; "{}{file}:{line}: ", tally.lines)?;
-            return tell(rt, place.as_str(), e.fault);
+            Ok(Some(tell(rt, place.as_str(), e.fault)?))
         }
     }
+}
+
+/// Tells what was counted, and answers the exit status.
+fn tell_tally(rt: &(impl AllocGlobal + Print), tally: &Tally) -> Result<u8, Fault> {
     let Tally {
         rows,
         answers,
         differ,
         lines,
         ..
-    } = &tally;
-    let told = format!(in alloc; "{lines}{rows} rows, {answers} answers: {differ} differ")?;
+    } = tally;
+    let told = format!(in rt.alloc(); "{lines}{rows} rows, {answers} answers: {differ} differ")?;
     println!(rt; "{told}")?;
     Ok(if *differ == 0 { RIGHT } else { DIFFERS })
+}
+
+/// Compares the rows of the files, and counts them, or tells each answer.
+fn compare_files(
+    rt: &(impl AllocGlobal + Files + Print),
+    files: &[String],
+    is_told: bool,
+) -> Result<u8, Fault> {
+    let mut tally = Tally::new(rt.alloc(), is_told);
+    for file in files {
+        if let Some(status) = compare_file(rt, file.as_str(), &mut tally)? {
+            return Ok(status);
+        }
+    }
+    tell_tally(rt, &tally)
 }
 
 /// Tells what the call answers on the input that the words say.
@@ -85,6 +104,11 @@ pub fn run(rt: &(impl AllocGlobal + Env + Files + Print)) -> Result<u8, Fault> {
     for word in env::args(rt)? {
         words.push(word)?;
     }
+    run_words(rt, &words)
+}
+
+/// The same, of the program's name and its arguments.
+fn run_words(rt: &(impl AllocGlobal + Files + Print), words: &[String]) -> Result<u8, Fault> {
     let Some((_, words)) = words.split_first() else {
         return tell(rt, "", Fault::Form(USAGE));
     };

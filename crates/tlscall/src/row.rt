@@ -6,7 +6,7 @@ use crate::input::{Input, Named, input_of};
 use std::alloc::{AllocError, Global};
 
 /// What a clause of a row speaks of.
-#[derive(Clone, Copy, Debug, PartialEq)]
+#[derive(Clone, Copy, PartialEq)]
 pub enum Subject {
     /// `=>`: the answer on the whole input.
     Answer,

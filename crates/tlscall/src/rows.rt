@@ -7,7 +7,7 @@ use crate::row::row_of;
 use std::alloc::Global;
 
 /// A fault of a row, and the line on which the row begins.
-#[derive(Clone, Copy, Debug)]
+#[derive(Clone, Copy)]
 pub struct Misformed {
     pub line: usize,
     pub fault: Fault,

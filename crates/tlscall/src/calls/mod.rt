@@ -22,16 +22,47 @@ mod writers;
 
 use crate::fault::Fault;
 use crate::input::Piece;
+use crate::told::Told;
 pub use asked::Asked;
 use std::alloc::Global;
 
-/// The answer of the first of the tables that has the call.
+/// The answer of the first of the tables that has the call, if one has it.
 macro_rules! first {
-    ($asked:ident; $($table:path),* $(,)?) => {
-        $(if let Some(text) = $table(&$asked)? {
-            return Ok(text);
+    ($asked:ident; $($table:path),* $(,)?) => {{
+        $(if let Some(text) = $table($asked)? {
+            return Ok(Some(text));
         })*
-    };
+        Ok(None)
+    }};
+}
+
+fn of_records(asked: &Asked) -> Told {
+    first!(asked; records::of_tls, dtls::of_dtls, states::states, streams::streams, uses::uses)
+}
+
+fn of_extensions(asked: &Asked) -> Told {
+    first!(asked; extensions::tagged, extensions::lists, extension_contents::contents)
+}
+
+fn of_messages(asked: &Asked) -> Told {
+    first!(asked; handshakes::messages, handshakes::contents, handshake_bodies::bodies)
+}
+
+fn of_parts(asked: &Asked) -> Told {
+    first!(asked; key_exchange::key_exchanges, key_exchange::signatures, fields::numbers, fields::lists)
+}
+
+fn of_names(asked: &Asked) -> Told {
+    first!(asked; base::bytes, base::longer, names::of_bytes, names::of_longer)
+}
+
+fn of_writers(asked: &Asked) -> Told {
+    first!(asked; writers::messages, writers::records)
+}
+
+/// What the call answers, if there is one of that name.
+fn of_any(asked: &Asked) -> Told {
+    first!(asked; of_records, of_extensions, of_messages, of_parts, of_names, of_writers)
 }
 
 /// The path of the call, its name, and the numbers or the word that it is given: `ECPoint::parse`, `block:2`.
@@ -62,28 +93,5 @@ pub fn answer(
         pieces,
         i,
     };
-    first!(asked;
-        records::of_tls,
-        extensions::tagged,
-        extensions::lists,
-        extension_contents::contents,
-        handshakes::messages,
-        handshakes::contents,
-        handshake_bodies::bodies,
-        dtls::of_dtls,
-        key_exchange::key_exchanges,
-        key_exchange::signatures,
-        base::bytes,
-        base::longer,
-        names::of_bytes,
-        names::of_longer,
-        fields::numbers,
-        fields::lists,
-        writers::messages,
-        writers::records,
-        states::states,
-        streams::streams,
-        uses::uses,
-    );
-    Err(Fault::Form("no such call"))
+    of_any(&asked)?.ok_or(Fault::Form("no such call"))
 }

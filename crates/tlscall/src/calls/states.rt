@@ -8,19 +8,38 @@ use tls_parser::{
     Err, ParseContext, TlsMessage, TlsState, parse_tls_plaintext, tls_state_transition,
 };
 
-/// A message of a conversation, and whether it goes to the server.
-type Said<'a> = (TlsMessage<'a>, bool);
+/// A message of a conversation, and the piece that has it.
+type Said<'a> = (TlsMessage<'a>, &'a Piece<'a>);
 
-/// The messages of the piece's record, if it is one.
-fn said<'a>(alloc: Global, piece: &'a Piece) -> Result<Option<Vec<Said<'a>>>, AllocError> {
+/// It goes to the server.
+fn is_to_server(piece: &Piece) -> bool {
+    piece.mark == '>'
+}
+
+/// Adds the messages of the piece's record, if it is one.
+fn add_said<'a>(
+    alloc: Global,
+    piece: &'a Piece<'a>,
+    messages: &mut Vec<Said<'a>>,
+) -> Result<bool, AllocError> {
     let record = match parse_tls_plaintext(alloc, &piece.bytes) {
         Ok((_, record)) => record,
         Err(Err::OutOfMemory) => return Err(AllocError),
-        Err(_) => return Ok(None),
+        Err(_) => return Ok(false),
     };
-    let mut messages = Vec::new(alloc);
     for message in record.msg {
-        messages.push((message, piece.mark == '>'))?;
+        messages.push((message, piece))?;
+    }
+    Ok(true)
+}
+
+/// The messages of the conversation, if each piece is a record.
+fn conversation<'a>(asked: &Asked<'a>) -> Result<Option<Vec<Said<'a>>>, AllocError> {
+    let mut messages = Vec::new(asked.alloc);
+    for piece in asked.pieces {
+        if !add_said(asked.alloc, piece, &mut messages)? {
+            return Ok(None);
+        }
     }
     Ok(Some(messages))
 }
@@ -33,20 +52,12 @@ fn no_record(alloc: Global) -> Told {
 /// The state in which the conversation ends.
 fn run(asked: &Asked) -> Told {
     let alloc = asked.alloc;
-    let mut messages = Vec::new(alloc);
-    for piece in asked.pieces {
-        match said(alloc, piece)? {
-            Some(said) => {
-                for message in said {
-                    messages.push(message)?;
-                }
-            }
-            None => return no_record(alloc),
-        }
-    }
+    let Some(messages) = conversation(asked)? else {
+        return no_record(alloc);
+    };
     let mut borrowed = Vec::new(alloc);
-    for (message, to_server) in &messages {
-        borrowed.push((message, *to_server))?;
+    for (message, piece) in &messages {
+        borrowed.push((message, is_to_server(piece)))?;
     }
     let mut context = ParseContext::new();
     context.run(&borrowed);
@@ -56,19 +67,17 @@ fn run(asked: &Asked) -> Told {
 /// The state at the beginning and behind each message, with its error where it isn't taken.
 fn updates(asked: &Asked) -> Told {
     let alloc = asked.alloc;
+    let Some(messages) = conversation(asked)? else {
+        return no_record(alloc);
+    };
     let mut context = ParseContext::new();
     let mut text = debug(alloc, &context.state())?;
-    for piece in asked.pieces {
-        let Some(messages) = said(alloc, piece)? else {
-            return no_record(alloc);
-        };
-        for (message, to_server) in &messages {
-            let answered = context.update(message, *to_server);
-            let state = context.state();
-            match answered {
-                Ok(()) => write!(text, ", {state:?}")?,
-                Err(e) => write!(text, ", {e:?} {state:?}")?,
-            }
+    for (message, piece) in &messages {
+        let answered = context.update(message, is_to_server(piece));
+        let state = context.state();
+        match answered {
+            Ok(()) => write!(text, ", {state:?}")?,
+            Err(e) => write!(text, ", {e:?} {state:?}")?,
         }
     }
     Ok(Some(text))
@@ -84,17 +93,15 @@ fn transitions(asked: &Asked) -> Told {
     let Some(state) = named else {
         return Ok(Some(format!(in alloc; "no state")?));
     };
+    let Some(messages) = conversation(asked)? else {
+        return no_record(alloc);
+    };
     let mut text = String::new(alloc);
-    for piece in asked.pieces {
-        let Some(messages) = said(alloc, piece)? else {
-            return no_record(alloc);
-        };
-        for (message, to_server) in &messages {
-            let Piece { mark, name, .. } = piece;
-            if let Ok(next) = tls_state_transition(state, message, *to_server) {
-                let comma = if text.is_empty() { "" } else { ", " };
-                write!(text, "{comma}{mark}{name} {next:?}")?;
-            }
+    for (message, piece) in &messages {
+        let Piece { mark, name, .. } = piece;
+        if let Ok(next) = tls_state_transition(state, message, is_to_server(piece)) {
+            let comma = if text.is_empty() { "" } else { ", " };
+            write!(text, "{comma}{mark}{name} {next:?}")?;
         }
     }
     Ok(Some(text))

@@ -1,7 +1,9 @@
 //! Streams, which come in pieces.
+ghost use Rattle.std.specs.Prelude.{◌<◌};
 
 use crate::calls::Asked;
 use crate::hexadecimal::hexadecimal;
+use crate::input::Piece;
 use crate::told::{Told, debug, plain, table, told};
 use std::alloc::{AllocError, Global};
 use tls_stream::{Reassembler, split_pieces};
@@ -43,24 +45,39 @@ fn pieces_of<'a>(asked: &Asked<'a>) -> Result<Vec<&'a [u8]>, AllocError> {
     Ok(pieces)
 }
 
+/// What two pieces have, cut at a place where it isn't as told.
+fn split_in_two(alloc: Global, i: &[u8], told: &str) -> Told {
+    for place in 0..i.len() {
+        let (front, behind) = i.split_at(place);
+        if let Some(other) = is_split(alloc, &[front, behind], told)? {
+            return Ok(Some(other));
+        }
+    }
+    Ok(None)
+}
+
+/// What pieces of that size have, if it isn't as told.
+fn split_in_sizes(alloc: Global, i: &[u8], size: usize, told: &str) -> Told
+    requires { 0 < size }
+{
+    let mut pieces: Vec<&[u8]> = Vec::new(alloc);
+    for piece in i.chunks(size) {
+        pieces.push(piece)?;
+    }
+    is_split(alloc, &pieces, told)
+}
+
 /// The same of one piece, cut at every place and into pieces of several sizes, where all have the same.
 fn split_anyhow(alloc: Global, i: &[u8]) -> Told {
     let whole = match split_pieces(alloc, &[i]) {
         Ok((records, stream)) => debug(alloc, &(records, stream.held()))?,
         Err(_) => return want_of_memory(alloc),
     };
-    for place in 0..i.len() {
-        let (front, behind) = i.split_at(place);
-        if let Some(other) = is_split(alloc, &[front, behind], whole.as_str())? {
-            return Ok(Some(other));
-        }
+    if let Some(other) = split_in_two(alloc, i, whole.as_str())? {
+        return Ok(Some(other));
     }
     for size in [1, 2, 3, 5, 1460] {
-        let mut pieces: Vec<&[u8]> = Vec::new(alloc);
-        for piece in i.chunks(size) {
-            pieces.push(piece)?;
-        }
-        if let Some(other) = is_split(alloc, &pieces, whole.as_str())? {
+        if let Some(other) = split_in_sizes(alloc, i, size, whole.as_str())? {
             return Ok(Some(other));
         }
     }
@@ -78,20 +95,24 @@ fn front(alloc: Global, stream: &Reassembler) -> Told {
     }
 }
 
-/// What each mark asks: `+` feeds its piece, `-` takes off the record in front, `?` asks for the fragment in front,
-/// and `=` for what is held.
+/// What the piece's mark asks: `+` feeds its piece, `-` takes off the record in front, `?` asks for the fragment in
+/// front, and `=` for what is held.
+fn asked_of(alloc: Global, stream: &mut Reassembler, piece: &Piece) -> Told {
+    match piece.mark {
+        '+' => plain(alloc, stream.feed(&piece.bytes)),
+        '-' => plain(alloc, stream.take_front()),
+        '?' => front(alloc, stream),
+        _ => plain(alloc, stream.held()),
+    }
+}
+
+/// What the marks ask, in turn.
 fn reassembled(asked: &Asked) -> Told {
     let alloc = asked.alloc;
     let mut stream = Reassembler::new(alloc);
     let mut text = String::new(alloc);
     for piece in asked.pieces {
-        let step = match piece.mark {
-            '+' => plain(alloc, stream.feed(&piece.bytes))?,
-            '-' => plain(alloc, stream.take_front())?,
-            '?' => front(alloc, &stream)?,
-            _ => plain(alloc, stream.held())?,
-        };
-        if let Some(step) = step {
+        if let Some(step) = asked_of(alloc, &mut stream, piece)? {
             let comma = if text.is_empty() { "" } else { ", " };
             write!(text, "{comma}{step}")?;
         }
