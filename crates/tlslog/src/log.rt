@@ -2,7 +2,7 @@
 use crate::counts::{Counts, add_one};
 use crate::heard::Heard;
 use capture::{Address, Content, TcpSegment, UdpDatagram, parse_packet};
-use connections::{Connection, Connections, Datagram, End, Ends, Segment, Side};
+use connections::{Connection, Connections, Datagram, End, Ends, Segment, Side, Stream};
 use packets::Packet;
 use std::alloc::{AllocError, Global};
 use std::hash::RandomState;
@@ -106,21 +106,35 @@ fn direction_of(side: Side) -> Direction {
     }
 }
 
-/// Lets the listener hear what the side's stream says next, and count what the segment adds to one that it hears no further.
+/// Lets the listener hear what a side's stream says next, and count what the segment adds to one that it hears no further.
+fn hear_side(
+    heard: &mut Heard,
+    stream: &mut Stream,
+    direction: Direction,
+    segment: &Segment<'_>,
+) -> Result<(), AllocError> {
+    heard.hear_stream(stream, direction)?;
+    heard.count_records(direction, stream.pass(segment));
+    Ok(())
+}
+
+/// The same of that side of a connection.
 fn hear(
     connection: &mut Connection<Heard>,
     side: Side,
     segment: &Segment<'_>,
 ) -> Result<(), AllocError> {
     let heard = &mut connection.listener;
-    let stream = match side {
-        Side::Originator => &mut connection.from_originator,
-        Side::Responder => &mut connection.from_responder,
-    };
-    let direction = direction_of(side);
-    heard.hear_stream(stream, direction)?;
-    heard.count_records(direction, stream.pass(segment));
-    Ok(())
+    match side {
+        Side::Originator => {
+            let stream = &mut connection.from_originator;
+            hear_side(heard, stream, Direction::ToServer, segment)
+        }
+        Side::Responder => {
+            let stream = &mut connection.from_responder;
+            hear_side(heard, stream, Direction::FromServer, segment)
+        }
+    }
 }
 
 impl Log {
