@@ -13,6 +13,7 @@ returns-in-Ok c =
     let v = view_server_hello c.in-Ok.hello in
     subst (λ m. IsAnswered (ShowsServerHello b c.in_numbers.result) (reading server_hello b) 0 m)
     (sym c.in_numbers.ensures.missing)
-    (answered server_hello (ShowsServerHello b c.in_numbers.result) b b c.in-Ok.rest.now v refl c.in-Ok.ensures.gives.read
+    (answered server_hello (ShowsServerHello b c.in_numbers.result) b b c.in-Ok.rest.now v refl
+    c.in-Ok.ensures.gives.read
     (c.in_numbers.ensures.shows c.in-Ok.ensures.places
     (ends_read server_hello b b v c.in-Ok.rest.now (ends_here b) c.in-Ok.ensures.gives.allowed)))
