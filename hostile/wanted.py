@@ -3,22 +3,21 @@
 import re
 import subprocess
 
+import wanted_hellos
+
 FIELDS = """
     handshake.type handshake.version handshake.random handshake.extensions.supported_version handshake.ciphersuite
     handshake.extensions_key_share_group handshake.extensions_key_share_selected_group handshake.server_named_curve
     handshake.extensions_server_name handshake.extensions_alpn_str handshake.extension.type record.content_type
-    alert_message.level alert_message.desc
+    alert_message.level alert_message.desc record.length
 """.split()
-OUTER = ["frame.time_epoch", "ip.src", "ipv6.src", "ip.dst", "ipv6.dst"]
-OF_TCP = ["tcp.stream", "tcp.srcport", "tcp.dstport", "tcp.flags.fin", "tcp.flags.reset"]
-OF_UDP = ["udp.stream", "udp.srcport", "udp.dstport"]
+OUTER = ["frame.time_epoch", "ip.src", "ipv6.src", "ip.dst", "ipv6.dst", "_ws.col.Info"]
+OF_TCP = ["tcp.stream", "tcp.srcport", "tcp.dstport", "tcp.flags.syn", "tcp.flags.fin", "tcp.flags.reset", "tcp.seq_raw", "tcp.len"]
+OF_UDP = ["udp.stream", "udp.srcport", "udp.dstport", "udp.length"]
+UDP_HEADER = 8
 VERSIONS = {
     0x300: "SSLv3", 0x301: "TLSv10", 0x302: "TLSv11", 0x303: "TLSv12", 0x304: "TLSv13",
     0xFEFF: "DTLSv10", 0xFEFD: "DTLSv12", 0xFEFC: "DTLSv13",
-}
-GROUPS = {
-    23: "secp256r1", 24: "secp384r1", 25: "secp521r1", 29: "x25519", 30: "x448", 256: "ffdhe2048", 257: "ffdhe3072", 258: "ffdhe4096",
-    4588: "X25519MLKEM768",
 }
 ALERTS = {
     0: "close_notify", 10: "unexpected_message", 20: "bad_record_mac", 22: "record_overflow", 40: "handshake_failure", 42: "bad_certificate",
@@ -31,10 +30,20 @@ ALERTS = {
 RETRY = "cf21ad74e59a6111be1d8c021e65b891c2a211167abb8c5e079e09e2c8a8339c"
 CLIENT_HELLO, SERVER_HELLO, KEY_EXCHANGE, SERVER_DONE = "1", "2", "12", "14"
 CHANGE, PRE_SHARED_KEY = "20", "41"
+# The letter of Zeek's ssl_history by tshark's name of a message; the client's are in upper case.
+LETTERS = {
+    "Hello Request": "h", "Client Hello": "c", "Server Hello": "s", "Hello Verify Request": "v", "Hello Retry Request": "j",
+    "New Session Ticket": "t", "Certificate": "x", "Server Key Exchange": "k", "Certificate Request": "r", "Server Hello Done": "n",
+    "Certificate Verify": "y", "Client Key Exchange": "g", "Finished": "f", "Certificate Status": "u", "Change Cipher Spec": "i", "Alert": "l",
+    "Heartbeat Request": "b", "Heartbeat Response": "b",
+}
+# Of these, 0 is told too.
+ALWAYS = ["comp_method", "cert_count", "client_cert_count"]
 ORDER = """
     ts id.orig_h id.orig_p id.resp_h id.resp_p proto duration version cipher curve server_name next_protocol resumed established
-    last_alert outcome stop gap
-""".split()
+    last_alert outcome stop gap ssl_history orig_pkts resp_pkts orig_bytes resp_bytes orig_records resp_records orig_repeated_bytes
+    resp_repeated_bytes orig_disagreeing_bytes resp_disagreeing_bytes
+""".split() + wanted_hellos.ORDER
 
 
 def lines(capture, port=None, udp=False):
@@ -57,17 +66,18 @@ def lines(capture, port=None, udp=False):
 def rows(capture, port, udp):
     """tshark's fields of each packet of that protocol, as dictionaries of lists."""
     layer, prefix = ("udp", "dtls") if udp else ("tcp", "tls")
-    fields = [*OUTER, *(OF_UDP if udp else OF_TCP), *(f"{prefix}.{field}" for field in FIELDS)]
-    command = ["tshark", "-r", str(capture), "-T", "fields", "-E", "separator=|", "-E", "occurrence=a", "-Y", layer]
+    fields = [*OUTER, *(OF_UDP if udp else OF_TCP), *wanted_hellos.SHARED]
+    fields += [f"{prefix}.{field}" for field in (*FIELDS, *wanted_hellos.FIELDS)]
+    command = ["tshark", "-r", str(capture), "-T", "fields", "-E", "separator=|", "-E", "occurrence=a", "-E", "aggregator=;", "-Y", layer]
     command += ["-o", "tcp.reassemble_out_of_order:TRUE"]
     if port:
         command += ["-d", f"{layer}.port=={port},{prefix}"]
     for field in fields:
         command += ["-e", field]
-    names = [re.sub("^d?tls[.]", "", field) for field in fields]
+    names = [field if field in wanted_hellos.SHARED else re.sub("^d?tls[.]", "", field) for field in fields]
     text = subprocess.run(command, stdout=subprocess.PIPE, stderr=subprocess.DEVNULL, text=True, check=True).stdout
     for line in text.splitlines():
-        yield {name: [v for v in part.split(",") if v] for name, part in zip(names, line.split("|"))}
+        yield {name: [v for v in part.split(";") if v] for name, part in zip(names, line.split("|"))}
 
 
 def first(row, *fields):
@@ -77,8 +87,52 @@ def first(row, *fields):
     return None
 
 
+def is_told(field, value):
+    """Whether a line has the field: it is there, and if it is a mark, a list or a text of hellos, it isn't empty."""
+    if field in wanted_hellos.ORDER and field not in ALWAYS:
+        return bool(value)
+    return value is not None
+
+
 def group(number):
-    return GROUPS.get(number, f"0x{number:04x}")
+    return wanted_hellos.GROUPS.get(number, f"0x{number:04x}")
+
+
+def is_set(row, flag):
+    return bool({*row[flag]} & {"1", "True"})
+
+
+class Sent:
+    """What one side of a connection sends. Of bytes that are sent again none are missing in front."""
+
+    def __init__(self):
+        self.packets, self.bytes, self.records, self.repeated, self.behind = 0, 0, 0, 0, None
+
+    def note(self, row, layer):
+        self.packets += 1
+        self.records += len(row["record.length"])
+        if layer == "udp":
+            self.bytes += int(first(row, "udp.length")) - UDP_HEADER
+        elif not is_set(row, "tcp.flags.reset"):
+            self.note_segment(int(first(row, "tcp.seq_raw")) + is_set(row, "tcp.flags.syn"), int(first(row, "tcp.len")))
+
+    def note_segment(self, begin, count):
+        """By the numbers of its bytes, in the circle of 2^32."""
+        self.behind = begin if self.behind is None else self.behind
+        further = (begin + count - self.behind) % 2**32
+        if further < 2**31:
+            self.bytes += further
+            self.behind += further
+            self.repeated += count - min(further, count)
+        else:
+            self.repeated += count
+
+    def told(self, front, layer):
+        records = self.records if layer == "tcp" else None
+        return {
+            f"{front}_pkts": self.packets, f"{front}_bytes": self.bytes, f"{front}_records": records,
+            f"{front}_repeated_bytes": self.repeated or None,
+        }
 
 
 class Talk:
@@ -90,7 +144,7 @@ class Talk:
         self.ends = self.source(row), (first(row, "ip.dst", "ipv6.dst"), int(first(row, f"{layer}.dstport")))
         self.is_tls, self.said, self.messages = False, {}, 0
         self.closed, self.changed, self.has_done, self.is_13 = set(), [], False, False
-        self.stop = None
+        self.stop, self.history, self.sent = None, "", {True: Sent(), False: Sent()}
 
     def source(self, row):
         return first(row, "ip.src", "ipv6.src"), int(first(row, f"{self.layer}.srcport"))
@@ -101,21 +155,37 @@ class Talk:
     def note(self, row):
         self.last = float(first(row, "frame.time_epoch"))
         side = self.source(row) == self.ends[0]
+        self.sent[side].note(row, self.layer)
         types = row["handshake.type"]
         self.is_tls |= bool(types or row["alert_message.desc"] or row["record.content_type"])
         if CLIENT_HELLO in types:
             self.said["server_name"] = first(row, "handshake.extensions_server_name")
+            self.said |= wanted_hellos.of_client(row, self.layer, VERSIONS)
         if SERVER_HELLO in types:
             self.note_server(row)
         if KEY_EXCHANGE in types and row["handshake.server_named_curve"]:
             self.said["curve"] = group(int(row["handshake.server_named_curve"][0], 16))
+        self.note_names(row, side)
+        if side not in self.changed or self.is_13:
+            self.said |= wanted_hellos.of_messages(row, side)
         self.has_done |= SERVER_DONE in types
         self.messages += len(types)
         for kind in row["record.content_type"]:
             self.note_record(kind, side)
         self.note_alerts(row, side)
-        if self.layer == "tcp" and {*row["tcp.flags.fin"], *row["tcp.flags.reset"]} & {"1", "True"}:
+        if self.layer == "tcp" and (is_set(row, "tcp.flags.fin") or is_set(row, "tcp.flags.reset")):
             self.closed.add(side)
+
+    def note_names(self, row, side):
+        """Adds the letters of what a packet says, by tshark's column of names. Of fragments the last one counts."""
+        names = re.sub(r" [(]Level: [^)]*[)]", "", ";".join(row["_ws.col.Info"]))
+        for name in re.split(", ", names.replace(" (Reassembled)", "")):
+            letter = LETTERS.get(name, "")
+            is_again = letter == "i" and self.layer == "udp"
+            # Where the bytes of an encrypted alert happen to be a level and a name, tshark takes them for these.
+            if side in self.changed and not self.is_13 and (is_again or letter == "l"):
+                continue
+            self.history += letter.upper() if side else letter
 
     def note_record(self, kind, side):
         """Counts a ChangeCipherSpec, and a record behind that of its side, which is encrypted."""
@@ -125,6 +195,10 @@ class Talk:
             self.changed.append(side)
 
     def note_server(self, row):
+        if first(row, "handshake.random").replace(":", "") == RETRY:
+            self.said["retried"] = True
+            return
+        self.said |= wanted_hellos.of_server(row, VERSIONS)
         version = int(first(row, "handshake.extensions.supported_version", "handshake.version"), 16)
         self.said["version"] = VERSIONS[version]
         self.said["cipher"] = first(row, "handshake.ciphersuite")
@@ -133,7 +207,7 @@ class Talk:
         self.said["next_protocol"] = first(row, "handshake.extensions_alpn_str")
         is_13 = version in (0x304, 0xFEFC)
         self.said["resumed"] = is_13 and PRE_SHARED_KEY in row["handshake.extension.type"]
-        self.is_13 |= is_13 and first(row, "handshake.random").replace(":", "") != RETRY
+        self.is_13 |= is_13
 
     def note_alerts(self, row, side):
         # Where the bytes of an encrypted one happen to be a level and a name, tshark takes them for these.
@@ -156,6 +230,7 @@ class Talk:
             "ts": round(self.begun, 6), "proto": self.layer, "duration": round(self.last - self.begun, 6),
             "id.orig_h": self.ends[0][0], "id.orig_p": self.ends[0][1], "id.resp_h": self.ends[1][0], "id.resp_p": self.ends[1][1],
             **self.said, "resumed": is_short or (self.is_13 and self.said["resumed"]),
-            "established": self.is_established(), "outcome": outcome, "stop": self.stop,
+            "established": self.is_established(), "outcome": outcome, "stop": self.stop, "ssl_history": self.history or None,
+            **self.sent[True].told("orig", self.layer), **self.sent[False].told("resp", self.layer),
         }
-        return {field: known[field] for field in ORDER if known.get(field) is not None}
+        return {field: known[field] for field in ORDER if is_told(field, known.get(field))}

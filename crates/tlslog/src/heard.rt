@@ -1,9 +1,13 @@
 //! What is heard of a connection, by what carries it.
-use connections::{Listener, Protocol, Stream};
+use crate::speech::{Speech, Spoken};
+use connections::{Listener, Protocol, Side, Stream};
 use std::alloc::{AllocError, Global};
 use tls_facts::Facts;
 use tls_flow::{Direction, Outcome, Stop};
-use tls_talks::{DatagramTalk, Talk};
+use tls_talks::{DatagramTalk, Records, Talk};
+
+/// How many bytes tell whether a side speaks TLS: the header of a record (RFC 8446, section 5.1).
+const HEADER_LEN: usize = 5;
 
 /// What both sides of a connection said.
 #[derive(Drop)]
@@ -18,7 +22,13 @@ enum Said {
 #[derive(Drop)]
 pub struct Heard {
     alloc: Global,
+    protocol: Protocol,
     said: Said,
+    // The messages, where they are kept.
+    speech: Option<Speech>,
+    // Over TCP, the records of each side, encrypted ones too.
+    from_originator: Records,
+    from_responder: Records,
 }
 
 impl Listener for Heard {
@@ -27,7 +37,14 @@ impl Listener for Heard {
             Protocol::Tcp => Said::Stream(Talk::new(alloc)),
             Protocol::Udp => Said::Datagrams(DatagramTalk::new(alloc)),
         };
-        Heard { alloc, said }
+        Heard {
+            alloc,
+            protocol,
+            said,
+            speech: None,
+            from_originator: Records::new(),
+            from_responder: Records::new(),
+        }
     }
 }
 
@@ -45,6 +62,14 @@ impl Heard {
         match &self.said {
             Said::Stream(talk) => talk.facts(),
             Said::Datagrams(talk) => talk.facts(),
+        }
+    }
+
+    /// A letter for each event, as Zeek's ssl_history has it.
+    pub fn history(&self) -> &[u8] {
+        match &self.said {
+            Said::Stream(talk) => talk.history(),
+            Said::Datagrams(talk) => talk.history(),
         }
     }
 
@@ -80,19 +105,72 @@ impl Heard {
         }
     }
 
-    /// Hears what a side's stream says next.
+    /// Keeps the messages that come from here on, until they are taken.
+    pub fn keep_messages(&mut self) {
+        if self.speech.is_none() {
+            self.speech = Some(Speech::new(self.alloc, self.protocol));
+        }
+    }
+
+    /// Takes out the messages that are kept.
+    pub fn take_messages(&mut self) -> Vec<Spoken> {
+        match &mut self.speech {
+            Some(speech) => speech.take(),
+            None => Vec::new(self.alloc),
+        }
+    }
+
+    /// How many records a side said over TCP, up to the first bytes that are missing.
+    pub fn records(&self, side: Side) -> Option<u64> {
+        match (self.protocol, side) {
+            (Protocol::Tcp, Side::Originator) => Some(self.from_originator.count()),
+            (Protocol::Tcp, Side::Responder) => Some(self.from_responder.count()),
+            (Protocol::Udp, _) => None,
+        }
+    }
+
+    /// Whether no byte of that side's stream was heard.
+    fn has_said_nothing(&self, direction: Direction) -> bool {
+        let records = match direction {
+            Direction::ToServer => self.from_originator,
+            Direction::FromServer => self.from_responder,
+        };
+        records == Records::new()
+    }
+
+    /// Counts the records in the bytes that a side says next.
+    pub fn count_records(&mut self, direction: Direction, bytes: &[u8]) {
+        match direction {
+            Direction::ToServer => self.from_originator.add(bytes),
+            Direction::FromServer => self.from_responder.add(bytes),
+        }
+    }
+
+    /// Hears what a side's stream says next; its first bytes once they tell whether it speaks TLS.
     pub fn hear_stream(
         &mut self,
         stream: &mut Stream,
         direction: Direction,
     ) -> Result<(), AllocError> {
+        let bytes = stream.available();
+        if bytes.len() < HEADER_LEN && self.has_said_nothing(direction) {
+            return Ok(());
+        }
         let Said::Stream(talk) = &mut self.said else {
             return Ok(());
         };
-        talk.hear(self.alloc, direction, stream.available())?;
-        let n = stream.available().len();
+        let was_over = talk.is_over(direction);
+        talk.hear(self.alloc, direction, bytes)?;
+        let is_over = talk.is_over(direction);
+        if let Some(speech) = &mut self.speech {
+            if talk.is_tls() && !was_over {
+                speech.hear(direction, bytes)?;
+            }
+        }
+        self.count_records(direction, bytes);
+        let n = bytes.len();
         stream.take(n);
-        if talk.is_over(direction) {
+        if is_over {
             stream.stop();
         }
         Ok(())
@@ -104,9 +182,16 @@ impl Heard {
         direction: Direction,
         payload: &[u8],
     ) -> Result<(), AllocError> {
-        match &mut self.said {
-            Said::Stream(_) => Ok(()),
-            Said::Datagrams(talk) => talk.hear(self.alloc, direction, payload),
+        let Said::Datagrams(talk) = &mut self.said else {
+            return Ok(());
+        };
+        let was_over = talk.is_over(direction);
+        talk.hear(self.alloc, direction, payload)?;
+        if let Some(speech) = &mut self.speech {
+            if talk.is_dtls() && !was_over {
+                speech.hear(direction, payload)?;
+            }
         }
+        Ok(())
     }
 }

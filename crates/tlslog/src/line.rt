@@ -1,116 +1,22 @@
 //! The line of a connection.
+use crate::cell::{Cell, Row, StopCell};
+use crate::columns::{Course, End, FIELDS, Field, Named, Sent};
 use crate::heard::Heard;
-use crate::names::{alert_name, group_name, kind_name, outcome_name, sender_name, version_name};
+use crate::hellos::{answer_cell, chain_cell, offer_cell};
+use crate::names::{kind_name, outcome_name, sender_name};
+use crate::prints::print_cell;
+use crate::suites::Suites;
+use crate::text::{escaped, group, name_or_number, some_mark, version};
 use connections::{Connection, Protocol, Side};
-use serde::Serialize;
-use serde_json::Error;
 use std::alloc::{AllocError, Global};
 use std::num::nearest_u64_to_f64;
 use tls_facts::Facts;
 use tls_flow::Stop;
-
-/// The event that ended a handshake without success.
-#[derive(Drop, Serialize)]
-struct StopLine {
-    message: &'static str,
-    sender: &'static str,
-    messages_before: u64,
-}
-
-/// A connection, by the names of Zeek's conn.log and ssl.log where it has the thing.
-#[derive(Drop, Serialize)]
-struct Line {
-    ts: f64,
-    #[serde(rename = "id.orig_h")]
-    originator: String,
-    #[serde(rename = "id.orig_p")]
-    originator_port: u16,
-    #[serde(rename = "id.resp_h")]
-    responder: String,
-    #[serde(rename = "id.resp_p")]
-    responder_port: u16,
-    proto: &'static str,
-    duration: f64,
-    #[serde(skip_serializing_if = "Option::is_none")]
-    version: Option<String>,
-    #[serde(skip_serializing_if = "Option::is_none")]
-    cipher: Option<String>,
-    #[serde(skip_serializing_if = "Option::is_none")]
-    curve: Option<String>,
-    #[serde(skip_serializing_if = "Option::is_none")]
-    server_name: Option<String>,
-    #[serde(skip_serializing_if = "Option::is_none")]
-    next_protocol: Option<String>,
-    resumed: bool,
-    established: bool,
-    #[serde(skip_serializing_if = "Option::is_none")]
-    last_alert: Option<String>,
-    outcome: &'static str,
-    #[serde(skip_serializing_if = "Option::is_none")]
-    stop: Option<StopLine>,
-    #[serde(skip_serializing_if = "Option::is_none")]
-    gap: Option<&'static str>,
-}
+use tls_json::alert_name;
 
 /// Nanoseconds as seconds, to the microsecond.
-fn seconds(nanoseconds: u64) -> f64 {
-    nearest_u64_to_f64(nanoseconds / 1000) / 1_000_000.0
-}
-
-/// The name, or else the number in hexadecimal.
-fn name_or_number(alloc: Global, name: Option<&str>, number: u16) -> Result<String, AllocError> {
-    match name {
-        Some(name) => String::from_str(alloc, name),
-        None => format!(in alloc; "0x{number:04x}"),
-    }
-}
-
-/// Text that a peer sent, with what is no printable ASCII escaped.
-fn text(alloc: Global, bytes: Option<&[u8]>) -> Result<Option<String>, AllocError> {
-    match bytes {
-        Some(bytes) => Ok(Some(format!(in alloc; "{}", bytes.escape_ascii())?)),
-        None => Ok(None),
-    }
-}
-
-fn version_text(alloc: Global, facts: &Facts) -> Result<Option<String>, AllocError> {
-    match facts.version() {
-        Some(version) => Ok(Some(name_or_number(alloc, version_name(version), version.0)?)),
-        None => Ok(None),
-    }
-}
-
-fn cipher_text(alloc: Global, facts: &Facts) -> Result<Option<String>, AllocError> {
-    match facts.cipher() {
-        Some(cipher) => Ok(Some(name_or_number(alloc, None, cipher.0)?)),
-        None => Ok(None),
-    }
-}
-
-fn curve_text(alloc: Global, facts: &Facts) -> Result<Option<String>, AllocError> {
-    match facts.curve() {
-        Some(group) => Ok(Some(name_or_number(alloc, group_name(group.0), group.0)?)),
-        None => Ok(None),
-    }
-}
-
-fn alert_text(alloc: Global, facts: &Facts) -> Result<Option<String>, AllocError> {
-    match facts.last_alert {
-        Some(alert) => {
-            let number = u16::from(alert.0);
-            Ok(Some(name_or_number(alloc, alert_name(alert), number)?))
-        }
-        None => Ok(None),
-    }
-}
-
-fn stop_line(stop: Option<Stop>) -> Option<StopLine> {
-    let stop = stop?;
-    Some(StopLine {
-        message: kind_name(stop.event.letter.kind),
-        sender: sender_name(stop.event.letter.direction),
-        messages_before: stop.place,
-    })
+fn seconds(nanoseconds: u64) -> Cell {
+    Cell::Seconds(nearest_u64_to_f64(nanoseconds / 1000) / 1_000_000.0)
 }
 
 /// What carries a connection, as Zeek writes it.
@@ -119,6 +25,34 @@ fn proto_name(protocol: Protocol) -> &'static str {
         Protocol::Tcp => "tcp",
         Protocol::Udp => "udp",
     }
+}
+
+/// Who talks, over what, and when: a connection's first packet, or a message that came at this time.
+pub fn end_cell(
+    alloc: Global,
+    connection: &Connection<Heard>,
+    time: u64,
+    field: End,
+) -> Result<Option<Cell>, AllocError> {
+    let duration = connection.last_time.saturating_sub(connection.first_time);
+    Ok(Some(match field {
+        End::Time => seconds(time),
+        End::Originator => Cell::Text(connection.originator.address.to_string(alloc)?),
+        End::OriginatorPort => Cell::Number(u64::from(connection.originator.port)),
+        End::Responder => Cell::Text(connection.responder.address.to_string(alloc)?),
+        End::ResponderPort => Cell::Number(u64::from(connection.responder.port)),
+        End::Protocol => Cell::Name(proto_name(connection.protocol)),
+        End::Duration => seconds(duration),
+    }))
+}
+
+fn stop_cell(stop: Option<Stop>) -> Option<Cell> {
+    let stop = stop?;
+    Some(Cell::Stop(StopCell {
+        message: kind_name(stop.event.letter.kind),
+        sender: sender_name(stop.event.letter.direction),
+        messages_before: stop.place,
+    }))
 }
 
 /// Which sides have lost bytes.
@@ -133,29 +67,134 @@ pub fn gap_name(connection: &Connection<Heard>) -> Option<&'static str> {
     }
 }
 
-/// The line of a connection, without its line break.
-pub fn line_of(alloc: Global, connection: &Connection<Heard>) -> Result<String, Error> {
+/// What is there, as text.
+fn some_text(text: Result<String, AllocError>) -> Result<Option<Cell>, AllocError> {
+    Ok(Some(Cell::Text(text?)))
+}
+
+/// What was chosen, asked for and said, by name.
+fn named_cell(
+    alloc: Global,
+    suites: &Suites,
+    facts: &Facts,
+    field: Named,
+) -> Result<Option<Cell>, AllocError> {
+    match field {
+        Named::Version => match facts.version() {
+            Some(chosen) => some_text(version(alloc, chosen)),
+            None => Ok(None),
+        },
+        Named::Cipher => match facts.cipher() {
+            Some(suite) => some_text(suites.text(alloc, suite)),
+            None => Ok(None),
+        },
+        Named::Curve => match facts.curve() {
+            Some(curve) => some_text(group(alloc, curve)),
+            None => Ok(None),
+        },
+        Named::ServerName => match facts.server_name() {
+            Some(name) => some_text(escaped(alloc, name)),
+            None => Ok(None),
+        },
+        Named::NextProtocol => match facts.next_protocol() {
+            Some(protocol) => some_text(escaped(alloc, protocol)),
+            None => Ok(None),
+        },
+        Named::LastAlert => match facts.last_alert {
+            Some(alert) => some_text(name_or_number(alloc, alert_name(alert), u16::from(alert.0))),
+            None => Ok(None),
+        },
+    }
+}
+
+/// The letters of a connection's events; nothing where none was heard.
+fn history_cell(alloc: Global, letters: &[u8]) -> Result<Option<Cell>, AllocError> {
+    if letters.is_empty() {
+        return Ok(None);
+    }
+    some_text(escaped(alloc, letters))
+}
+
+/// What a connection came to.
+fn course_cell(
+    alloc: Global,
+    connection: &Connection<Heard>,
+    field: Course,
+) -> Result<Option<Cell>, AllocError> {
     let heard = &connection.listener;
-    let facts = heard.facts();
-    let line = Line {
-        ts: seconds(connection.first_time),
-        originator: connection.originator.address.to_string(alloc)?,
-        originator_port: connection.originator.port,
-        responder: connection.responder.address.to_string(alloc)?,
-        responder_port: connection.responder.port,
-        proto: proto_name(connection.protocol),
-        duration: seconds(connection.last_time.saturating_sub(connection.first_time)),
-        version: version_text(alloc, facts)?,
-        cipher: cipher_text(alloc, facts)?,
-        curve: curve_text(alloc, facts)?,
-        server_name: text(alloc, facts.server_name())?,
-        next_protocol: text(alloc, facts.next_protocol())?,
-        resumed: heard.is_resumed(),
-        established: heard.is_established(),
-        last_alert: alert_text(alloc, facts)?,
-        outcome: outcome_name(heard.outcome()),
-        stop: stop_line(heard.stop()),
-        gap: gap_name(connection),
-    };
-    serde_json::to_string(alloc, &line)
+    Ok(match field {
+        Course::Resumed => Some(Cell::Mark(heard.is_resumed())),
+        Course::Established => Some(Cell::Mark(heard.is_established())),
+        Course::Outcome => Some(Cell::Name(outcome_name(heard.outcome()))),
+        Course::Stop => stop_cell(heard.stop()),
+        Course::Gap => match gap_name(connection) {
+            Some(name) => Some(Cell::Name(name)),
+            None => None,
+        },
+        Course::Retried => some_mark(heard.facts().is_retried),
+        Course::History => return history_cell(alloc, heard.history()),
+    })
+}
+
+/// A count, where there is something to count.
+fn some_count(count: u64) -> Option<Cell> {
+    if count == 0 {
+        return None;
+    }
+    Some(Cell::Number(count))
+}
+
+/// What a side sent.
+fn sent_cell(connection: &Connection<Heard>, side: Side, field: Sent) -> Option<Cell> {
+    let sent = connection.sent(side);
+    let stream = connection.stream(side);
+    match field {
+        Sent::Packets => Some(Cell::Number(sent.packets)),
+        Sent::Bytes => Some(Cell::Number(match connection.protocol {
+            Protocol::Tcp => stream.length(),
+            Protocol::Udp => sent.bytes,
+        })),
+        Sent::Records => match connection.listener.records(side) {
+            Some(count) => Some(Cell::Number(count)),
+            None => None,
+        },
+        Sent::Repeated => some_count(stream.repeated()),
+        Sent::Disagreeing => some_count(stream.disagreeing()),
+    }
+}
+
+/// What one field says of a connection; nothing where it is missing.
+fn cell_of(
+    alloc: Global,
+    suites: &Suites,
+    connection: &Connection<Heard>,
+    field: Field,
+) -> Result<Option<Cell>, AllocError> {
+    let facts = connection.listener.facts();
+    match field {
+        Field::End(field) => end_cell(alloc, connection, connection.first_time, field),
+        Field::Named(field) => named_cell(alloc, suites, facts, field),
+        Field::Course(field) => course_cell(alloc, connection, field),
+        Field::Offer(field) => offer_cell(alloc, suites, facts, field),
+        Field::Answer(field) => answer_cell(alloc, facts, field),
+        Field::Chain(field) => chain_cell(alloc, facts, field),
+        Field::Print(field) => print_cell(alloc, facts, connection.protocol, field),
+        Field::Sent(side, field) => Ok(sent_cell(connection, side, field)),
+    }
+}
+
+/// The line of a connection, with the fields at these places of [`FIELDS`].
+pub fn row_of(
+    alloc: Global,
+    suites: &Suites,
+    places: &[usize],
+    connection: &Connection<Heard>,
+) -> Result<Row, AllocError> {
+    let mut cells = Vec::with_capacity(alloc, places.len())?;
+    for place in places {
+        if let Some((name, field)) = FIELDS.get(*place) {
+            cells.push((*name, cell_of(alloc, suites, connection, *field)?))?;
+        }
+    }
+    Ok(Row { cells })
 }

@@ -2,7 +2,7 @@
 use crate::counts::{Counts, add_one};
 use crate::heard::Heard;
 use capture::{Address, Content, TcpSegment, UdpDatagram, parse_packet};
-use connections::{Connection, Connections, Datagram, End, Segment, Side};
+use connections::{Connection, Connections, Datagram, End, Ends, Segment, Side, Stream};
 use packets::Packet;
 use std::alloc::{AllocError, Global};
 use std::hash::RandomState;
@@ -13,6 +13,8 @@ use tls_flow::Direction;
 #[derive(Drop)]
 pub struct Log {
     connections: Connections<Heard>,
+    // Whether the messages of connections are kept until they are taken.
+    keeps_messages: bool,
     /// What was read, and what was left out.
     pub counts: Counts,
 }
@@ -80,10 +82,18 @@ pub enum Arrival<'a> {
 
 impl<'a> Arrival<'a> {
     /// When it was captured.
-    fn time(&self) -> u64 {
+    pub fn time(&self) -> u64 {
         match self {
             Arrival::Segment(segment) => segment.time,
             Arrival::Datagram(datagram) => datagram.time,
+        }
+    }
+
+    /// Between which ends it goes.
+    fn between(&self) -> Ends {
+        match self {
+            Arrival::Segment(segment) => segment.between(),
+            Arrival::Datagram(datagram) => datagram.between(),
         }
     }
 }
@@ -96,20 +106,44 @@ fn direction_of(side: Side) -> Direction {
     }
 }
 
-/// Lets the listener hear what the side's stream says next.
-fn hear(connection: &mut Connection<Heard>, side: Side) -> Result<(), AllocError> {
+/// Lets the listener hear what a side's stream says next, and count what the segment adds to one that it hears no further.
+fn hear_side(
+    heard: &mut Heard,
+    stream: &mut Stream,
+    direction: Direction,
+    segment: &Segment<'_>,
+) -> Result<(), AllocError> {
+    heard.hear_stream(stream, direction)?;
+    heard.count_records(direction, stream.pass(segment));
+    Ok(())
+}
+
+/// The same of that side of a connection.
+fn hear(
+    connection: &mut Connection<Heard>,
+    side: Side,
+    segment: &Segment<'_>,
+) -> Result<(), AllocError> {
     let heard = &mut connection.listener;
     match side {
-        Side::Originator => heard.hear_stream(&mut connection.from_originator, Direction::ToServer),
-        Side::Responder => heard.hear_stream(&mut connection.from_responder, Direction::FromServer),
+        Side::Originator => {
+            let stream = &mut connection.from_originator;
+            hear_side(heard, stream, Direction::ToServer, segment)
+        }
+        Side::Responder => {
+            let stream = &mut connection.from_responder;
+            hear_side(heard, stream, Direction::FromServer, segment)
+        }
     }
 }
 
 impl Log {
-    /// That of a capture of which nothing was read, with keys for the hashes of its table.
-    pub fn new(alloc: Global, keys: RandomState) -> Result<Log, AllocError> {
+    /// That of a capture of which nothing was read, with keys for the hashes of its table. It keeps the messages of connections where they
+    /// are to be taken.
+    pub fn new(alloc: Global, keys: RandomState, keeps_messages: bool) -> Result<Log, AllocError> {
         Ok(Log {
             connections: Connections::new(alloc, keys)?,
+            keeps_messages,
             counts: Counts::new(),
         })
     }
@@ -178,7 +212,10 @@ impl Log {
         }
         if let Some(connection) = self.connections.get_mut(&segment.between()) {
             let side = connection.side_of(segment.source);
-            hear(connection, side)?;
+            if self.keeps_messages {
+                connection.listener.keep_messages();
+            }
+            hear(connection, side, segment)?;
             if !connection.is_closed() {
                 return Ok(None);
             }
@@ -191,11 +228,19 @@ impl Log {
         self.connections.accept_datagram(datagram)?;
         if let Some(exchange) = self.connections.get_mut(&datagram.between()) {
             let direction = direction_of(exchange.side_of(datagram.source));
+            if self.keeps_messages {
+                exchange.listener.keep_messages();
+            }
             exchange
                 .listener
                 .hear_datagram(direction, datagram.payload)?;
         }
         Ok(())
+    }
+
+    /// The open connection that an arrival belongs to.
+    pub fn connection(&mut self, arrival: &Arrival<'_>) -> Option<&mut Connection<Heard>> {
+        self.connections.get_mut(&arrival.between())
     }
 
     /// Takes out a connection that is left. To be called at the capture's end, until there is none.

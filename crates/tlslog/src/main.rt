@@ -1,54 +1,90 @@
-//! Prints a line of JSON for each connection of TLS or DTLS in a capture, at its end.
+//! Prints a line for each connection of TLS or DTLS in a capture, at its end, or for each message, as it comes.
 //!
-//! The capture is standard input, or files that are named. The names are those of Zeek's logs. What was left out is told on
-//! standard error. The status is 0, or 1 where an input is no capture or is broken off, 2 for wrong arguments, 3 where memory ran
-//! out, or reading or writing failed.
+//! The capture is standard input, or files that are named. A line is an object of JSON, or a record of comma-separated values. The names are
+//! those of Zeek's logs. What was left out is told on standard error. The status is 0, or 1 where an input is no capture or is broken off, 2
+//! for wrong arguments, 3 where memory ran out, or reading or writing failed.
 #![tactic(auto)]
 
+mod arguments;
+mod cell;
+mod columns;
 mod counts;
 mod heard;
+mod hellos;
 mod line;
 mod log;
 mod names;
+mod prints;
 mod program;
 mod progress;
+mod speech;
+mod spoken;
+mod style;
+mod suites;
+mod text;
 
+use crate::arguments::{Refusal, matches, style_of};
 use crate::program::{Exit, log_file, log_standard_input};
+use crate::style::Style;
+use clap::ArgMatches;
 use clap::error::ErrorKind;
-use clap::{Arg, ArgAction, ArgMatches, Command};
-use std::alloc::Global;
 use std::process::ExitCode;
 use std::random::RandomSource;
 use std::rt::Runtime;
 
-/// The matches of the command line.
-fn matches<'a>(alloc: Global, words: &'a [String]) -> Result<ArgMatches<'a>, clap::Error> {
-    let captures = Arg::new(alloc, "captures")
-        .help("Captures, as pcap or pcapng; standard input where none is named")
-        .num_args(0..)
-        .action(ArgAction::Append);
-    Command::new(alloc, "tlslog")
-        .about("Prints a line of JSON for each connection of TLS or DTLS in a capture")
-        .arg(captures)?
-        .try_get_matches_from(words)
-}
-
-/// Logs each capture that is named, or standard input.
-fn log_all<R: Runtime + AllocGlobal + RandomSource>(rt: &R, matches: &ArgMatches<'_>) -> Exit {
+/// Logs each capture that is named, or standard input, and prints the line in front of all.
+fn log_all<R: Runtime + AllocGlobal + RandomSource>(
+    rt: &R,
+    style: &Style,
+    matches: &ArgMatches<'_>,
+) -> Exit {
+    match style.header(rt.alloc()) {
+        Ok(None) => {}
+        Ok(Some(header)) => {
+            if println!(rt; "{header}").is_err() {
+                return Exit::Failed;
+            }
+        }
+        Err(_) => return Exit::Failed,
+    }
     let Some(paths) = matches.get_strs("captures") else {
-        return log_standard_input(rt);
+        return log_standard_input(rt, style);
     };
     let mut exit = Exit::Clean;
     for path in paths {
-        exit = exit.max(log_file(rt, path));
+        exit = exit.max(log_file(rt, style, path));
     }
     exit
+}
+
+/// Tells why the arguments are refused, and which status that is.
+fn refuse<R: Runtime + AllocGlobal>(rt: &R, refusal: Refusal<'_>) -> u8 {
+    let told = match refusal {
+        Refusal::UnknownField(name) => eprintln!(rt; "tlslog: there is no field {name}"),
+        Refusal::DoubledField(name) => eprintln!(rt; "tlslog: the field {name} is named twice"),
+        Refusal::NoList(path) => eprintln!(rt; "tlslog: {path}: this is no list of cipher suites"),
+        Refusal::Reading(path) => {
+            let _told = eprintln!(rt; "tlslog: {path}: reading failed");
+            return 3;
+        }
+        Refusal::OutOfMemory => {
+            let _told = eprintln!(rt; "tlslog: memory ran out");
+            return 3;
+        }
+    };
+    match told {
+        Ok(()) => 2,
+        Err(_) => 3,
+    }
 }
 
 /// The whole run.
 fn run<R: Runtime + AllocGlobal + RandomSource>(rt: &R, words: &[String]) -> u8 {
     match matches(rt.alloc(), words) {
-        Ok(matches) => u8::from(log_all(rt, &matches)),
+        Ok(matches) => match style_of(rt, &matches) {
+            Ok(style) => u8::from(log_all(rt, &style, &matches)),
+            Err(refusal) => refuse(rt, refusal),
+        },
         Err(error) => {
             let is_told = error.print(rt).is_ok();
             match error.kind() {

@@ -1,5 +1,5 @@
 //! The names that are printed.
-use tls_base::{TlsAlertDescription, TlsVersion};
+use tls_base::TlsVersion;
 use tls_flow::{Direction, Kind, Outcome};
 
 /// A version as Zeek writes it.
@@ -70,47 +70,6 @@ fn later_group_name(group: u16) -> Option<&'static str> {
         4588 => Some("X25519MLKEM768"),
         4589 => Some("SecP384r1MLKEM1024"),
         25497 => Some("X25519Kyber768Draft00"),
-        _ => None,
-    }
-}
-
-/// An alert by its name in the registry of alerts.
-pub fn alert_name(alert: TlsAlertDescription) -> Option<&'static str> {
-    match alert.0 {
-        0 => Some("close_notify"),
-        10 => Some("unexpected_message"),
-        20 => Some("bad_record_mac"),
-        21 => Some("decryption_failed"),
-        22 => Some("record_overflow"),
-        30 => Some("decompression_failure"),
-        40 => Some("handshake_failure"),
-        41 => Some("no_certificate"),
-        42 => Some("bad_certificate"),
-        43 => Some("unsupported_certificate"),
-        44 => Some("certificate_revoked"),
-        45 => Some("certificate_expired"),
-        46 => Some("certificate_unknown"),
-        47 => Some("illegal_parameter"),
-        48 => Some("unknown_ca"),
-        49 => Some("access_denied"),
-        50 => Some("decode_error"),
-        51 => Some("decrypt_error"),
-        60 => Some("export_restriction"),
-        70 => Some("protocol_version"),
-        71 => Some("insufficient_security"),
-        80 => Some("internal_error"),
-        86 => Some("inappropriate_fallback"),
-        90 => Some("user_canceled"),
-        100 => Some("no_renegotiation"),
-        109 => Some("missing_extension"),
-        110 => Some("unsupported_extension"),
-        111 => Some("certificate_unobtainable"),
-        112 => Some("unrecognized_name"),
-        113 => Some("bad_certificate_status_response"),
-        114 => Some("bad_certificate_hash_value"),
-        115 => Some("unknown_psk_identity"),
-        116 => Some("certificate_required"),
-        120 => Some("no_application_protocol"),
         _ => None,
     }
 }

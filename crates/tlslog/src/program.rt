@@ -1,8 +1,11 @@
 //! The run over one capture.
+use crate::counts::{Counts, add_one};
 use crate::heard::Heard;
-use crate::line::{gap_name, line_of};
+use crate::line::{gap_name, row_of};
 use crate::log::Log;
 use crate::progress::{STANDARD_INPUT, Watched};
+use crate::spoken::message_row;
+use crate::style::{Lines, Style};
 use connections::Connection;
 use packets::{CaptureError, Packet, PacketVisitor, VisitError, visit_packets};
 use std::alloc::AllocError;
@@ -74,26 +77,84 @@ impl From<VisitError<Failure>> for Failure {
     }
 }
 
-/// Prints the line of a connection that is over, if it is TLS or DTLS.
-fn print_one<R: Runtime + AllocGlobal>(
+/// Counts a connection that is over, and prints its line, if it is TLS or DTLS and connections have lines.
+fn print_line<R: Runtime + AllocGlobal>(
     rt: &R,
-    log: &mut Log,
-    connection: Connection<Heard>,
+    style: &Style,
+    counts: &mut Counts,
+    connection: &Connection<Heard>,
 ) -> Result<(), Failure> {
     if !connection.listener.is_spoken() {
-        log.counts.other_connections = log.counts.other_connections.saturating_add(1);
+        add_one(&mut counts.other_connections);
         return Ok(());
     }
-    if gap_name(&connection).is_some() {
-        log.counts.gaps = log.counts.gaps.saturating_add(1);
+    if gap_name(connection).is_some() {
+        add_one(&mut counts.gaps);
     }
-    let line = line_of(rt.alloc(), &connection).map_err(|_e| Failure::Memory)?;
+    let Lines::Connections(places) = &style.lines else {
+        return Ok(());
+    };
+    let row = row_of(rt.alloc(), &style.suites, places.as_slice(), connection)?;
+    let line = style.text(rt.alloc(), row)?;
     println!(rt; "{line}").map_err(|_e| Failure::Writing)
+}
+
+/// The same, and lets the connection go. It has one exit, since letting a connection go is much to prove.
+fn print_one<R: Runtime + AllocGlobal>(
+    rt: &R,
+    style: &Style,
+    counts: &mut Counts,
+    connection: Connection<Heard>,
+) -> Result<(), Failure> {
+    print_line(rt, style, counts, &connection)
+}
+
+/// Prints the messages of a connection that were whole at this time, if messages have lines.
+fn print_messages<R: Runtime + AllocGlobal>(
+    rt: &R,
+    style: &Style,
+    connection: &mut Connection<Heard>,
+    time: u64,
+) -> Result<(), Failure> {
+    let Lines::Messages(places) = &style.lines else {
+        return Ok(());
+    };
+    for spoken in connection.listener.take_messages() {
+        let row = message_row(rt.alloc(), places.as_slice(), connection, time, spoken)?;
+        let line = style.text(rt.alloc(), row)?;
+        println!(rt; "{line}").map_err(|_e| Failure::Writing)?;
+    }
+    Ok(())
+}
+
+/// Prints the last messages of a connection that is over, and its line, if these have lines.
+fn print_both<R: Runtime + AllocGlobal>(
+    rt: &R,
+    style: &Style,
+    counts: &mut Counts,
+    connection: &mut Connection<Heard>,
+    time: u64,
+) -> Result<(), Failure> {
+    print_messages(rt, style, connection, time)?;
+    print_line(rt, style, counts, connection)
+}
+
+/// The same, and lets the connection go.
+fn print_last<R: Runtime + AllocGlobal>(
+    rt: &R,
+    style: &Style,
+    counts: &mut Counts,
+    connection: Connection<Heard>,
+    time: u64,
+) -> Result<(), Failure> {
+    let mut connection = connection;
+    print_both(rt, style, counts, &mut connection, time)
 }
 
 /// Logs one packet.
 fn log_packet<R: Runtime + AllocGlobal>(
     rt: &R,
+    style: &Style,
     log: &mut Log,
     packet: Packet<'_>,
 ) -> Result<(), Failure> {
@@ -102,13 +163,16 @@ fn log_packet<R: Runtime + AllocGlobal>(
     };
     for _ in 0..u64::MAX {
         match log.take_over(&arrival) {
-            Some(connection) => print_one(rt, log, connection)?,
+            Some(connection) => print_one(rt, style, &mut log.counts, connection)?,
             None => break,
         }
     }
     match log.accept(&arrival)? {
-        Some(connection) => print_one(rt, log, connection),
-        None => Ok(()),
+        Some(connection) => print_last(rt, style, &mut log.counts, connection, arrival.time()),
+        None => match log.connection(&arrival) {
+            Some(connection) => print_messages(rt, style, connection, arrival.time()),
+            None => Ok(()),
+        },
     }
 }
 
@@ -116,6 +180,7 @@ fn log_packet<R: Runtime + AllocGlobal>(
 #[derive(Drop)]
 struct Logger<'a, R> {
     rt: &'a R,
+    style: &'a Style,
     log: &'a mut Log,
 }
 
@@ -123,7 +188,7 @@ impl<'a, R: Runtime + AllocGlobal> PacketVisitor for Logger<'a, R> {
     type Error = Failure;
 
     fn visit(&mut self, packet: Packet<'_>) -> Result<(), Failure> {
-        log_packet(self.rt, self.log, packet)?;
+        log_packet(self.rt, self.style, self.log, packet)?;
         Ok(())
     }
 }
@@ -131,10 +196,11 @@ impl<'a, R: Runtime + AllocGlobal> PacketVisitor for Logger<'a, R> {
 /// Logs all that the reader gives.
 fn log_packets<R: Runtime + AllocGlobal, I: Read>(
     rt: &R,
+    style: &Style,
     log: &mut Log,
     reader: &mut I,
 ) -> Result<(), Failure> {
-    let mut logger = Logger { rt, log };
+    let mut logger = Logger { rt, style, log };
     match visit_packets(rt.alloc(), reader, &mut logger) {
         Ok(()) => Ok(()),
         Err(e) => Err(Failure::from(e)),
@@ -142,10 +208,14 @@ fn log_packets<R: Runtime + AllocGlobal, I: Read>(
 }
 
 /// Prints the connections that are left.
-fn print_left<R: Runtime + AllocGlobal>(rt: &R, log: &mut Log) -> Result<(), Failure> {
+fn print_left<R: Runtime + AllocGlobal>(
+    rt: &R,
+    style: &Style,
+    log: &mut Log,
+) -> Result<(), Failure> {
     for _ in 0..u64::MAX {
         match log.take_left() {
-            Some(connection) => print_one(rt, log, connection)?,
+            Some(connection) => print_one(rt, style, &mut log.counts, connection)?,
             None => break,
         }
     }
@@ -169,22 +239,24 @@ fn tell<R: Runtime>(rt: &R, name: &str, failure: Failure) -> Exit {
 /// Logs a capture that is read from there, under that name.
 pub fn log_input<R: Runtime + AllocGlobal + RandomSource, I: Read>(
     rt: &R,
+    style: &Style,
     name: &str,
     reader: &mut I,
 ) -> Exit {
     let Ok(keys) = RandomState::new(rt) else {
         return tell(rt, name, Failure::Reading);
     };
-    let mut log = match Log::new(rt.alloc(), keys) {
+    let keeps_messages = matches!(style.lines, Lines::Messages(_));
+    let mut log = match Log::new(rt.alloc(), keys, keeps_messages) {
         Ok(log) => log,
         Err(_) => return tell(rt, name, Failure::Memory),
     };
-    let mut exit = match log_packets(rt, &mut log, reader) {
+    let mut exit = match log_packets(rt, style, &mut log, reader) {
         Ok(()) => Exit::Clean,
         Err(failure) => tell(rt, name, failure),
     };
     if exit != Exit::Failed {
-        if let Err(failure) = print_left(rt, &mut log) {
+        if let Err(failure) = print_left(rt, style, &mut log) {
             exit = tell(rt, name, failure);
         }
     }
@@ -195,18 +267,23 @@ pub fn log_input<R: Runtime + AllocGlobal + RandomSource, I: Read>(
 }
 
 /// Logs the capture in a file, of which the progress is told where someone looks.
-pub fn log_file<R: Runtime + AllocGlobal + RandomSource>(rt: &R, path: &str) -> Exit {
+pub fn log_file<R: Runtime + AllocGlobal + RandomSource>(
+    rt: &R,
+    style: &Style,
+    path: &str,
+) -> Exit {
     match fs::open(rt, path) {
-        Ok(file) => log_input(rt, path, &mut Watched::new(rt, path, path, file)),
+        Ok(file) => log_input(rt, style, path, &mut Watched::new(rt, path, path, file)),
         Err(_) => tell(rt, path, Failure::Reading),
     }
 }
 
 /// The same of the capture that is standard input.
-pub fn log_standard_input<R: Runtime + AllocGlobal + RandomSource>(rt: &R) -> Exit {
+pub fn log_standard_input<R: Runtime + AllocGlobal + RandomSource>(rt: &R, style: &Style) -> Exit {
     let name = "standard input";
     log_input(
         rt,
+        style,
         name,
         &mut Watched::new(rt, name, STANDARD_INPUT, rt.reader()),
     )

@@ -1,0 +1,115 @@
+//! The arguments of the command line.
+use crate::style::{Format, Lines, Style, StyleError};
+use crate::suites::Suites;
+use clap::{Arg, ArgAction, ArgMatches, Command};
+use std::alloc::{AllocError, Global};
+use std::fs;
+use std::rt::Runtime;
+
+/// Why a run doesn't begin.
+#[derive(Clone, Copy, Debug, PartialEq, Eq)]
+pub enum Refusal<'a> {
+    /// There is no field of that name.
+    UnknownField(&'a str),
+    /// That field is named twice.
+    DoubledField(&'a str),
+    /// The file of that name is no list of cipher suites.
+    NoList(&'a str),
+    /// The file of that name can't be read.
+    Reading(&'a str),
+    /// Memory ran out.
+    OutOfMemory,
+}
+
+impl From<AllocError> for Refusal<'_> {
+    fn from(_e: AllocError) -> Self {
+        Refusal::OutOfMemory
+    }
+}
+
+impl<'a> From<StyleError<'a>> for Refusal<'a> {
+    fn from(e: StyleError<'a>) -> Refusal<'a> {
+        match e {
+            StyleError::UnknownField(name) => Refusal::UnknownField(name),
+            StyleError::DoubledField(name) => Refusal::DoubledField(name),
+            StyleError::OutOfMemory => Refusal::OutOfMemory,
+        }
+    }
+}
+
+/// The names of formats.
+static FORMATS: [&str; 2] = ["json", "csv"];
+
+/// The matches of the command line.
+pub fn matches<'a>(alloc: Global, words: &'a [String]) -> Result<ArgMatches<'a>, clap::Error> {
+    let captures = Arg::new(alloc, "captures")
+        .help("Captures, as pcap or pcapng; standard input where none is named")
+        .num_args(0..)
+        .action(ArgAction::Append);
+    let messages = Arg::new(alloc, "messages")
+        .long("messages")
+        .help("Print a line for each message, as it comes, and not for each connection")
+        .action(ArgAction::SetTrue);
+    let format = Arg::new(alloc, "format")
+        .long("format")
+        .value_name("FORMAT")
+        .help("How lines are written")
+        .value_parser(FORMATS.as_slice())
+        .default_value("json")
+        .action(ArgAction::Set);
+    let fields = Arg::new(alloc, "fields")
+        .long("fields")
+        .value_name("A,B,..")
+        .help("The fields of a line, in this order; all where none are named")
+        .action(ArgAction::Set);
+    let ciphers = Arg::new(alloc, "ciphers")
+        .long("ciphers")
+        .value_name("FILE")
+        .help("Names of cipher suites: lines as c02f:TLS_ECDHE_RSA_WITH_AES_128_GCM_SHA256:..")
+        .action(ArgAction::Set);
+    Command::new(alloc, "tlslog")
+        .about("Prints a line for each connection of TLS or DTLS in a capture, or for each message")
+        .arg(captures)?
+        .arg(messages)?
+        .arg(format)?
+        .arg(fields)?
+        .arg(ciphers)?
+        .try_get_matches_from(words)
+}
+
+/// The names of cipher suites in a file.
+fn suites_of<'a, R: Runtime + AllocGlobal>(rt: &R, path: &'a str) -> Result<Suites, Refusal<'a>> {
+    let Ok(list) = fs::read_to_string(rt, path) else {
+        return Err(Refusal::Reading(path));
+    };
+    match Suites::read(rt.alloc(), list.as_str())? {
+        Some(suites) => Ok(suites),
+        None => Err(Refusal::NoList(path)),
+    }
+}
+
+/// What the arguments ask for.
+pub fn style_of<'a, R: Runtime + AllocGlobal>(
+    rt: &R,
+    matches: &ArgMatches<'a>,
+) -> Result<Style, Refusal<'a>> {
+    let alloc = rt.alloc();
+    let format = match matches.get_str("format") {
+        Some("csv") => Format::Csv,
+        _ => Format::Json,
+    };
+    let lines = Lines::new(
+        alloc,
+        matches.get_flag("messages"),
+        matches.get_str("fields"),
+    )?;
+    let suites = match matches.get_str("ciphers") {
+        Some(path) => suites_of(rt, path)?,
+        None => Suites::new(alloc),
+    };
+    Ok(Style {
+        format,
+        lines,
+        suites,
+    })
+}

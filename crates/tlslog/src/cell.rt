@@ -1,0 +1,63 @@
+//! What stands in a line.
+use serde::{Described, Serialize, Serializer};
+use tls_json::{AlertMessage, Message};
+
+/// The event that ended a handshake without success.
+#[derive(Drop, Serialize)]
+pub struct StopCell {
+    /// The kind of message.
+    pub message: &'static str,
+    /// Who sent it.
+    pub sender: &'static str,
+    /// How many messages of both sides stand in front of it.
+    pub messages_before: u64,
+}
+
+/// What a field says.
+#[derive(Drop, Serialize)]
+#[serde(untagged)]
+pub enum Cell {
+    /// A name of ours.
+    Name(&'static str),
+    /// Text.
+    Text(String),
+    /// A number.
+    Number(u64),
+    /// Seconds.
+    Seconds(f64),
+    /// Whether it is so.
+    Mark(bool),
+    /// A list of texts.
+    Texts(Vec<String>),
+    /// A list of numbers.
+    Numbers(Vec<u64>),
+    /// The event that ended a handshake.
+    Stop(StopCell),
+    /// A handshake message, by its fields.
+    Message(Message),
+    /// An alert, by its fields.
+    Alert(AlertMessage),
+}
+
+/// Names of fields, each with what it says; `None` where the field is missing.
+#[derive(Drop)]
+pub struct Row {
+    /// They stand in the order of the line.
+    pub cells: Vec<(&'static str, Option<Cell>)>,
+}
+
+impl Described for Row {}
+
+/// An object, in which what is missing is left out.
+impl Serialize for Row {
+    fn serialize<S: Serializer>(&self, out: &mut S) -> Result<(), S::Error> {
+        out.begin_map(None)?;
+        for (name, cell) in &self.cells {
+            if let Some(cell) = cell {
+                out.key(name)?;
+                cell.serialize(out)?;
+            }
+        }
+        out.end_map()
+    }
+}

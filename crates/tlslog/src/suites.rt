@@ -1,0 +1,72 @@
+//! Names of cipher suites.
+use crate::cell::Cell;
+use crate::text::{name_or_number, some_texts};
+use std::alloc::{AllocError, Global};
+use std::collections::BTreeMap;
+use tls_base::TlsCipherSuiteID;
+use tls_fields::Items;
+
+/// Names of cipher suites, by their numbers.
+#[derive(Drop)]
+pub struct Suites {
+    names: BTreeMap<u16, String>,
+}
+
+/// The number and the name that a line begins with, as in `c02f:TLS_ECDHE_RSA_WITH_AES_128_GCM_SHA256:..`.
+fn named(line: &str) -> Option<(u16, &str)> {
+    let (digits, rest) = line.split_once(':')?;
+    let Ok(number) = u16::from_str_radix(digits, 16) else {
+        return None;
+    };
+    match rest.split_once(':') {
+        Some((name, _)) => Some((number, name)),
+        None => Some((number, rest)),
+    }
+}
+
+impl Suites {
+    /// None has a name.
+    pub fn new(alloc: Global) -> Suites {
+        Suites {
+            names: BTreeMap::new(alloc),
+        }
+    }
+
+    /// Those of a list with a line for each: its number in hexadecimal, and its name, each with `:` behind. Empty lines and those that begin
+    /// with `#` say nothing. `None` where a line has another form.
+    pub fn read(alloc: Global, list: &str) -> Result<Option<Suites>, AllocError> {
+        let mut suites = Suites::new(alloc);
+        for line in list.lines() {
+            if line.is_empty() || line.starts_with('#') {
+                continue;
+            }
+            let Some((number, name)) = named(line) else {
+                return Ok(None);
+            };
+            let name = String::from_str(alloc, name)?;
+            suites.names.insert(number, name).map_err(|_e| AllocError)?;
+        }
+        Ok(Some(suites))
+    }
+
+    /// A suite by its name, or else its number.
+    pub fn text(&self, alloc: Global, suite: TlsCipherSuiteID) -> Result<String, AllocError> {
+        match self.names.get(&suite.0) {
+            Some(name) => name_or_number(alloc, Some(name.as_str()), suite.0),
+            None => name_or_number(alloc, None, suite.0),
+        }
+    }
+
+    /// A list of suites.
+    pub fn texts(
+        &self,
+        alloc: Global,
+        suites: Items<'_, TlsCipherSuiteID>,
+    ) -> Result<Option<Cell>, AllocError> {
+        let mut all = Vec::new(alloc);
+        for suite in suites {
+            all.push(self.text(alloc, suite)?)?;
+        }
+        Ok(some_texts(all))
+    }
+}

@@ -1,0 +1,201 @@
+"""The checks of tlslog's options on its stored captures: fields, comma-separated values, names of suites, messages, and the uses of docs/TLSLOG.md."""
+
+import csv
+import io
+import json
+import re
+import shlex
+import shutil
+import subprocess
+from collections import Counter
+from pathlib import Path
+
+TOP = Path(__file__).resolve().parent.parent
+# Some suites by the names of the registry.
+SUITES = """
+# A list of suites.
+009c:TLS_RSA_WITH_AES_128_GCM_SHA256:RSA:RSA:AES
+1301:TLS_AES_128_GCM_SHA256:TLS13
+1302:TLS_AES_256_GCM_SHA384:TLS13
+
+c02f:TLS_ECDHE_RSA_WITH_AES_128_GCM_SHA256
+c030:TLS_ECDHE_RSA_WITH_AES_256_GCM_SHA384:ECDHE:RSA
+"""
+OF_MESSAGES = "ts id.orig_h id.orig_p id.resp_h id.resp_p proto side place content_type name message".split()
+CHANGE, ALERT, HANDSHAKE, HEARTBEAT = 20, 21, 22, 24
+
+
+class Wrong(Exception):
+    """What a check found."""
+
+
+def want(is_so, *words):
+    if not is_so:
+        raise Wrong(" ".join(map(str, words)))
+
+
+def named(lines):
+    """The lines with the names of suites."""
+    names = dict(line.split(":")[:2] for line in SUITES.splitlines() if line and line[0] != "#")
+    name = lambda suite: names.get(suite[2:], suite)  # noqa: E731
+    fields = {"cipher": name, "client_ciphers": lambda suites: [name(suite) for suite in suites]}
+    return [{field: fields.get(field, lambda v: v)(value) for field, value in line.items()} for line in lines]
+
+
+def as_text(value):
+    """A value as comma-separated values have it."""
+    return value if isinstance(value, str) else json.dumps(value, separators=(",", ":"))
+
+
+def records(text):
+    return list(csv.reader(io.StringIO(text, newline=""), strict=True))
+
+
+def fields(ask, files, lines):
+    """Each field alone, all in another order, and all as comma-separated values: the values are those of the lines."""
+    status, text, _ = ask(["--format", "csv", *files])
+    names, *rows = records(text)
+    want(status == 0 and len(rows) == len(lines), "csv:", status, len(rows))
+    for line, row in zip(lines, rows):
+        want(row == [as_text(line[name]) if name in line else "" for name in names], "csv:", line, row)
+    want({name for line in lines for name in line} <= {*names}, "csv has no column for a field of a line")
+    for name in names:
+        status, text, _ = ask(["--fields", name, *files])
+        wanted = [{name: line[name]} if name in line else {} for line in lines]
+        want(status == 0 and [json.loads(row) for row in text.splitlines()] == wanted, "the field", name, status, text[-300:])
+    status, text, _ = ask(["--fields", ",".join(reversed(names)), *files])
+    for line, row in zip(lines, text.splitlines()):
+        want(list(json.loads(row).items()) == [(name, line[name]) for name in reversed(names) if name in line], "another order:", row)
+    return len(names)
+
+
+def suites(ask, files, lines, room):
+    """A list of suites, and what is none."""
+    good, bad = room / "suites", room / "no-suites"
+    good.write_text(SUITES)
+    bad.write_text("TLS_AES_128_GCM_SHA256\n")
+    status, text, _ = ask(["--ciphers", good, *files])
+    want(status == 0 and [json.loads(row) for row in text.splitlines()] == named(lines), "--ciphers", status, text[-300:])
+    for words, wanted in [
+        (["--ciphers", bad], 2), (["--ciphers", room / "none"], 3), (["--fields", "no_such_field"], 2), (["--fields", "ts,ts"], 2),
+        (["--fields", ""], 2), (["--messages", "--fields", "version"], 2), (["--format", "xml"], 2), (["--format"], 2),
+    ]:
+        status, text, told = ask([*words, *files])
+        want((status, text) == (wanted, "") and told, *words, "status", status, text, told)
+
+
+def key(message):
+    return message["id.orig_p"], message["side"]
+
+
+def messages(ask, files):
+    """The messages are those that tshark has, which `captures/messages` says, at their times; each has its place, and all have their fields
+    as comma-separated values too."""
+    wanted = Counter((TOP / "captures" / "messages").read_text().splitlines())
+    found, places, rows = Counter(), Counter(), []
+    for file in files:
+        status, text, _ = ask(["--messages", file])
+        want(status == 0, "--messages", file, status)
+        said = [json.loads(row) for row in text.splitlines()]
+        rows += said
+        for message in said:
+            want(list(message) == [field for field in OF_MESSAGES if field in message], "fields of a message:", *message)
+            want(message["place"] == places[file, *key(message)], "the place of", message)
+            places[file, *key(message)] += 1
+            told, kind = message.get("message"), message["content_type"]
+            front = f"{Path(file).stem} {message['id.orig_p']} {message['side']} {message['ts']:.6f}"
+            if kind == HANDSHAKE:
+                found[f"{front} {told['msg_type']} {told['length']}"] += 1
+            elif kind == ALERT:
+                found[f"{front} alert {told['level']} {told['description']}"] += 1
+            else:
+                want(kind in (CHANGE, HEARTBEAT), "a message of the type", kind)
+    want(found == wanted, "messages that tshark hasn't:", found - wanted, "messages that it has:", wanted - found)
+    status, text, _ = ask(["--messages", "--format", "csv", *files])
+    names, *others = records(text)
+    want(status == 0 and names == OF_MESSAGES and len(others) == len(rows), "messages as csv:", status, names)
+    for message, row in zip(rows, others):
+        want(row == [as_text(message[name]) if name in message else "" for name in names], "csv:", message, row)
+    return len(rows)
+
+
+def counted(values):
+    return sorted(f"{count} {value}" for value, count in Counter(values).items())
+
+
+def wanted_of_uses(lines):
+    """What each use prints, in any order, from the lines."""
+    plain = lambda line: json.dumps(line, separators=(",", ":"))  # noqa: E731
+    only = lambda line, *names: plain({name: line[name] for name in names if name in line})  # noqa: E731
+    chains = {(line["id.resp_h"], str(line["id.resp_p"]), line["cert_chain_fps"][0]) for line in lines if "cert_chain_fps" in line}
+    servers = Counter(chain[:2] for chain in chains)
+    said = [line.split() for line in (TOP / "captures" / "messages").read_text().splitlines()]
+    return {
+        "still speaks": counted(line["id.orig_h"] for line in lines if line.get("version") in ("TLSv10", "TLSv11")),
+        "hosts": counted(line["server_name"] for line in lines if "server_name" in line),
+        "changed their certificate": sorted("\t".join(server) for server, count in servers.items() if count > 1),
+        "broken off": sorted(
+            plain([line.get("server_name"), line.get("last_alert"), line.get("stop", {}).get("sender")])
+            for line in lines if line["outcome"] == "broken_off"
+        ),
+        "which suites": counted(line["cipher"] for line in named(lines) if "cipher" in line),
+        "which programs": counted(only(line, "ja4", "ja3") for line in lines),
+        "resumed": counted(only(line, "version", "resumed") for line in lines),
+        "would still take": sorted(
+            str(line["id.orig_p"]) for line in lines
+            if "TLSv10" in line.get("client_supported_versions", [line.get("client_version")])
+        ),
+        "asked for a certificate": sorted(
+            plain([line["id.orig_p"], line.get("client_cert_count")]) for line in lines if "client_cert_requested" in line
+        ),
+        "in a retry": counted(line["server_key_share_group"] for line in lines if "retried" in line),
+        "which messages": sorted(f"{row[2]}\t{row[4]}" for row in said if row[1] == "54368"),
+        "spreadsheet": None,
+    }
+
+
+# The names of handshake messages and their numbers, as far as the uses show them.
+NUMBERS = {
+    "client_hello": 1, "server_hello": 2, "new_session_ticket": 4, "certificate": 11, "server_key_exchange": 12, "certificate_request": 13,
+    "server_hello_done": 14, "certificate_verify": 15, "client_key_exchange": 16,
+}
+
+
+def printed(what, text):
+    rows = [re.sub(r"^ +(\d+) ", r"\1 ", row) for row in text.splitlines()]
+    if what != "which messages":
+        return sorted(rows)
+    rows = [row.split("\t") for row in rows]
+    return sorted(f"{side}\t{NUMBERS[name]}" for side, name in rows if name in NUMBERS)
+
+
+def uses(program, files, lines, room):
+    """The commands of docs/TLSLOG.md, as they stand there."""
+    if not shutil.which("jq"):
+        print("logs: there is no jq: the uses of docs/TLSLOG.md weren't run")
+        return 0
+    (room / "suites").write_text(SUITES)
+    rows = re.findall(r"^\| (.*?) \| `(\./tlslog .*)` \|$", (TOP / "docs" / "TLSLOG.md").read_text(), re.M)
+    wanted = wanted_of_uses(lines)
+    want(len(rows) == len(wanted), len(rows), "uses in docs/TLSLOG.md")
+    for what, command in rows:
+        shell = command.replace("\\|", "|").replace("./tlslog", shlex.quote(str(program)))
+        shell = shell.replace("suites.txt", shlex.quote(str(room / "suites")))
+        shell = shell.replace("capture.pcap", " ".join(shlex.quote(str(file)) for file in files))
+        ran = subprocess.run(["bash", "-c", "set -o pipefail\n" + shell], stdout=subprocess.PIPE, stderr=subprocess.PIPE, text=True)
+        [(short, rows_wanted)] = [(short, rows) for short, rows in wanted.items() if short in what]
+        want(ran.returncode == 0, what, ran.returncode, ran.stderr[-300:])
+        if rows_wanted is None:
+            want(len(records(ran.stdout)) == len(lines) + 1, what, ran.stdout[-300:])
+        else:
+            want(rows_wanted and printed(short, ran.stdout) == rows_wanted, what, ran.stdout[-500:], rows_wanted)
+    return len(rows)
+
+
+def check(program, ask, files, lines, room):
+    """All of them. `ask` runs the program on arguments: its status, output and error output."""
+    count = fields(ask, files, lines)
+    suites(ask, files, lines, room)
+    print(f"logs: {count} fields alone, in another order and as comma-separated values, and names of suites, are as they are stored")
+    print(f"logs: {messages(ask, files)} messages are those that tshark has, with their places, also as comma-separated values")
+    print(f"logs: {uses(program, files, lines, room)} uses of docs/TLSLOG.md print what the stored lines want")

@@ -1,0 +1,139 @@
+"""The fields of hellos and certificates that are wanted of a connection, from tshark's fields of a packet."""
+
+import hashlib
+import subprocess
+
+FIELDS = """
+    handshake.session_id handshake.comp_method handshake.extension.len handshake.extensions_supported_group
+    handshake.extensions_ec_point_format handshake.sig_hash_alg handshake.certificate handshake.ja3 handshake.ja3_full handshake.ja3s
+    handshake.ja3s_full
+""".split()
+# Fields that tshark has under the names of TLS alone, also of DTLS.
+SHARED = ["tls.extension.psk_ke_mode", "tls.sct.sct_length"]
+ORDER = """
+    retried client_version client_supported_versions client_session_id client_ciphers client_comp_methods ssl_client_exts client_curves
+    point_formats sigalgs orig_alpn client_key_share_groups psk_key_exchange_modes offers_psk offers_early_data offers_ticket cookie ech
+    delegated_credential server_version server_session_id comp_method ssl_server_exts server_key_share_group scts ticket_issued
+    ocsp_stapled cert_count cert_lengths cert_chain_fps client_cert_requested client_cert_count client_cert_lengths client_cert_chain_fps
+    ja3 ja3_string ja3s ja3s_string ja4
+""".split()
+TICKET, CERTIFICATE, CERTIFICATE_REQUEST, STATUS = "4", "11", "13", "22"
+LETTERS = {
+    0x304: "13", 0x303: "12", 0x302: "11", 0x301: "10", 0x300: "s3", 2: "s2", 0xFEFF: "d1", 0xFEFD: "d2", 0xFEFC: "d3",
+}
+
+
+def names_of(*fields):
+    """tshark's names of the numbers of fields."""
+    text = subprocess.run(["tshark", "-G", "values"], stdout=subprocess.PIPE, stderr=subprocess.DEVNULL, text=True, check=True).stdout
+    known = {field: {} for field in fields}
+    for row in (line.split("\t") for line in text.splitlines()):
+        if row[0] == "V" and row[1] in known and " " not in row[3]:
+            known[row[1]][int(row[2], 0)] = row[3]
+    return [known[field] for field in fields]
+
+
+EXTENSIONS, SCHEMES, GROUPS = names_of(
+    "tls.handshake.extension.type", "tls.handshake.sig_hash_alg", "tls.handshake.extensions_supported_group"
+)
+EXTENSIONS |= {34: "delegated_credential", 0xFE0D: "encrypted_client_hello"}
+# Those for private use have no name in the registry.
+SCHEMES = {number: name for number, name in SCHEMES.items() if number < 0xFE00}
+GROUPS = {number: name for number, name in GROUPS.items() if number < 0x200} | {4588: "X25519MLKEM768"}
+
+
+def numbers(row, field):
+    return [int(value, 0) for value in row[field]]
+
+
+def named(names, numbers):
+    return [names.get(number, f"0x{number:04x}") for number in numbers]
+
+
+def is_grease(number):
+    return number >> 8 == number & 0xFF and number & 0xF == 0xA
+
+
+def short(text):
+    return hashlib.sha256(text.encode()).hexdigest()[:12] if text else "0" * 12
+
+
+def ja4(layer, version, ciphers, types, versions, schemes, protocols):
+    """JA4 of a ClientHello (github.com/FoxIO-LLC/ja4, technical_details/JA4.md)."""
+    ciphers, types, schemes = ([n for n in ns if not is_grease(n)] for ns in (ciphers, types, schemes))
+    versions = [n for n in versions if not is_grease(n)] or [version]
+    best = max(versions)
+    first = (protocols or [""])[0]
+    ends = (first[0] + first[-1]) if first else "00"
+    if not all(c.isascii() and c.isalnum() for c in ends):
+        ends = f"{ord(ends[0]):02x}"[0] + f"{ord(ends[1]):02x}"[1]
+    front = f"{'d' if layer == 'udp' else 't'}{LETTERS.get(best, '00')}{'d' if 0 in types else 'i'}"
+    front += f"{min(len(ciphers), 99):02}{min(len(types), 99):02}{ends}"
+    others = ",".join(f"{n:04x}" for n in sorted(types) if n not in (0, 16))
+    third = others + ("_" + ",".join(f"{n:04x}" for n in schemes) if schemes else "")
+    return "_".join([front, short(",".join(f"{n:04x}" for n in sorted(ciphers))), short(third)])
+
+
+def plain(value):
+    return value.replace(":", "")
+
+
+def first(row, field):
+    return row[field][0] if row[field] else None
+
+
+def of_client(row, layer, versions_by):
+    """What a ClientHello says."""
+    types = numbers(row, "handshake.extension.type")
+    lengths = dict(zip(types, numbers(row, "handshake.extension.len")))
+    version, versions = numbers(row, "handshake.version")[0], numbers(row, "handshake.extensions.supported_version")
+    ciphers, schemes = numbers(row, "handshake.ciphersuite"), numbers(row, "handshake.sig_hash_alg")
+    protocols = row["handshake.extensions_alpn_str"]
+    return {
+        "client_version": named(versions_by, [version])[0],
+        "client_supported_versions": named(versions_by, versions),
+        "client_session_id": plain(first(row, "handshake.session_id") or ""),
+        "client_ciphers": named({}, ciphers),
+        "client_comp_methods": numbers(row, "handshake.comp_method"),
+        "ssl_client_exts": named(EXTENSIONS, types),
+        "client_curves": named(GROUPS, numbers(row, "handshake.extensions_supported_group")),
+        "point_formats": numbers(row, "handshake.extensions_ec_point_format"),
+        "sigalgs": named(SCHEMES, schemes),
+        "orig_alpn": protocols,
+        "client_key_share_groups": named(GROUPS, numbers(row, "handshake.extensions_key_share_group")),
+        "psk_key_exchange_modes": numbers(row, "tls.extension.psk_ke_mode"),
+        "offers_psk": 41 in types, "offers_early_data": 42 in types, "offers_ticket": lengths.get(35, 0) > 0, "cookie": 44 in types,
+        "ech": 0xFE0D in types, "delegated_credential": 34 in types,
+        "ja3": first(row, "handshake.ja3"), "ja3_string": first(row, "handshake.ja3_full"),
+        "ja4": ja4(layer, version, ciphers, types, versions, schemes, protocols),
+    }
+
+
+def of_server(row, versions_by):
+    """What a ServerHello says."""
+    share = numbers(row, "handshake.extensions_key_share_group")
+    return {
+        "server_version": named(versions_by, numbers(row, "handshake.version"))[0],
+        "server_session_id": plain(first(row, "handshake.session_id") or ""),
+        "comp_method": numbers(row, "handshake.comp_method")[0],
+        "ssl_server_exts": named(EXTENSIONS, numbers(row, "handshake.extension.type")),
+        "server_key_share_group": named(GROUPS, share)[0] if share else None,
+        "scts": len(row["tls.sct.sct_length"]),
+        "ja3s": first(row, "handshake.ja3s"), "ja3s_string": first(row, "handshake.ja3s_full"),
+    }
+
+
+def of_messages(row, side):
+    """What other messages in the clear say; `side` is whether the client sent them."""
+    types, said = row["handshake.type"], {}
+    if CERTIFICATE in types:
+        chain = [bytes.fromhex(plain(value)) for value in row["handshake.certificate"]]
+        front, whole = ("client_cert_", "client_cert_chain_fps") if side else ("cert_", "cert_chain_fps")
+        said[front + "count"] = len(chain)
+        said[front + "lengths"] = [len(one) for one in chain]
+        said[whole] = [hashlib.sha256(one).hexdigest() for one in chain]
+    marks = {CERTIFICATE_REQUEST: "client_cert_requested", STATUS: "ocsp_stapled", TICKET: "ticket_issued"}
+    for kind, field in marks.items():
+        if kind in types:
+            said[field] = True
+    return said
