@@ -57,6 +57,12 @@ IsCause all old new left (visit.Capture e) = AddsAll old new all (Refused e)
 IsCause all old new left visit.BrokenOff = AddsAll old new all BrokenOff × IsAtEnd left
 IsCause all old new left e = AddsFront old new all
 
+-- Unless the visitor refuses a packet, it is sound if it was.
+abbrev pub StaysSound : {A E : Type 0} → Bool → Bool → Result A (VisitError E) → Type 0
+StaysSound old new (Ok a) = old ≡ true → new ≡ true
+StaysSound old new (Err (visit.Visitor e)) = ⊤
+StaysSound old new (Err e) = old ≡ true → new ≡ true
+
 -- A run ends by that end.
 abbrev pub IsEnd : {E : Type 0} → End → Result Unit (VisitError E) → Type 0
 IsEnd Whole (Ok u) = ⊤

@@ -1,10 +1,10 @@
 //! All packets that a source gives.
-ghost use Rattle.std.specs.Prelude.{◌≡◌, List, Option, None, IfSome, IfErr, OnOk};
+ghost use Rattle.std.specs.Prelude.{◌≡◌, Bool, true, List, Option, None, IfSome, IfErr, OnOk};
 ghost use Rattle.std.specs.Io.KnownBytes.{IsAtEnd};
 ghost use Rattle.packets.specs.Section.{Packet as PacketValue, view_packet};
 ghost use Rattle.packets.specs.Front.{front};
 ghost use Rattle.packets.specs.Packets.{Whole, end_of, packets_of};
-ghost use Rattle.packets.specs.Visit.{AddsAll, Goes, IsCause, IsEnd, Visits};
+ghost use Rattle.packets.specs.Visit.{AddsAll, Goes, IsCause, IsEnd, StaysSound, Visits};
 
 use crate::buffer::Buffer;
 use crate::reader::{Capture, CaptureError, Packet, Step};
@@ -19,9 +19,13 @@ pub trait PacketVisitor {
     // The packets that it took, where a contract is to know them.
     ghost taken: { Self → Option (List PacketValue) } = { λ _. None };
 
+    // Whether it is sound, where a contract is to know that: it stays so as long as it refuses no packet.
+    ghost is_sound: { Self → Bool } = { λ _. true };
+
     /// Takes the next packet. Where it refuses one, that one isn't taken, and the visit ends.
     fn visit(&mut self, packet: Packet<'_>) -> Result<(), Self::Error>
-        ensures { Visits (taken self.old) (taken self.new) result (view_packet packet.entry) };
+        ensures visits { Visits (taken self.old) (taken self.new) result (view_packet packet.entry) }
+        ensures sound { is_sound self.old ≡ true → OnOk result (is_sound self.new ≡ true) };
 }
 
 /// Why a visit ended before the end of a capture.
@@ -45,8 +49,9 @@ fn visit_front<V: PacketVisitor>(
     buffer: &mut Buffer,
     visitor: &mut V,
 ) -> Result<bool, VisitError<V::Error>>
-    ensures { Goes (front capture.old buffer.old) (V.taken visitor.old) (V.taken visitor.new) capture.old capture.new
+    ensures goes { Goes (front capture.old buffer.old) (V.taken visitor.old) (V.taken visitor.new) capture.old capture.new
         buffer.old buffer.new result }
+    ensures sound { StaysSound (V.is_sound visitor.old) (V.is_sound visitor.new) result }
 {
     match capture.step(buffer.held()) {
         Ok(Step::Packet(packet, rest)) => {
@@ -96,6 +101,7 @@ pub fn visit_packets<R: Read, V: PacketVisitor>(
         AddsAll (V.taken visitor.old) (V.taken visitor.new) (packets_of x) Whole × IsAtEnd (R.remaining reader.new))) }
     ensures cause { IfErr result (λ e. IfSome (R.remaining reader.old) (λ x.
         IsCause (packets_of x) (V.taken visitor.old) (V.taken visitor.new) (R.remaining reader.new) e)) }
+    ensures sound { StaysSound (V.is_sound visitor.old) (V.is_sound visitor.new) result }
 {
     let mut capture = Capture::new(alloc);
     let mut buffer = Buffer::new(alloc);
