@@ -1,4 +1,7 @@
 //! What is heard of a connection, by what carries it.
+ghost use Rattle.std.specs.Prelude.{◌≡◌, OnOk};
+ghost use Rattle.tlslog.specs.Heard.{HearsDatagram, HearsStream};
+
 use crate::speech::{Speech, Spoken};
 use connections::{Listener, Protocol, Side, Stream};
 use std::alloc::{AllocError, Global};
@@ -106,7 +109,9 @@ impl Heard {
     }
 
     /// Keeps the messages that come from here on, until they are taken.
-    pub fn keep_messages(&mut self) {
+    pub fn keep_messages(&mut self)
+        ensures { self.new.said ≡ self.old.said }
+    {
         if self.speech.is_none() {
             self.speech = Some(Speech::new(self.alloc, self.protocol));
         }
@@ -139,7 +144,9 @@ impl Heard {
     }
 
     /// Counts the records in the bytes that a side says next.
-    pub fn count_records(&mut self, direction: Direction, bytes: &[u8]) {
+    pub fn count_records(&mut self, direction: Direction, bytes: &[u8])
+        ensures { self.new.said ≡ self.old.said }
+    {
         match direction {
             Direction::ToServer => self.from_originator.add(bytes),
             Direction::FromServer => self.from_responder.add(bytes),
@@ -151,7 +158,9 @@ impl Heard {
         &mut self,
         stream: &mut Stream,
         direction: Direction,
-    ) -> Result<(), AllocError> {
+    ) -> Result<(), AllocError>
+        ensures { OnOk result (HearsStream direction stream.old.reading stream.new.reading self.old.said self.new.said) }
+    {
         let bytes = stream.available();
         if bytes.len() < HEADER_LEN && self.has_said_nothing(direction) {
             return Ok(());
@@ -177,11 +186,9 @@ impl Heard {
     }
 
     /// Hears a side's datagram.
-    pub fn hear_datagram(
-        &mut self,
-        direction: Direction,
-        payload: &[u8],
-    ) -> Result<(), AllocError> {
+    pub fn hear_datagram(&mut self, direction: Direction, payload: &[u8]) -> Result<(), AllocError>
+        ensures { OnOk result (HearsDatagram direction payload.now self.old.said self.new.said) }
+    {
         let Said::Datagrams(talk) = &mut self.said else {
             return Ok(());
         };

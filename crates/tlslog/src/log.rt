@@ -1,4 +1,9 @@
 //! What a capture's packets add to the log.
+ghost use Rattle.std.specs.Prelude.{◌≡◌, IfOk, OnOk, is_some};
+ghost use Rattle.connections.specs.Connection.{side_of};
+ghost use Rattle.tlslog.specs.Heard.{HearsStream};
+ghost use Rattle.tlslog.specs.Log.{HearsSide, Logs, LogsDatagram, direction_of as direction};
+
 use crate::counts::{Counts, add_one};
 use crate::heard::Heard;
 use capture::{Address, Content, TcpSegment, UdpDatagram, parse_packet};
@@ -99,7 +104,9 @@ impl<'a> Arrival<'a> {
 }
 
 /// The direction of what a side says; the originator is the client.
-fn direction_of(side: Side) -> Direction {
+fn direction_of(side: Side) -> Direction
+    ensures { result ≡ direction side }
+{
     match side {
         Side::Originator => Direction::ToServer,
         Side::Responder => Direction::FromServer,
@@ -112,19 +119,27 @@ fn hear_side(
     stream: &mut Stream,
     direction: Direction,
     segment: &Segment<'_>,
-) -> Result<(), AllocError> {
+) -> Result<(), AllocError>
+    ensures { OnOk result (HearsStream direction stream.old.reading stream.new.reading heard.old.said heard.new.said) }
+{
     heard.hear_stream(stream, direction)?;
     heard.count_records(direction, stream.pass(segment));
     Ok(())
 }
 
-/// The same of that side of a connection.
+/// The same of the segment's sender, which keeps the messages that it hears where they are to be taken.
 fn hear(
     connection: &mut Connection<Heard>,
-    side: Side,
     segment: &Segment<'_>,
-) -> Result<(), AllocError> {
+    keeps_messages: bool,
+) -> Result<(), AllocError>
+    ensures { OnOk result (HearsSide (side_of connection.old segment.now.source) connection.old connection.new) }
+{
+    let side = connection.side_of(segment.source);
     let heard = &mut connection.listener;
+    if keeps_messages {
+        heard.keep_messages();
+    }
     match side {
         Side::Originator => {
             let stream = &mut connection.from_originator;
@@ -201,39 +216,52 @@ impl Log {
         }
     }
 
+    /// Puts the segment into its connection, and lets that hear what is there then: whether both its sides said their last, or `None`
+    /// where the segment belongs to no connection.
+    fn hear_segment(&mut self, segment: &Segment<'_>) -> Result<Option<bool>, AllocError>
+        ensures { IfOk result (λ heard. Logs (is_some heard) segment.now self.old.connections self.new.connections) }
+    {
+        if !self.connections.accept(segment)? {
+            return Ok(None);
+        }
+        let keeps_messages = self.keeps_messages;
+        match self.connections.get_mut(&segment.between()) {
+            Some(connection) => {
+                hear(connection, segment, keeps_messages)?;
+                Ok(Some(connection.is_closed()))
+            }
+            None => Ok(None),
+        }
+    }
+
     /// The same of a segment of TCP.
     fn accept_segment(
         &mut self,
         segment: &Segment<'_>,
     ) -> Result<Option<Connection<Heard>>, AllocError> {
-        if !self.connections.accept(segment)? {
-            add_one(&mut self.counts.stray_segments);
-            return Ok(None);
-        }
-        if let Some(connection) = self.connections.get_mut(&segment.between()) {
-            let side = connection.side_of(segment.source);
-            if self.keeps_messages {
-                connection.listener.keep_messages();
-            }
-            hear(connection, side, segment)?;
-            if !connection.is_closed() {
-                return Ok(None);
+        match self.hear_segment(segment)? {
+            Some(true) => self.connections.take_closed(segment),
+            Some(false) => Ok(None),
+            None => {
+                add_one(&mut self.counts.stray_segments);
+                Ok(None)
             }
         }
-        self.connections.take_closed(segment)
     }
 
     /// The same of a datagram of UDP, which ends no exchange.
-    fn accept_datagram(&mut self, datagram: &Datagram<'_>) -> Result<(), AllocError> {
+    fn accept_datagram(&mut self, datagram: &Datagram<'_>) -> Result<(), AllocError>
+        ensures { OnOk result (LogsDatagram datagram.now self.old.connections self.new.connections) }
+    {
         self.connections.accept_datagram(datagram)?;
+        let keeps_messages = self.keeps_messages;
         if let Some(exchange) = self.connections.get_mut(&datagram.between()) {
             let direction = direction_of(exchange.side_of(datagram.source));
-            if self.keeps_messages {
-                exchange.listener.keep_messages();
+            let heard = &mut exchange.listener;
+            if keeps_messages {
+                heard.keep_messages();
             }
-            exchange
-                .listener
-                .hear_datagram(direction, datagram.payload)?;
+            heard.hear_datagram(direction, datagram.payload)?;
         }
         Ok(())
     }

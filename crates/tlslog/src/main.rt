@@ -9,11 +9,13 @@ mod arguments;
 mod cell;
 mod columns;
 mod counts;
+mod failure;
 mod heard;
 mod hellos;
 mod line;
 mod log;
 mod names;
+mod output;
 mod prints;
 mod program;
 mod progress;
@@ -23,36 +25,50 @@ mod style;
 mod suites;
 mod text;
 
+ghost use Rattle.std.specs.Prelude.{◌≡◌, ◌≢◌, false, true};
+
 use crate::arguments::{Refusal, matches, style_of};
-use crate::program::{Exit, log_file, log_standard_input};
+use crate::failure::Exit;
+use crate::output::Output;
+use crate::program::{log_file, log_standard_input};
 use crate::style::Style;
 use clap::ArgMatches;
 use clap::error::ErrorKind;
+use std::alloc::Global;
+use std::io::{self, Write};
 use std::process::ExitCode;
 use std::random::RandomSource;
 use std::rt::Runtime;
 
-/// Logs each capture that is named, or standard input, and prints the line in front of all.
-fn log_all<R: Runtime + AllocGlobal + RandomSource>(
+/// Writes the line in front of all, if there is one, and says whether that was done.
+fn write_header<W: Write>(alloc: Global, style: &Style, out: &mut Output<W>) -> bool
+    ensures { out.old.has_failed ≡ false → result ≡ true → out.new.has_failed ≡ false }
+{
+    match style.header(alloc) {
+        Ok(Some(header)) => out.write_line(header).is_ok(),
+        Ok(None) => true,
+        Err(_) => false,
+    }
+}
+
+/// Logs each capture that is named, or standard input, behind the line in front of all.
+fn log_all<R: Runtime + AllocGlobal + RandomSource, W: Write>(
     rt: &R,
     style: &Style,
     matches: &ArgMatches<'_>,
-) -> Exit {
-    match style.header(rt.alloc()) {
-        Ok(None) => {}
-        Ok(Some(header)) => {
-            if println!(rt; "{header}").is_err() {
-                return Exit::Failed;
-            }
-        }
-        Err(_) => return Exit::Failed,
+    out: &mut Output<W>,
+) -> Exit
+    ensures { out.old.has_failed ≡ false → result ≢ Exit.Failed → out.new.has_failed ≡ false }
+{
+    if !write_header(rt.alloc(), style, out) {
+        return Exit::Failed;
     }
     let Some(paths) = matches.get_strs("captures") else {
-        return log_standard_input(rt, style);
+        return log_standard_input(rt, style, out);
     };
     let mut exit = Exit::Clean;
     for path in paths {
-        exit = exit.max(log_file(rt, style, path));
+        exit = exit.and(log_file(rt, style, path, out));
     }
     exit
 }
@@ -82,7 +98,10 @@ fn refuse<R: Runtime + AllocGlobal>(rt: &R, refusal: Refusal<'_>) -> u8 {
 fn run<R: Runtime + AllocGlobal + RandomSource>(rt: &R, words: &[String]) -> u8 {
     match matches(rt.alloc(), words) {
         Ok(matches) => match style_of(rt, &matches) {
-            Ok(style) => u8::from(log_all(rt, &style, &matches)),
+            Ok(style) => {
+                let mut out = Output::new(io::writer(rt));
+                u8::from(log_all(rt, &style, &matches, &mut out))
+            }
             Err(refusal) => refuse(rt, refusal),
         },
         Err(error) => {

@@ -1,89 +1,36 @@
 //! The run over one capture.
+ghost use Rattle.std.specs.Prelude.{◌≡◌, ◌≢◌, false};
+ghost use Rattle.tlslog.specs.Output.{Tells};
+ghost use Rattle.tlslog.specs.Run.{EndsBy, Exits, ExitsBy, StaysSound};
+
 use crate::counts::{Counts, add_one};
+use crate::failure::{Exit, Failure};
 use crate::heard::Heard;
 use crate::line::{gap_name, row_of};
 use crate::log::Log;
+use crate::output::{LineError, Output};
 use crate::progress::{STANDARD_INPUT, Watched};
 use crate::spoken::message_row;
 use crate::style::{Lines, Style};
 use connections::Connection;
-use packets::{CaptureError, Packet, PacketVisitor, VisitError, visit_packets};
-use std::alloc::AllocError;
+use packets::{Packet, PacketVisitor, visit_packets};
+use std::alloc::Global;
 use std::fs;
 use std::hash::RandomState;
-use std::io::Read;
+use std::io::{Read, Write};
 use std::random::RandomSource;
 use std::rt::Runtime;
 
-/// How a run ends; each has its own exit status.
-#[derive(Clone, Copy, Debug, PartialEq, Eq, PartialOrd, Ord)]
-pub enum Exit {
-    /// All was read and printed.
-    Clean,
-    /// An input is no capture, or is broken off.
-    Broken,
-    /// Memory ran out, or reading or writing failed.
-    Failed,
-}
-
-impl From<Exit> for u8 {
-    fn from(exit: Exit) -> u8 {
-        match exit {
-            Exit::Clean => 0,
-            Exit::Broken => 1,
-            Exit::Failed => 3,
-        }
-    }
-}
-
-/// Why the run over a capture ends before the capture's end.
-#[derive(Debug, Drop)]
-enum Failure {
-    /// What is read is no capture, or is broken off.
-    Capture(&'static str),
-    /// Memory ran out.
-    Memory,
-    /// A read failed.
-    Reading,
-    /// A write failed.
-    Writing,
-}
-
-impl From<AllocError> for Failure {
-    fn from(_e: AllocError) -> Failure {
-        Failure::Memory
-    }
-}
-
-impl From<CaptureError> for Failure {
-    fn from(e: CaptureError) -> Failure {
-        match e {
-            CaptureError::NoCapture => Failure::Capture("this is no capture"),
-            CaptureError::Broken => Failure::Capture("a header or a block breaks a rule"),
-            CaptureError::OutOfMemory => Failure::Memory,
-        }
-    }
-}
-
-impl From<VisitError<Failure>> for Failure {
-    fn from(e: VisitError<Failure>) -> Failure {
-        match e {
-            VisitError::Capture(e) => Failure::from(e),
-            VisitError::BrokenOff => Failure::Capture("the capture is broken off"),
-            VisitError::Reading(_) => Failure::Reading,
-            VisitError::Endless => Failure::Capture("the capture has no end"),
-            VisitError::Visitor(failure) => failure,
-        }
-    }
-}
-
 /// Counts a connection that is over, and prints its line, if it is TLS or DTLS and connections have lines.
-fn print_line<R: Runtime + AllocGlobal>(
-    rt: &R,
+fn print_line<W: Write>(
+    alloc: Global,
     style: &Style,
     counts: &mut Counts,
     connection: &Connection<Heard>,
-) -> Result<(), Failure> {
+    out: &mut Output<W>,
+) -> Result<(), LineError>
+    ensures { Tells out.old.has_failed out.new.has_failed result }
+{
     if !connection.listener.is_spoken() {
         add_one(&mut counts.other_connections);
         return Ok(());
@@ -94,83 +41,105 @@ fn print_line<R: Runtime + AllocGlobal>(
     let Lines::Connections(places) = &style.lines else {
         return Ok(());
     };
-    let row = row_of(rt.alloc(), &style.suites, places.as_slice(), connection)?;
-    let line = style.text(rt.alloc(), row)?;
-    println!(rt; "{line}").map_err(|_e| Failure::Writing)
+    let row = row_of(alloc, &style.suites, places.as_slice(), connection)?;
+    let line = style.text(alloc, row)?;
+    out.write_line(line)
 }
 
 /// The same, and lets the connection go. It has one exit, since letting a connection go is much to prove.
-fn print_one<R: Runtime + AllocGlobal>(
-    rt: &R,
+fn print_one<W: Write>(
+    alloc: Global,
     style: &Style,
     counts: &mut Counts,
     connection: Connection<Heard>,
-) -> Result<(), Failure> {
-    print_line(rt, style, counts, &connection)
+    out: &mut Output<W>,
+) -> Result<(), LineError>
+    ensures { Tells out.old.has_failed out.new.has_failed result }
+{
+    print_line(alloc, style, counts, &connection, out)
 }
 
 /// Prints the messages of a connection that were whole at this time, if messages have lines.
-fn print_messages<R: Runtime + AllocGlobal>(
-    rt: &R,
+fn print_messages<W: Write>(
+    alloc: Global,
     style: &Style,
     connection: &mut Connection<Heard>,
     time: u64,
-) -> Result<(), Failure> {
+    out: &mut Output<W>,
+) -> Result<(), LineError>
+    ensures { Tells out.old.has_failed out.new.has_failed result }
+{
     let Lines::Messages(places) = &style.lines else {
         return Ok(());
     };
-    for spoken in connection.listener.take_messages() {
-        let row = message_row(rt.alloc(), places.as_slice(), connection, time, spoken)?;
-        let line = style.text(rt.alloc(), row)?;
-        println!(rt; "{line}").map_err(|_e| Failure::Writing)?;
+    'messages: for spoken in connection.listener.take_messages() {
+        let row = message_row(alloc, places.as_slice(), connection, time, spoken)?;
+        let line = style.text(alloc, row)?;
+        out.write_line(line)?;
     }
     Ok(())
 }
 
 /// Prints the last messages of a connection that is over, and its line, if these have lines.
-fn print_both<R: Runtime + AllocGlobal>(
-    rt: &R,
+fn print_both<W: Write>(
+    alloc: Global,
     style: &Style,
     counts: &mut Counts,
     connection: &mut Connection<Heard>,
     time: u64,
-) -> Result<(), Failure> {
-    print_messages(rt, style, connection, time)?;
-    print_line(rt, style, counts, connection)
+    out: &mut Output<W>,
+) -> Result<(), LineError>
+    ensures { Tells out.old.has_failed out.new.has_failed result }
+{
+    print_messages(alloc, style, connection, time, out)?;
+    print_line(alloc, style, counts, connection, out)
 }
 
 /// The same, and lets the connection go.
-fn print_last<R: Runtime + AllocGlobal>(
-    rt: &R,
+fn print_last<W: Write>(
+    alloc: Global,
     style: &Style,
     counts: &mut Counts,
     connection: Connection<Heard>,
     time: u64,
-) -> Result<(), Failure> {
+    out: &mut Output<W>,
+) -> Result<(), LineError>
+    ensures { Tells out.old.has_failed out.new.has_failed result }
+{
     let mut connection = connection;
-    print_both(rt, style, counts, &mut connection, time)
+    print_both(alloc, style, counts, &mut connection, time, out)
 }
 
 /// Logs one packet.
-fn log_packet<R: Runtime + AllocGlobal>(
-    rt: &R,
+fn log_packet<W: Write>(
+    alloc: Global,
     style: &Style,
     log: &mut Log,
     packet: Packet<'_>,
-) -> Result<(), Failure> {
+    out: &mut Output<W>,
+) -> Result<(), LineError>
+    ensures { Tells out.old.has_failed out.new.has_failed result }
+{
     let Some(arrival) = log.arrival(packet) else {
         return Ok(());
     };
-    for _ in 0..u64::MAX {
+    'over: for _ in 0..u64::MAX {
         match log.take_over(&arrival) {
-            Some(connection) => print_one(rt, style, &mut log.counts, connection)?,
+            Some(connection) => print_one(alloc, style, &mut log.counts, connection, out)?,
             None => break,
         }
     }
     match log.accept(&arrival)? {
-        Some(connection) => print_last(rt, style, &mut log.counts, connection, arrival.time()),
+        Some(connection) => print_last(
+            alloc,
+            style,
+            &mut log.counts,
+            connection,
+            arrival.time(),
+            out,
+        ),
         None => match log.connection(&arrival) {
-            Some(connection) => print_messages(rt, style, connection, arrival.time()),
+            Some(connection) => print_messages(alloc, style, connection, arrival.time(), out),
             None => Ok(()),
         },
     }
@@ -178,88 +147,131 @@ fn log_packet<R: Runtime + AllocGlobal>(
 
 /// Logs each packet that it visits.
 #[derive(Drop)]
-struct Logger<'a, R> {
-    rt: &'a R,
+struct Logger<'a, W> {
+    alloc: Global,
     style: &'a Style,
     log: &'a mut Log,
+    out: &'a mut Output<W>,
 }
 
-impl<'a, R: Runtime + AllocGlobal> PacketVisitor for Logger<'a, R> {
-    type Error = Failure;
+impl<'a, W: Write> PacketVisitor for Logger<'a, W> {
+    type Error = LineError;
 
-    fn visit(&mut self, packet: Packet<'_>) -> Result<(), Failure> {
-        log_packet(self.rt, self.style, self.log, packet)?;
-        Ok(())
+    ghost use Rattle.std.specs.Prelude.{not};
+
+    // No write failed.
+    ghost is_sound = { λ l. not l.out.now.has_failed };
+
+    fn visit(&mut self, packet: Packet<'_>) -> Result<(), LineError> {
+        log_packet(self.alloc, self.style, self.log, packet, self.out)
     }
 }
 
 /// Logs all that the reader gives.
-fn log_packets<R: Runtime + AllocGlobal, I: Read>(
-    rt: &R,
+fn log_packets<I: Read, W: Write>(
+    alloc: Global,
     style: &Style,
     log: &mut Log,
     reader: &mut I,
-) -> Result<(), Failure> {
-    let mut logger = Logger { rt, style, log };
-    match visit_packets(rt.alloc(), reader, &mut logger) {
+    out: &mut Output<W>,
+) -> Result<(), Failure>
+    ensures ends { EndsBy (I.remaining reader.old) (I.remaining reader.new) result }
+    ensures sound { StaysSound out.old.has_failed out.new.has_failed result }
+{
+    let mut logger = Logger {
+        alloc,
+        style,
+        log,
+        out,
+    };
+    match visit_packets(alloc, reader, &mut logger) {
         Ok(()) => Ok(()),
         Err(e) => Err(Failure::from(e)),
     }
 }
 
 /// Prints the connections that are left.
-fn print_left<R: Runtime + AllocGlobal>(
-    rt: &R,
+fn print_left<W: Write>(
+    alloc: Global,
     style: &Style,
     log: &mut Log,
-) -> Result<(), Failure> {
-    for _ in 0..u64::MAX {
+    out: &mut Output<W>,
+) -> Result<(), LineError>
+    ensures { Tells out.old.has_failed out.new.has_failed result }
+{
+    'left: for _ in 0..u64::MAX {
         match log.take_left() {
-            Some(connection) => print_one(rt, style, &mut log.counts, connection)?,
+            Some(connection) => print_one(alloc, style, &mut log.counts, connection, out)?,
             None => break,
         }
     }
     Ok(())
 }
 
-/// Tells why a run ended early, and which status that is.
-fn tell<R: Runtime>(rt: &R, name: &str, failure: Failure) -> Exit {
+/// Tells why a run ended early, behind so many packets, and which status that is.
+fn tell<R: Runtime>(rt: &R, name: &str, failure: Failure, packets: u64) -> Exit
+    ensures { ExitsBy failure result }
+{
     let (exit, text) = match failure {
         Failure::Capture(text) => (Exit::Broken, text),
-        Failure::Memory => (Exit::Failed, "memory ran out"),
+        Failure::OutOfMemory => (Exit::Failed, "memory ran out"),
         Failure::Reading => (Exit::Failed, "reading failed"),
         Failure::Writing => (Exit::Failed, "writing failed"),
     };
-    match eprintln!(rt; "{name}: {text}") {
+    match eprintln!(rt; "{name}: {text}, behind {packets} packets") {
         Ok(()) => exit,
         Err(_) => Exit::Failed,
     }
 }
 
+/// Logs all that the reader gives, and the connections that are left at its end, and says how that ended.
+fn log_whole<R: Runtime + AllocGlobal, I: Read, W: Write>(
+    rt: &R,
+    style: &Style,
+    name: &str,
+    log: &mut Log,
+    reader: &mut I,
+    out: &mut Output<W>,
+) -> Exit
+    ensures exits { Exits (I.remaining reader.old) (I.remaining reader.new) result }
+    ensures written { out.old.has_failed ≡ false → result ≢ Exit.Failed → out.new.has_failed ≡ false }
+{
+    let exit = match log_packets(rt.alloc(), style, log, reader, out) {
+        Ok(()) => Exit::Clean,
+        Err(failure) => tell(rt, name, failure, log.counts.packets),
+    };
+    if exit == Exit::Failed {
+        return exit;
+    }
+    match print_left(rt.alloc(), style, log, out) {
+        Ok(()) => exit,
+        Err(e) => exit.and(tell(rt, name, Failure::from(e), log.counts.packets)),
+    }
+}
+
 /// Logs a capture that is read from there, under that name.
-pub fn log_input<R: Runtime + AllocGlobal + RandomSource, I: Read>(
+///
+/// The run is clean where the reader has a whole capture, which was read to its end, and every line was written; it is broken where
+/// the reader has none, or one that is broken off. Where memory ran out, a read failed or a write failed, it failed.
+pub fn log_input<R: Runtime + AllocGlobal + RandomSource, I: Read, W: Write>(
     rt: &R,
     style: &Style,
     name: &str,
     reader: &mut I,
-) -> Exit {
+    out: &mut Output<W>,
+) -> Exit
+    ensures exits { Exits (I.remaining reader.old) (I.remaining reader.new) result }
+    ensures written { out.old.has_failed ≡ false → result ≢ Exit.Failed → out.new.has_failed ≡ false }
+{
     let Ok(keys) = RandomState::new(rt) else {
-        return tell(rt, name, Failure::Reading);
+        return tell(rt, name, Failure::Reading, 0);
     };
     let keeps_messages = matches!(style.lines, Lines::Messages(_));
     let mut log = match Log::new(rt.alloc(), keys, keeps_messages) {
         Ok(log) => log,
-        Err(_) => return tell(rt, name, Failure::Memory),
+        Err(_) => return tell(rt, name, Failure::OutOfMemory, 0),
     };
-    let mut exit = match log_packets(rt, style, &mut log, reader) {
-        Ok(()) => Exit::Clean,
-        Err(failure) => tell(rt, name, failure),
-    };
-    if exit != Exit::Failed {
-        if let Err(failure) = print_left(rt, style, &mut log) {
-            exit = tell(rt, name, failure);
-        }
-    }
+    let exit = log_whole(rt, style, name, &mut log, reader, out);
     match log.counts.tell(rt, name) {
         Ok(()) => exit,
         Err(_) => Exit::Failed,
@@ -267,24 +279,35 @@ pub fn log_input<R: Runtime + AllocGlobal + RandomSource, I: Read>(
 }
 
 /// Logs the capture in a file, of which the progress is told where someone looks.
-pub fn log_file<R: Runtime + AllocGlobal + RandomSource>(
+pub fn log_file<R: Runtime + AllocGlobal + RandomSource, W: Write>(
     rt: &R,
     style: &Style,
     path: &str,
-) -> Exit {
+    out: &mut Output<W>,
+) -> Exit
+    ensures { out.old.has_failed ≡ false → result ≢ Exit.Failed → out.new.has_failed ≡ false }
+{
     match fs::open(rt, path) {
-        Ok(file) => log_input(rt, style, path, &mut Watched::new(rt, path, path, file)),
-        Err(_) => tell(rt, path, Failure::Reading),
+        Ok(file) => log_input(
+            rt,
+            style,
+            path,
+            &mut Watched::new(rt, path, path, file),
+            out,
+        ),
+        Err(_) => tell(rt, path, Failure::Reading, 0),
     }
 }
 
 /// The same of the capture that is standard input.
-pub fn log_standard_input<R: Runtime + AllocGlobal + RandomSource>(rt: &R, style: &Style) -> Exit {
+pub fn log_standard_input<R: Runtime + AllocGlobal + RandomSource, W: Write>(
+    rt: &R,
+    style: &Style,
+    out: &mut Output<W>,
+) -> Exit
+    ensures { out.old.has_failed ≡ false → result ≢ Exit.Failed → out.new.has_failed ≡ false }
+{
     let name = "standard input";
-    log_input(
-        rt,
-        style,
-        name,
-        &mut Watched::new(rt, name, STANDARD_INPUT, rt.reader()),
-    )
+    let mut reader = Watched::new(rt, name, STANDARD_INPUT, rt.reader());
+    log_input(rt, style, name, &mut reader, out)
 }

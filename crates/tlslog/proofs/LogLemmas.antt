@@ -1,0 +1,78 @@
+-- What the connection of a packet comes to.
+use Rattle.std.proofs.Common.{◌≡◌, refl, sym, ap, ◌∙◌, subst, Option, Some, None, List, ◌∷◌, ⊥}
+use Rattle.core.specs.Option.{unwrap_or}
+use Rattle.std.specs.Map.{set_value}
+use Rattle.connections.proofs.TableLemmas.{are_ends-refl}
+use Rattle.connections.specs.Connection.{side_of}
+use Rattle.connections.specs.Datagram.{ends_of_datagram}
+use Rattle.connections.specs.Ends.{are_ends}
+use Rattle.connections.specs.Segment.{ends_of}
+use Rattle.connections.specs.Table.{IsPut, Table, TakesDatagram, TakesSegment, at, others}
+use Rattle.connections.specs.declared.connection.Connection.{Connection}
+use Rattle.connections.specs.declared.datagram.Datagram.{Datagram}
+use Rattle.connections.specs.declared.ends.Ends.{Ends}
+use Rattle.connections.specs.declared.segment.Segment.{Segment}
+use Rattle.tlslog.specs.Heard.{HearsDatagram}
+use Rattle.tlslog.specs.Log.{HearsSegment, HearsSide, LogsDatagram, direction_of}
+use Rattle.tlslog.specs.declared.heard.Heard.{Heard}
+
+module _ {X : Type 0} (e : Ends) where
+  -- What stands first under these ends is found, and another value is put there.
+  at_first : (x : X) (xs : List (Ends × X)) → at e ((e, x) ∷ xs) ≡ Some x
+  at_first x xs = rw (are_ends-refl e)
+
+  set_first : (x w : X) (xs : List (Ends × X)) → set_value (are_ends e) ((e, x) ∷ xs) w ≡ (e, w) ∷ xs
+  set_first x w xs = rw (are_ends-refl e)
+
+module _ (e : Ends) (Takes : Option (Connection Heard) → Connection Heard → Type 0)
+    (xs ys : List (Ends × Connection Heard)) (put : IsPut e Takes xs ys) where
+  -- The connection that is lent is the one that was put.
+  lent : (c : Connection Heard) → Some c ≡ at e ys → c ≡ put.its
+  lent c found = ap (λ o. unwrap_or o c)
+      (found ∙ ap (at e) put.stands ∙ at_first e put.its (others e xs))
+
+  -- One is lent.
+  pub some_lent : at e ys ≡ None → ⊥
+  some_lent none =
+      let both : ◌≡◌ {A = Option (Connection Heard)} None (Some put.its) =
+      sym none ∙ ap (at e) put.stands ∙ at_first e put.its (others e xs) in
+      cc
+
+  -- What is written to it stands in its place.
+  written_first : (d : Connection Heard) → set_value (are_ends e) ys d ≡ (e, d) ∷ others e xs
+  written_first d = ap (λ l. set_value (are_ends e) l d) put.stands ∙ set_first e put.its d (others e xs)
+
+pub segment_heard : (s : Segment) (old mid : Table Heard) (c d : Connection Heard)
+    → IsPut (ends_of s) (TakesSegment s) old.live mid.live → mid.closed ≡ old.closed
+    → Some c ≡ at (ends_of s) mid.live → HearsSide (side_of c s.source) c d
+    → HearsSegment s old (record mid { live = set_value (are_ends (ends_of s)) mid.live d })
+segment_heard s old mid c d put closed found hears = record {
+  put = put.its;
+  its = d;
+  takes = put.takes;
+  hears =
+      subst (λ z. HearsSide (side_of z s.source) z d)
+      (lent (ends_of s) (TakesSegment s) old.live mid.live put c found) hears;
+  stands = written_first (ends_of s) (TakesSegment s) old.live mid.live put d;
+  closed = closed;
+}
+
+pub datagram_heard : (g : Datagram) (old mid : Table Heard) (c : Connection Heard) (h : Heard)
+    → IsPut (ends_of_datagram g) (TakesDatagram g) old.live mid.live → mid.closed ≡ old.closed
+    → Some c ≡ at (ends_of_datagram g) mid.live
+    → HearsDatagram (direction_of (side_of c g.source)) g.payload.now c.listener.said h.said
+    → LogsDatagram g old (record mid {
+      live = set_value (are_ends (ends_of_datagram g)) mid.live (record c { listener = h });
+    })
+datagram_heard g old mid c h put closed found hears =
+    let e = ends_of_datagram g in
+    let is : c ≡ put.its = lent e (TakesDatagram g) old.live mid.live put c found in record {
+      put = put.its;
+      its = record c { listener = h };
+      takes = put.takes;
+      hears =
+          subst (λ z. HearsDatagram (direction_of (side_of z g.source)) g.payload.now z.listener.said h.said) is hears;
+      others_stay = ap (λ z. record z { listener = h }) is;
+      stands = written_first e (TakesDatagram g) old.live mid.live put (record c { listener = h });
+      closed = closed;
+    }

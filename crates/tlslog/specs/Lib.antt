@@ -1,0 +1,5 @@
+pub mod Exit
+pub mod Heard
+pub mod Log
+pub mod Output
+pub mod Run

@@ -1,0 +1,10 @@
+-- Whether a write failed, by what a call answers.
+use Rattle.std.specs.Prelude.{◌≡◌, Bool, true, Result, Ok, Err}
+use Rattle.tlslog.specs.declared.output.LineError.{LineError}
+use Rattle.tlslog.specs.declared.output.LineError.TheVariants.{OutOfMemory, Writing}
+
+-- A write failed where the answer says so, and else none did.
+abbrev pub Tells : {A : Type 0} → Bool → Bool → Result A LineError → Type 0
+Tells old new (Ok a) = new ≡ old
+Tells old new (Err OutOfMemory) = new ≡ old
+Tells old new (Err Writing) = new ≡ true

@@ -1,0 +1,64 @@
+-- How the run over a capture ends.
+use Rattle.std.specs.Prelude.{◌≡◌, ⊤, Bool, false, Result, Ok, Err, Option, IfSome}
+use Rattle.std.specs.Io.KnownBytes.{IsAtEnd}
+use Rattle.tls_fields.specs.Bytes.{Bytes}
+use Rattle.packets.specs.Packets.{Whole, packets_of}
+use Rattle.packets.specs.declared.reader.CaptureError.TheVariants as capture
+use Rattle.packets.specs.declared.visit.VisitError.{VisitError}
+use Rattle.packets.specs.declared.visit.VisitError.TheVariants as visit
+use Rattle.tlslog.specs.declared.failure.Exit.{Exit}
+use Rattle.tlslog.specs.declared.failure.Exit.TheVariants as exit
+use Rattle.tlslog.specs.declared.failure.Failure.{Failure}
+use Rattle.tlslog.specs.declared.failure.Failure.TheVariants.{Capture, OutOfMemory, Reading, Writing}
+use Rattle.tlslog.specs.declared.output.LineError.{LineError}
+use Rattle.tlslog.specs.declared.output.LineError.TheVariants as line
+
+-- The capture is at fault, and neither memory nor reading nor writing.
+abbrev pub IsOfCapture : Failure → Type 0
+IsOfCapture (Capture text) = ⊤
+IsOfCapture f = ⊥
+
+abbrev pub failure_of_line : LineError → Failure
+failure_of_line line.OutOfMemory = OutOfMemory
+failure_of_line line.Writing = Writing
+
+-- A run fails by what ended the visit of its packets.
+abbrev pub IsFailureOf : VisitError LineError → Failure → Type 0
+IsFailureOf (visit.Capture capture.OutOfMemory) f = f ≡ OutOfMemory
+IsFailureOf (visit.Capture e) f = IsOfCapture f
+IsFailureOf visit.BrokenOff f = IsOfCapture f
+IsFailureOf (visit.Reading e) f = f ≡ Reading
+IsFailureOf visit.Endless f = f ≡ Reading
+IsFailureOf (visit.Visitor e) f = f ≡ failure_of_line e
+
+-- The source has a whole capture, and all of it was read.
+abbrev pub IsReadWhole : Option Bytes → Option Bytes → Type 0
+IsReadWhole old new = IfSome old (λ bytes. ((packets_of bytes).1 ≡ Whole) × IsAtEnd new)
+
+-- The source has no capture, or one that is broken off.
+abbrev pub HasNoWholeCapture : Option Bytes → Type 0
+HasNoWholeCapture old = IfSome old (λ bytes. (packets_of bytes).1 ≡ Whole → ⊥)
+
+-- What a run answers: all was read; the capture is at fault; or anything else is.
+abbrev pub EndsBy : Option Bytes → Option Bytes → Result Unit Failure → Type 0
+EndsBy old new (Ok u) = IsReadWhole old new
+EndsBy old new (Err (Capture text)) = HasNoWholeCapture old
+EndsBy old new (Err f) = ⊤
+
+-- The same of how it exits.
+abbrev pub Exits : Option Bytes → Option Bytes → Exit → Type 0
+Exits old new exit.Clean = IsReadWhole old new
+Exits old new exit.Broken = HasNoWholeCapture old
+Exits old new exit.Failed = ⊤
+
+-- It exits by why it failed.
+abbrev pub ExitsBy : Failure → Exit → Type 0
+ExitsBy f exit.Clean = ⊥
+ExitsBy f exit.Broken = IsOfCapture f
+ExitsBy f exit.Failed = ⊤
+
+-- Unless it failed otherwise than by the capture, it is sound if it was.
+abbrev pub StaysSound : Bool → Bool → Result Unit Failure → Type 0
+StaysSound old new (Ok u) = old ≡ false → new ≡ false
+StaysSound old new (Err (Capture text)) = old ≡ false → new ≡ false
+StaysSound old new (Err f) = ⊤

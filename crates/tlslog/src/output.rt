@@ -1,0 +1,62 @@
+//! Where lines go.
+ghost use Rattle.std.specs.Prelude.{◌≡◌, ◌++◌, [], ◌∷◌, false, OnOk, string_bytes};
+ghost use Rattle.std.specs.Io.KnownBytes.{Appends};
+ghost use Rattle.tlslog.specs.Output.{Tells};
+
+use std::alloc::{AllocError, AllocFailed};
+use std::io::Write;
+use tls_fields::write_whole;
+
+/// Why a line isn't written.
+#[derive(Clone, Copy, Debug, PartialEq, Eq)]
+pub enum LineError {
+    /// Memory ran out.
+    OutOfMemory,
+    /// A write failed, or took nothing.
+    Writing,
+}
+
+impl From<AllocError> for LineError {
+    ghost use Rattle.tlslog.specs.declared.output.LineError.TheVariants.{OutOfMemory};
+
+    ghost from_gives = { λ _ e. e ≡ OutOfMemory };
+
+    fn from(_e: AllocError) -> LineError {
+        LineError::OutOfMemory
+    }
+}
+
+/// A writer of lines, and whether a write of it failed.
+#[derive(Drop)]
+pub struct Output<W> {
+    writer: W,
+    has_failed: bool,
+}
+
+impl<W: Write> Output<W> {
+    /// One to which nothing was written.
+    pub fn new(writer: W) -> Output<W>
+        ensures writer { result.writer ≡ writer }
+        ensures sound { result.has_failed ≡ false }
+    {
+        Output {
+            writer,
+            has_failed: false,
+        }
+    }
+
+    /// Writes a line and the line break behind it, by one write where that takes all.
+    pub fn write_line(&mut self, line: String) -> Result<(), LineError>
+        ensures written { OnOk result (Appends (W.contents self.old.writer) (W.contents self.new.writer)
+            (string_bytes line ++ 10 ∷ [])) }
+        ensures told { Tells self.old.has_failed self.new.has_failed result }
+    {
+        let mut line = line;
+        line.push('\n')?;
+        if write_whole(&mut self.writer, line.as_bytes()).is_err() {
+            self.has_failed = true;
+            return Err(LineError::Writing);
+        }
+        Ok(())
+    }
+}
