@@ -8,7 +8,7 @@ import wanted_hellos
 FIELDS = """
     handshake.type handshake.version handshake.random handshake.extensions.supported_version handshake.ciphersuite
     handshake.extensions_key_share_group handshake.extensions_key_share_selected_group handshake.server_named_curve
-    handshake.extensions_server_name handshake.extensions_alpn_str handshake.extension.type record.content_type
+    handshake.extensions_server_name_type handshake.extensions_server_name handshake.extensions_alpn_str handshake.extension.type record.content_type
     alert_message.level alert_message.desc record.length
 """.split()
 OUTER = ["frame.time_epoch", "ip.src", "ipv6.src", "ip.dst", "ipv6.dst", "_ws.col.Info"]
@@ -22,14 +22,14 @@ VERSIONS = {
 ALERTS = {
     0: "close_notify", 10: "unexpected_message", 20: "bad_record_mac", 22: "record_overflow", 40: "handshake_failure", 42: "bad_certificate",
     43: "unsupported_certificate", 44: "certificate_revoked", 45: "certificate_expired", 46: "certificate_unknown", 47: "illegal_parameter",
-    48: "unknown_ca", 49: "access_denied", 50: "decode_error", 51: "decrypt_error", 70: "protocol_version", 71: "insufficient_security",
-    80: "internal_error", 86: "inappropriate_fallback", 90: "user_canceled", 100: "no_renegotiation", 109: "missing_extension",
-    110: "unsupported_extension", 112: "unrecognized_name", 116: "certificate_required", 120: "no_application_protocol",
+    48: "unknown_ca", 49: "access_denied", 50: "decode_error", 51: "decrypt_error", 52: "too_many_cids_requested",
+    70: "protocol_version", 71: "insufficient_security", 80: "internal_error", 86: "inappropriate_fallback", 90: "user_canceled", 100: "no_renegotiation",
+    109: "missing_extension", 110: "unsupported_extension", 112: "unrecognized_name", 116: "certificate_required", 120: "no_application_protocol",
 }
 # The random of a ServerHello that is a HelloRetryRequest (RFC 8446, section 4.1.3).
 RETRY = "cf21ad74e59a6111be1d8c021e65b891c2a211167abb8c5e079e09e2c8a8339c"
 CLIENT_HELLO, SERVER_HELLO, KEY_EXCHANGE, SERVER_DONE = "1", "2", "12", "14"
-CHANGE, PRE_SHARED_KEY = "20", "41"
+CHANGE, PRE_SHARED_KEY, HOST_NAME = "20", "41", "0"
 # The letter of Zeek's ssl_history by tshark's name of a message; the client's are in upper case.
 LETTERS = {
     "Hello Request": "h", "Client Hello": "c", "Server Hello": "s", "Hello Verify Request": "v", "Hello Retry Request": "j",
@@ -40,9 +40,9 @@ LETTERS = {
 # Of these, 0 is told too.
 ALWAYS = ["comp_method", "cert_count", "client_cert_count"]
 ORDER = """
-    ts id.orig_h id.orig_p id.resp_h id.resp_p proto duration version cipher curve server_name next_protocol resumed established
-    last_alert outcome stop gap ssl_history orig_pkts resp_pkts orig_bytes resp_bytes orig_records resp_records orig_repeated_bytes
-    resp_repeated_bytes orig_disagreeing_bytes resp_disagreeing_bytes
+    ts id.orig_h id.orig_p id.resp_h id.resp_p proto duration version cipher curve server_name other_server_names next_protocol resumed
+    established last_alert outcome stop gap ssl_history orig_pkts resp_pkts orig_bytes resp_bytes orig_records resp_records retried
+    orig_repeated_bytes resp_repeated_bytes orig_disagreeing_bytes resp_disagreeing_bytes
 """.split() + wanted_hellos.ORDER
 
 
@@ -127,10 +127,9 @@ class Sent:
         else:
             self.repeated += count
 
-    def told(self, front, layer):
-        records = self.records if layer == "tcp" else None
+    def told(self, front):
         return {
-            f"{front}_pkts": self.packets, f"{front}_bytes": self.bytes, f"{front}_records": records,
+            f"{front}_pkts": self.packets, f"{front}_bytes": self.bytes, f"{front}_records": self.records,
             f"{front}_repeated_bytes": self.repeated or None,
         }
 
@@ -159,7 +158,7 @@ class Talk:
         types = row["handshake.type"]
         self.is_tls |= bool(types or row["alert_message.desc"] or row["record.content_type"])
         if CLIENT_HELLO in types:
-            self.said["server_name"] = first(row, "handshake.extensions_server_name")
+            self.note_server_names(row)
             self.said |= wanted_hellos.of_client(row, self.layer, VERSIONS)
         if SERVER_HELLO in types:
             self.note_server(row)
@@ -175,6 +174,13 @@ class Talk:
         self.note_alerts(row, side)
         if self.layer == "tcp" and (is_set(row, "tcp.flags.fin") or is_set(row, "tcp.flags.reset")):
             self.closed.add(side)
+
+    def note_server_names(self, row):
+        """The first name of the type host_name, and those of other types (RFC 6066, section 3)."""
+        types = row["handshake.extensions_server_name_type"]
+        names = [*zip(types, row["handshake.extensions_server_name"])]
+        self.said["server_name"] = next((name for kind, name in names if kind == HOST_NAME), None)
+        self.said["other_server_names"] = [f"{kind}:{name}" for kind, name in names if kind != HOST_NAME] or None
 
     def note_names(self, row, side):
         """Adds the letters of what a packet says, by tshark's column of names. Of fragments the last one counts."""
@@ -231,6 +237,6 @@ class Talk:
             "id.orig_h": self.ends[0][0], "id.orig_p": self.ends[0][1], "id.resp_h": self.ends[1][0], "id.resp_p": self.ends[1][1],
             **self.said, "resumed": is_short or (self.is_13 and self.said["resumed"]),
             "established": self.is_established(), "outcome": outcome, "stop": self.stop, "ssl_history": self.history or None,
-            **self.sent[True].told("orig", self.layer), **self.sent[False].told("resp", self.layer),
+            **self.sent[True].told("orig"), **self.sent[False].told("resp"),
         }
         return {field: known[field] for field in ORDER if is_told(field, known.get(field))}

@@ -11,7 +11,7 @@ FIELDS = """
 # Fields that tshark has under the names of TLS alone, also of DTLS.
 SHARED = ["tls.extension.psk_ke_mode", "tls.sct.sct_length"]
 ORDER = """
-    retried client_version client_supported_versions client_session_id client_ciphers client_comp_methods ssl_client_exts client_curves
+    client_version client_supported_versions client_session_id client_ciphers client_comp_methods ssl_client_exts client_curves
     point_formats sigalgs orig_alpn client_key_share_groups psk_key_exchange_modes offers_psk offers_early_data offers_ticket cookie ech
     delegated_credential server_version server_session_id comp_method ssl_server_exts server_key_share_group scts ticket_issued
     ocsp_stapled cert_count cert_lengths cert_chain_fps client_cert_requested client_cert_count client_cert_lengths client_cert_chain_fps
@@ -36,10 +36,22 @@ def names_of(*fields):
 EXTENSIONS, SCHEMES, GROUPS = names_of(
     "tls.handshake.extension.type", "tls.handshake.sig_hash_alg", "tls.handshake.extensions_supported_group"
 )
-EXTENSIONS |= {34: "delegated_credential", 0xFE0D: "encrypted_client_hello"}
+# Those of the registries that tshark 4.0 has otherwise, or not.
+EXTENSIONS |= {
+    26: "tls_lts", 29: "pwd_protect", 30: "pwd_clear", 31: "password_salt", 32: "ticket_pinning", 33: "tls_cert_with_extern_psk",
+    34: "delegated_credential", 36: "TLMSP", 37: "TLMSP_proxying", 38: "TLMSP_delegate", 39: "supported_ekt_ciphers",
+    60: "sequence_number_encryption_algorithms", 61: "rrc", 62: "tls_flags", 0xFD00: "ech_outer_extensions", 0xFE0D: "encrypted_client_hello",
+}
+LATER_GROUPS = {
+    31: "brainpoolP256r1tls13", 32: "brainpoolP384r1tls13", 33: "brainpoolP512r1tls13",
+    34: "GC256A", 35: "GC256B", 36: "GC256C", 37: "GC256D", 38: "GC512A", 39: "GC512B", 40: "GC512C",
+    512: "MLKEM512", 513: "MLKEM768", 514: "MLKEM1024", 4587: "SecP256r1MLKEM768", 4588: "X25519MLKEM768", 4589: "SecP384r1MLKEM1024",
+    0x6399: "X25519Kyber768Draft00", 0x639A: "SecP256r1Kyber768Draft00", 0xFF01: "arbitrary_explicit_prime_curves",
+    0xFF02: "arbitrary_explicit_char2_curves",
+}
 # Those for private use have no name in the registry.
 SCHEMES = {number: name for number, name in SCHEMES.items() if number < 0xFE00}
-GROUPS = {number: name for number, name in GROUPS.items() if number < 0x200} | {4588: "X25519MLKEM768"}
+GROUPS = {number: name for number, name in GROUPS.items() if number < 0x200} | LATER_GROUPS
 
 
 def numbers(row, field):

@@ -1,5 +1,5 @@
 -- What a hello says by its extensions; nothing where the extension is missing, or refused.
-use Rattle.std.specs.Prelude.{ℕ, Bool, true, false, List, [], ◌∷◌, Option, Some, None, Result, Ok, Err}
+use Rattle.std.specs.Prelude.{ℕ, Bool, true, false, List, [], ◌∷◌, Option, Some, None, Result, Ok, Err, ◌==◌, if◌then◌else◌}
 use Rattle.tls_base.specs.ExtensionNumbers as extension_number
 use Rattle.tls_base.specs.Timestamp.{SignedCertificateTimestamp, timestamp_list}
 use Rattle.tls_fields.specs.Bytes.{Bytes}
@@ -10,7 +10,7 @@ use Rattle.tls_fields.specs.Meaning.{Answer, Refusal}
 use Rattle.tls_fields.specs.Reading.{reading}
 use Rattle.tls_ext.specs.Content as content
 use Rattle.tls_ext.specs.Extension as ext
-use Rattle.tls_ext.specs.Extension.{Extension}
+use Rattle.tls_ext.specs.Extension.{Extension, ServerName}
 use Rattle.tls_ext.specs.InPlace.{client_shares, content_of, in_content, listed_versions, protocol_names}
 
 -- What is told, and nothing where it is refused.
@@ -46,6 +46,24 @@ listed _ = []
 abbrev pub list_in : {A : Type 0} → Layout (List A) → Option Bytes → List A
 list_in l (Some c) = list_read (reading l c)
 list_in l None = []
+
+abbrev pub listed_names : Extension → Option (List ServerName)
+listed_names (ext.server_name names) = Some names
+listed_names _ = None
+
+-- The names in server_name (RFC 6066, section 3).
+abbrev pub names_in : Bytes → List ServerName
+names_in b = listed (in_content content.server_names listed_names (content_of extension_number.server_name b))
+
+-- The first name of a host: its NameType is host_name, 0 (RFC 6066, section 3).
+abbrev pub host_among : List ServerName → Option Bytes
+host_among [] = None
+host_among (n ∷ ns) = if n.name_type == 0 then Some n.name else host_among ns
+
+-- The names of other types.
+abbrev pub others_among : List ServerName → List ServerName
+others_among [] = []
+others_among (n ∷ ns) = if n.name_type == 0 then others_among ns else n ∷ others_among ns
 
 -- The versions in supported_versions (RFC 8446, section 4.2.1).
 abbrev pub versions_in : Bytes → List ℕ

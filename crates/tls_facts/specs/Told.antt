@@ -7,11 +7,12 @@ use Rattle.tls_fields.specs.Bytes.{Bytes}
 use Rattle.tls_fields.specs.Framed.{Framed}
 use Rattle.tls_fields.specs.Items.{items_in}
 use Rattle.tls_fields.specs.Text.{held}
+use Rattle.tls_ext.specs.Extension.{ServerName}
 use Rattle.tls_ext.specs.InPlace as ext
 use Rattle.tls_hs.specs.Hello as client
 use Rattle.tls_hs.specs.ServerHello as server
 use Rattle.tls_facts.specs.Facts.{Facts}
-use Rattle.tls_facts.specs.Hellos.{algorithms_in, content_in, first_of, formats_in, groups_in, has, has_ticket_in, known, modes_in, protocols_in, share_group_in, shares_in, timestamps_in, versions_in}
+use Rattle.tls_facts.specs.Hellos.{algorithms_in, content_in, first_of, formats_in, groups_in, has, has_ticket_in, host_among, known, modes_in, names_in, others_among, protocols_in, share_group_in, shares_in, timestamps_in, versions_in}
 
 abbrev pub extensions_of_client : Option client.ClientHello → Bytes
 extensions_of_client None = []
@@ -46,7 +47,10 @@ has_session f = has extension_number.pre_shared_key (server_extensions f)
 
 -- What the client offers.
 abbrev pub server_name : Facts → Option Bytes
-server_name f = known (ext.host_name (client_extensions f))
+server_name f = host_among (names_in (client_extensions f))
+
+abbrev pub other_server_names : Facts → List ServerName
+other_server_names f = others_among (names_in (client_extensions f))
 
 abbrev pub client_version : Facts → Option ℕ
 client_version f = option_map (λ h. h.client_version) f.client

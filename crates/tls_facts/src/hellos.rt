@@ -1,19 +1,24 @@
 //! What a hello says by its extensions; nothing where the extension is missing, or refused.
-ghost use Rattle.std.specs.Prelude.{◌≡◌, []};
+ghost use Rattle.std.specs.Prelude.{◌≡◌, [], IfOk, map};
 ghost use Rattle.std.specs.Option.{option_map};
 ghost use Rattle.tls_fields.specs.Items.{items_in, told as told_by};
 ghost use Rattle.tls_fields.specs.Layout.{counted, number};
 ghost use Rattle.tls_fields.specs.Text.{held};
 ghost use Rattle.tls_base.specs.Timestamp.{serialized_timestamp};
+ghost use Rattle.tls_ext.specs.Content.{server_name};
+ghost use Rattle.tls_ext.specs.Extension.{view_server_name};
 ghost use Rattle.tls_ext.specs.InPlace.{key_share_entry};
-ghost use Rattle.tls_facts.specs.Hellos.{algorithms_in, content_in, formats_in, group_of, groups_in, has_bytes, known as known_by, modes_in, protocols_in, shares_in, timestamps_in, versions_in};
+ghost use Rattle.tls_facts.specs.Hellos.{algorithms_in, content_in, formats_in, group_of, groups_in, has_bytes, host_among, known as known_by, modes_in, names_in, others_among, protocols_in, shares_in, timestamps_in, versions_in};
 
+use std::alloc::{AllocError, Global};
 use tls_base::{
-    NamedGroup, SignedCertificateTimestamp, TlsExtensionType, TlsVersion, certificate_timestamps,
+    NamedGroup, SNIType, SignedCertificateTimestamp, TlsExtensionType, TlsVersion,
+    certificate_timestamps,
 };
 use tls_ext::{
-    KeyShareEntry, application_protocols, ec_point_formats, extensions, first_content, key_shares,
-    psk_key_exchange_modes, signature_algorithms, supported_groups, supported_versions,
+    KeyShareEntry, ServerName, application_protocols, ec_point_formats, extensions, first_content,
+    key_shares, psk_key_exchange_modes, server_names, signature_algorithms, supported_groups,
+    supported_versions,
 };
 use tls_fields::{Counted1, Err, Error, InPlace, Items};
 
@@ -52,6 +57,47 @@ pub(crate) fn is_filled(content: Option<&[u8]>) -> bool
         Some(bytes) => !bytes.is_empty(),
         None => false,
     }
+}
+
+/// The names of the first server_name.
+pub(crate) fn names<'a>(ext: Option<&'a [u8]>) -> Items<'a, ServerName>
+    ensures { items_in server_name result.bytes.now ≡ names_in (held (option_map (λ x. x.now) ext.entry)) }
+{
+    let Ok(Some(content)) = first_content(extensions(ext), TlsExtensionType::ServerName) else {
+        return none::<ServerName>();
+    };
+    match server_names(content) {
+        Ok((_, names)) => names,
+        Err(_) => none::<ServerName>(),
+    }
+}
+
+/// The first of the names that is the name of a host.
+pub(crate) fn host_name<'a>(names: Items<'a, ServerName>) -> Option<&'a [u8]>
+    ensures { option_map (λ x. x.now) result ≡ host_among (items_in server_name names.entry.bytes.now) }
+{
+    for (kind, name) in names {
+        if kind == SNIType::HostName {
+            return Some(name);
+        }
+    }
+    None
+}
+
+/// The names of other types, each with its type.
+pub(crate) fn other_names<'a>(
+    alloc: Global,
+    names: Items<'a, ServerName>,
+) -> Result<Vec<(SNIType, &'a [u8])>, AllocError>
+    ensures { IfOk result (λ v. map view_server_name v.items ≡ others_among (items_in server_name names.entry.bytes.now)) }
+{
+    let mut others = Vec::new(alloc);
+    for (kind, name) in names {
+        if kind != SNIType::HostName {
+            others.push((kind, name))?;
+        }
+    }
+    Ok(others)
 }
 
 /// The versions of the first supported_versions.

@@ -1,24 +1,26 @@
 //! What is known of a connection, field by field.
-ghost use Rattle.std.specs.Prelude.{◌≡◌};
+ghost use Rattle.std.specs.Prelude.{◌≡◌, IfOk, map};
 ghost use Rattle.std.specs.Option.{option_map};
 ghost use Rattle.tls_base.specs.Timestamp.{serialized_timestamp};
 ghost use Rattle.tls_fields.specs.Items.{items_in};
 ghost use Rattle.tls_fields.specs.Layout.{counted, number};
 ghost use Rattle.tls_fields.specs.Text.{held};
+ghost use Rattle.tls_ext.specs.Extension.{view_server_name};
 ghost use Rattle.tls_ext.specs.InPlace.{extension_type, key_share_entry};
 ghost use Rattle.tls_facts.specs.Facts.{view_facts};
 ghost use Rattle.tls_facts.specs.Told as told;
 
 use crate::facts::Facts;
 use crate::hellos::{
-    algorithms, content, formats, group_of_share, groups, is_filled, known, modes, none, protocols,
-    shares, timestamps, versions,
+    algorithms, content, formats, group_of_share, groups, host_name, is_filled, known, modes,
+    names, none, other_names, protocols, shares, timestamps, versions,
 };
+use std::alloc::{AllocError, Global};
 use tls_base::{
-    NamedGroup, SignedCertificateTimestamp, TlsCipherSuiteID, TlsCompressionID, TlsExtensionType,
-    TlsVersion,
+    NamedGroup, SNIType, SignedCertificateTimestamp, TlsCipherSuiteID, TlsCompressionID,
+    TlsExtensionType, TlsVersion,
 };
-use tls_ext::{ExtensionType, KeyShareEntry, best_version, extension_types, server_name};
+use tls_ext::{ExtensionType, KeyShareEntry, best_version, extension_types};
 use tls_fields::{Counted1, Items};
 
 /// The encrypted_client_hello of RFC 9849, section 5.
@@ -83,11 +85,20 @@ impl Facts {
         self.curve
     }
 
-    /// The host that the client asked for, as it stands in server_name (RFC 6066, section 3).
+    /// The host that the client asked for: the first name of the type host_name in server_name (RFC 6066, section 3).
     pub fn server_name(&self) -> Option<&[u8]>
         ensures { option_map (λ x. x.now) result ≡ told.server_name (view_facts self.now) }
     {
-        known(server_name(self.client_ext()))
+        host_name(names(self.client_ext()))
+    }
+
+    /// The names of other types in server_name, in their order, each with its type.
+    ///
+    /// `AllocError` where they could not be held.
+    pub fn other_server_names(&self, alloc: Global) -> Result<Vec<(SNIType, &[u8])>, AllocError>
+        ensures { IfOk result (λ v. map view_server_name v.items ≡ told.other_server_names (view_facts self.now)) }
+    {
+        other_names(alloc, names(self.client_ext()))
     }
 
     /// The protocol of the application that the server chose (RFC 7301, section 3.1).

@@ -12,18 +12,24 @@ pub fn message_name(kind: TlsHandshakeType) -> Option<&'static str> {
         5 => Some("end_of_early_data"),
         6 => Some("hello_retry_request"),
         8 => Some("encrypted_extensions"),
+        9 => Some("request_connection_id"),
+        10 => Some("new_connection_id"),
         11 => Some("certificate"),
         12 => Some("server_key_exchange"),
         13 => Some("certificate_request"),
         14 => Some("server_hello_done"),
         15 => Some("certificate_verify"),
         16 => Some("client_key_exchange"),
+        17 => Some("client_certificate_request"),
         20 => Some("finished"),
         21 => Some("certificate_url"),
         22 => Some("certificate_status"),
         23 => Some("supplemental_data"),
         24 => Some("key_update"),
+        25 => Some("compressed_certificate"),
+        26 => Some("ekt_key"),
         67 => Some("next_protocol"),
+        254 => Some("message_hash"),
         _ => None,
     }
 }
@@ -61,13 +67,23 @@ pub fn extension_name(kind: TlsExtensionType) -> Option<&'static str> {
     }
 }
 
-/// The same of those with a higher number.
+/// The same of those from 26 on.
 fn later_extension_name(kind: TlsExtensionType) -> Option<&'static str> {
     match kind.0 {
+        26 => Some("tls_lts"),
         27 => Some("compress_certificate"),
         28 => Some("record_size_limit"),
+        29 => Some("pwd_protect"),
+        30 => Some("pwd_clear"),
+        31 => Some("password_salt"),
+        32 => Some("ticket_pinning"),
+        33 => Some("tls_cert_with_extern_psk"),
         34 => Some("delegated_credential"),
         35 => Some("session_ticket"),
+        36 => Some("TLMSP"),
+        37 => Some("TLMSP_proxying"),
+        38 => Some("TLMSP_delegate"),
+        39 => Some("supported_ekt_ciphers"),
         41 => Some("pre_shared_key"),
         42 => Some("early_data"),
         43 => Some("supported_versions"),
@@ -78,10 +94,26 @@ fn later_extension_name(kind: TlsExtensionType) -> Option<&'static str> {
         49 => Some("post_handshake_auth"),
         50 => Some("signature_algorithms_cert"),
         51 => Some("key_share"),
+        _ => last_extension_name(kind),
+    }
+}
+
+/// The same of those above 51.
+fn last_extension_name(kind: TlsExtensionType) -> Option<&'static str> {
+    match kind.0 {
+        52 => Some("transparency_info"),
         54 => Some("connection_id"),
+        55 => Some("external_id_hash"),
+        56 => Some("external_session_id"),
         57 => Some("quic_transport_parameters"),
+        58 => Some("ticket_request"),
+        59 => Some("dnssec_chain"),
+        60 => Some("sequence_number_encryption_algorithms"),
+        61 => Some("rrc"),
+        62 => Some("tls_flags"),
         13172 => Some("next_protocol_negotiation"),
         17513 => Some("application_settings"),
+        0xfd00 => Some("ech_outer_extensions"),
         0xfe0d => Some("encrypted_client_hello"),
         0xff01 => Some("renegotiation_info"),
         _ => None,
@@ -109,6 +141,7 @@ pub fn alert_name(alert: TlsAlertDescription) -> Option<&'static str> {
         49 => Some("access_denied"),
         50 => Some("decode_error"),
         51 => Some("decrypt_error"),
+        52 => Some("too_many_cids_requested"),
         _ => later_alert_name(alert),
     }
 }

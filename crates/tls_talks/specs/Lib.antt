@@ -6,3 +6,4 @@ pub mod Front
 pub mod Datagrams
 pub mod Talks
 pub mod Records
+pub mod DatagramRecords

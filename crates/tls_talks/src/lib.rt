@@ -6,13 +6,14 @@
 //! these are cut: [`hear_all`] and [`talk_all`] state it.
 //!
 //! Both have a history: a letter for each event, up to [`HISTORY_LIMIT`]. [`Records`] counts the records of a stream, encrypted ones too, and
-//! keeps no byte of them.
+//! keeps no byte of them; [`DatagramRecords`] counts those of datagrams.
 //!
 //! Over datagrams, [`DatagramTalk`] does the same of DTLS up to 1.2. What it came to is a definition over the datagrams in their
 //! order: [`talk_of`] states it.
 #![tactic(auto)]
 
 mod account;
+mod datagram_records;
 mod datagram_talk;
 mod ends;
 mod front;
@@ -21,6 +22,7 @@ mod history;
 mod records;
 mod talk;
 
+pub use datagram_records::DatagramRecords;
 pub use datagram_talk::{DatagramTalk, talk_of};
 pub use hearer::{Hearer, hear_all};
 pub use history::HISTORY_LIMIT;

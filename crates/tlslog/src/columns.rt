@@ -20,6 +20,7 @@ pub enum Named {
     Cipher,
     Curve,
     ServerName,
+    OtherServerNames,
     NextProtocol,
     LastAlert,
 }
@@ -144,6 +145,7 @@ pub static FIELDS: &[Column<Field>] = &[
     ("cipher", Field::Named(Named::Cipher)),
     ("curve", Field::Named(Named::Curve)),
     ("server_name", Field::Named(Named::ServerName)),
+    ("other_server_names", Field::Named(Named::OtherServerNames)),
     ("next_protocol", Field::Named(Named::NextProtocol)),
     ("resumed", Field::Course(Course::Resumed)),
     ("established", Field::Course(Course::Established)),

@@ -7,7 +7,7 @@ use connections::{Listener, Protocol, Side, Stream};
 use std::alloc::{AllocError, Global};
 use tls_facts::Facts;
 use tls_flow::{Direction, Outcome, Stop};
-use tls_talks::{DatagramTalk, Records, Talk};
+use tls_talks::{DatagramRecords, DatagramTalk, Records, Talk};
 
 /// How many bytes tell whether a side speaks TLS: the header of a record (RFC 8446, section 5.1).
 const HEADER_LEN: usize = 5;
@@ -32,6 +32,9 @@ pub struct Heard {
     // Over TCP, the records of each side, encrypted ones too.
     from_originator: Records,
     from_responder: Records,
+    // Over UDP, those in the datagrams of each side.
+    by_originator: DatagramRecords,
+    by_responder: DatagramRecords,
 }
 
 impl Listener for Heard {
@@ -47,6 +50,8 @@ impl Listener for Heard {
             speech: None,
             from_originator: Records::new(),
             from_responder: Records::new(),
+            by_originator: DatagramRecords::new(),
+            by_responder: DatagramRecords::new(),
         }
     }
 }
@@ -125,12 +130,13 @@ impl Heard {
         }
     }
 
-    /// How many records a side said over TCP, up to the first bytes that are missing.
-    pub fn records(&self, side: Side) -> Option<u64> {
+    /// How many records a side said: over TCP up to the first bytes that are missing, over UDP those of all its datagrams.
+    pub fn records(&self, side: Side) -> u64 {
         match (self.protocol, side) {
-            (Protocol::Tcp, Side::Originator) => Some(self.from_originator.count()),
-            (Protocol::Tcp, Side::Responder) => Some(self.from_responder.count()),
-            (Protocol::Udp, _) => None,
+            (Protocol::Tcp, Side::Originator) => self.from_originator.count(),
+            (Protocol::Tcp, Side::Responder) => self.from_responder.count(),
+            (Protocol::Udp, Side::Originator) => self.by_originator.count(),
+            (Protocol::Udp, Side::Responder) => self.by_responder.count(),
         }
     }
 
@@ -189,6 +195,10 @@ impl Heard {
     pub fn hear_datagram(&mut self, direction: Direction, payload: &[u8]) -> Result<(), AllocError>
         ensures { OnOk result (HearsDatagram direction payload.now self.old.said self.new.said) }
     {
+        match direction {
+            Direction::ToServer => self.by_originator.add(payload),
+            Direction::FromServer => self.by_responder.add(payload),
+        }
         let Said::Datagrams(talk) = &mut self.said else {
             return Ok(());
         };

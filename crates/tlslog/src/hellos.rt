@@ -3,7 +3,8 @@ use crate::cell::Cell;
 use crate::columns::{Answer, Chain, Offer};
 use crate::suites::Suites;
 use crate::text::{
-    escaped, extension, group, hexadecimal, scheme, some_codes, some_mark, some_texts, version,
+    escaped, extension, group, hexadecimal, other_name, scheme, some_codes, some_mark, some_texts,
+    version,
 };
 use std::alloc::{AllocError, Global};
 use tls_base::{NamedGroup, TlsVersion};
@@ -74,6 +75,15 @@ fn some_bytes(alloc: Global, bytes: Option<&[u8]>) -> Result<Option<Cell>, Alloc
         Some(bytes) => Ok(Some(Cell::Text(hexadecimal(alloc, bytes)?))),
         None => Ok(None),
     }
+}
+
+/// The names of the server that are no host's, each behind the number of its type, as `1:name`.
+pub fn other_names_cell(alloc: Global, facts: &Facts) -> Result<Option<Cell>, AllocError> {
+    let mut all = Vec::new(alloc);
+    for (kind, name) in &facts.other_server_names(alloc)? {
+        all.push(other_name(alloc, kind.0, name)?)?;
+    }
+    Ok(some_texts(all))
 }
 
 /// What the client offers.

@@ -2,7 +2,7 @@
 use crate::cell::{Cell, Row, StopCell};
 use crate::columns::{Course, End, FIELDS, Field, Named, Sent};
 use crate::heard::Heard;
-use crate::hellos::{answer_cell, chain_cell, offer_cell};
+use crate::hellos::{answer_cell, chain_cell, offer_cell, other_names_cell};
 use crate::names::{kind_name, outcome_name, sender_name};
 use crate::prints::print_cell;
 use crate::suites::Suites;
@@ -96,6 +96,7 @@ fn named_cell(
             Some(name) => some_text(escaped(alloc, name)),
             None => Ok(None),
         },
+        Named::OtherServerNames => other_names_cell(alloc, facts),
         Named::NextProtocol => match facts.next_protocol() {
             Some(protocol) => some_text(escaped(alloc, protocol)),
             None => Ok(None),
@@ -154,10 +155,7 @@ fn sent_cell(connection: &Connection<Heard>, side: Side, field: Sent) -> Option<
             Protocol::Tcp => stream.length(),
             Protocol::Udp => sent.bytes,
         })),
-        Sent::Records => match connection.listener.records(side) {
-            Some(count) => Some(Cell::Number(count)),
-            None => None,
-        },
+        Sent::Records => Some(Cell::Number(connection.listener.records(side))),
         Sent::Repeated => some_count(stream.repeated()),
         Sent::Disagreeing => some_count(stream.disagreeing()),
     }

@@ -17,61 +17,74 @@ pub fn version_name(version: TlsVersion) -> Option<&'static str> {
     }
 }
 
+/// The groups by their names in the registry of groups (RFC 8446, section 4.2.7), with those that drafts took and the registry kept.
+static GROUPS: &[(u16, &str)] = &[
+    (1, "sect163k1"),
+    (2, "sect163r1"),
+    (3, "sect163r2"),
+    (4, "sect193r1"),
+    (5, "sect193r2"),
+    (6, "sect233k1"),
+    (7, "sect233r1"),
+    (8, "sect239k1"),
+    (9, "sect283k1"),
+    (10, "sect283r1"),
+    (11, "sect409k1"),
+    (12, "sect409r1"),
+    (13, "sect571k1"),
+    (14, "sect571r1"),
+    (15, "secp160k1"),
+    (16, "secp160r1"),
+    (17, "secp160r2"),
+    (18, "secp192k1"),
+    (19, "secp192r1"),
+    (20, "secp224k1"),
+    (21, "secp224r1"),
+    (22, "secp256k1"),
+    (23, "secp256r1"),
+    (24, "secp384r1"),
+    (25, "secp521r1"),
+    (26, "brainpoolP256r1"),
+    (27, "brainpoolP384r1"),
+    (28, "brainpoolP512r1"),
+    (29, "x25519"),
+    (30, "x448"),
+    (31, "brainpoolP256r1tls13"),
+    (32, "brainpoolP384r1tls13"),
+    (33, "brainpoolP512r1tls13"),
+    (34, "GC256A"),
+    (35, "GC256B"),
+    (36, "GC256C"),
+    (37, "GC256D"),
+    (38, "GC512A"),
+    (39, "GC512B"),
+    (40, "GC512C"),
+    (41, "curveSM2"),
+    (256, "ffdhe2048"),
+    (257, "ffdhe3072"),
+    (258, "ffdhe4096"),
+    (259, "ffdhe6144"),
+    (260, "ffdhe8192"),
+    (512, "MLKEM512"),
+    (513, "MLKEM768"),
+    (514, "MLKEM1024"),
+    (4587, "SecP256r1MLKEM768"),
+    (4588, "X25519MLKEM768"),
+    (4589, "SecP384r1MLKEM1024"),
+    (0x6399, "X25519Kyber768Draft00"),
+    (0x639a, "SecP256r1Kyber768Draft00"),
+    (0xff01, "arbitrary_explicit_prime_curves"),
+    (0xff02, "arbitrary_explicit_char2_curves"),
+];
+
 /// A group by its name in the registry of groups.
 pub fn group_name(group: u16) -> Option<&'static str> {
-    match group {
-        1 => Some("sect163k1"),
-        2 => Some("sect163r1"),
-        3 => Some("sect163r2"),
-        4 => Some("sect193r1"),
-        5 => Some("sect193r2"),
-        6 => Some("sect233k1"),
-        7 => Some("sect233r1"),
-        8 => Some("sect239k1"),
-        9 => Some("sect283k1"),
-        10 => Some("sect283r1"),
-        11 => Some("sect409k1"),
-        12 => Some("sect409r1"),
-        13 => Some("sect571k1"),
-        14 => Some("sect571r1"),
-        15 => Some("secp160k1"),
-        16 => Some("secp160r1"),
-        17 => Some("secp160r2"),
-        18 => Some("secp192k1"),
-        19 => Some("secp192r1"),
-        20 => Some("secp224k1"),
-        21 => Some("secp224r1"),
-        22 => Some("secp256k1"),
-        23 => Some("secp256r1"),
-        24 => Some("secp384r1"),
-        25 => Some("secp521r1"),
-        26 => Some("brainpoolP256r1"),
-        27 => Some("brainpoolP384r1"),
-        28 => Some("brainpoolP512r1"),
-        29 => Some("x25519"),
-        30 => Some("x448"),
-        31 => Some("brainpoolP256r1tls13"),
-        32 => Some("brainpoolP384r1tls13"),
-        33 => Some("brainpoolP512r1tls13"),
-        41 => Some("curveSM2"),
-        256 => Some("ffdhe2048"),
-        257 => Some("ffdhe3072"),
-        258 => Some("ffdhe4096"),
-        259 => Some("ffdhe6144"),
-        260 => Some("ffdhe8192"),
-        _ => later_group_name(group),
+    for (number, name) in GROUPS {
+        if *number == group {
+            return Some(*name);
+        }
     }
-}
-
-/// The same of those that join two exchanges, one of them safe from quantum computers.
-fn later_group_name(group: u16) -> Option<&'static str> {
-    match group {
-        4587 => Some("SecP256r1MLKEM768"),
-        4588 => Some("X25519MLKEM768"),
-        4589 => Some("SecP384r1MLKEM1024"),
-        25497 => Some("X25519Kyber768Draft00"),
-        _ => None,
-    }
+    None
 }
 
 /// How a handshake ended.

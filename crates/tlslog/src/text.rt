@@ -28,6 +28,11 @@ pub fn escaped(alloc: Global, bytes: &[u8]) -> Result<String, AllocError> {
     format!(in alloc; "{}", bytes.escape_ascii())
 }
 
+/// A name behind the number of its type, as `1:name`, escaped too.
+pub fn other_name(alloc: Global, kind: u8, name: &[u8]) -> Result<String, AllocError> {
+    format!(in alloc; "{kind}:{}", name.escape_ascii())
+}
+
 /// A version.
 pub fn version(alloc: Global, version: TlsVersion) -> Result<String, AllocError> {
     name_or_number(alloc, version_name(version), version.0)
