@@ -1,5 +1,7 @@
 -- A piece that is cut in two says what it says whole.
-use Rattle.std.proofs.Common.{◌≡◌, ℕ, suc, ◌+◌, ◌-◌, ◌^◌, ◌<◌, ◌≤◌, ◌⊎◌, inl, inr, List, [], ◌∷◌, ◌++◌, length, take, get_or, Bool, true, false, not, ◌||◌, ◌&&◌, Option, Some, None, refl, sym, ◌∙◌, ap, subst, arith, append_assoc, length-append}
+use Rattle.std.proofs.Common.{◌≡◌, ℕ, suc, ◌+◌, ◌-◌, ◌^◌, ◌<◌, ◌≤◌, ◌⊎◌, inl, inr, List, [], ◌∷◌, ◌++◌, length, take,
+    get_or, Bool, true, false, not, ◌||◌, ◌&&◌, Option, Some, None, refl, sym, ◌∙◌, ap, subst, arith, append_assoc,
+    length-append}
 use Rattle.std.specs.Borrow.{Bor}
 use Rattle.std.proofs.Math.Seq.{take-suc}
 use Rattle.std.proofs.lemmas.List.{map-append, take_all}
@@ -41,7 +43,8 @@ says_further e q t = go e.standing
 told_further : (e : Ear) (q : Bytes) → told (with_piece e q) ≡ with_piece (told e) q
 told_further e q = ap (λ x. record e { direction = record e.direction { stream = x } }) (go e.direction.fault)
   where
-    go : (f : Option Fault) → stream.told_tls13 (with_more f e.direction.stream q) ≡ with_more f (stream.told_tls13 e.direction.stream) q
+    go : (f : Option Fault) → stream.told_tls13 (with_more f e.direction.stream q) ≡ with_more f (stream.told_tls13
+        e.direction.stream) q
     go (Some f) = refl
     go None = refl
 
@@ -58,7 +61,8 @@ abbrev pub further : Conversation → Side → Bytes → Conversation
 further c ToServer q = record c { client = with_piece c.client q }
 further c FromServer q = record c { server = with_piece c.server q }
 
-behind_further : (c d : Conversation) (s : Side) (v : Said) (q : Bytes) → IsBehind c s v d → IsBehind (further c s q) s v (further d s q)
+behind_further : (c d : Conversation) (s : Side) (v : Said) (q : Bytes) → IsBehind c s v d
+    → IsBehind (further c s q) s v (further d s q)
 behind_further c d ToServer v q behind = record {
   side = (
     with_piece behind.side.0 q,
@@ -80,12 +84,14 @@ behind_further c d FromServer v q behind = record {
   flow = behind.flow;
 }
 
-pub past_further : (c d : Conversation) (s : Side) (vs : List Said) (q : Bytes) → IsPast c s vs d → IsPast (further c s q) s vs (further d s q)
+pub past_further : (c d : Conversation) (s : Side) (vs : List Said) (q : Bytes) → IsPast c s vs d
+    → IsPast (further c s q) s vs (further d s q)
 past_further c d s [] q past = ap (λ x. further x s q) past
 past_further c d s (v ∷ vs) q past =
     (further past.0 s q, past_further c past.0 s vs q past.1, behind_further past.0 d s v q past.2)
 
-past_on : (c m d : Conversation) (s : Side) (vs ws : List Said) → IsPast c s vs m → IsPast m s ws d → IsPast c s (ws ++ vs) d
+past_on : (c m d : Conversation) (s : Side) (vs ws : List Said) → IsPast c s vs m → IsPast m s ws d
+    → IsPast c s (ws ++ vs) d
 past_on c m d s vs [] first last = subst (λ x. IsPast c s vs x) (sym last) first
 past_on c m d s vs (w ∷ ws) first last = (last.0, past_on c m last.0 s vs ws first last.1, last.2)
 
@@ -126,11 +132,13 @@ behind_first c m d s v alike behind =
       );
       other = subst (λ x. IsToldIf (tells c (event_of s v)) x (ear d (other s))) (sym alike.other)
           (subst (λ b. IsToldIf b (ear m (other s)) (ear d (other s))) same behind.other);
-      is_tls13 = behind.is_tls13 ∙ ap (λ b. b || tells m (event_of s v)) (sym alike.is_tls13) ∙ ap (λ b. c.is_tls13 || b) same;
+      is_tls13 = behind.is_tls13 ∙ ap (λ b. b || tells m (event_of s v)) (sym alike.is_tls13)
+          ∙ ap (λ b. c.is_tls13 || b) same;
       flow = behind.flow ∙ ap (λ x. follow x (event_of s v)) (sym alike.flow);
     }
 
-past_first : (c m d : Conversation) (s : Side) (v : Said) (vs : List Said) → IsAlike s c m → IsPast m s (v ∷ vs) d → IsPast c s (v ∷ vs) d
+past_first : (c m d : Conversation) (s : Side) (v : Said) (vs : List Said) → IsAlike s c m → IsPast m s (v ∷ vs) d
+    → IsPast c s (v ∷ vs) d
 past_first c m d s v [] alike past =
     (c, refl, behind_first c m d s v alike (subst (λ x. IsBehind x s v d) past.1 past.2))
 past_first c m d s v (w ∷ ws) alike past = (past.0, past_first c m past.0 s w ws alike past.1, past.2)
@@ -178,7 +186,8 @@ pub record IsJoined (c : Conversation) (s : Side) (p : Bytes) (vs : List Said) (
   pub fed : IsFedBy c s p begun
   pub past : IsPast begun s vs d
 
-pub joined : (c a m b d : Conversation) (s : Side) (p q : Bytes) (vs ws : List Said) → IsFedBy c s p a → IsPast a s vs m → IsFedBy m s q b
+pub joined : (c a m b d : Conversation) (s : Side) (p q : Bytes) (vs ws : List Said) → IsFedBy c s p a
+    → IsPast a s vs m → IsFedBy m s q b
     → IsPast b s ws d → IsJoined c s (p ++ q) (ws ++ vs) d
 joined c a m b d s p q vs (w ∷ ws) fed past fed_again past_again = record {
   begun = further a s q;
@@ -197,7 +206,8 @@ joined c a m b d s p q (v ∷ vs) [] fed past fed_again past_again = record {
   past = subst (λ x. IsPast (further a s q) s (v ∷ vs) x) (sym past_again) (
     further past.0 s q,
     past_further a past.0 s vs q past.1,
-    behind_last (further past.0 s q) (further m s q) b s v (behind_further past.0 m s v q past.2) (fed_alike m b s q fed_again),
+    behind_last (further past.0 s q) (further m s q) b s v (behind_further past.0 m s v q past.2) (fed_alike m b s q
+        fed_again),
   );
 }
 
@@ -219,7 +229,8 @@ or_on false b c = refl
 
 pub sealed_on : (vs ws : List Said) → has_sealed (ws ++ vs) ≡ (has_sealed vs || has_sealed ws)
 sealed_on vs [] = or_false (has_sealed vs)
-sealed_on vs (w ∷ ws) = ap (λ b. b || is_sealed w) (sealed_on vs ws) ∙ or_on (has_sealed vs) (has_sealed ws) (is_sealed w)
+sealed_on vs (w ∷ ws) = ap (λ b. b || is_sealed w) (sealed_on vs ws)
+    ∙ or_on (has_sealed vs) (has_sealed ws) (is_sealed w)
 
 pub longer : (vs ws : List Said) (n : ℕ) → n ≤ length ws → n ≤ length (ws ++ vs)
 longer vs ws n few = let e : length (ws ++ vs) ≡ length ws + length vs = length-append ws vs in omega (arith, few, e)
@@ -229,23 +240,29 @@ all_on vs ws n (inl p) = inl p
 all_on vs ws n (inr few) = inr (longer vs ws n few)
 
 -- Two pieces of a side are heard as one.
-pub both_heard : (h m i : Hearer) (s : Side) (p q : Bytes) (a b : Bool) → IsHeard h s p m a → IsHeard m s q i b → IsHeard h s (p ++ q) i (a || b)
+pub both_heard : (h m i : Hearer) (s : Side) (p q : Bytes) (a b : Bool) → IsHeard h s p m a → IsHeard m s q i b
+    → IsHeard h s (p ++ q) i (a || b)
 both_heard h m i s p q a b first last =
-    let whole = joined h.conversation first.begun m.conversation last.begun i.conversation s p q first.said last.said first.fed first.past
+    let whole = joined h.conversation first.begun m.conversation last.begun i.conversation s p q first.said last.said
+        first.fed first.past
     last.fed last.past in
     record {
       begun = whole.begun;
       said = last.said ++ first.said;
       fed = whole.fed;
       past = whole.past;
-      facts = last.facts ∙ ap (λ f. facts s f last.said) first.facts ∙ facts_on s (view_facts h.facts) first.said last.said;
-      history = last.history ∙ ap (λ g. history s g last.said) first.history ∙ history_on s h.history.items first.said last.said;
+      facts = last.facts ∙ ap (λ f. facts s f last.said) first.facts
+          ∙ facts_on s (view_facts h.facts) first.said last.said;
+      history = last.history ∙ ap (λ g. history s g last.said) first.history
+          ∙ history_on s h.history.items first.said last.said;
       all = all_on first.said last.said (2 ^ 64 - 1) last.all;
-      sealed = ap (λ x. x || b) first.sealed ∙ ap (λ x. has_sealed first.said || x) last.sealed ∙ sym (sealed_on first.said last.said);
+      sealed = ap (λ x. x || b) first.sealed ∙ ap (λ x. has_sealed first.said || x) last.sealed
+          ∙ sym (sealed_on first.said last.said);
     }
 
 -- A piece in front of turns.
-onto_heard : (h m i : Hearer) (p : Side × Bytes) (a : Bool) (ts : List (Side × Bytes)) → IsHeard h p.0 p.1 m a → AreHeard m ts i
+onto_heard : (h m i : Hearer) (p : Side × Bytes) (a : Bool) (ts : List (Side × Bytes)) → IsHeard h p.0 p.1 m a
+    → AreHeard m ts i
     → AreHeard h (onto p ts) i
 onto_heard h m i p a [] first rest = (m, a, first, rest)
 onto_heard h m i (ToServer, p) a ((ToServer, q) ∷ ts) first rest =
@@ -261,23 +278,27 @@ turns_heard h i [] heard = heard
 turns_heard h i (p ∷ ps) heard = onto_heard h heard.0 i p heard.1 (turns ps) heard.2 (turns_heard heard.0 i ps heard.3)
 
 -- One piece more.
-pub one_more : (h m i : Hearer) (ps : List (Side × Bytes)) (s : Side) (p : Bytes) (a : Bool) → AreHeard h ps m → IsHeard m s p i a
+pub one_more : (h m i : Hearer) (ps : List (Side × Bytes)) (s : Side) (p : Bytes) (a : Bool) → AreHeard h ps m
+    → IsHeard m s p i a
     → AreHeard h (ps ++ (s, p) ∷ []) i
 one_more h m i [] s p a heard last = (i, a, subst (λ x. IsHeard x s p i a) heard last, refl)
 one_more h m i (q ∷ ps) s p a heard last = (heard.0, heard.1, heard.2, one_more heard.0 m i ps s p a heard.3 last)
 
-pub piece_heard : (h m i : Hearer) (pieces : List (Side × Bor (List ℕ))) (n : ℕ) (q : Side × Bor (List ℕ)) (a : Bool) → n < length pieces
+pub piece_heard : (h m i : Hearer) (pieces : List (Side × Bor (List ℕ))) (n : ℕ) (q : Side × Bor (List ℕ)) (a : Bool)
+    → n < length pieces
     → AreHeard h (views (take n pieces)) m → IsHeard m (get_or pieces n q).0 (get_or pieces n q).1.now i a
     → AreHeard h (views (take (n + 1) pieces)) i
 piece_heard h m i pieces n q a within heard last =
     let one : n + 1 ≡ suc n = omega arith in
-    let next : views (take (n + 1) pieces) ≡ views (take n pieces) ++ ((get_or pieces n q).0, (get_or pieces n q).1.now) ∷ []
+    let next : views (take (n + 1) pieces) ≡ views (take n pieces) ++ ((get_or pieces n q).0, (get_or pieces n q).1.now)
+        ∷ []
     = ap (λ k. views (take k pieces)) one ∙ ap views (take-suc pieces n q within)
     ∙ map-append (λ (p : Side × Bor (List ℕ)). (p.0, p.1.now)) (take n pieces) (get_or pieces n q ∷ []) in
     subst (λ ps. AreHeard h ps i) (sym next)
     (one_more h m i (views (take n pieces)) (get_or pieces n q).0 (get_or pieces n q).1.now a heard last)
 
-pub all_heard : (h i : Hearer) (pieces : List (Side × Bor (List ℕ))) (n : ℕ) → length pieces ≤ n → AreHeard h (views (take n pieces)) i
+pub all_heard : (h i : Hearer) (pieces : List (Side × Bor (List ℕ))) (n : ℕ) → length pieces ≤ n
+    → AreHeard h (views (take n pieces)) i
     → AreHeard h (turns (views pieces)) i
 all_heard h i pieces n all heard =
     turns_heard h i (views pieces) (subst (λ ps. AreHeard h (views ps) i) (take_all n pieces all) heard)

@@ -1,5 +1,6 @@
 -- The first bytes of a side, which tell whether it speaks TLS, in however many pieces.
-use Rattle.std.proofs.Common.{◌≡◌, ℕ, ◌+◌, ◌-◌, ◌<◌, ◌≤◌, [], ◌++◌, length, take, drop, Bool, true, false, Result, Ok, Err, refl, sym, ◌∙◌, ap, subst, arith, append_assoc, length-append}
+use Rattle.std.proofs.Common.{◌≡◌, ℕ, ◌+◌, ◌-◌, ◌<◌, ◌≤◌, [], ◌++◌, length, take, drop, Bool, true, false, Result, Ok,
+    Err, refl, sym, ◌∙◌, ap, subst, arith, append_assoc, length-append}
 use Rattle.std.specs.Prelude.{OnOk, if◌then◌else◌, is_ok, nat_lt}
 use Rattle.std.specs.Global.{Vec}
 use Rattle.std.proofs.Math.Seq.{take-append-add}
@@ -10,17 +11,20 @@ use Rattle.tls_flow.specs.Table.{outcome_at}
 use Rattle.tls_flow.specs.declared.letter.Direction.{Direction as Side}
 use Rattle.tls_flow.specs.declared.letter.Direction.TheVariants.{ToServer, FromServer}
 use Rattle.tls_talks.specs.Front.{begins_tls}
-use Rattle.tls_talks.specs.Talks.{IsFirstBy, IsFirstHeard, IsHeardBy, IsHeardOn, IsNext, IsNextBy, Waits, front, hearing, is_over, over_by, told_tls, waiting, with_hearing, with_waiting}
+use Rattle.tls_talks.specs.Talks.{IsFirstBy, IsFirstHeard, IsHeardBy, IsHeardOn, IsNext, IsNextBy, Waits, front,
+    hearing, is_over, over_by, told_tls, waiting, with_hearing, with_waiting}
 use Rattle.tls_talks.specs.declared.talk.Hearing.{Hearing}
 use Rattle.tls_talks.specs.declared.talk.Hearing.TheVariants.{Unknown, Clear, Encrypted, Other}
 use Rattle.tls_talks.specs.declared.talk.Talk.{Talk}
 use Rattle.tls_talks.proofs.TalkLemmas.{IsKnown, both_known, heard_next, hearing_with, known_next, next_on}
 
 -- What waits of a side, once its vector is another one.
-pub client_waits : (t : Talk) (s : Side) (v : Vec ℕ) (w : Bytes) → s ≡ ToServer → v.items ≡ w → Waits t s w (record t { client_first = v })
+pub client_waits : (t : Talk) (s : Side) (v : Vec ℕ) (w : Bytes) → s ≡ ToServer → v.items ≡ w
+    → Waits t s w (record t { client_first = v })
 client_waits t s v w at items = (v, items, ap (λ r. with_waiting t r v) (sym at))
 
-pub server_waits : (t : Talk) (s : Side) (v : Vec ℕ) (w : Bytes) → s ≡ FromServer → v.items ≡ w → Waits t s w (record t { server_first = v })
+pub server_waits : (t : Talk) (s : Side) (v : Vec ℕ) (w : Bytes) → s ≡ FromServer → v.items ≡ w
+    → Waits t s w (record t { server_first = v })
 server_waits t s v w at items = (v, items, ap (λ r. with_waiting t r v) (sym at))
 
 pub client_waits_on : {E : Type 0} (t : Talk) (s : Side) (v : Vec ℕ) (b : Bytes) (r : Result Unit E) → s ≡ ToServer
@@ -42,16 +46,21 @@ pub front_is : (w f g b x : Bytes) (n : ℕ) → x ≡ f ++ g → f ≡ w → g 
 front_is w f g b x n whole waits comes count =
     whole ∙ ap (λ y. y ++ g) waits ∙ ap (λ y. w ++ y) comes ∙ ap (λ k. w ++ take k b) count
 
-pub first_tls : {E : Type 0} (r : Result Unit E) (t m o u : Talk) (s : Side) (b : Bytes) → nat_lt (length b) (5 - length (waiting t s).items) ≡ false
-    → begins_tls (front (waiting t s).items b) ≡ true → Waits t s [] m → IsNext (told_tls m s) s (front (waiting t s).items b) o
-    → OnOk r (IsNext o s (drop (5 - length (waiting t s).items) b) u) → OnOk r (IsFirstHeard t s (waiting t s).items b u)
+pub first_tls : {E : Type 0} (r : Result Unit E) (t m o u : Talk) (s : Side) (b : Bytes)
+    → nat_lt (length b) (5 - length (waiting t s).items) ≡ false
+    → begins_tls (front (waiting t s).items b) ≡ true → Waits t s [] m
+        → IsNext (told_tls m s) s (front (waiting t s).items b) o
+    → OnOk r (IsNext o s (drop (5 - length (waiting t s).items) b) u)
+        → OnOk r (IsFirstHeard t s (waiting t s).items b u)
 first_tls (Ok x) t m o u s b long tls waits first last =
     let w : Bytes = (waiting t s).items in
     let n : ℕ = 5 - length w in
-    subst (λ c. IsFirstBy c (begins_tls (front w b)) t s w b u) (sym long) (subst (λ c. IsFirstBy false c t s w b u) (sym tls) (
+    subst (λ c. IsFirstBy c (begins_tls (front w b)) t s w b u) (sym long) (subst (λ c. IsFirstBy false c t s w b u)
+        (sym tls) (
       m,
       waits,
-      subst (λ y. IsNext (told_tls m s) s y u) (append_assoc w (take n b) (drop n b) ∙ ap (λ y. w ++ y) (take-append-drop n b))
+      subst (λ y. IsNext (told_tls m s) s y u) (append_assoc w (take n b) (drop n b)
+          ∙ ap (λ y. w ++ y) (take-append-drop n b))
           (next_on (told_tls m s) o u s (front w b) (drop n b) first last),
     ))
 first_tls (Err e) t m o u s b long tls waits first last = tt
@@ -67,7 +76,8 @@ first_other t m n s b long other waits first =
 -- A piece that is too short leaves the front as it is, whichever of the two has its bytes.
 front_moves : (w p q : Bytes) → length p < 5 - length w → front (w ++ p) q ≡ front w (p ++ q)
 front_moves w p q short =
-    let more : 5 - length (w ++ p) ≡ 5 - length w - length p = let e : length (w ++ p) ≡ length w + length p = length-append w p in
+    let more : 5 - length (w ++ p) ≡ 5 - length w - length p = let e : length (w ++ p) ≡ length w + length p =
+        length-append w p in
     omega (arith, e) in
     let whole : length p + (5 - length w - length p) ≡ 5 - length w = omega (arith, short) in
     append_assoc w p (take (5 - length (w ++ p)) q) ∙ ap (λ n. w ++ (p ++ take n q)) more
@@ -117,7 +127,8 @@ waits_again : (t m u : Talk) (s : Side) (v w : Bytes) → Waits t s v m → Wait
 waits_again t m u s v w first last =
     (last.0, last.1, last.2 ∙ ap (λ x. with_waiting x s last.0) first.2 ∙ with_twice t s first.0 last.0)
 
-first_again : (short tls : Bool) (t m u : Talk) (s : Side) (w p q : Bytes) → Waits t s (w ++ p) m → front (w ++ p) q ≡ front w (p ++ q)
+first_again : (short tls : Bool) (t m u : Talk) (s : Side) (w p q : Bytes) → Waits t s (w ++ p) m
+    → front (w ++ p) q ≡ front w (p ++ q)
     → IsFirstBy short tls m s (w ++ p) q u → IsFirstBy short tls t s w (p ++ q) u
 first_again true tls t m u s w p q waits same heard =
     subst (λ b. Waits t s b u) (append_assoc w p q) (waits_again t m u s (w ++ p) ((w ++ p) ++ q) waits heard)
@@ -144,19 +155,25 @@ both_short t m u s p q unknown short waits last =
     let w : Bytes = (waiting t s).items in
     let heard : IsFirstHeard m s (waiting m s).items q u =
     subst (λ h. IsHeardBy h m s q u) (hearing_waits t m s (w ++ p) waits ∙ unknown) last in
-    let here : IsFirstHeard m s (w ++ p) q u = subst (λ b. IsFirstHeard m s b q u) (waiting_is t m s (w ++ p) waits) heard in
-    first_again (nat_lt (length (p ++ q)) (5 - length w)) (begins_tls (front w (p ++ q))) t m u s w p q waits (front_moves w p q short)
+    let here : IsFirstHeard m s (w ++ p) q u = subst (λ b. IsFirstHeard m s b q u) (waiting_is t m s (w ++ p) waits)
+        heard in
+    first_again (nat_lt (length (p ++ q)) (5 - length w)) (begins_tls (front w (p ++ q))) t m u s w p q waits
+        (front_moves w p q short)
     (subst (λ b. IsFirstBy b (begins_tls (front w (p ++ q))) m s (w ++ p) q u) (short_moves w p q short)
-    (subst (λ b. IsFirstBy (nat_lt (length q) (5 - length (w ++ p))) (begins_tls b) m s (w ++ p) q u) (front_moves w p q short) here))
+    (subst (λ b. IsFirstBy (nat_lt (length q) (5 - length (w ++ p))) (begins_tls b) m s (w ++ p) q u) (front_moves w p q
+        short) here))
 
-both_long : (tls : Bool) (t m u : Talk) (s : Side) (w p q : Bytes) → 5 - length w ≤ length p → IsFirstBy false tls t s w p m → IsHeardOn m s q u
+both_long : (tls : Bool) (t m u : Talk) (s : Side) (w p q : Bytes) → 5 - length w ≤ length p
+    → IsFirstBy false tls t s w p m → IsHeardOn m s q u
     → IsFirstBy false tls t s w (p ++ q) u
 both_long true t m u s w p q long first last =
-    let known : IsKnown (hearing (told_tls first.0 s) s) = subst IsKnown (sym (hearing_with (record first.0 { is_tls = true }) s Clear))
+    let known : IsKnown (hearing (told_tls first.0 s) s) = subst IsKnown (sym (hearing_with (record first.0 { is_tls =
+        true }) s Clear))
     (λ e. absurd cc) in (
       first.0,
       first.1,
-      subst (λ b. IsNext (told_tls first.0 s) s b u) (append_assoc w p q) (next_on (told_tls first.0 s) m u s (w ++ p) q first.2
+      subst (λ b. IsNext (told_tls first.0 s) s b u) (append_assoc w p q) (next_on (told_tls first.0 s) m u s (w ++ p) q
+          first.2
           (heard_next m u s q (hearing m s) (known_next (told_tls first.0 s) m s (w ++ p) known first.2) last)),
     )
 both_long false t m u s w p q long first last =
@@ -170,14 +187,16 @@ both_long false t m u s w p q long first last =
       same ∙ first.4,
     )
 
-both_first : (t m u : Talk) (s : Side) (p q : Bytes) → hearing t s ≡ Unknown → IsFirstHeard t s (waiting t s).items p m → IsHeardOn m s q u
+both_first : (t m u : Talk) (s : Side) (p q : Bytes) → hearing t s ≡ Unknown
+    → IsFirstHeard t s (waiting t s).items p m → IsHeardOn m s q u
     → IsFirstHeard t s (waiting t s).items (p ++ q) u
 both_first t m u s p q unknown first last = go (nat_lt (length p) (5 - length w)) refl first
   where
     w : Bytes
     w = (waiting t s).items
 
-    go : (b : Bool) → nat_lt (length p) (5 - length w) ≡ b → IsFirstBy b (begins_tls (front w p)) t s w p m → IsFirstHeard t s w (p ++ q) u
+    go : (b : Bool) → nat_lt (length p) (5 - length w) ≡ b → IsFirstBy b (begins_tls (front w p)) t s w p m
+        → IsFirstHeard t s w (p ++ q) u
     go true is by = both_short t m u s p q unknown (ltb-true (length p) (5 - length w) is) by last
     go false is by = let long : 5 - length w ≤ length p = ltb-false (length p) (5 - length w) is in
         subst (λ b. IsFirstBy b (begins_tls (front w (p ++ q))) t s w (p ++ q) u) (sym (long_stays w p q long))
@@ -185,7 +204,8 @@ both_first t m u s p q unknown first last = go (nat_lt (length p) (5 - length w)
         (both_long (begins_tls (front w p)) t m u s w p q long by last))
 
 -- Two pieces of a side are heard as one.
-pub both_heard : (t m u : Talk) (s : Side) (p q : Bytes) → IsHeardOn t s p m → IsHeardOn m s q u → IsHeardOn t s (p ++ q) u
+pub both_heard : (t m u : Talk) (s : Side) (p q : Bytes) → IsHeardOn t s p m → IsHeardOn m s q u
+    → IsHeardOn t s (p ++ q) u
 both_heard t m u s p q first last = go (hearing t s) refl
   where
     go : (h : Hearing) → hearing t s ≡ h → IsHeardOn t s (p ++ q) u

@@ -1,5 +1,6 @@
 -- What is heard of a side, event by event.
-use Rattle.std.proofs.Common.{◌≡◌, ℕ, ◌+◌, ◌-◌, ◌^◌, inl, inr, List, [], ◌∷◌, length, Bool, false, ◌||◌, Option, Some, None, refl, sym, ◌∙◌, ap, subst, arith}
+use Rattle.std.proofs.Common.{◌≡◌, ℕ, ◌+◌, ◌-◌, ◌^◌, inl, inr, List, [], ◌∷◌, length, Bool, false, ◌||◌, Option, Some,
+    None, refl, sym, ◌∙◌, ap, subst, arith}
 use Rattle.std.specs.Global.{Vec}
 use Rattle.tls_fields.specs.Bytes.{Bytes}
 use Rattle.tls_events.specs.Item.{Event as Said}
@@ -25,7 +26,8 @@ pub record IsOn (h : Hearer) (s : Side) (p : Bytes) (i : Hearer) (n : ℕ) (b : 
   pub sealed : b ≡ has_sealed said
   pub ready : IsReady (ear i.conversation s)
 
-pub on_begun : (h i : Hearer) (s : Side) (p : Bytes) → IsFed h s p i → IsReady (ear i.conversation s) → IsOn h s p i 0 false
+pub on_begun : (h i : Hearer) (s : Side) (p : Bytes) → IsFed h s p i → IsReady (ear i.conversation s)
+    → IsOn h s p i 0 false
 on_begun h i s p fed ready = record {
   begun = i.conversation;
   said = [];
@@ -91,7 +93,8 @@ on_none h i j s p n b on taken = go (front_of (ear i.conversation s)) refl taken
     go (Some v) front some = absurd cc
     go None front none = subst (λ x. IsHeard h s p x b) (sym none.1) (heard front)
 
-pub on_end : (h i : Hearer) (s : Side) (p : Bytes) (n : ℕ) (b : Bool) → IsOn h s p i n b → n ≡ 2 ^ 64 - 1 → IsHeard h s p i b
+pub on_end : (h i : Hearer) (s : Side) (p : Bytes) (n : ℕ) (b : Bool) → IsOn h s p i n b → n ≡ 2 ^ 64 - 1
+    → IsHeard h s p i b
 on_end h i s p n b on end = record {
   begun = on.begun;
   said = on.said;

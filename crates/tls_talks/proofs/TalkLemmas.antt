@@ -1,5 +1,6 @@
 -- A side's piece that is cut in two is heard as it is whole, up to the event by which the side is over.
-use Rattle.std.proofs.Common.{◌≡◌, ◌-◌, ◌^◌, inl, inr, List, [], ◌∷◌, ◌++◌, Bool, true, false, ◌||◌, refl, sym, ◌∙◌, ap, subst}
+use Rattle.std.proofs.Common.{◌≡◌, ◌-◌, ◌^◌, inl, inr, List, [], ◌∷◌, ◌++◌, Bool, true, false, ◌||◌, refl, sym, ◌∙◌, ap,
+    subst}
 use Rattle.tls_fields.specs.Bytes.{Bytes}
 use Rattle.tls_events.specs.Item.{Event as Said}
 use Rattle.tls_flow.specs.Steps.{follow}
@@ -13,12 +14,14 @@ use Rattle.tls_conversations.specs.declared.conversation.Conversation.{Conversat
 use Rattle.tls_facts.specs.Facts.{view_facts}
 use Rattle.tls_talks.specs.History.{history}
 use Rattle.tls_talks.specs.Noting.{facts, has_sealed}
-use Rattle.tls_talks.specs.Talks.{AreHeard, IsFollowed, IsHeardBy, IsHeardOn, IsLeft, IsNext, IsNextBy, flow_behind, hearing, hearing_behind, is_over, over_behind, over_by, sealed_if, with_hearing}
+use Rattle.tls_talks.specs.Talks.{AreHeard, IsFollowed, IsHeardBy, IsHeardOn, IsLeft, IsNext, IsNextBy, flow_behind,
+    hearing, hearing_behind, is_over, over_behind, over_by, sealed_if, with_hearing}
 use Rattle.tls_talks.specs.declared.hearer.Hearer.{Hearer}
 use Rattle.tls_talks.specs.declared.talk.Hearing.{Hearing}
 use Rattle.tls_talks.specs.declared.talk.Hearing.TheVariants.{Unknown, Clear, Encrypted, Other}
 use Rattle.tls_talks.specs.declared.talk.Talk.{Talk}
-use Rattle.tls_talks.proofs.CutLemmas.{facts_on, fed_further, further, history_on, joined, longer, past_further, sealed_on}
+use Rattle.tls_talks.proofs.CutLemmas.{facts_on, fed_further, further, history_on, joined, longer, past_further,
+    sealed_on}
 
 pub flow_is : (c d : Conversation) (s : Side) (vs : List Said) → IsPast c s vs d → d.flow ≡ flow_behind s c.flow vs
 flow_is c d s [] past = ap (λ (x : Conversation). x.flow) past
@@ -53,11 +56,13 @@ hearing_with t ToServer h = refl
 hearing_with t FromServer h = refl
 
 pub with_again : (t : Talk) (s : Side) (a b : Hearer) (h g : Hearing)
-    → with_hearing (record (with_hearing (record t { hearer = a }) s h) { hearer = b }) s g ≡ with_hearing (record t { hearer = b }) s g
+    → with_hearing (record (with_hearing (record t { hearer = a }) s h) { hearer = b }) s g ≡ with_hearing (record t {
+        hearer = b }) s g
 with_again t ToServer a b h g = refl
 with_again t FromServer a b h g = refl
 
-pub hearing_is : (t u : Talk) (s : Side) (h : Hearing) → u ≡ with_hearing (record t { hearer = u.hearer }) s h → hearing u s ≡ h
+pub hearing_is : (t u : Talk) (s : Side) (h : Hearing) → u ≡ with_hearing (record t { hearer = u.hearer }) s h
+    → hearing u s ≡ h
 hearing_is t u s h same = ap (λ x. hearing x s) same ∙ hearing_with (record t { hearer = u.hearer }) s h
 
 left_flow : (b : Bool) (s : Side) (vs : List Said) (c d : Conversation) → IsLeft b s vs c d → d.flow ≡ c.flow
@@ -68,10 +73,12 @@ left_flow false s vs c d left = ap (λ (x : Conversation). x.flow) left.0
 flow_of : (t u : Talk) (s : Side) (p : Bytes) (heard : IsFollowed t s p u)
     → u.hearer.conversation.flow ≡ flow_behind s t.hearer.conversation.flow heard.said
 flow_of t u s p heard =
-    left_flow (over_behind (hearing t s) s t.hearer.conversation.flow heard.said) s heard.said heard.behind u.hearer.conversation heard.left
+    left_flow (over_behind (hearing t s) s t.hearer.conversation.flow heard.said) s heard.said heard.behind
+        u.hearer.conversation heard.left
     ∙ flow_is heard.begun heard.behind s heard.said heard.past ∙ ap (λ f. flow_behind s f heard.said) heard.fed.flow
 
-hearing_of : (t u : Talk) (s : Side) (p : Bytes) (heard : IsFollowed t s p u) → hearing u s ≡ hearing_behind (hearing t s) heard.said
+hearing_of : (t u : Talk) (s : Side) (p : Bytes) (heard : IsFollowed t s p u)
+    → hearing u s ≡ hearing_behind (hearing t s) heard.said
 hearing_of t u s p heard = hearing_is t u s (hearing_behind (hearing t s) heard.said) heard.same
 
 over_of : (t u : Talk) (s : Side) (p : Bytes) (heard : IsFollowed t s p u)
@@ -80,11 +87,13 @@ over_of t u s p heard =
     ap (λ h. over_by h (outcome_at u.hearer.conversation.flow.state)) (hearing_of t u s p heard)
     ∙ ap (λ (f : Flow). over_by (hearing_behind (hearing t s) heard.said) (outcome_at f.state)) (flow_of t u s p heard)
 
-left_further : (s : Side) (vs : List Said) (q : Bytes) (c d : Conversation) → IsLeft true s vs c d → IsLeft true s vs (further c s q) d
+left_further : (s : Side) (vs : List Said) (q : Bytes) (c d : Conversation) → IsLeft true s vs c d
+    → IsLeft true s vs (further c s q) d
 left_further ToServer vs q c d left = left
 left_further FromServer vs q c d left = left
 
-left_longer : (b : Bool) (s : Side) (vs ws : List Said) (c d : Conversation) → IsLeft b s ws c d → IsLeft b s (ws ++ vs) c d
+left_longer : (b : Bool) (s : Side) (vs ws : List Said) (c d : Conversation) → IsLeft b s ws c d
+    → IsLeft b s (ws ++ vs) c d
 left_longer true s vs ws c d left = left
 left_longer false s vs ws c d (same, inl none) = (same, inl none)
 left_longer false s vs ws c d (same, inr few) = (same, inr (longer vs ws (2 ^ 64 - 1) few))
@@ -108,13 +117,16 @@ over_still t m s p q first over = record {
 }
 
 both_followed : (t m u : Talk) (s : Side) (p q : Bytes) (first : IsFollowed t s p m)
-    → over_behind (hearing t s) s t.hearer.conversation.flow first.said ≡ false → IsFollowed m s q u → IsFollowed t s (p ++ q) u
+    → over_behind (hearing t s) s t.hearer.conversation.flow first.said ≡ false → IsFollowed m s q u
+        → IsFollowed t s (p ++ q) u
 both_followed t m u s p q first over last =
     let left : IsLeft false s first.said first.behind m.hearer.conversation =
     subst (λ b. IsLeft b s first.said first.behind m.hearer.conversation) over first.left in
-    let whole = joined t.hearer.conversation first.begun m.hearer.conversation last.begun last.behind s p q first.said last.said first.fed
+    let whole = joined t.hearer.conversation first.begun m.hearer.conversation last.begun last.behind s p q first.said
+        last.said first.fed
     (subst (λ c. IsPast first.begun s first.said c) (sym left.0) first.past) last.fed last.past in
-    let at_flow : m.hearer.conversation.flow ≡ flow_behind s t.hearer.conversation.flow first.said = flow_of t m s p first in
+    let at_flow : m.hearer.conversation.flow ≡ flow_behind s t.hearer.conversation.flow first.said = flow_of t m s p
+        first in
     let at_hearing : hearing m s ≡ hearing_behind (hearing t s) first.said = hearing_of t m s p first in
     record {
       begun = whole.begun;
@@ -125,25 +137,32 @@ both_followed t m u s p q first over last =
       heard = heard_on (hearing t s) s t.hearer.conversation.flow first.said last.said first.heard
           (subst (λ h. AreHeard h s (flow_behind s t.hearer.conversation.flow first.said) last.said) at_hearing
           (subst (λ f. AreHeard (hearing m s) s f last.said) at_flow last.heard));
-      left = left_longer (over_behind (hearing t s) s t.hearer.conversation.flow (last.said ++ first.said)) s first.said last.said last.behind
+      left = left_longer (over_behind (hearing t s) s t.hearer.conversation.flow (last.said ++ first.said)) s first.said
+          last.said last.behind
           u.hearer.conversation (subst (λ b. IsLeft b s last.said last.behind u.hearer.conversation)
           (ap (λ h. over_behind h s m.hearer.conversation.flow last.said) at_hearing
           ∙ ap (λ f. over_behind (hearing_behind (hearing t s) first.said) s f last.said) at_flow
           ∙ over_on (hearing t s) s t.hearer.conversation.flow first.said last.said) last.left);
-      facts = last.facts ∙ ap (λ f. facts s f last.said) first.facts ∙ facts_on s (view_facts t.hearer.facts) first.said last.said;
-      history = last.history ∙ ap (λ h. history s h last.said) first.history ∙ history_on s t.hearer.history.items first.said last.said;
-      same = last.same ∙ ap (λ x. with_hearing (record x { hearer = u.hearer }) s (hearing_behind (hearing m s) last.said)) first.same
-          ∙ with_again t s m.hearer u.hearer (hearing_behind (hearing t s) first.said) (hearing_behind (hearing m s) last.said)
+      facts = last.facts ∙ ap (λ f. facts s f last.said) first.facts
+          ∙ facts_on s (view_facts t.hearer.facts) first.said last.said;
+      history = last.history ∙ ap (λ h. history s h last.said) first.history
+          ∙ history_on s t.hearer.history.items first.said last.said;
+      same = last.same ∙ ap (λ x. with_hearing (record x { hearer = u.hearer }) s (hearing_behind (hearing m s)
+          last.said)) first.same
+          ∙ with_again t s m.hearer u.hearer (hearing_behind (hearing t s) first.said) (hearing_behind (hearing m s)
+              last.said)
           ∙ ap (λ h. with_hearing (record t { hearer = u.hearer }) s (hearing_behind h last.said)) at_hearing
           ∙ ap (λ h. with_hearing (record t { hearer = u.hearer }) s h) (hearing_on (hearing t s) first.said last.said);
     }
 
-pub followed_on : (t m u : Talk) (s : Side) (p q : Bytes) → IsFollowed t s p m → IsNext m s q u → IsFollowed t s (p ++ q) u
+pub followed_on : (t m u : Talk) (s : Side) (p q : Bytes) → IsFollowed t s p m → IsNext m s q u
+    → IsFollowed t s (p ++ q) u
 followed_on t m u s p q first last =
     go (over_behind (hearing t s) s t.hearer.conversation.flow first.said) refl
     (subst (λ b. IsNextBy b m s q u) (over_of t m s p first) last)
   where
-    go : (b : Bool) → over_behind (hearing t s) s t.hearer.conversation.flow first.said ≡ b → IsNextBy b m s q u → IsFollowed t s (p ++ q) u
+    go : (b : Bool) → over_behind (hearing t s) s t.hearer.conversation.flow first.said ≡ b → IsNextBy b m s q u
+        → IsFollowed t s (p ++ q) u
     go true over next = subst (λ x. IsFollowed t s (p ++ q) x) (sym next) (over_still t m s p q first over)
     go false over next = both_followed t m u s p q first over next
 
@@ -182,7 +201,8 @@ next_heard t u s b Clear known heard = heard
 next_heard t u s b Encrypted known heard = heard
 next_heard t u s b Other known heard = heard
 
-pub both_known : (t m u : Talk) (s : Side) (p q : Bytes) → IsKnown (hearing t s) → IsHeardOn t s p m → IsHeardOn m s q u → IsHeardOn t s (p ++ q) u
+pub both_known : (t m u : Talk) (s : Side) (p q : Bytes) → IsKnown (hearing t s) → IsHeardOn t s p m
+    → IsHeardOn m s q u → IsHeardOn t s (p ++ q) u
 both_known t m u s p q known first last =
     let next : IsNext t s p m = heard_next t m s p (hearing t s) known first in
     next_heard t u s (p ++ q) (hearing t s) known (next_on t m u s p q next

@@ -156,3 +156,8 @@ pub record IsKnown (k : Talk) (t : DatagramTalk) : Type 0 where
 pub record IsStepped (s : Side) (x : Step) (t u : Told) (n : Kept) : Type 0 where
   pub stands : Stands allowed x.0 n
   pub told : u ≡ said_all s t x.1
+
+-- A speaker heard a datagram: what its side said then is told, by the account and the progress before and after.
+abbrev pub SpeakerHears : Side → Heard → Bytes → Account → Account → Speaker → Speaker → Type 0
+SpeakerHears s h d a b t u =
+    IsStepped s (datagram allowed h d) (told_of a t.progress) (told_of b u.progress) u.messages

@@ -5,7 +5,7 @@ ghost use Rattle.dtls_stream.specs.Datagrams.{datagram as datagram_step};
 ghost use Rattle.tls_conversations.specs.Conversations.{views};
 ghost use Rattle.tls_facts.specs.Facts.{view_facts};
 ghost use Rattle.tls_flow.specs.Table.{outcome_at};
-ghost use Rattle.tls_talks.specs.Datagrams.{IsKnown, IsSpoken, IsStepped, Talk, allowed, heard, heard_all, is_over as is_over_in, none_spoken, spoken, stepped, told_of, untold};
+ghost use Rattle.tls_talks.specs.Datagrams.{IsKnown, IsSpoken, SpeakerHears, Talk, allowed, heard, heard_all, is_over as is_over_in, none_spoken, spoken, stepped, untold};
 ghost use Rattle.tls_talks.specs.Ends.{is_established as established_by, is_resumed as resumed_by};
 
 use crate::account::{Account, Progress};
@@ -54,7 +54,7 @@ impl Speaker {
         datagram: &[u8],
     ) -> Result<(), AllocError>
         ensures { (h : Heard) → Stands allowed h self.old.messages
-            → OnOk result (IsStepped side (datagram_step allowed h datagram.now) (told_of account.old self.old.progress) (told_of account.new self.new.progress) self.new.messages) }
+            → OnOk result (SpeakerHears side h datagram.now account.old account.new self.old self.new) }
     {
         let mut events = Vec::new(alloc);
         read_datagram(alloc, &mut self.messages, datagram, &mut events).map_err(|_e| AllocError)?;
