@@ -39,7 +39,18 @@ behind_front n Over = Over
 
 -- One of which nothing came.
 abbrev pub silent_stream : Stream
-silent_stream = record { reading = Unbegun; next = 0; last = 0; fin = None; is_broken = false; has_gap = false; length = 0; repeated = 0; disagreeing = 0; passing = None }
+silent_stream = record {
+  reading = Unbegun;
+  next = 0;
+  last = 0;
+  fin = None;
+  is_broken = false;
+  has_gap = false;
+  length = 0;
+  repeated = 0;
+  disagreeing = 0;
+  passing = None;
+}
 
 -- The number of the first byte that was not handed out, when more are.
 abbrev pub next_behind : ℕ → Reading → ℕ → ℕ
@@ -119,7 +130,8 @@ with_numbers s t = record t {
   fin = if ends s then Some (behind_of s) else t.fin;
 }
 
--- Its bytes are taken, and those of them that stood, or don't agree with those that stand, are counted. Where the stream is read no further from then on, bytes are missing.
+-- Its bytes are taken, and those of them that stood, or don't agree with those that stand, are counted. Where the stream is read no
+-- further from then on, bytes are missing.
 pub record HasPut (s : Segment) (old new : Stream) : Type 0 where
   pub bytes : Accepts (first_of s) s.payload.now old.reading new.reading
   pub repeated : new.repeated ≡ with_repeated s old.passing old.reading new.reading old.repeated

@@ -40,7 +40,8 @@ pub fn what_stands_under_other_ends_stays<T>()
 /// The next number of a stream is that of the place from which on it holds bytes: at first, and behind each call.
 pub fn the_next_number_is_that_of_what_is_held()
     ensures silent { IsNumberOf silent_stream.next silent_stream.reading }
-    ensures accepted { (s : Segment) (old new : Stream) → s.sequence < 2 ^ 32 → HasTaken s old new → IsNumberOf old.next old.reading → IsNumberOf new.next new.reading }
+    ensures accepted { (s : Segment) (old new : Stream) → s.sequence < 2 ^ 32 → HasTaken s old new
+        → IsNumberOf old.next old.reading → IsNumberOf new.next new.reading }
     ensures noted { (s : Segment) (t : Stream) → s.sequence < 2 ^ 32 → IsNumberOf t.next t.reading → IsNumberOf (noted s t).next (noted s t).reading }
     ensures taken { (n next : ℕ) (r : Reading) → IsNumberOf next r → IsNumberOf (next_behind n r next) (behind_front n r) }
     ensures stopped { (t : Stream) → IsNumberOf t.next t.reading → IsNumberOf (stopped t t.reading).next (stopped t t.reading).reading }
