@@ -1,13 +1,17 @@
 -- What a table of ends holds after a step.
 use Rattle.std.proofs.Common.{◌≡◌, ℕ, zero, suc, ◌-◌, ◌≤◌, true, false, Option, Some, None, List, [], ◌∷◌, ◌++◌, length}
 use Rattle.std.proofs.Common.{take, slice_get, refl, sym, ap, ◌∙◌, subst, arith, rules, Bool, cond}
+use Rattle.std.specs.Prelude.{OnErr, Result, Ok, Err}
 use Rattle.std.specs.Map.{lookup_entry, set_value}
 use Rattle.lru.specs.LruCache.{LruCache, promoted, put_entries, last_entry}
 use Rattle.connections.specs.Ends.{are_ends}
-use Rattle.connections.specs.Table.{at, others, WasLast, IsOver, IsForgotten, IsPut}
+use Rattle.connections.specs.Segment.{ends_of}
+use Rattle.connections.specs.Connection.{without_bytes}
+use Rattle.connections.specs.Table.{at, others, left_out, WasLast, IsOver, IsForgotten, IsPut}
 use Rattle.connections.specs.Table.IsForgotten.{one}
 use Rattle.connections.specs.declared.ends.Ends.{Ends}
 use Rattle.connections.specs.declared.connection.Connection.{Connection}
+use Rattle.connections.specs.declared.segment.Segment.{Segment}
 
 -- Equal ends are the same.
 pub the_same : (a b : Ends) → are_ends a b ≡ true → a ≡ b
@@ -113,3 +117,16 @@ module _ {X : Type 0} (e f : Ends) (apart : e ≡ f → ⊥) where
   pub at-others : (xs : List (Ends × X)) → at f (others e xs) ≡ at f xs
   at-others [] = refl
   at-others (x ∷ xs) = one_more x xs (are_ends e x.0) (are_ends f x.0) refl refl (at-others xs)
+
+-- What holds anyway holds on an error.
+pub on_err : {A E P : Type 0} → (r : Result A E) → P → OnErr r P
+on_err (Ok x) p = _
+on_err (Err e) p = p
+
+-- Written to the one that is found, without the segment's bytes.
+pub left_in : {T : Type 0} → (s : Segment) (xs : List (Ends × Connection T)) (c w : Connection T)
+    → Some c ≡ at (ends_of s) xs → w ≡ without_bytes s c
+    → set_value (are_ends (ends_of s)) (promoted (are_ends (ends_of s)) xs) w ≡ left_out s (at (ends_of s) xs) xs
+left_in s xs c w h eq = let e = ends_of s in
+    subst (λ o. set_value (are_ends e) (promoted (are_ends e) xs) w ≡ left_out s o xs) h
+    (written e xs c w (sym h) ∙ ap (λ v. (e, v) ∷ others e xs) eq)

@@ -2,7 +2,7 @@
 use Rattle.std.specs.Prelude.{◌≡◌, ℕ, ◌==◌, Bool, false, ◌&&◌, not, Option, Some, None, if◌then◌else◌, length}
 use Rattle.connections.specs.Ends.{is_end}
 use Rattle.connections.specs.Segment.{answers, asks, first_of}
-use Rattle.connections.specs.Stream.{silent_stream, HasTaken, is_over}
+use Rattle.connections.specs.Stream.{silent_stream, noted, HasTaken, is_over}
 use Rattle.connections.specs.Traffic.{nothing_sent, with_packet}
 use Rattle.connections.specs.declared.datagram.Datagram.{Datagram}
 use Rattle.connections.specs.declared.ends.Protocol.{Protocol}
@@ -78,6 +78,23 @@ module _ {T : Type 0} where
 
   abbrev pub Accepts : Segment → Connection T → Connection T → Type 0
   Accepts s old new = TakesFrom (side_of old s.source) s old new
+
+  -- The same of a segment whose bytes are left out.
+  abbrev pub noted_from : Side → Segment → Connection T → Connection T
+  noted_from Originator s c = record c {
+    last_time = s.time;
+    asked = if asks s then Some (first_of s) else c.asked;
+    from_originator = noted s c.from_originator;
+    originator_sent = with_packet (length s.payload.now) c.originator_sent;
+  }
+  noted_from Responder s c = record c {
+    last_time = s.time;
+    from_responder = noted s c.from_responder;
+    responder_sent = with_packet (length s.payload.now) c.responder_sent;
+  }
+
+  abbrev pub without_bytes : Segment → Connection T → Connection T
+  without_bytes s c = noted_from (side_of c s.source) s c
 
   -- A datagram is counted, and its time noted.
   abbrev pub counts_from : Side → Datagram → Connection T → Connection T

@@ -1,5 +1,5 @@
 -- What is read of a direction.
-use Rattle.std.specs.Prelude.{◌≡◌, ◌⊎◌, ℕ, ◌+◌, ◌-◌, ◌%◌, ◌^◌, ◌==◌, Bool, true, false, nat_lt, ◌&&◌, ◌||◌, if◌then◌else◌, Option, Some, None, [], length, min, take, drop}
+use Rattle.std.specs.Prelude.{◌≡◌, ◌⊎◌, ℕ, ◌+◌, ◌-◌, ◌%◌, ◌^◌, ◌==◌, ⊤, Bool, true, false, nat_lt, ◌&&◌, ◌||◌, if◌then◌else◌, Option, Some, None, [], length, min, take, drop}
 use Rattle.segments.specs.Cells.{Bytes, Held, differing_in, known_behind, run, with_segment, without_front, IsTooMuch}
 use Rattle.connections.specs.Segment.{breaks, ends, first_of, behind_of}
 use Rattle.connections.specs.Traffic.{plus}
@@ -19,9 +19,9 @@ begun limit first Unbegun = Open (empty_from limit first)
 begun limit first (Open h) = Open h
 begun limit first Over = Over
 
--- A segment's bytes are put where none stood; where it ends too far behind what is missing, the stream is read no further.
+-- A segment's bytes are put where none stood; exactly where it ends too far behind what is missing, the stream is read no further.
 abbrev pub Accepts : ℕ → Bytes → Reading → Reading → Type 0
-Accepts seq b (Open h) r = (IsTooMuch seq b h × (r ≡ Over)) ⊎ (r ≡ Open (with_segment seq b h))
+Accepts seq b (Open h) r = (IsTooMuch seq b h × (r ≡ Over)) ⊎ ((¬ IsTooMuch seq b h) × (r ≡ Open (with_segment seq b h)))
 Accepts seq b Unbegun r = r ≡ Unbegun
 Accepts seq b Over r = r ≡ Over
 
@@ -39,7 +39,18 @@ behind_front n Over = Over
 
 -- One of which nothing came.
 abbrev pub silent_stream : Stream
-silent_stream = record { reading = Unbegun; next = 0; last = 0; fin = None; is_broken = false; has_gap = false; length = 0; repeated = 0; disagreeing = 0; passing = None }
+silent_stream = record {
+  reading = Unbegun;
+  next = 0;
+  last = 0;
+  fin = None;
+  is_broken = false;
+  has_gap = false;
+  length = 0;
+  repeated = 0;
+  disagreeing = 0;
+  passing = None;
+}
 
 -- The number of the first byte that was not handed out, when more are.
 abbrev pub next_behind : ℕ → Reading → ℕ → ℕ
@@ -119,7 +130,8 @@ with_numbers s t = record t {
   fin = if ends s then Some (behind_of s) else t.fin;
 }
 
--- Its bytes are taken, and those of them that stood, or don't agree with those that stand, are counted. Where the stream is read no further from then on, bytes are missing.
+-- Its bytes are taken, and those of them that stood, or don't agree with those that stand, are counted. Where the stream is read no
+-- further from then on, bytes are missing.
 pub record HasPut (s : Segment) (old new : Stream) : Type 0 where
   pub bytes : Accepts (first_of s) s.payload.now old.reading new.reading
   pub repeated : new.repeated ≡ with_repeated s old.passing old.reading new.reading old.repeated
@@ -135,9 +147,13 @@ begun_by s t = record t {
   last = number_begun t.reading (first_of s) t.last;
 }
 
+-- What is noted of a segment without RST, before its bytes are taken.
+abbrev pub noted : Segment → Stream → Stream
+noted s t = with_numbers s (begun_by s t)
+
 -- A segment with RST breaks the stream off, and its bytes are not read; of any other the numbers are noted and the bytes taken.
 pub record HasTaken (s : Segment) (old new : Stream) : Type 0 where
-  pub taken : breaks s ≡ false → HasPut s (with_numbers s (begun_by s old)) new
+  pub taken : breaks s ≡ false → HasPut s (noted s old) new
   pub broken : breaks s ≡ true → new ≡ record old { is_broken = true }
 
 -- All in front of the FIN came, or is not read any more.
@@ -159,3 +175,9 @@ abbrev pub lacks : Stream → Reading → Bool
 lacks s (Open h) = is_behind s.last ((s.next + length (run h.cells)) % 2 ^ 32)
 lacks s Unbegun = s.has_gap
 lacks s Over = s.has_gap
+
+-- The next number of a stream is that of the place from which on it holds bytes, within the limit.
+abbrev pub IsNumberOf : ℕ → Reading → Type 0
+IsNumberOf next (Open h) = (next ≡ (h.first + h.taken) % 2 ^ 32) × (h.limit ≡ HELD_LIMIT)
+IsNumberOf next Unbegun = ⊤
+IsNumberOf next Over = ⊤

@@ -5,7 +5,7 @@ use Rattle.std.specs.Map.{lookup, remove_entry}
 use Rattle.lru.specs.LruCache.{last_entry}
 use Rattle.connections.specs.Ends.{are_ends}
 use Rattle.connections.specs.Segment.{asks, begins_one, ends_of}
-use Rattle.connections.specs.Connection.{IsBegunBy, Accepts, is_another, is_closed, begun_by_datagram, with_datagram}
+use Rattle.connections.specs.Connection.{IsBegunBy, Accepts, without_bytes, is_another, is_closed, begun_by_datagram, with_datagram}
 use Rattle.connections.specs.declared.datagram.Datagram.{Datagram}
 use Rattle.connections.specs.declared.ends.Ends.{Ends}
 use Rattle.connections.specs.declared.segment.Segment.{Segment}
@@ -42,6 +42,10 @@ pub data IsForgotten (time : ℕ) (xs : List (Ends × ℕ)) : List (Ends × ℕ)
   none : IsForgotten time xs xs
   one : (ys zs : List (Ends × ℕ)) (e : Ends × ℕ) → IsForgotten time xs ys → ys ≡ zs ++ e ∷ [] → IsOver time ys e.1 → IsForgotten time xs zs
 
+-- None is left that is to be taken out: the one that stands last isn't over.
+abbrev pub NoneToForget : ℕ → List (Ends × ℕ) → Type 0
+NoneToForget time xs = IfSome (last_entry xs) (λ e. ¬ IsOver time xs e.1)
+
 module _ {T : Type 0} where
   -- What goes to these ends goes to the one connection there, which stands first then. The others stay.
   pub record IsPut (e : Ends) (Takes : Option (Connection T) → Connection T → Type 0) (xs ys : List (Ends × Connection T)) : Type 0 where
@@ -70,6 +74,11 @@ module _ {T : Type 0} where
   -- The one that was longest without a packet isn't over.
   abbrev pub NoneIsOver : ℕ → List (Ends × Connection T) → Type 0
   NoneIsOver time xs = IfSome (last_entry xs) (λ e. ¬ IsOver time xs e.1.last_time)
+
+  -- Where memory is refused, the bytes are left out of the connection that was there; where there was none, none is begun.
+  abbrev pub left_out : Segment → Option (Connection T) → List (Ends × Connection T) → List (Ends × Connection T)
+  left_out s (Some c) xs = (ends_of s, without_bytes s c) ∷ others (ends_of s) xs
+  left_out s None xs = xs
 
   -- The connection between the segment's ends, where the segment asks for another one, and where both sides said their last.
   abbrev pub replaced : Segment → Table T → Option (Connection T)

@@ -1,6 +1,6 @@
 //! A connection of TCP, or an exchange over UDP.
-ghost use Rattle.std.specs.Prelude.{◌≡◌, OnOk};
-ghost use Rattle.connections.specs.Connection.{silent, IsBegunBy, Accepts, side_of, stream_of, sent_by, is_closed, is_another, begun_by_datagram, with_datagram};
+ghost use Rattle.std.specs.Prelude.{◌≡◌, OnOk, OnErr};
+ghost use Rattle.connections.specs.Connection.{silent, IsBegunBy, Accepts, without_bytes, side_of, stream_of, sent_by, is_closed, is_another, begun_by_datagram, with_datagram};
 
 use crate::datagram::Datagram;
 use crate::ends::{End, Protocol};
@@ -152,7 +152,8 @@ impl<T: Listener> Connection<T> {
 
     /// Puts the segment into its sender's stream. `AllocError` where its bytes could not be held: they are left out.
     pub(crate) fn accept(&mut self, alloc: Global, segment: &Segment<'_>) -> Result<(), AllocError>
-        ensures { OnOk result (Accepts segment.now self.old self.new) }
+        ensures taken { OnOk result (Accepts segment.now self.old self.new) }
+        ensures left_out { OnErr result (self.new ≡ without_bytes segment.now self.old) }
     {
         self.last_time = segment.time;
         match self.side_of(segment.source) {

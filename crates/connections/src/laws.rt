@@ -1,11 +1,15 @@
-//! What stands of the two ends of a connection. Each function's contract is one law.
-ghost use Rattle.std.specs.Prelude.{◌≡◌, ◌⊎◌, List};
+//! What stands of the two ends of a connection, and of the numbers of a stream. Each function's contract is one law.
+ghost use Rattle.std.specs.Prelude.{◌≡◌, ◌⊎◌, ◌<◌, ◌^◌, ℕ, List};
 ghost use Rattle.std.specs.Cmp.{IsPartialOrder, IsTotalOrder, Agrees};
 ghost use Rattle.connections.specs.Ends.{ends_between};
 ghost use Rattle.connections.specs.declared.ends.Protocol.{Protocol};
 ghost use Rattle.connections.specs.declared.ends.End.{End as AnEnd};
 ghost use Rattle.connections.specs.Table.{at, others};
 ghost use Rattle.connections.specs.declared.ends.Ends.{Ends};
+ghost use Rattle.connections.specs.declared.segment.Segment.{Segment};
+ghost use Rattle.connections.specs.declared.stream.Stream.{Stream};
+ghost use Rattle.connections.specs.declared.stream.Reading.{Reading};
+ghost use Rattle.connections.specs.Stream.{silent_stream, noted, behind_front, next_behind, stopped, HasTaken, IsNumberOf};
 
 use crate::ends::End;
 
@@ -31,4 +35,14 @@ pub fn no_other_packets_have_these_ends()
 /// What stands in a table under some ends stays where what stands under others is taken out.
 pub fn what_stands_under_other_ends_stays<T>()
     ensures { (e f : Ends) → (e ≡ f → ⊥) → (xs : List (Ends × T)) → at f (others e xs) ≡ at f xs }
+{}
+
+/// The next number of a stream is that of the place from which on it holds bytes: at first, and behind each call.
+pub fn the_next_number_is_that_of_what_is_held()
+    ensures silent { IsNumberOf silent_stream.next silent_stream.reading }
+    ensures accepted { (s : Segment) (old new : Stream) → s.sequence < 2 ^ 32 → HasTaken s old new
+        → IsNumberOf old.next old.reading → IsNumberOf new.next new.reading }
+    ensures noted { (s : Segment) (t : Stream) → s.sequence < 2 ^ 32 → IsNumberOf t.next t.reading → IsNumberOf (noted s t).next (noted s t).reading }
+    ensures taken { (n next : ℕ) (r : Reading) → IsNumberOf next r → IsNumberOf (next_behind n r next) (behind_front n r) }
+    ensures stopped { (t : Stream) → IsNumberOf t.next t.reading → IsNumberOf (stopped t t.reading).next (stopped t t.reading).reading }
 {}

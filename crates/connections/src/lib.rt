@@ -21,7 +21,7 @@ pub use datagram::Datagram;
 pub use ends::{End, Ends, Protocol};
 pub use laws::{
     both_directions_have_the_same_ends, no_other_packets_have_these_ends,
-    what_stands_under_other_ends_stays,
+    the_next_number_is_that_of_what_is_held, what_stands_under_other_ends_stays,
 };
 pub use segment::Segment;
 pub use stream::{HELD_LIMIT, Stream};

@@ -1,7 +1,7 @@
 //! One direction of a connection.
-ghost use Rattle.std.specs.Prelude.{◌≡◌, ◌%◌, ◌^◌, length, OnOk};
-ghost use Rattle.connections.specs.Segment.{first_of};
-ghost use Rattle.connections.specs.Stream.{begun_by, next_bytes, behind_front, next_behind, passed, passed_before, passing_behind, silent_stream, stopped, is_behind as comes_behind, advance as advance_of, came, with_numbers, HasPut, HasTaken, is_over, lacks};
+ghost use Rattle.std.specs.Prelude.{◌≡◌, ◌%◌, ◌^◌, length, false, OnOk, OnErr};
+ghost use Rattle.connections.specs.Segment.{breaks, first_of};
+ghost use Rattle.connections.specs.Stream.{begun_by, next_bytes, behind_front, next_behind, passed, passed_before, passing_behind, silent_stream, stopped, is_behind as comes_behind, advance as advance_of, came, with_numbers, noted, HasPut, HasTaken, is_over, lacks};
 ghost use Rattle.connections.specs.declared.stream.Reading.TheVariants.{Over};
 
 use crate::segment::Segment;
@@ -142,7 +142,8 @@ impl Stream {
 
     /// Puts the segment's bytes into what is held, and counts those of them that stood there.
     fn put(&mut self, segment: &Segment<'_>) -> Result<(), AllocError>
-        ensures { OnOk result (HasPut segment.now self.old self.new) }
+        ensures put { OnOk result (HasPut segment.now self.old self.new) }
+        ensures err { OnErr result (self.new ≡ self.old) }
     {
         match &mut self.reading {
             Reading::Open(segments) => {
@@ -171,7 +172,8 @@ impl Stream {
     /// Puts the segment's bytes where they stand. Where it ends more than [`HELD_LIMIT`] behind the first byte that is missing,
     /// there is a gap, and nothing further is read. `OutOfMemory` where its bytes could not be held: they are left out.
     pub fn accept(&mut self, alloc: Global, segment: &Segment<'_>) -> Result<(), AllocError>
-        ensures { OnOk result (HasTaken segment.now self.old self.new) }
+        ensures taken { OnOk result (HasTaken segment.now self.old self.new) }
+        ensures left_out { OnErr result ((breaks segment.now ≡ false) × (self.new ≡ noted segment.now self.old)) }
     {
         if segment.breaks() {
             self.is_broken = true;

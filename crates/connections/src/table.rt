@@ -1,9 +1,9 @@
 //! The connections that are open.
-ghost use Rattle.std.specs.Prelude.{◌≡◌, ◌-◌, ◌^◌, ◌≤◌, length, is_some, IfOk, IfSome, IfNone, OnErr, OnOk, [], ◌∷◌};
+ghost use Rattle.std.specs.Prelude.{◌≡◌, ◌-◌, ◌^◌, ◌≤◌, length, is_some, true, IfOk, IfSome, IfNone, OnErr, OnOk, [], ◌∷◌};
 ghost use Rattle.std.specs.Borrow.{sem};
 ghost use Rattle.std.specs.Option.{option_copied_mut};
 ghost use Rattle.connections.specs.Segment.{ends_of};
-ghost use Rattle.connections.specs.Table.{at, others, belongs, Puts, IsPut, TakesDatagram, WasLast, IsForgotten, IsOver, NoneIsOver, replaced, without_replaced, ended, without_ended};
+ghost use Rattle.connections.specs.Table.{at, others, belongs, Puts, IsPut, TakesDatagram, WasLast, IsForgotten, IsOver, NoneIsOver, NoneToForget, left_out, replaced, without_replaced, ended, without_ended};
 ghost use Rattle.connections.specs.Datagram.{ends_of_datagram};
 ghost use Rattle.connections.specs.Lends.{lends_connection};
 
@@ -61,6 +61,7 @@ fn put_under<X: Drop>(
 /// Forgets those that had no packet for more than [`IDLE_LIMIT`], and the oldest where there are more than [`MAX_CONNECTIONS`].
 fn forget_idle(closed: &mut LruCache<Ends, u64, RandomState>, time: u64)
     ensures forgotten { IsForgotten time closed.old.entries closed.new.entries }
+    ensures none_to_forget { NoneToForget time closed.new.entries }
     ensures cap { closed.new.cap ≡ closed.old.cap }
 {
     while let Some((_, last_time)) = closed.peek_lru() {
@@ -92,6 +93,8 @@ impl<T: Listener> Connections<T> {
         ensures belongs { IfOk result (λ belongs_to_one. belongs_to_one ≡ belongs segment.now self.old) }
         ensures put { IfOk result (λ belongs_to_one. Puts belongs_to_one segment.now self.old self.new) }
         ensures others { others (ends_of segment.now) self.new.live ≡ others (ends_of segment.now) self.old.live }
+        ensures refused { OnErr result (belongs segment.now self.old ≡ true) }
+        ensures left_out { OnErr result (self.new.live ≡ left_out segment.now (at (ends_of segment.now) self.old.live) self.old.live) }
         ensures closed { self.new.closed ≡ self.old.closed }
     {
         let ends = segment.between();
@@ -149,6 +152,7 @@ impl<T: Listener> Connections<T> {
         ensures taken { IfSome result (λ c. WasLast self.old.live self.new.live c × IsOver time self.old.live c.last_time) }
         ensures none { IfNone result ((self.new.live ≡ self.old.live) × NoneIsOver time self.old.live) }
         ensures closed { IsForgotten time self.old.closed self.new.closed }
+        ensures none_to_forget { NoneToForget time self.new.closed }
     {
         forget_idle(&mut self.closed, time);
         let (_, oldest) = self.live.peek_lru()?;

@@ -1,7 +1,7 @@
 use Rattle.std.proofs.Common.{sym, ap, ◌∙◌}
 use Rattle.connections.specs.Segment.{ends_of}
 use Rattle.connections.specs.Table.{others, TakesSegment}
-use Rattle.connections.proofs.TableLemmas.{put_in, put_new, written, others-first}
+use Rattle.connections.proofs.TableLemmas.{put_in, put_new, left_in, on_err, written, others-first}
 use Rattle.connections.proofs.table.Connections.accept.Goals as goal
 
 pub returns-in_err-accept-clause-others : goal.returns-in_err-accept-clause-others
@@ -11,12 +11,19 @@ returns-in_err-accept-clause-others g c =
     (ap (others e) (written e xs c.in-Some.connection.now c.accept.new.self
     (sym (rw c.between-ends.ensures at c.in-Some.ensures.value))) ∙ others-first e (others e xs) c.accept.new.self)
 
+pub returns-in_err-accept-clause-left_out : goal.returns-in_err-accept-clause-left_out
+returns-in_err-accept-clause-left_out g c =
+    let e = ends_of c.args.segment.now in let xs = c.self.inside.live.entries in
+    rw (c.between-ends.ensures, ← c.self.view_is)
+    (on_err c.from_residual.result (left_in c.args.segment.now xs c.in-Some.connection.now c.accept.new.self
+    (rw c.between-ends.ensures at c.in-Some.ensures.value) c.in_err-accept.ensures.left_out))
+
 pub returns-in-Some-clause-put : goal.returns-in-Some-clause-put
 returns-in-Some-clause-put g c =
     let e = ends_of c.args.segment.now in let xs = c.self.inside.live.entries in
     rw (c.between-ends.ensures, ← c.self.view_is)
     (put_in e (TakesSegment c.args.segment.now) xs c.accept.new.self c.in-Some.connection.now
-    (rw c.between-ends.ensures at c.in-Some.ensures.value) c.in_ok-accept.ensures)
+    (rw c.between-ends.ensures at c.in-Some.ensures.value) c.in_ok-accept.ensures.taken)
 
 pub returns-in-Some-clause-others : goal.returns-in-Some-clause-others
 returns-in-Some-clause-others g c =
@@ -30,5 +37,5 @@ returns-clause-put g c =
     let e = ends_of c.args.segment.now in let xs = c.self.inside.live.entries in
     rw (← c.self.view_is) (put_new e (TakesSegment c.args.segment.now) xs c.accept-2.new.self
     c.put_under.new.table.entries (rw c.between-ends.ensures at c.in_default.ensures.value)
-    (c.of_segment-connection.result, c.of_segment-connection.ensures, c.in_ok-accept-2.ensures)
+    (c.of_segment-connection.result, c.of_segment-connection.ensures, c.in_ok-accept-2.ensures.taken)
     (rw c.between-ends.ensures at c.in_ok-put_under.ensures.put))
