@@ -33,6 +33,12 @@ static void lies(size_t count, wispuddera_place p) {
     }
 }
 
+/* What follows begins within the bytes, or at their end. */
+static void follows(size_t count, size_t next) {
+    const wispuddera_place rest = {next, 0};
+    lies(count, rest);
+}
+
 /* `missing` is read behind the call. */
 static int is_read(uint32_t status, const size_t *missing) {
     calls += is_mutated && status != WISPUDDERA_OUTSIDE;
@@ -59,9 +65,8 @@ static void call_parts(const uint8_t *b, size_t n, size_t at) {
     for (i = 0; i < sizeof readers / sizeof *readers; i++) {
         wispuddera_part p = WISPUDDERA_EMPTY;
         if (is_read(readers[i](b, n, at, &p), &p.missing)) {
-            wispuddera_place rest = {p.next, 0};
             lies(n, p.content);
-            lies(n, rest);
+            follows(n, p.next);
         }
     }
     for (i = 0; i < sizeof finders / sizeof *finders; i++) {
@@ -87,12 +92,15 @@ static void call_others(const uint8_t *b, size_t n, size_t at) {
     wispuddera_number v = WISPUDDERA_EMPTY;
     if (is_read(wispuddera_read_record(b, n, at, &r), &r.missing)) {
         lies(n, r.fragment);
+        follows(n, r.next);
     }
     if (is_read(wispuddera_read_dtls_record(b, n, at, &d), &d.missing)) {
         lies(n, d.fragment);
+        follows(n, d.next);
     }
     if (is_read(wispuddera_read_dtls_message(b, n, at, &m), &m.missing)) {
         lies(n, m.body);
+        follows(n, m.next);
     }
     if (is_read(wispuddera_read_client_hello(b, n, &c), &c.missing)) {
         lies(n, c.random);
@@ -100,16 +108,19 @@ static void call_others(const uint8_t *b, size_t n, size_t at) {
         lies(n, c.cipher_suites);
         lies(n, c.compression_methods);
         lies(n, c.extensions);
+        follows(n, c.next);
     }
     if (is_read(wispuddera_read_server_hello(b, n, &s), &s.missing)) {
         lies(n, s.random);
         lies(n, s.session_id);
         lies(n, s.extensions);
+        follows(n, s.next);
     }
     if (is_read(wispuddera_read_dtls_server_hello(b, n, &s), &s.missing)) {
         lies(n, s.random);
         lies(n, s.session_id);
         lies(n, s.extensions);
+        follows(n, s.next);
     }
     if (is_read(wispuddera_read_dtls_client_hello(b, n, &h), &h.missing)) {
         lies(n, h.random);
@@ -118,6 +129,7 @@ static void call_others(const uint8_t *b, size_t n, size_t at) {
         lies(n, h.cipher_suites);
         lies(n, h.compression_methods);
         lies(n, h.extensions);
+        follows(n, h.next);
     }
     if (is_read(wispuddera_find_extension(b, n, (uint16_t)at, &f), &f.missing)) {
         lies(n, f.place);
