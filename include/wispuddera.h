@@ -161,7 +161,8 @@ typedef struct {
 /* ---- What stands at an offset ----
  *
  * Each reads one part of `bytes` that begins at `offset`. WISPUDDERA_OUTSIDE where `offset` is above `count`;
- * WISPUDDERA_INCOMPLETE where the part isn't whole, as at `offset` == `count`. */
+ * WISPUDDERA_INCOMPLETE where the part isn't whole, as at `offset` == `count`. Nothing else is refused, but for what a function names:
+ * any number may stand as a version, a type or a length, and a part may be empty. */
 
 /* A record (RFC 5246, section 6.2.1). WISPUDDERA_TOO_LARGE where its length is above 16640. */
 uint32_t wispuddera_read_record(const uint8_t *bytes, size_t count, size_t offset, wispuddera_record *out);
@@ -179,7 +180,7 @@ uint32_t wispuddera_read_key_share(const uint8_t *bytes, size_t count, size_t of
 /* A protocol's name in a list of them (RFC 7301, section 3.1). */
 uint32_t wispuddera_read_protocol(const uint8_t *bytes, size_t count, size_t offset, wispuddera_part *out);
 
-/* A certificate, in DER, in a list of them up to TLS 1.2 (RFC 5246, section 7.4.2). */
+/* A certificate, in DER, in a list of them up to TLS 1.2 (RFC 5246, section 7.4.2). The DER isn't looked at. */
 uint32_t wispuddera_read_certificate(const uint8_t *bytes, size_t count, size_t offset, wispuddera_part *out);
 
 /* A record of DTLS in a datagram (RFC 6347, section 4.1). WISPUDDERA_TOO_LARGE where its length is above 16640. */
@@ -209,60 +210,83 @@ uint32_t wispuddera_read_dtls_server_hello(const uint8_t *bytes, size_t count, w
 
 /* ---- What is found ----
  *
- * WISPUDDERA_NONE where what was asked for isn't there, and all bytes were seen; a refusal where bytes on the way to it, or its
- * own, are refused. */
+ * WISPUDDERA_NONE where what was asked for isn't there, and all bytes were seen; WISPUDDERA_INCOMPLETE where it wasn't found in front
+ * of a part that isn't whole (a record, message or extension, or the list in it). Each function names the other refusals that it
+ * has. What stands behind that which was found isn't looked at. */
 
-/* The name of the host that the first ClientHello of the record in front asks for (RFC 6066, section 3). WISPUDDERA_NONE too
- * where the record isn't one of handshakes. */
+/* The name of the host that the first ClientHello of the record in front asks for (RFC 6066, section 3).
+ *
+ * WISPUDDERA_TOO_LARGE where the record's length is above 16640; WISPUDDERA_NONE too where the record isn't one of handshakes, type
+ * 22; WISPUDDERA_INCOMPLETE too where the ClientHello goes on in another record, which wispuddera_next_message joins. Of the hello it
+ * answers as wispuddera_find_server_name_in_hello. */
 uint32_t wispuddera_find_server_name_in_record(const uint8_t *bytes, size_t count, wispuddera_found *out);
 
-/* The same, of the body of a ClientHello. */
+/* The same, of the body of a ClientHello (RFC 5246, section 7.4.1.2). It refuses as wispuddera_read_client_hello:
+ * WISPUDDERA_INCOMPLETE, WISPUDDERA_VERIFY, WISPUDDERA_LENGTH_VALUE; and of the hello's extensions as wispuddera_find_server_name. */
 uint32_t wispuddera_find_server_name_in_hello(const uint8_t *bytes, size_t count, wispuddera_found *out);
 
-/* The same, of a block of extensions: the first name in its first server_name. */
+/* The same, of a block of extensions: the first name of the list in its first server_name, whatever its NameType (RFC 6066 has one, 0,
+ * a host_name). WISPUDDERA_INCOMPLETE where an extension up to that one isn't whole, or its content has fewer bytes
+ * than its list says; WISPUDDERA_NONE too where the list has no name, or its first name isn't whole. */
 uint32_t wispuddera_find_server_name(const uint8_t *bytes, size_t count, wispuddera_found *out);
 
-/* The list of protocols' names in a block of extensions (RFC 7301, section 3.1), without its length: wispuddera_read_protocol. */
+/* The list of protocols' names in the first application_layer_protocol_negotiation of a block of extensions (RFC 7301, section 3.1),
+ * without its length: wispuddera_read_protocol. WISPUDDERA_INCOMPLETE where an extension up to that one isn't whole, or its content
+ * has fewer bytes than its list says. */
 uint32_t wispuddera_find_protocols(const uint8_t *bytes, size_t count, wispuddera_found *out);
 
-/* The content of the first extension of that ExtensionType in a block of extensions (RFC 8446, section 4.2). */
+/* The content of the first extension of that ExtensionType in a block of extensions (RFC 8446, section 4.2). WISPUDDERA_INCOMPLETE
+ * where an extension up to that one isn't whole. */
 uint32_t wispuddera_find_extension(const uint8_t *bytes, size_t count, uint16_t kind, wispuddera_found *out);
 
-/* The body of the first handshake message of that HandshakeType in the fragment of a record (RFC 5246, section 7.4). */
+/* The body of the first handshake message of that HandshakeType in the fragment of a record (RFC 5246, section 7.4).
+ * WISPUDDERA_INCOMPLETE where a message up to that one isn't whole, as one that goes on in another record. */
 uint32_t wispuddera_find_body(const uint8_t *bytes, size_t count, uint8_t kind, wispuddera_found *out);
 
 /* The list of key shares in the content of a ClientHello's key_share (RFC 8446, section 4.2.8), without its length:
- * wispuddera_read_key_share. WISPUDDERA_INCOMPLETE where the content has fewer bytes than it says. */
+ * wispuddera_read_key_share. WISPUDDERA_INCOMPLETE where the content has fewer bytes than the list's length says; there is always a
+ * list, which may be empty. */
 uint32_t wispuddera_find_key_shares(const uint8_t *bytes, size_t count, wispuddera_found *out);
 
 /* The list of certificates in the body of a Certificate up to TLS 1.2 (RFC 5246, section 7.4.2), without its length:
- * wispuddera_read_certificate. WISPUDDERA_INCOMPLETE where the body has fewer bytes than it says. */
+ * wispuddera_read_certificate. WISPUDDERA_INCOMPLETE where the body has fewer bytes than the list's length says; there is always a
+ * list, which may be empty. */
 uint32_t wispuddera_find_certificates(const uint8_t *bytes, size_t count, wispuddera_found *out);
 
 /* ---- Numbers by their index, counted from 0 ----
  *
- * WISPUDDERA_NONE where the list has no number at the index; `count` tells how many it has. */
+ * WISPUDDERA_NONE where the list has no number at the index; there too `count` tells how many it has. */
 
-/* Of numbers of 2 bytes each, as the cipher suites of a ClientHello. Nothing is refused; a last odd byte is left out. */
+/* Of numbers of 2 bytes each (RFC 8446, section 3.3), as the cipher suites of a ClientHello. Nothing is refused; a last odd byte is
+ * left out. */
 uint32_t wispuddera_number_at(const uint8_t *bytes, size_t count, size_t index, wispuddera_number *out);
 
-/* Of the cipher suites that a ClientHello offers, in its body (RFC 5246, section 7.4.1.2); it refuses as wispuddera_read_client_hello. */
+/* Of the cipher suites that a ClientHello offers, in its body (RFC 5246, section 7.4.1.2). It refuses as wispuddera_read_client_hello:
+ * WISPUDDERA_INCOMPLETE, WISPUDDERA_VERIFY, WISPUDDERA_LENGTH_VALUE. */
 uint32_t wispuddera_cipher_suite_at(const uint8_t *bytes, size_t count, size_t index, wispuddera_number *out);
 
-/* The same of a ClientHello of DTLS (RFC 6347, section 4.2.1); it refuses as wispuddera_read_dtls_client_hello. */
+/* The same of a ClientHello of DTLS (RFC 6347, section 4.2.1). It refuses as wispuddera_read_dtls_client_hello: WISPUDDERA_INCOMPLETE,
+ * WISPUDDERA_VERIFY, WISPUDDERA_LENGTH_VALUE. */
 uint32_t wispuddera_dtls_cipher_suite_at(const uint8_t *bytes, size_t count, size_t index, wispuddera_number *out);
 
-/* Of the versions in the content of a supported_versions of either hello (RFC 8446, section 4.2.1). */
+/* Of the versions in the content of a supported_versions of either hello (RFC 8446, section 4.2.1). Content of 2 bytes is one version,
+ * as of a ServerHello; of any other the first byte, the length of a ClientHello's list, isn't looked at. WISPUDDERA_INCOMPLETE where
+ * there are no bytes; WISPUDDERA_LENGTH_VALUE where an odd number of bytes follows the first. */
 uint32_t wispuddera_version_at(const uint8_t *bytes, size_t count, size_t index, wispuddera_number *out);
 
-/* Of the groups in the content of a supported_groups (RFC 8446, section 4.2.7). */
+/* Of the groups in the content of a supported_groups (RFC 8446, section 4.2.7). WISPUDDERA_INCOMPLETE where the content has fewer bytes
+ * than its list's length says; WISPUDDERA_LENGTH_VALUE where that length is odd. */
 uint32_t wispuddera_group_at(const uint8_t *bytes, size_t count, size_t index, wispuddera_number *out);
 
-/* Of the signature schemes in the content of a signature_algorithms (RFC 8446, section 4.2.3); a last odd byte is left out. */
+/* Of the signature schemes in the content of a signature_algorithms (RFC 8446, section 4.2.3); a last odd byte of the list is left out.
+ * WISPUDDERA_INCOMPLETE where the content has fewer bytes than its list's length says. */
 uint32_t wispuddera_signature_scheme_at(const uint8_t *bytes, size_t count, size_t index, wispuddera_number *out);
 
-/* The best version of a hello with that version and that block of extensions (RFC 8446, section 4.2.1): the highest in its first
- * supported_versions that isn't one of GREASE (RFC 8701), or where there is none of these, its own. `count` isn't set. */
+/* The best version of a hello with that version and that block of extensions (RFC 8446, section 4.2.1): the highest in the block's first
+ * supported_versions that isn't one of GREASE (RFC 8701); where there is no such extension, that version itself. `count` isn't set.
+ *
+ * WISPUDDERA_NONE where that extension has no version but those of GREASE; WISPUDDERA_INCOMPLETE where an extension up to that one
+ * isn't whole, or its content has no bytes; WISPUDDERA_LENGTH_VALUE as wispuddera_version_at. */
 uint32_t wispuddera_best_version(const uint8_t *bytes, size_t count, uint16_t version, wispuddera_number *out);
 
 /* ---- A stream that comes in pieces ----
@@ -272,8 +296,9 @@ uint32_t wispuddera_best_version(const uint8_t *bytes, size_t count, uint16_t ve
  * has room for each record that isn't refused; a message may have up to 16777219, and the caller says by its buffer how many are
  * read. WISPUDDERA_OUTSIDE, and nothing changed, where `held` lies outside of the buffer. */
 
-/* Puts as much of the piece as there is room for behind the bytes that the buffer holds, which are moved to its front. `taken`
- * is how many bytes that is: 0 where the buffer is full. */
+/* Puts as much of the piece as there is room for behind the bytes that the buffer holds, which are moved to its front: the next bytes of
+ * a stream (RFC 8446, section 5.1: a record, and a message, may end in any of its pieces). `taken`
+ * is how many bytes that is: 0 where the buffer is full, which is no refusal. WISPUDDERA_READ, or WISPUDDERA_OUTSIDE with 0 taken. */
 uint32_t wispuddera_feed(uint8_t *buffer, size_t capacity, wispuddera_place *held, const uint8_t *piece, size_t count, size_t *taken);
 
 /* Takes the record in front off the bytes that the buffer holds (RFC 5246, section 6.2.1), whose places are counted from the
@@ -281,7 +306,7 @@ uint32_t wispuddera_feed(uint8_t *buffer, size_t capacity, wispuddera_place *hel
  * length is above 16640: the buffer holds then what it held. */
 uint32_t wispuddera_next_record(const uint8_t *buffer, size_t capacity, wispuddera_place *held, wispuddera_record *out);
 
-/* The same, of a handshake message (RFC 5246, section 7.4). */
+/* The same, of a handshake message (RFC 5246, section 7.4). WISPUDDERA_INCOMPLETE where it isn't whole; its length may be any. */
 uint32_t wispuddera_next_message(const uint8_t *buffer, size_t capacity, wispuddera_place *held, wispuddera_part *out);
 
 /* ---- How a conversation stands ----
@@ -296,7 +321,7 @@ enum {
     WISPUDDERA_EVENT_HELLO_VERIFY_REQUEST = 2,
     WISPUDDERA_EVENT_SERVER_HELLO = 3,         /* below TLS 1.3 */
     WISPUDDERA_EVENT_HELLO_RETRY_REQUEST = 4,  /* a ServerHello of a random of its own (RFC 8446, section 4.1.3) */
-    WISPUDDERA_EVENT_SERVER_HELLO_13 = 5,      /* of TLS 1.3 or a draft of it */
+    WISPUDDERA_EVENT_SERVER_HELLO_13 = 5,      /* of TLS 1.3 or a draft of it, by its supported_versions */
     WISPUDDERA_EVENT_NEW_SESSION_TICKET = 6,
     WISPUDDERA_EVENT_CERTIFICATE = 7,
     WISPUDDERA_EVENT_SERVER_KEY_EXCHANGE = 8,
@@ -321,14 +346,17 @@ typedef struct {
     bool to_server;
 } wispuddera_event;
 
-/* The kind of event that a whole handshake message of TLS is, in the clear, of the HandshakeType `kind`; its body tells one
- * ServerHello from another. */
+/* The kind of event that a whole handshake message of TLS is, in the clear, of the HandshakeType `kind` (RFC 5246, section 7.4; RFC 8446,
+ * section 4). The body of a ServerHello tells one from another; other bodies aren't looked at. A ServerHello that isn't read, and a
+ * type that isn't known, are WISPUDDERA_EVENT_UNKNOWN: nothing is refused. */
 uint8_t wispuddera_event_of_message(const uint8_t *body, size_t count, uint8_t kind);
 
-/* The same, of DTLS up to 1.2, once for all fragments of a message. */
+/* The same, of DTLS up to 1.2 (RFC 6347, section 4.3.2), once for all fragments of a message. Of a type that isn't known it is
+ * WISPUDDERA_EVENT_UNKNOWN: nothing is refused. */
 uint8_t wispuddera_event_of_dtls_message(uint8_t kind);
 
-/* The kind of event that an alert in the clear is (RFC 5246, section 7.2). */
+/* The kind of event that an alert in the clear is (RFC 5246, section 7.2): a fatal one unless its level is 1, and so is a close_notify,
+ * behind which its sender says nothing. Nothing is refused. */
 uint8_t wispuddera_event_of_alert(uint8_t level, uint8_t description);
 
 /* Outcomes. */
@@ -350,7 +378,7 @@ enum {
 uint32_t wispuddera_outcome(const wispuddera_event *events, size_t count);
 
 /* The same, followed event by event: nothing is kept but this number, which may be copied and stored. It is one of
- * wispuddera_flow_start or of wispuddera_flow_step; another stands for WISPUDDERA_NO_HANDSHAKE, and stays. */
+ * wispuddera_flow_start or of wispuddera_flow_step; another stands for WISPUDDERA_NO_HANDSHAKE, and stays. None of the three refuses. */
 typedef struct {
     uint32_t state;
 } wispuddera_flow;

@@ -161,7 +161,175 @@ fn rest_of<'a, T: Read<'a>>(bytes: &'a [u8]) -> Answer {
     Ok((rest.len().to_string(), String::new()))
 }
 
+fn record(bytes: &[u8]) -> Answer {
+    let (r, rest) = Record::read(bytes)?;
+    let header = format!(
+        "TlsRecordHeader {{ record_type: TlsRecordType({}), version: TlsVersion({}), len: {} }}",
+        r.content_type,
+        r.version,
+        r.fragment.len()
+    );
+    Ok((
+        rest.len().to_string(),
+        format!("TlsPlaintext {{ hdr: {header}, "),
+    ))
+}
+
+fn dtls_record(bytes: &[u8]) -> Answer {
+    let (r, rest) = DtlsRecord::read(bytes)?;
+    let header = format!(
+        "DTLSRecordHeader {{ content_type: TlsRecordType({}), version: TlsVersion({}), epoch: {}, sequence_number: {}, length: {} }}",
+        r.content_type,
+        r.version,
+        r.epoch,
+        r.sequence_number,
+        r.fragment.len()
+    );
+    Ok((
+        rest.len().to_string(),
+        format!("DTLSPlaintext {{ header: {header}, "),
+    ))
+}
+
+fn dtls_message(bytes: &[u8]) -> Answer {
+    let (m, rest) = DtlsMessage::read(bytes)?;
+    let front = format!(
+        "msg_type: TlsHandshakeType({}), length: {}, message_seq: {}, fragment_offset: {}, fragment_length: {}, ",
+        m.kind,
+        m.length,
+        m.message_seq,
+        m.fragment_offset,
+        m.body.len()
+    );
+    let body = if m.is_part {
+        format!("Fragment({})", shown(m.body))
+    } else {
+        String::new()
+    };
+    Ok((
+        rest.len().to_string(),
+        format!("Handshake(DTLSMessageHandshake {{ {front}body: {body}"),
+    ))
+}
+
+fn is_fragment(bytes: &[u8]) -> Answer {
+    let (m, rest) = DtlsMessage::read(bytes)?;
+    Ok((rest.len().to_string(), m.is_part.to_string()))
+}
+
+/// What is found, where it is there.
+fn some(value: Option<String>) -> Answer {
+    let told = value.map_or_else(|| "None".to_owned(), |value| format!("Some({value})"));
+    Ok(("_".to_owned(), told))
+}
+
+/// What a reader of contents makes of the first extension of that type.
+fn of_extension<'a>(
+    block: &'a [u8],
+    kind: u16,
+    read: impl Fn(&'a [u8]) -> Result<String, Error>,
+) -> Answer {
+    some(find_extension(block, kind)?.map(read).transpose()?)
+}
+
+fn listed_groups(content: &[u8]) -> Result<String, Error> {
+    let groups = numbers("NamedGroup", groups(content)?);
+    Ok(format!("EllipticCurves({groups})"))
+}
+
+fn listed_schemes(content: &[u8]) -> Result<String, Error> {
+    let schemes = list(signature_schemes(content)?);
+    Ok(format!("SignatureAlgorithms([{schemes}])"))
+}
+
+fn listed_versions(content: &[u8]) -> Result<String, Error> {
+    let versions = numbers("TlsVersion", versions(content)?);
+    Ok(format!("SupportedVersions({versions})"))
+}
+
+fn found_protocols(block: &[u8]) -> Answer {
+    let names = protocols(block)?;
+    some(names.map(|names| format!("ALPN({})", whole(names, |it| shown(it.name)))))
+}
+
+fn name(found: Option<&[u8]>) -> Answer {
+    some(found.map(shown))
+}
+
+/// The body of a ClientHello that has that block of extensions.
+fn in_hello(block: &[u8]) -> Vec<u8> {
+    let length = u16::try_from(block.len()).expect("the block fits");
+    let front = [
+        &[3, 3],
+        &[0; 32][..],
+        &[0, 0, 2, 0x13, 1, 1, 0],
+        &length.to_be_bytes(),
+    ];
+    [&front.concat(), block].concat()
+}
+
+fn in_record(block: &[u8]) -> Vec<u8> {
+    let body = in_hello(block);
+    let length = u16::try_from(body.len()).expect("the body fits");
+    let front = [
+        &[0x16, 3, 1],
+        &(length + 4).to_be_bytes()[..],
+        &[1, 0],
+        &length.to_be_bytes(),
+    ];
+    [&front.concat()[..], &body].concat()
+}
+
+/// So many extensions, one after the other.
+fn some_extensions(block: &[u8], count: usize) -> Answer {
+    let mut items = extensions(block);
+    for item in items.by_ref().take(count) {
+        item?;
+    }
+    let rest = items.rest().len().to_string();
+    Ok((rest, format!("{count} extensions")))
+}
+
+fn entry(share: &KeyShare<'_>) -> String {
+    format!(
+        "KeyShareEntry {{ group: NamedGroup({}), kx: {} }}",
+        share.group,
+        shown(share.value)
+    )
+}
+
+fn key_share(bytes: &[u8]) -> Answer {
+    let (share, rest) = KeyShare::read(bytes)?;
+    Ok((rest.len().to_string(), entry(&share)))
+}
+
+/// In a list that has these bytes.
+fn listed_shares(bytes: &[u8]) -> Answer {
+    let length = u16::try_from(bytes.len())
+        .expect("rows have fewer bytes")
+        .to_be_bytes();
+    let content = [&length[..], bytes].concat();
+    let shares = whole(key_shares(&content)?, |share| entry(&share));
+    Ok(("_".to_owned(), shares))
+}
+
+/// What is asked with a number behind the call's name.
+fn numbered(call: &str, number: u16, bytes: &[u8]) -> Answer {
+    match call {
+        "find_extension" => name(find_extension(bytes, number)?),
+        "find_body" => name(find_body(
+            bytes,
+            u8::try_from(number).expect("a HandshakeType"),
+        )?),
+        "extensions" => some_extensions(bytes, usize::from(number)),
+        _ => panic!("no call {call} is known here"),
+    }
+}
+
 fn answer(call: &str, bytes: &[u8]) -> Answer {
+    if let Some((call, number)) = call.split_once(':') {
+        return numbered(call, number.parse().expect("a number"), bytes);
+    }
     match call {
         "parse_tls_raw_record" => raw_record(bytes),
         "parse_tls_handshake_client_hello" => client_hello(bytes),
@@ -179,11 +347,22 @@ fn answer(call: &str, bytes: &[u8]) -> Answer {
             format!("SignatureAlgorithms([{}])", list(signature_schemes(bytes)?)),
         )),
         "parse_tls_extension_alpn_content" => names_of_protocols(bytes),
-        "parse_tls_plaintext" => rest_of::<Record>(bytes),
+        "parse_tls_plaintext" => record(bytes),
         "parse_tls_message_handshake" => rest_of::<Message>(bytes),
         "parse_tls_extension" => rest_of::<Extension>(bytes),
-        "parse_dtls_plaintext_record" => rest_of::<DtlsRecord>(bytes),
-        "parse_dtls_message_handshake" => rest_of::<DtlsMessage>(bytes),
+        "parse_dtls_plaintext_record" => dtls_record(bytes),
+        "parse_dtls_message_handshake" => dtls_message(bytes),
+        "parse_dtls_message_handshake.is_fragment" => is_fragment(bytes),
+        "server_name" => name(server_name(bytes)?),
+        "server_name_of_hello" => name(server_name_of_hello(&in_hello(bytes))?),
+        "server_name_of_record" => name(server_name_of_record(&in_record(bytes))?),
+        "groups" => of_extension(bytes, 10, listed_groups),
+        "signature_schemes" => of_extension(bytes, 13, listed_schemes),
+        "versions" => of_extension(bytes, 43, listed_versions),
+        "protocols" => found_protocols(bytes),
+        "best_version" => some(best_version(0x0303, bytes)?.map(|version| version.to_string())),
+        "key_share" => key_share(bytes),
+        "key_shares" => listed_shares(bytes),
         _ => panic!("no call {call} is known here"),
     }
 }

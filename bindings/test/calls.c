@@ -442,6 +442,111 @@ static void test_outcome(void) {
     IS(wispuddera_event_of_alert(1, 90), WISPUDDERA_EVENT_WARNING);
 }
 
+/* What the header says of each call's refusals. */
+#define BYTES(text) (const uint8_t *)(text), sizeof(text) - 1
+
+static void test_refusals_of_finds(void) {
+    wispuddera_found f = WISPUDDERA_EMPTY;
+    /* A list without a name, one whose first name isn't whole, a name of another type, no content, and a content that isn't whole. */
+    IS(wispuddera_find_server_name(BYTES("\x00\x00\x00\x02\x00\x00"), &f), WISPUDDERA_NONE);
+    IS(wispuddera_find_server_name(BYTES("\x00\x00\x00\x06\x00\x04\x00\x00\x09\x61"), &f), WISPUDDERA_NONE);
+    IS(wispuddera_find_server_name(BYTES("\x00\x00\x00\x06\x00\x04\x07\x00\x01\x61"), &f), WISPUDDERA_READ);
+    PLACE(f.place, 9, 1);
+    IS(wispuddera_find_server_name(BYTES("\x00\x00\x00\x00"), &f), WISPUDDERA_NONE);
+    IS(wispuddera_find_server_name(BYTES("\x00\x00\x00\x03\x00\x04\x00"), &f), WISPUDDERA_INCOMPLETE);
+    IS(f.missing, 3);
+    IS(wispuddera_find_server_name(NULL, 0, &f), WISPUDDERA_NONE);
+    IS(f.missing, 0);
+    /* An extension that isn't whole is seen where nothing was found in front of it. */
+    IS(wispuddera_find_extension(BYTES("\x00\x17\x00\x00\x00\x0a\x00"), 10, &f), WISPUDDERA_INCOMPLETE);
+    IS(f.missing, 1);
+    IS(wispuddera_find_extension(BYTES("\x00\x17\x00\x00\x00\x0a\x00"), 23, &f), WISPUDDERA_READ);
+    PLACE(f.place, 4, 0);
+    IS(wispuddera_find_protocols(BYTES("\x00\x10\x00\x02\x00\x03"), &f), WISPUDDERA_INCOMPLETE);
+    IS(f.missing, 3);
+    IS(wispuddera_find_body(BYTES("\x00\x00\x00\x00\x0e\x00\x00\x02\x00"), 14, &f), WISPUDDERA_INCOMPLETE);
+    IS(f.missing, 1);
+    IS(wispuddera_find_body(BYTES("\x00\x00\x00\x00"), 14, &f), WISPUDDERA_NONE);
+    IS(wispuddera_find_key_shares(BYTES("\x00\x03\x00"), &f), WISPUDDERA_INCOMPLETE);
+    IS(f.missing, 2);
+    IS(wispuddera_find_key_shares(BYTES("\x00\x00"), &f), WISPUDDERA_READ);
+    PLACE(f.place, 2, 0);
+    IS(wispuddera_find_certificates(BYTES("\x00\x00\x03\x00"), &f), WISPUDDERA_INCOMPLETE);
+    IS(f.missing, 2);
+    IS(wispuddera_find_certificates(BYTES("\x00\x00\x00"), &f), WISPUDDERA_READ);
+    PLACE(f.place, 3, 0);
+    /* A record that is none of handshakes, one that is too large, a hello that goes on in another record, and one that is refused. */
+    IS(wispuddera_find_server_name_in_record(BYTES("\x15\x03\x03\x00\x02\x02\x28"), &f), WISPUDDERA_NONE);
+    IS(wispuddera_find_server_name_in_record(BYTES("\x16\x03\x03\x41\x01"), &f), WISPUDDERA_TOO_LARGE);
+    IS(wispuddera_find_server_name_in_record(BYTES("\x16\x03\x03\x00\x06\x01\x00\x00\x2a\x03\x03"), &f), WISPUDDERA_INCOMPLETE);
+    IS(f.missing, 40);
+    IS(wispuddera_find_server_name_in_record(BYTES("\x16\x03\x03\x00\x04\x0e\x00\x00\x00"), &f), WISPUDDERA_NONE);
+    IS(wispuddera_find_server_name_in_hello(record + BODY, 20, &f), WISPUDDERA_INCOMPLETE);
+    IS(f.missing, 14);
+    IS(wispuddera_find_server_name_in_hello(record + BODY, 40, &f), WISPUDDERA_LENGTH_VALUE);
+    /* A block of extensions that isn't whole is none. */
+    IS(wispuddera_find_server_name_in_hello(record + BODY, BODY_LENGTH - 1, &f), WISPUDDERA_NONE);
+    {
+        uint8_t body[40] = {0x03, 0x03};
+        body[34] = 33;
+        IS(wispuddera_find_server_name_in_hello(body, sizeof body, &f), WISPUDDERA_VERIFY);
+    }
+}
+
+static void test_refusals_of_numbers(void) {
+    wispuddera_number n = WISPUDDERA_EMPTY;
+    IS(wispuddera_number_at(BYTES("\x13\x01\x13"), 1, &n), WISPUDDERA_NONE);
+    IS(n.count, 1);
+    /* No bytes, an odd number behind the first, one version, and a first byte that isn't looked at. */
+    IS(wispuddera_version_at(NULL, 0, 0, &n), WISPUDDERA_INCOMPLETE);
+    IS(n.missing, 1);
+    IS(wispuddera_version_at(BYTES("\x03"), 0, &n), WISPUDDERA_NONE);
+    IS(n.count, 0);
+    IS(wispuddera_version_at(BYTES("\x03\x04"), 0, &n), WISPUDDERA_READ);
+    IS(n.value, 0x0304);
+    IS(wispuddera_version_at(BYTES("\x09\x03\x04"), 0, &n), WISPUDDERA_READ);
+    IS(n.value, 0x0304);
+    IS(n.count, 1);
+    IS(wispuddera_group_at(BYTES("\x00\x03\x00\x17\x00"), 0, &n), WISPUDDERA_LENGTH_VALUE);
+    IS(n.missing, 0);
+    IS(wispuddera_group_at(BYTES("\x00\x02\x00\x17\x00"), 1, &n), WISPUDDERA_NONE);
+    IS(n.count, 1);
+    /* The block's versions are the highest and then another, GREASE and TLS 1.2, GREASE alone, none, and refused ones. */
+    IS(wispuddera_best_version(BYTES("\x00\x2b\x00\x05\x04\x03\x04\x03\x03"), 0x0303, &n), WISPUDDERA_READ);
+    IS(n.value, 0x0304);
+    IS(wispuddera_best_version(BYTES("\x00\x2b\x00\x05\x04\xfa\xfa\x03\x03"), 0x0301, &n), WISPUDDERA_READ);
+    IS(n.value, 0x0303);
+    IS(wispuddera_best_version(BYTES("\x00\x2b\x00\x03\x02\x0a\x0a"), 0x0303, &n), WISPUDDERA_NONE);
+    IS(wispuddera_best_version(BYTES("\x00\x2b\x00\x01\x00"), 0x0303, &n), WISPUDDERA_NONE);
+    IS(wispuddera_best_version(BYTES("\x00\x2b\x00\x00"), 0x0303, &n), WISPUDDERA_INCOMPLETE);
+    IS(n.missing, 1);
+    IS(wispuddera_best_version(BYTES("\x00\x2b\x00\x04\x03\x03\x04\x03"), 0x0303, &n), WISPUDDERA_LENGTH_VALUE);
+    IS(wispuddera_best_version(BYTES("\x00\x17\x00\x00\x00\x2b\x00\x09\x01"), 0x0303, &n), WISPUDDERA_INCOMPLETE);
+    IS(n.missing, 8);
+    IS(wispuddera_best_version(BYTES("\x00\x17\x00\x00"), 0x0301, &n), WISPUDDERA_READ);
+    IS(n.value, 0x0301);
+}
+
+static void test_what_is_not_refused(void) {
+    uint8_t buffer[4] = {1, 2, 3, 4};
+    wispuddera_place held = {0, 4};
+    size_t taken = 9;
+    IS(wispuddera_feed(buffer, sizeof buffer, &held, BYTES("\x05"), &taken), WISPUDDERA_READ);
+    IS(taken, 0);
+    held.offset = 1;
+    taken = 9;
+    IS(wispuddera_feed(buffer, sizeof buffer, &held, BYTES("\x05"), &taken), WISPUDDERA_OUTSIDE);
+    IS(taken, 0);
+    PLACE(held, 1, 4);
+    IS(wispuddera_event_of_message(NULL, 0, 2), WISPUDDERA_EVENT_UNKNOWN);
+    IS(wispuddera_event_of_message(NULL, 0, 1), WISPUDDERA_EVENT_CLIENT_HELLO);
+    IS(wispuddera_event_of_message(NULL, 0, 99), WISPUDDERA_EVENT_UNKNOWN);
+    IS(wispuddera_event_of_dtls_message(99), WISPUDDERA_EVENT_UNKNOWN);
+    IS(wispuddera_event_of_alert(1, 0), WISPUDDERA_EVENT_FATAL);
+    IS(wispuddera_event_of_alert(1, 41), WISPUDDERA_EVENT_NO_CERTIFICATE);
+    IS(wispuddera_event_of_alert(3, 90), WISPUDDERA_EVENT_FATAL);
+}
+
 int main(void) {
     uint32_t status;
     for (status = 0; status <= WISPUDDERA_OUTSIDE; status++) {
@@ -460,6 +565,9 @@ int main(void) {
     test_stream();
     test_outcome();
     test_no_state();
+    test_refusals_of_finds();
+    test_refusals_of_numbers();
+    test_what_is_not_refused();
     printf(failures == 0 ? "calls: as counted by hand\n" : "calls: not as counted by hand\n");
     return failures != 0;
 }

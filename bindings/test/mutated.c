@@ -1,7 +1,8 @@
 /* Calls on mutated bytes, in blocks of exactly as many bytes as are passed: mutated [CALLS]
  *
  * Each call's answer is a status, and each place of what was read lies within the bytes. Under valgrind it is seen that no byte
- * outside of the block is read; the sanitizers don't see into the library. */
+ * outside of the block is read; the sanitizers don't see into the library. At least CALLS calls (10000, if left out) are made that
+ * are given a block in which a byte was changed, and read from it: steps of a flow, and calls whose offset lies outside, don't count. */
 #include "wispuddera.h"
 
 #include <stdio.h>
@@ -16,6 +17,9 @@ static const uint8_t hello[] = {0x16, 0x03, 0x01, 0x00, 0x61, 0x01, 0x00, 0x00, 
                                 0x04, 0x03, 0x03, 0x00, 0x33, 0x00, 0x08, 0x00, 0x06, 0x00, 0x1d, 0x00, 0x02, 0xb1, 0xb2};
 
 static uint32_t seed = 1;
+/* Whether a byte of the block was changed, and how many calls read from such a block. */
+static int is_mutated = 0;
+static long calls = 0;
 
 static uint32_t next_random(void) {
     seed = seed * 1664525u + 1013904223u;
@@ -29,8 +33,15 @@ static void lies(size_t count, wispuddera_place p) {
     }
 }
 
+/* What follows begins within the bytes, or at their end. */
+static void follows(size_t count, size_t next) {
+    const wispuddera_place rest = {next, 0};
+    lies(count, rest);
+}
+
 /* `missing` is read behind the call. */
 static int is_read(uint32_t status, const size_t *missing) {
+    calls += is_mutated && status != WISPUDDERA_OUTSIDE;
     if (status > WISPUDDERA_OUTSIDE || (status == WISPUDDERA_INCOMPLETE) != (*missing > 0)) {
         printf("mutated: status %u with %zu missing\n", (unsigned)status, *missing);
         exit(1);
@@ -54,9 +65,8 @@ static void call_parts(const uint8_t *b, size_t n, size_t at) {
     for (i = 0; i < sizeof readers / sizeof *readers; i++) {
         wispuddera_part p = WISPUDDERA_EMPTY;
         if (is_read(readers[i](b, n, at, &p), &p.missing)) {
-            wispuddera_place rest = {p.next, 0};
             lies(n, p.content);
-            lies(n, rest);
+            follows(n, p.next);
         }
     }
     for (i = 0; i < sizeof finders / sizeof *finders; i++) {
@@ -82,12 +92,15 @@ static void call_others(const uint8_t *b, size_t n, size_t at) {
     wispuddera_number v = WISPUDDERA_EMPTY;
     if (is_read(wispuddera_read_record(b, n, at, &r), &r.missing)) {
         lies(n, r.fragment);
+        follows(n, r.next);
     }
     if (is_read(wispuddera_read_dtls_record(b, n, at, &d), &d.missing)) {
         lies(n, d.fragment);
+        follows(n, d.next);
     }
     if (is_read(wispuddera_read_dtls_message(b, n, at, &m), &m.missing)) {
         lies(n, m.body);
+        follows(n, m.next);
     }
     if (is_read(wispuddera_read_client_hello(b, n, &c), &c.missing)) {
         lies(n, c.random);
@@ -95,16 +108,19 @@ static void call_others(const uint8_t *b, size_t n, size_t at) {
         lies(n, c.cipher_suites);
         lies(n, c.compression_methods);
         lies(n, c.extensions);
+        follows(n, c.next);
     }
     if (is_read(wispuddera_read_server_hello(b, n, &s), &s.missing)) {
         lies(n, s.random);
         lies(n, s.session_id);
         lies(n, s.extensions);
+        follows(n, s.next);
     }
     if (is_read(wispuddera_read_dtls_server_hello(b, n, &s), &s.missing)) {
         lies(n, s.random);
         lies(n, s.session_id);
         lies(n, s.extensions);
+        follows(n, s.next);
     }
     if (is_read(wispuddera_read_dtls_client_hello(b, n, &h), &h.missing)) {
         lies(n, h.random);
@@ -113,6 +129,7 @@ static void call_others(const uint8_t *b, size_t n, size_t at) {
         lies(n, h.cipher_suites);
         lies(n, h.compression_methods);
         lies(n, h.extensions);
+        follows(n, h.next);
     }
     if (is_read(wispuddera_find_extension(b, n, (uint16_t)at, &f), &f.missing)) {
         lies(n, f.place);
@@ -120,24 +137,37 @@ static void call_others(const uint8_t *b, size_t n, size_t at) {
     if (is_read(wispuddera_find_body(b, n, (uint8_t)at, &f), &f.missing)) {
         lies(n, f.place);
     }
-    if (wispuddera_event_of_message(b, n, (uint8_t)(at % 4)) > WISPUDDERA_EVENT_UNKNOWN) {
+    /* Of a ServerHello it reads the body; of another message it doesn't. */
+    if (wispuddera_event_of_message(b, n, 2) > WISPUDDERA_EVENT_UNKNOWN ||
+        wispuddera_event_of_message(b, n, (uint8_t)at) > WISPUDDERA_EVENT_UNKNOWN) {
         printf("mutated: no kind of event\n");
         exit(1);
     }
+    calls += is_mutated;
     is_read(wispuddera_best_version(b, n, (uint16_t)at, &v), &v.missing);
 }
 
 static void call_flow(const uint8_t *b, size_t n, size_t at) {
     wispuddera_flow flow = {(uint32_t)(at == 0 ? 0 : n % 40)};
+    wispuddera_event *events = n == 0 ? NULL : (wispuddera_event *)malloc(n * sizeof *events);
     size_t i;
+    if (events == NULL && n != 0) {
+        exit(2);
+    }
     for (i = 0; i < n; i++) {
         wispuddera_event event = {b[i], (b[i] & 32) != 0};
+        events[i] = event;
         wispuddera_flow_step(&flow, &event);
         if (wispuddera_flow_outcome(&flow) > WISPUDDERA_TLS13_RETRIED_EARLY) {
             printf("mutated: no outcome\n");
             exit(1);
         }
     }
+    if (at == 0 && wispuddera_outcome(events, n) != wispuddera_flow_outcome(&flow)) {
+        printf("mutated: another outcome, step by step\n");
+        exit(1);
+    }
+    free(events);
 }
 
 static void call_streams(const uint8_t *b, size_t n, size_t at) {
@@ -166,12 +196,11 @@ static void call_streams(const uint8_t *b, size_t n, size_t at) {
 int main(int argc, char **argv) {
     const long wanted = argc > 1 ? atol(argv[1]) : 10000;
     static const size_t begins[] = {0, 5, 9, 58, 92};
-    long calls = 0;
     while (calls < wanted) {
         const size_t begin = begins[next_random() % 5];
         const size_t count = next_random() % (sizeof hello - begin + 1);
         const size_t at = next_random() % 4 == 0 ? next_random() % (count + 3) : 0;
-        uint32_t changes = next_random() % 4;
+        uint32_t changes = 1 + next_random() % 4;
         uint8_t *block = count == 0 ? NULL : (uint8_t *)malloc(count);
         if (block != NULL) {
             memcpy(block, hello + begin, count);
@@ -181,13 +210,13 @@ int main(int argc, char **argv) {
         for (; changes > 0 && count > 0; changes--) {
             block[next_random() % count] = (uint8_t)next_random();
         }
+        is_mutated = count > 0 && memcmp(block, hello + begin, count) != 0;
         call_parts(block, count, at);
         call_others(block, count, at);
         call_streams(block, count, at);
         call_flow(block, count, at);
-        calls += 31 + 2 * (long)count;
         free(block);
     }
-    printf("mutated: %ld calls, each with a status and its places within the bytes\n", calls);
+    printf("mutated: %ld calls on mutated bytes, each with a status and its places within the bytes\n", calls);
     return 0;
 }

@@ -5,10 +5,13 @@
 PROGRAM, if it is named, is asked the same: `answers`, which bindings/test/answers.rs is, over the Rust crate.
 
 What a row says of a call is compared with what the module answers where both tell the same: a whole value, made into the row's
-text here; or where more is decoded than the module does, what stands in front of it: the rest, and how many bytes are missing.
+text here; or where more is decoded than the module does, what stands in front of it: the rest, and how many bytes are missing. A row of
+an extension, or of a list of them, also says what is found in these bytes as a block (names, versions, groups, contents), and in a
+hello and a record that are put around the block; one that frames a number and bytes says it of a key share.
 Each row is asked on `bytes`, on a `bytearray` and on a `memoryview` of either.
 """
 
+import functools
 import re
 import subprocess
 import sys
@@ -137,6 +140,103 @@ def names_of_protocols(data):
     return None, f"ALPN([{', '.join(shown(name) for name in whole(w.protocols(block)))}])"
 
 
+def some(value):
+    return None, "None" if value is None else f"Some({value})"
+
+
+def of_extension(kind, read):
+    """What a reader of contents makes of the first extension of that type; nothing where there is none."""
+    def ask(block):
+        content = w.find_extension(block, kind)
+        return some(None if content is None else read(content)[1])
+
+    return ask
+
+
+def versions(content):
+    return None, f"SupportedVersions({numbers('TlsVersion', w.versions(content))})"
+
+
+def name_in(read, around):
+    def ask(block):
+        name = read(around(block))
+        return some(None if name is None else shown(name))
+
+    return ask
+
+
+def in_hello(block):
+    """The body of a ClientHello that has that block of extensions."""
+    return bytes.fromhex(f"0303 {bytes(32).hex()} 00 0002 1301 01 00 {len(block):04x}") + bytes(block)
+
+
+def in_record(block):
+    body = in_hello(block)
+    return bytes.fromhex(f"16 0301 {len(body) + 4:04x} 01 {len(body):06x}") + body
+
+
+def protocols(block):
+    names = w.protocols(block)
+    return some(None if names is None else f"ALPN([{', '.join(shown(name) for name in whole(names))}])")
+
+
+def found_extension(kind, block):
+    found = w.find_extension(block, kind)
+    return some(None if found is None else shown(found))
+
+
+def found_body(kind, fragment):
+    found = w.find_body(fragment, kind)
+    return some(None if found is None else shown(found))
+
+
+def some_extensions(count, block):
+    """So many extensions, one after the other: the end of the last."""
+    end = 0
+    for _, it in zip(range(count), w.extensions(block)):
+        end = it.next
+    return end, f"{count} extensions"
+
+
+def entry(share):
+    return f"KeyShareEntry {{ group: NamedGroup({share.group}), kx: {shown(share.value)} }}"
+
+
+def key_share(data):
+    share = w.key_share(data)
+    return share.next, entry(share)
+
+
+def key_shares(data):
+    """In a list that has these bytes."""
+    return None, f"[{', '.join(map(entry, whole(w.key_shares(len(data).to_bytes(2, 'big') + bytes(data)))))}]"
+
+
+def record(data):
+    r = w.record(data)
+    header = f"TlsRecordHeader {{ record_type: TlsRecordType({r.content_type}), version: TlsVersion({r.version}), len: {len(r.fragment)} }}"
+    return r.next, f"TlsPlaintext {{ hdr: {header}, "
+
+
+def dtls_record(data):
+    r = w.dtls_record(data)
+    number = f"epoch: {r.epoch}, sequence_number: {r.sequence_number}, length: {len(r.fragment)}"
+    header = f"DTLSRecordHeader {{ content_type: TlsRecordType({r.content_type}), version: TlsVersion({r.version}), {number} }}"
+    return r.next, f"DTLSPlaintext {{ header: {header}, "
+
+
+def dtls_message(data):
+    m = w.dtls_message(data)
+    part = f"fragment_offset: {m.fragment_offset}, fragment_length: {len(m.body)}, "
+    front = f"msg_type: TlsHandshakeType({m.kind}), length: {m.length}, message_seq: {m.message_seq}, {part}"
+    return m.next, f"Handshake(DTLSMessageHandshake {{ {front}body: {f'Fragment({shown(m.body)})' if m.is_part else ''}"
+
+
+def is_fragment(data):
+    m = w.dtls_message(data)
+    return m.next, "true" if m.is_part else "false"
+
+
 # Calls whose answer the module tells whole: the end of what was read (None where that isn't told), and the value.
 WHOLE = {
     "parse_tls_raw_record": raw_record,
@@ -151,14 +251,43 @@ WHOLE = {
 # Bodies of DTLS's messages, by type, of which the rows of the call on whole messages tell the cuts, and in part the value.
 BODIES = {1: "dtls_client_hello", 2: "dtls_server_hello"}
 WHOLE.update({"dtls_client_hello": dtls_client_hello, "dtls_server_hello": dtls_server_hello})
-# Calls that decode what the module leaves as it stands.
+WHOLE["parse_dtls_message_handshake.is_fragment"] = is_fragment
+# Calls that decode what the module leaves as it stands: the front of the value, as far as the module tells it.
 FRONT = {
-    "parse_tls_plaintext": w.record,
-    "parse_tls_message_handshake": w.message,
-    "parse_tls_extension": w.extension,
-    "parse_dtls_plaintext_record": w.dtls_record,
-    "parse_dtls_message_handshake": w.dtls_message,
+    "parse_tls_plaintext": record,
+    "parse_tls_message_handshake": lambda data: (w.message(data).next, ""),
+    "parse_tls_extension": lambda data: (w.extension(data).next, ""),
+    "parse_dtls_plaintext_record": dtls_record,
+    "parse_dtls_message_handshake": dtls_message,
 }
+# What is found in a block of extensions, by the type of the extension that has it.
+FOUND = {
+    0: {
+        "server_name": name_in(w.server_name, lambda block: block),
+        "server_name_of_hello": name_in(w.server_name_of_hello, in_hello),
+        "server_name_of_record": name_in(w.server_name_of_record, in_record),
+    },
+    10: {"groups": of_extension(10, groups)},
+    13: {"signature_schemes": of_extension(13, signature_schemes)},
+    16: {"protocols": protocols},
+    43: {"versions": of_extension(43, versions), "best_version": lambda block: some(w.best_version(OWN_VERSION, block))},
+}
+# Its extension, in a value; and the rows of an extension that say nothing of one by its number alone.
+NAMES = {"SNI": 0, "EllipticCurves": 10, "SignatureAlgorithms": 13, "ALPN": 16, "SupportedVersions": 43}
+EXTENSIONS = {
+    f"parse_tls_extension{name}"
+    for name in ("", "_sni", "_elliptic_curves", "_signature_algorithms", "_supported_versions", "_key_share")
+}
+OWN_VERSION, MOST_IN_HELLO = 0x0303, 16_000
+# What is asked beside these, with a number behind the name, or of rows of another call.
+BESIDE = {
+    "find_extension": found_extension,
+    "find_body": found_body,
+    "extensions": some_extensions,
+    "key_share": key_share,
+    "key_shares": key_shares,
+}
+VIEWS = {**{name: read for views in FOUND.values() for name, read in views.items()}, **BESIDE}
 
 
 def told(read, data):
@@ -173,17 +302,16 @@ def told(read, data):
 
 
 def is_same(call, found, wanted):
-    if call in WHOLE:
-        return re.sub(r"rest \d+", "rest _", wanted) == found if "rest _" in found else wanted == found
-    # Decoded further: what is whole may still be refused, and a value has the same rest.
-    return found == wanted.split(",")[0] if wanted.startswith("Ok") else found.startswith("Ok") or found == wanted
+    if call in FRONT or call.startswith(("find_extension", "find_body")):
+        # Decoded further: what is whole may still be refused.
+        return wanted.startswith(found) if wanted.startswith("Ok") else found.startswith("Ok") or found == wanted
+    return re.sub(r"rest \d+", "rest _", wanted) == found if "rest _" in found else wanted == found
 
 
-def front(read):
-    def ask(data):
-        return read(data).next, ""
-
-    return ask
+def reader(call):
+    name, _, number = call.partition(":")
+    read = WHOLE.get(name) or FRONT.get(name) or VIEWS[name]
+    return functools.partial(read, int(number)) if number else read
 
 
 def told_by_program(call, data):
@@ -194,62 +322,185 @@ def told_by_program(call, data):
 
 def ask(call, data, wanted, where):
     """Compares the answers on all that may be passed."""
-    read = WHOLE.get(call) or front(FRONT[call])
+    read = reader(call)
     buffers = (data, bytearray(data), memoryview(data), memoryview(bytearray(data)))
     answers = [(type(given).__name__, told(read, given)) for given in buffers]
     if program:
         answers.append(("Rust", told_by_program(call, data)))
     for name, found in answers:
-        if not is_same(call, found.removesuffix(", ") if call in FRONT else found, wanted):
+        if not is_same(call, found, wanted):
             sys.exit(f"rows: {where}: {call} on {data.hex()} as {name}: {found} in place of {wanted}")
+    counts[call.partition(":")[0]] += 1
 
 
-def ask_cut(call, data, parts, where):
-    """Compares the answer on each front of the bytes, and answers how many there are."""
+def fronts(data, parts):
+    """How many bytes each front of the data has, and its answer where no value is read."""
     begin = 0
     for kind, size, error in re.findall(r"(Missing|Refused|Read)\((\d+)(?:,\s*(\w+))?\)", parts):
         for count in range(begin, begin + int(size)):
-            if kind == "Read":
-                continue
-            ask(call, data[:count], f"Incomplete({begin + int(size) - count})" if kind == "Missing" else f"Error({error})", where)
+            if kind != "Read":
+                yield count, f"Incomplete({begin + int(size) - count})" if kind == "Missing" else f"Error({error})"
         begin += int(size)
-    return begin
+
+
+def ask_cut(call, data, parts, where):
+    """Compares the answer on each front of the bytes."""
+    for count, wanted in fronts(data, parts):
+        ask(call, data[:count], wanted, where)
 
 
 def ask_body(data, clauses, where):
-    """Compares a body of DTLS with what the row says of it within the message's lengths, and answers how many answers there were."""
-    call, asked = BODIES[data[0]], 0
+    """Compares a body of DTLS with what the row says of it within the message's lengths."""
+    call = BODIES[data[0]]
     for kind, text in clauses:
         if kind == "within:" and text.startswith("3,11 "):
-            asked += ask_cut(call, data[12:], text, where)
+            ask_cut(call, data[12:], text, where)
         elif kind == "=>" and (body := re.search(r"body: ServerHello\((.*)\) \}\)$", plain(text))):
             ask(call, data[12:], f"Ok rest 0, {body[1].strip()}", where)
-            asked += 1
-    return asked
+
+
+def ask_found(kind, block, wanted, where):
+    """Compares what is found of the extension of that type in a block: the row's value, None, or its refusal."""
+    for name in FOUND.get(kind, {}):
+        if len(block) <= MOST_IN_HELLO or name not in ("server_name_of_hello", "server_name_of_record"):
+            ask(name, block, wanted if wanted.startswith(("Inc", "Err")) else f"Ok rest _, {found_by(name, wanted)}", where)
+
+
+def found_by(name, value):
+    """What a call finds of an extension of that value; None where there is no such extension."""
+    if name == "best_version":
+        listed = [OWN_VERSION] if value == "None" else [int(number) for number in re.findall(r"TlsVersion\((\d+)\)", value)]
+        return some(max((version for version in listed if version & 0x0F0F != 0x0A0A), default=None))[1]
+    if value.startswith("SNI"):
+        return option(None) if value == "SNI([])" else f"Some({re.search(r'SNIType[(][0-9]+[)], ([^)]*)[)]', value)[1]})"
+    return value if value == "None" else f"Some({value})"
+
+
+def items_of(text):
+    """The items of a list in a row's answer."""
+    found, depth = [""], 0
+    for letter in text.removeprefix("[").removesuffix("]"):
+        depth += (letter in "([{") - (letter in ")]}")
+        if letter == "," and depth == 0:
+            found.append("")
+        else:
+            found[-1] += letter
+    return [item.strip() for item in found if item.strip()]
+
+
+def ask_extension(data, clauses, where):
+    """What a row on one extension says of the block that it is."""
+    kind = int.from_bytes(data[:2], "big")
+    for clause, text in clauses:
+        if clause == "=>" and data and "Tag" not in text:
+            wanted = plain(text)
+            ok = re.match(r"Ok rest (\d+), (.*)", wanted)
+            content = data[4 : len(data) - int(ok[1])] if ok else b""
+            ask(f"find_extension:{kind}", data, f"Ok rest _, Some({shown(content)})" if ok else wanted, where)
+            ask_found(kind, data, ok[2] if ok else wanted, where)
+            # Nothing of another type is found, where all is seen.
+            for other in FOUND.keys() - {kind} if ok and ok[1] == "0" else ():
+                ask_found(other, data, "None", where)
+        elif clause == "cut:":
+            for count, wanted in fronts(data, text):
+                # No bytes are a block without extensions.
+                if count:
+                    ask(f"find_extension:{kind}", data[:count], wanted, where)
+                    ask_found(kind, data[:count], wanted, where)
+        elif clause == "within:" and text.startswith("3 "):
+            for count, wanted in fronts(data[4:], text[2:]):
+                for behind in {b"", data[4 + count :]}:
+                    ask_found(kind, data[:2] + count.to_bytes(2, "big") + data[4 : 4 + count] + behind, wanted, where)
+
+
+def ask_extensions(data, clauses, where):
+    """What a row on a list of extensions says of the block."""
+    for clause, text in clauses:
+        if clause != "=>" or not (ok := re.match(r"Ok rest (\d+), (.*)", plain(text))):
+            continue
+        items = items_of(ok[2])
+        ask(f"extensions:{len(items)}", data, f"Ok rest {ok[1]}, {len(items)} extensions", where)
+        firsts = {}
+        for item in items:
+            firsts.setdefault(NAMES.get(item.split("(")[0]), item)
+        for kind in FOUND:
+            if kind in firsts or ok[1] == "0":
+                ask_found(kind, data, firsts.get(kind, "None"), where)
+
+
+def ask_framed(data, clauses, where):
+    """What a row on a number and bytes behind their length says of a key share, which is one too (RFC 8446, section 4.2.8)."""
+    for clause, text in clauses:
+        if clause == "=>":
+            wanted = re.sub(r"Unknown\(TlsExtensionType\((\d+)\), (.*)\)$", r"KeyShareEntry { group: NamedGroup(\1), kx: \2 }", plain(text))
+            ask("key_share", data, wanted, where)
+            ask("key_shares", data, f"Ok rest _, [{wanted.partition(', ')[2]}]", where)
+        elif clause == "cut:":
+            ask_cut("key_share", data, text, where)
+
+
+def ask_names(data, clauses, where):
+    """What a row on the content of a server_name says of an extension that has it."""
+    block = b"\0\0" + len(data).to_bytes(2, "big")
+    for clause, text in clauses:
+        if clause == "=>":
+            ask_found(0, block + data, re.sub(r"Ok rest \d+, ", "", plain(text)), where)
+        elif clause == "cut:":
+            for count, wanted in fronts(data, text):
+                ask_found(0, block[:2] + count.to_bytes(2, "big") + data[:count], wanted, where)
+
+
+def ask_message(data, clauses, where):
+    """What a row on a handshake message says of its body."""
+    told_of = dict(clauses)
+    if "=>" in told_of and data:
+        wanted = plain(told_of["=>"])
+        ok = re.match(r"Ok rest (\d+), ", wanted)
+        ask(f"find_body:{data[0]}", data, f"Ok rest _, Some({shown(data[4 : len(data) - int(ok[1])])})" if ok else wanted, where)
+    for count, wanted in fronts(data, told_of.get("cut:", "")):
+        if count:
+            ask(f"find_body:{data[0]}", data[:count], wanted, where)
+
+
+def ask_row(calls, data, clauses, where):
+    told_of = dict(clauses)
+    for call in calls:
+        if (call in WHOLE or call in FRONT) and "=>" in told_of:
+            ask(call, data, plain(told_of["=>"]), where)
+        if (call in WHOLE or call in FRONT) and "cut:" in told_of:
+            ask_cut(call, data, told_of["cut:"], where)
+    if "parse_dtls_message_handshake" in calls and data[:1] and data[0] in BODIES:
+        ask_body(data, clauses, where)
+    if EXTENSIONS & set(calls):
+        ask_extension(data, clauses, where)
+    for call, also in ALSO.items():
+        if call in calls:
+            also(data, clauses, where)
+
+
+# What the rows of a call say of others.
+ALSO = {
+    "parse_tls_extensions": ask_extensions,
+    "parse_tls_extension_unknown": ask_framed,
+    "parse_tls_extension_sni_content": ask_names,
+    "parse_tls_message_handshake": ask_message,
+}
 
 
 def main():
-    counts = dict.fromkeys([*WHOLE, *FRONT], 0)
     for file in sorted(DATA.glob("*.rows")):
         for number, (calls, text, clauses, names) in enumerate(rows(file), 1):
-            for call in calls:
-                told_of = dict(clauses)
-                if call not in counts or not told_of.keys() & {"=>", "cut:"}:
-                    continue
-                data, where = bytes_of(text, names), f"{file.name}, row {number}"
-                if "=>" in told_of:
-                    ask(call, data, plain(told_of["=>"]), where)
-                    counts[call] += 1
-                if "cut:" in told_of and call in WHOLE:
-                    counts[call] += ask_cut(call, data, told_of["cut:"], where)
-                if call == "parse_dtls_message_handshake" and data[:1] and data[0] in BODIES:
-                    counts[BODIES[data[0]]] += ask_body(data, clauses, where)
+            if (EXTENSIONS | counts.keys() | ALSO.keys()) & set(calls) and dict(clauses).keys() & {"=>", "cut:"}:
+                ask_row(calls, bytes_of(text, names), clauses, f"{file.name}, row {number}")
     if lacking := [call for call, count in counts.items() if count == 0]:
         sys.exit(f"rows: no row asks {lacking}")
     beside = " in Python and in Rust" if program else ""
-    print(f"rows: {sum(counts.values())} answers of {len(counts)} calls are those of the rows{beside}")
+    print(f"rows: {sum(counts.values())} answers of {len(counts)} calls are those of the rows{beside}:", end=" ")
+    print(", ".join(f"{call} {count}" for call, count in counts.items()))
 
 
+# How many answers were compared, by call.
+counts = dict.fromkeys([*WHOLE, *FRONT, *VIEWS], 0)
 program = None
 if sys.argv[1:]:
     program = subprocess.Popen(sys.argv[1:], stdin=subprocess.PIPE, stdout=subprocess.PIPE, text=True)
