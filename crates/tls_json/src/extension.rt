@@ -1,10 +1,11 @@
 //! Extensions.
-use crate::data::{Data, Sender};
+use crate::content::Sender;
+use crate::data::Data;
 use crate::names::extension_name;
-use crate::text::hexadecimal;
+use crate::text::some_hexadecimal;
 use serde::Serialize;
 use std::alloc::{AllocError, Global};
-use tls_ext::{RawExtension, extensions};
+use tls_ext::RawExtension;
 use tls_fields::Items;
 
 /// An extension (RFC 8446, section 4.2): its type, the name of that where it has one, and its content.
@@ -16,40 +17,43 @@ pub struct Extension {
     extension_data: Data,
 }
 
-/// The extensions of a hello in their order, and the bytes behind the last that is whole.
-#[derive(Debug, Drop)]
+/// The extensions of a hello in their order, where it has a whole block of them; and the bytes of the block behind the last that is
+/// whole.
+#[derive(Debug, Drop, Serialize)]
 pub struct Extensions {
-    pub all: Vec<Extension>,
-    pub rest: Option<String>,
-}
-
-/// Bytes where there are any.
-pub fn some_bytes(alloc: Global, bytes: &[u8]) -> Result<Option<String>, AllocError> {
-    if bytes.is_empty() {
-        return Ok(None);
-    }
-    Ok(Some(hexadecimal(alloc, bytes)?))
+    #[serde(skip_serializing_if = "Option::is_none")]
+    extensions: Option<Vec<Extension>>,
+    #[serde(skip_serializing_if = "Option::is_none")]
+    rest: Option<String>,
 }
 
 impl Extensions {
-    /// Those of a hello's extensions, as they stand behind their length.
+    /// Those of a hello's `ext`, which is its block of extensions, as it stands behind its length.
     pub fn new<'a>(
         alloc: Global,
         sender: Sender,
         ext: Option<&'a [u8]>,
     ) -> Result<Extensions, AllocError> {
-        let block = extensions(ext).bytes();
+        let Some(block) = ext else {
+            return Ok(Extensions {
+                extensions: None,
+                rest: None,
+            });
+        };
         let whole: Items<RawExtension> = Items::new(block);
-        let rest = some_bytes(alloc, whole.rest())?;
+        let rest = some_hexadecimal(alloc, whole.rest())?;
         let walk: Items<RawExtension> = Items::new(block);
-        let mut all = Vec::new(alloc);
+        let mut extensions = Vec::new(alloc);
         for one in walk {
-            all.push(Extension {
+            extensions.push(Extension {
                 extension_type: one.extension_type.0,
                 name: extension_name(one.extension_type),
                 extension_data: Data::new(alloc, sender, one.extension_type, one.content)?,
             })?;
         }
-        Ok(Extensions { all, rest })
+        Ok(Extensions {
+            extensions: Some(extensions),
+            rest,
+        })
     }
 }

@@ -1,19 +1,27 @@
 //! Messages of TLS and DTLS for people and programs that read JSON: each field by the name that its RFC gives it.
 //!
-//! [`Message`] is a handshake message, [`AlertMessage`] an alert. Both are written by `serde`: numbers that stand for a thing are hexadecimal, as
-//! `0xc02f`, counts and codes of one byte are decimal, bytes are hexadecimal without `0x`, and names that a peer sent are text in which
-//! whatever is no printable ASCII is escaped, as `\xff`. What isn't read is there as bytes, so that nothing is left out.
+//! [`Message`] is a handshake message, [`AlertMessage`] an alert, [`ChangeCipherSpec`] and [`HeartbeatMessage`] are those. All are
+//! written by `serde`: numbers that stand for a thing are hexadecimal, as `0xc02f`, counts and codes of one byte are decimal, bytes are
+//! hexadecimal without `0x`, and names that a peer sent are text in which whatever is no printable ASCII is escaped, as `\xff`.
+//!
+//! Nothing is left out. A body, or the content of an extension, that isn't read is a text: its bytes in hexadecimal. Bytes behind the
+//! last field of a body stand in `rest` beside the body, and those that the last list of a body leaves of its own in `rest` inside.
 #![tactic(auto)]
 
 mod alert;
+mod body;
+mod change;
+mod content;
 mod data;
 mod extension;
+mod heartbeat;
 mod hello;
 mod message;
 mod names;
 mod text;
 
 pub use alert::AlertMessage;
-pub use extension::Extension;
+pub use change::ChangeCipherSpec;
+pub use heartbeat::HeartbeatMessage;
 pub use message::Message;
 pub use names::{alert_name, extension_name, message_name};

@@ -8,6 +8,28 @@ pub fn hexadecimal(alloc: Global, bytes: &[u8]) -> Result<String, AllocError> {
     hex::encode(alloc, bytes)
 }
 
+/// The same of bytes that may be missing: nothing where there are none.
+pub fn some_hexadecimal(alloc: Global, bytes: &[u8]) -> Result<Option<String>, AllocError> {
+    if bytes.is_empty() {
+        return Ok(None);
+    }
+    Ok(Some(hexadecimal(alloc, bytes)?))
+}
+
+/// Blobs in their order, each in hexadecimal.
+pub fn blobs<'a, I: Iterator<Item = &'a [u8]>>(
+    alloc: Global,
+    list: I,
+) -> Result<Vec<String>, AllocError>
+    requires { I.can_next list × IsFinite (I.remaining list) }
+{
+    let mut all = Vec::new(alloc);
+    for one in list {
+        all.push(hexadecimal(alloc, one)?)?;
+    }
+    Ok(all)
+}
+
 /// A number of 2 bytes that stands for a thing, as `0xc02f`.
 pub fn number(alloc: Global, number: u16) -> Result<String, AllocError> {
     format!(in alloc; "0x{number:04x}")

@@ -1,6 +1,6 @@
 //! What stands in a line.
 use serde::{Described, Serialize, Serializer};
-use tls_json::{AlertMessage, Message};
+use tls_json::{AlertMessage, ChangeCipherSpec, HeartbeatMessage, Message};
 
 /// The event that ended a handshake without success.
 #[derive(Drop, Serialize)]
@@ -37,6 +37,10 @@ pub enum Cell {
     Message(Message),
     /// An alert, by its fields.
     Alert(AlertMessage),
+    /// A ChangeCipherSpec, by its fields.
+    Change(ChangeCipherSpec),
+    /// A heartbeat, by its fields.
+    Heartbeat(HeartbeatMessage),
 }
 
 /// Names of fields, each with what it says; `None` where the field is missing.

@@ -1,6 +1,5 @@
 //! The messages that both sides say in the clear, one after the other.
 use crate::cell::Cell;
-use crate::text::hexadecimal;
 use connections::Protocol;
 use dtls_stream::{DEFAULT_LIMITS, Messages, read_datagram};
 use std::alloc::{AllocError, Global};
@@ -8,7 +7,7 @@ use std::mem;
 use tls_base::{TlsHandshakeType, TlsMessageAlert};
 use tls_conversations::{Conversation, Said};
 use tls_flow::Direction;
-use tls_json::{AlertMessage, Message, message_name};
+use tls_json::{AlertMessage, ChangeCipherSpec, HeartbeatMessage, Message, message_name};
 
 /// A message, and where it stands.
 #[derive(Drop)]
@@ -21,7 +20,7 @@ pub struct Spoken {
     pub content_type: u8,
     /// Its name, where it has one.
     pub name: Option<&'static str>,
-    /// Its fields, where it has any.
+    /// Its fields; `None` where it has no whole header.
     pub message: Option<Cell>,
 }
 
@@ -57,7 +56,7 @@ fn change() -> Word {
     Word {
         content_type: 20,
         name: Some("change_cipher_spec"),
-        message: None,
+        message: Some(Cell::Change(ChangeCipherSpec::ONLY)),
     }
 }
 
@@ -86,12 +85,12 @@ fn handshake_word(alloc: Global, message: &[u8]) -> Result<Word, AllocError> {
     })
 }
 
-/// A heartbeat (RFC 6520, section 4), by its bytes.
-fn heartbeat_word(alloc: Global, bytes: &[u8]) -> Result<Word, AllocError> {
+/// A heartbeat (RFC 6520, section 4), by the fragment of its record.
+fn heartbeat_word(alloc: Global, fragment: &[u8]) -> Result<Word, AllocError> {
     Ok(Word {
         content_type: 24,
         name: Some("heartbeat"),
-        message: Some(Cell::Text(hexadecimal(alloc, bytes)?)),
+        message: Some(Cell::Heartbeat(HeartbeatMessage::new(alloc, fragment)?)),
     })
 }
 
@@ -104,7 +103,9 @@ fn word_of(alloc: Global, said: &Said<'_>) -> Result<Option<Word>, AllocError> {
         tls_conversations::Event::Handshake(message) => Ok(Some(handshake_word(alloc, message)?)),
         tls_conversations::Event::ChangeCipherSpec => Ok(Some(change())),
         tls_conversations::Event::Alert(alert) => Ok(Some(alert_word(alert))),
-        tls_conversations::Event::Heartbeat(bytes) => Ok(Some(heartbeat_word(alloc, bytes)?)),
+        tls_conversations::Event::Heartbeat(fragment) => {
+            Ok(Some(heartbeat_word(alloc, fragment)?))
+        }
         tls_conversations::Event::ApplicationData(_) => Ok(None),
         tls_conversations::Event::Encrypted(_) => Ok(None),
     }
@@ -122,6 +123,7 @@ fn word_in_datagram(
             message: Some(Cell::Message(Message::of_datagrams(
                 alloc,
                 message.msg_type,
+                message.message_seq,
                 message.body.as_slice(),
             )?)),
         })),
