@@ -104,7 +104,8 @@ class Whole:
                 is_told |= in_text_both(ends) in self.lines and end >= HEADER
                 if end < clear(whole.bytes()) and sender.has_more(end, lambda s: not s.says_nothing()):
                     is_missing.add(source)
-            # A packet that acknowledges behind its sender's FIN stands one place further than the last byte, as if one were missing.
+            # A packet that acknowledges behind its sender's FIN stands one place further than the last byte: where the FIN is missing, as if
+            # that were a byte.
             if not sender.has_more(end):
                 is_whole.add(source)
         if not line:
@@ -146,7 +147,7 @@ def choices(chance, segments, orders):
 
 
 def acknowledgements(chance, segments, orders):
-    """The same of packets that only acknowledge: all, and some of them. Those behind their sender's FIN count as one byte of it, and stay."""
+    """The same of packets that only acknowledge: all, and some of them. Those behind their sender's FIN stay."""
     ended, indices = set(), []
     for index, s in enumerate(segments):
         if s.flags & packets.FIN:

@@ -106,7 +106,7 @@ class Sent:
     """What one side of a connection sends. Of bytes that are sent again none are missing in front."""
 
     def __init__(self):
-        self.packets, self.bytes, self.records, self.repeated, self.behind = 0, 0, 0, 0, None
+        self.packets, self.bytes, self.records, self.repeated, self.behind, self.fin = 0, 0, 0, 0, None, None
 
     def note(self, row, layer):
         self.packets += 1
@@ -114,12 +114,18 @@ class Sent:
         if layer == "udp":
             self.bytes += int(first(row, "udp.length")) - UDP_HEADER
         elif not is_set(row, "tcp.flags.reset"):
-            self.note_segment(int(first(row, "tcp.seq_raw")) + is_set(row, "tcp.flags.syn"), int(first(row, "tcp.len")))
+            begin, count = int(first(row, "tcp.seq_raw")) + is_set(row, "tcp.flags.syn"), int(first(row, "tcp.len"))
+            self.note_segment(begin, count)
+            if is_set(row, "tcp.flags.fin"):
+                self.fin = begin + count
 
     def note_segment(self, begin, count):
-        """By the numbers of its bytes, in the circle of 2^32."""
+        """By the numbers of its bytes, in the circle of 2^32. Behind a FIN, which has a number of its own, there are none."""
         self.behind = begin if self.behind is None else self.behind
-        further = (begin + count - self.behind) % 2**32
+        end = begin + count
+        if self.fin is not None and (end - self.fin) % 2**32 < 2**31:
+            end = self.fin
+        further = (end - self.behind) % 2**32
         if further < 2**31:
             self.bytes += further
             self.behind += further

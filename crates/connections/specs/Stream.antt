@@ -122,11 +122,17 @@ with_repeated s passing (Open h) Over count = count
 with_repeated s passing Unbegun r count = count
 with_repeated s passing Over r count = passed_before passing s count
 
+-- The number behind the last byte of data that a segment tells of. A FIN has a number of its own, behind which there is no data (RFC 9293,
+-- section 3.4).
+abbrev pub end_of : Option ℕ → Segment → ℕ
+end_of None s = behind_of s
+end_of (Some fin) s = if is_behind (behind_of s) fin then fin else behind_of s
+
 -- What the numbers of a segment say: how far its sender has come, and with FIN where the stream ends.
 abbrev pub with_numbers : Segment → Stream → Stream
 with_numbers s t = record t {
-  last = if is_behind (behind_of s) t.last then behind_of s else t.last;
-  length = plus t.length (advance (behind_of s) t.last);
+  last = if is_behind (end_of t.fin s) t.last then end_of t.fin s else t.last;
+  length = plus t.length (advance (end_of t.fin s) t.last);
   fin = if ends s then Some (behind_of s) else t.fin;
 }
 

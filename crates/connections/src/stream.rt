@@ -1,7 +1,7 @@
 //! One direction of a connection.
 ghost use Rattle.std.specs.Prelude.{◌≡◌, ◌%◌, ◌^◌, length, false, OnOk, OnErr};
 ghost use Rattle.connections.specs.Segment.{breaks, first_of};
-ghost use Rattle.connections.specs.Stream.{begun_by, next_bytes, behind_front, next_behind, passed, passed_before, passing_behind, silent_stream, stopped, is_behind as comes_behind, advance as advance_of, came, with_numbers, noted, HasPut, HasTaken, is_over, lacks};
+ghost use Rattle.connections.specs.Stream.{begun_by, next_bytes, behind_front, next_behind, passed, passed_before, passing_behind, silent_stream, stopped, is_behind as comes_behind, advance as advance_of, came, end_of, with_numbers, noted, HasPut, HasTaken, is_over, lacks};
 ghost use Rattle.connections.specs.declared.stream.Reading.TheVariants.{Over};
 
 use crate::segment::Segment;
@@ -110,14 +110,25 @@ impl Stream {
         }
     }
 
+    /// The number behind the last byte of data that a segment tells of: a FIN has a number of its own, behind which there is no data.
+    fn end_of(&self, segment: &Segment<'_>) -> u32
+        ensures { result ≡ end_of self.now.fin segment.now }
+    {
+        match self.fin {
+            Some(fin) if is_behind(segment.behind(), fin) => fin,
+            _ => segment.behind(),
+        }
+    }
+
     /// Notes where a segment ends.
     fn note_numbers(&mut self, segment: &Segment<'_>)
         ensures { self.new ≡ with_numbers segment.now self.old }
     {
-        let further = advance(segment.behind(), self.last);
+        let end = self.end_of(segment);
+        let further = advance(end, self.last);
         self.length = self.length.saturating_add(u64::from(further));
-        if is_behind(segment.behind(), self.last) {
-            self.last = segment.behind();
+        if is_behind(end, self.last) {
+            self.last = end;
         }
         if segment.ends() {
             self.fin = Some(segment.behind());

@@ -1,5 +1,6 @@
 -- What the connection of a packet comes to.
-use Rattle.std.proofs.Common.{◌≡◌, refl, sym, ap, ◌∙◌, subst, Option, Some, None, List, ◌∷◌, ⊥}
+use Rattle.std.proofs.Common.{◌≡◌, refl, sym, ap, ◌∙◌, subst, Option, Some, None, List, ◌∷◌, Bool, true, false}
+use Rattle.std.specs.Prelude.{not}
 use Rattle.core.specs.Option.{unwrap_or}
 use Rattle.std.specs.Map.{set_value}
 use Rattle.connections.proofs.TableLemmas.{are_ends-refl}
@@ -7,13 +8,12 @@ use Rattle.connections.specs.Connection.{side_of}
 use Rattle.connections.specs.Datagram.{ends_of_datagram}
 use Rattle.connections.specs.Ends.{are_ends}
 use Rattle.connections.specs.Segment.{ends_of}
-use Rattle.connections.specs.Table.{IsPut, Table, TakesDatagram, TakesSegment, at, others}
+use Rattle.connections.specs.Table.{IsPut, Puts, Table, TakesDatagram, TakesSegment, at, others}
 use Rattle.connections.specs.declared.connection.Connection.{Connection}
 use Rattle.connections.specs.declared.datagram.Datagram.{Datagram}
 use Rattle.connections.specs.declared.ends.Ends.{Ends}
 use Rattle.connections.specs.declared.segment.Segment.{Segment}
-use Rattle.tlslog.specs.Heard.{HearsDatagram}
-use Rattle.tlslog.specs.Log.{HearsSegment, HearsSide, LogsDatagram, direction_of}
+use Rattle.tlslog.specs.Log.{HearsFrom, HearsSegment, HearsSide, LogsDatagram}
 use Rattle.tlslog.specs.declared.heard.Heard.{Heard}
 
 module _ {X : Type 0} (e : Ends) where
@@ -42,37 +42,48 @@ module _ (e : Ends) (Takes : Option (Connection Heard) → Connection Heard → 
   written_first : (d : Connection Heard) → set_value (are_ends e) ys d ≡ (e, d) ∷ others e xs
   written_first d = ap (λ l. set_value (are_ends e) l d) put.stands ∙ set_first e put.its d (others e xs)
 
-pub segment_heard : (s : Segment) (old mid : Table Heard) (c d : Connection Heard)
-    → IsPut (ends_of s) (TakesSegment s) old.live mid.live → mid.closed ≡ old.closed
-    → Some c ≡ at (ends_of s) mid.live → HearsSide (side_of c s.source) c d
+put_where_true : (b : Bool) (s : Segment) (old mid : Table Heard) → not b ≡ false → Puts b s old mid
+    → IsPut (ends_of s) (TakesSegment s) old.live mid.live
+put_where_true true s old mid is put = put
+put_where_true false s old mid is put = cc
+
+pub segment_heard : (b : Bool) (s : Segment) (old mid : Table Heard) (c d : Connection Heard) → not b ≡ false
+    → Puts b s old mid → mid.closed ≡ old.closed → Some c ≡ at (ends_of s) mid.live
+    → HearsSide (side_of c s.source) c d
     → HearsSegment s old (record mid { live = set_value (are_ends (ends_of s)) mid.live d })
-segment_heard s old mid c d put closed found hears = record {
+segment_heard b s old mid c d is puts closed found hears =
+    let put = put_where_true b s old mid is puts in record {
+      put = put.its;
+      its = d;
+      takes = put.takes;
+      hears =
+          subst (λ z. HearsSide (side_of z s.source) z d)
+          (lent (ends_of s) (TakesSegment s) old.live mid.live put c found) hears;
+      stands = written_first (ends_of s) (TakesSegment s) old.live mid.live put d;
+      closed = closed;
+    }
+
+pub segment_lent : (b : Bool) (s : Segment) (old mid : Table Heard) → not b ≡ false → Puts b s old mid
+    → None ≡ at (ends_of s) mid.live → ⊥
+segment_lent b s old mid is puts none =
+    some_lent (ends_of s) (TakesSegment s) old.live mid.live (put_where_true b s old mid is puts) (sym none)
+
+pub datagram_heard : (g : Datagram) (old mid : Table Heard) (c d : Connection Heard)
+    → IsPut (ends_of_datagram g) (TakesDatagram g) old.live mid.live → mid.closed ≡ old.closed
+    → Some c ≡ at (ends_of_datagram g) mid.live → HearsFrom g c d
+    → LogsDatagram g old (record mid { live = set_value (are_ends (ends_of_datagram g)) mid.live d })
+datagram_heard g old mid c d put closed found hears = record {
   put = put.its;
   its = d;
   takes = put.takes;
   hears =
-      subst (λ z. HearsSide (side_of z s.source) z d)
-      (lent (ends_of s) (TakesSegment s) old.live mid.live put c found) hears;
-  stands = written_first (ends_of s) (TakesSegment s) old.live mid.live put d;
+      subst (λ z. HearsFrom g z d)
+      (lent (ends_of_datagram g) (TakesDatagram g) old.live mid.live put c found) hears;
+  stands = written_first (ends_of_datagram g) (TakesDatagram g) old.live mid.live put d;
   closed = closed;
 }
 
-pub datagram_heard : (g : Datagram) (old mid : Table Heard) (c : Connection Heard) (h : Heard)
-    → IsPut (ends_of_datagram g) (TakesDatagram g) old.live mid.live → mid.closed ≡ old.closed
-    → Some c ≡ at (ends_of_datagram g) mid.live
-    → HearsDatagram (direction_of (side_of c g.source)) g.payload.now c.listener.said h.said
-    → LogsDatagram g old (record mid {
-      live = set_value (are_ends (ends_of_datagram g)) mid.live (record c { listener = h });
-    })
-datagram_heard g old mid c h put closed found hears =
-    let e = ends_of_datagram g in
-    let is : c ≡ put.its = lent e (TakesDatagram g) old.live mid.live put c found in record {
-      put = put.its;
-      its = record c { listener = h };
-      takes = put.takes;
-      hears =
-          subst (λ z. HearsDatagram (direction_of (side_of z g.source)) g.payload.now z.listener.said h.said) is hears;
-      others_stay = ap (λ z. record z { listener = h }) is;
-      stands = written_first e (TakesDatagram g) old.live mid.live put (record c { listener = h });
-      closed = closed;
-    }
+pub datagram_lent : (g : Datagram) (old mid : Table Heard)
+    → IsPut (ends_of_datagram g) (TakesDatagram g) old.live mid.live → None ≡ at (ends_of_datagram g) mid.live → ⊥
+datagram_lent g old mid put none =
+    some_lent (ends_of_datagram g) (TakesDatagram g) old.live mid.live put (sym none)

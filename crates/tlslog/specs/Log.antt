@@ -42,12 +42,17 @@ abbrev pub Logs : Bool → Segment → Table Heard → Table Heard → Type 0
 Logs true s old new = HearsSegment s old new
 Logs false s old new = new ≡ old
 
+-- The listener hears a datagram of its sender's; all else of the exchange stays.
+abbrev pub HearsFrom : Datagram → Connection Heard → Connection Heard → Type 0
+HearsFrom d c c' =
+    HearsDatagram (direction_of (side_of c d.source)) d.payload.now c.listener.said c'.listener.said
+    × (c' ≡ record c { listener = c'.listener })
+
 -- The datagram's own exchange takes it, and its listener hears it. All others stay.
 pub record LogsDatagram (d : Datagram) (old new : Table Heard) : Type 0 where
   pub put : Connection Heard
   pub its : Connection Heard
   pub takes : TakesDatagram d (at (ends_of_datagram d) old.live) put
-  pub hears : HearsDatagram (direction_of (side_of put d.source)) d.payload.now put.listener.said its.listener.said
-  pub others_stay : its ≡ record put { listener = its.listener }
+  pub hears : HearsFrom d put its
   pub stands : new.live ≡ (ends_of_datagram d, its) ∷ others (ends_of_datagram d) old.live
   pub closed : new.closed ≡ old.closed

@@ -2,7 +2,7 @@
 ghost use Rattle.std.specs.Prelude.{◌≡◌, IfOk, OnOk, is_some};
 ghost use Rattle.connections.specs.Connection.{side_of};
 ghost use Rattle.tlslog.specs.Heard.{HearsStream};
-ghost use Rattle.tlslog.specs.Log.{HearsSide, Logs, LogsDatagram, direction_of as direction};
+ghost use Rattle.tlslog.specs.Log.{HearsFrom, HearsSide, Logs, LogsDatagram, direction_of as direction};
 
 use crate::counts::{Counts, add_one};
 use crate::heard::Heard;
@@ -152,6 +152,22 @@ fn hear(
     }
 }
 
+/// Lets the listener hear a datagram, and keep the messages that it hears where they are to be taken.
+fn hear_from(
+    exchange: &mut Connection<Heard>,
+    datagram: &Datagram<'_>,
+    keeps_messages: bool,
+) -> Result<(), AllocError>
+    ensures { OnOk result (HearsFrom datagram.now exchange.old exchange.new) }
+{
+    let direction = direction_of(exchange.side_of(datagram.source));
+    let heard = &mut exchange.listener;
+    if keeps_messages {
+        heard.keep_messages();
+    }
+    heard.hear_datagram(direction, datagram.payload)
+}
+
 impl Log {
     /// That of a capture of which nothing was read, with keys for the hashes of its table. It keeps the messages of connections where they
     /// are to be taken.
@@ -255,15 +271,10 @@ impl Log {
     {
         self.connections.accept_datagram(datagram)?;
         let keeps_messages = self.keeps_messages;
-        if let Some(exchange) = self.connections.get_mut(&datagram.between()) {
-            let direction = direction_of(exchange.side_of(datagram.source));
-            let heard = &mut exchange.listener;
-            if keeps_messages {
-                heard.keep_messages();
-            }
-            heard.hear_datagram(direction, datagram.payload)?;
+        match self.connections.get_mut(&datagram.between()) {
+            Some(exchange) => hear_from(exchange, datagram, keeps_messages),
+            None => Ok(()),
         }
-        Ok(())
     }
 
     /// The open connection that an arrival belongs to.

@@ -1,14 +1,14 @@
-use Rattle.std.proofs.Common.{rules, ◌≡◌, IfOk, OnOk, is_some, ℕ, ◌+◌, ◌-◌, ◌*◌, ◌<◌, ◌≤◌, length, ◌/◌, ◌%◌, Bool, true, false, nat_eq, nat_lt, List, [], ◌∷◌, ◌++◌, slice_index_or, slice_set, bit_and, bit_or, Fits, w8, w32, w64, Bor, MutBor}
-use Rattle.connections.specs.Connection.{side_of}
-use Rattle.tlslog.specs.Heard.{HearsStream}
-use Rattle.tlslog.specs.Log.{HearsSide, Logs, LogsDatagram}
-use Rattle.tlslog.specs.Log.{direction_of as direction}
+use Rattle.tlslog.proofs.LogLemmas.{datagram_heard, datagram_lent}
 use Rattle.tlslog.proofs.log.Log.accept_datagram.Goals as goal
 
--- src/log.rt:253:5
-pub returns-in_ok-hear_datagram : goal.returns-in_ok-hear_datagram
-returns-in_ok-hear_datagram c = ?
+pub returns-in-Some : goal.returns-in-Some
+returns-in-Some c =
+    rw c.between.ensures
+    (datagram_heard c.args.datagram.now c.args.self.now.connections c.accept_datagram.new.self c.in-Some.exchange.now
+    c.hear_from.new.exchange c.in_ok-accept_datagram.ensures.put c.accept_datagram.ensures.closed
+    (rw c.between.ensures at c.in-Some.ensures.value) c.in_ok-hear_from-in-Some.ensures)
 
--- src/log.rt:253:5
-pub returns-in_default : goal.returns-in_default
-returns-in_default c = ?
+pub returns-in-None : goal.returns-in-None
+returns-in-None c =
+    absurd (datagram_lent c.args.datagram.now c.args.self.now.connections c.accept_datagram.new.self
+    c.in_ok-accept_datagram.ensures.put (rw c.between.ensures at c.in-None.ensures.value))

@@ -1,14 +1,14 @@
-use Rattle.std.proofs.Common.{rules, ◌≡◌, IfOk, OnOk, is_some, ℕ, ◌+◌, ◌-◌, ◌*◌, ◌<◌, ◌≤◌, length, ◌/◌, ◌%◌, Bool, true, false, nat_eq, nat_lt, List, [], ◌∷◌, ◌++◌, slice_index_or, slice_set, bit_and, bit_or, Fits, w8, w32, w64, Bor, MutBor}
-use Rattle.connections.specs.Connection.{side_of}
-use Rattle.tlslog.specs.Heard.{HearsStream}
-use Rattle.tlslog.specs.Log.{HearsSide, Logs, LogsDatagram}
-use Rattle.tlslog.specs.Log.{direction_of as direction}
+use Rattle.tlslog.proofs.LogLemmas.{segment_heard, segment_lent}
 use Rattle.tlslog.proofs.log.Log.hear_segment.Goals as goal
 
--- src/log.rt:221:5
 pub returns-in_ok-hear-in-Some : goal.returns-in_ok-hear-in-Some
-returns-in_ok-hear-in-Some c = ?
+returns-in_ok-hear-in-Some c =
+    rw c.between.ensures
+    (segment_heard c.in_ok-accept.field-0 c.args.segment.now c.args.self.now.connections c.accept.new.self
+    c.in-Some.connection.now c.hear.new.connection c.if-not-branch.false c.in_ok-accept.ensures.put
+    c.in_ok-accept.ensures.closed (rw c.between.ensures at c.in-Some.ensures.value) c.in_ok-hear-in-Some.ensures)
 
--- src/log.rt:221:5
 pub returns-in-None : goal.returns-in-None
-returns-in-None c = ?
+returns-in-None c =
+    absurd (segment_lent c.in_ok-accept.field-0 c.args.segment.now c.args.self.now.connections c.accept.new.self
+    c.if-not-branch.false c.in_ok-accept.ensures.put (rw c.between.ensures at c.in-None.ensures.value))
