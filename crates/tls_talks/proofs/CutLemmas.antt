@@ -1,7 +1,41 @@
 -- A piece that is cut in two says what it says whole.
-use Rattle.std.proofs.Common.{◌≡◌, ℕ, suc, ◌+◌, ◌-◌, ◌^◌, ◌<◌, ◌≤◌, ◌⊎◌, inl, inr, List, [], ◌∷◌, ◌++◌, length, take,
-    get_or, Bool, true, false, not, ◌||◌, ◌&&◌, Option, Some, None, refl, sym, ◌∙◌, ap, subst, arith, append_assoc,
-    length-append}
+use Rattle.std.proofs.Common.{
+  ◌≡◌,
+  ℕ,
+  suc,
+  ◌+◌,
+  ◌-◌,
+  ◌^◌,
+  ◌<◌,
+  ◌≤◌,
+  ◌⊎◌,
+  inl,
+  inr,
+  List,
+  [],
+  ◌∷◌,
+  ◌++◌,
+  length,
+  take,
+  get_or,
+  Bool,
+  true,
+  false,
+  not,
+  ◌||◌,
+  ◌&&◌,
+  Option,
+  Some,
+  None,
+  refl,
+  sym,
+  ◌∙◌,
+  ap,
+  subst,
+  arith,
+  append_assoc,
+  length-append,
+}
 use Rattle.std.specs.Borrow.{Bor}
 use Rattle.std.proofs.Math.Seq.{take-suc}
 use Rattle.std.proofs.lemmas.List.{map-append, take_all}
@@ -244,7 +278,7 @@ pub both_heard : (h m i : Hearer) (s : Side) (p q : Bytes) (a b : Bool) → IsHe
     → IsHeard h s (p ++ q) i (a || b)
 both_heard h m i s p q a b first last =
     let whole = joined h.conversation first.begun m.conversation last.begun i.conversation s p q first.said last.said
-        first.fed first.past
+    first.fed first.past
     last.fed last.past in
     record {
       begun = whole.begun;
@@ -291,7 +325,7 @@ pub piece_heard : (h m i : Hearer) (pieces : List (Side × Bor (List ℕ))) (n :
 piece_heard h m i pieces n q a within heard last =
     let one : n + 1 ≡ suc n = omega arith in
     let next : views (take (n + 1) pieces) ≡ views (take n pieces) ++ ((get_or pieces n q).0, (get_or pieces n q).1.now)
-        ∷ []
+    ∷ []
     = ap (λ k. views (take k pieces)) one ∙ ap views (take-suc pieces n q within)
     ∙ map-append (λ (p : Side × Bor (List ℕ)). (p.0, p.1.now)) (take n pieces) (get_or pieces n q ∷ []) in
     subst (λ ps. AreHeard h ps i) (sym next)

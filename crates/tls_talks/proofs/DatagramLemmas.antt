@@ -8,8 +8,20 @@ use Rattle.tls_flow.specs.declared.flow.Flow.{Flow}
 use Rattle.tls_flow.specs.declared.letter.Direction.{Direction as Side}
 use Rattle.tls_flow.specs.declared.letter.Direction.TheVariants.{ToServer, FromServer}
 use Rattle.tls_facts.specs.Facts.{Facts, view_facts}
-use Rattle.tls_talks.specs.Datagrams.{IsKnown, IsSpoken, IsStepped, Spoken, Talk, Told, allowed, said_all, spoken,
-    stepped, told_of, told_to}
+use Rattle.tls_talks.specs.Datagrams.{
+  IsKnown,
+  IsSpoken,
+  IsStepped,
+  Spoken,
+  Talk,
+  Told,
+  allowed,
+  said_all,
+  spoken,
+  stepped,
+  told_of,
+  told_to,
+}
 use Rattle.tls_talks.specs.declared.account.Account.{Account}
 use Rattle.tls_talks.specs.declared.datagram_talk.Speaker.{Speaker}
 use Rattle.tls_talks.specs.declared.datagram_talk.DatagramTalk.{DatagramTalk}
@@ -28,14 +40,14 @@ told_is : (k : Talk) (p : Spoken) (t : DatagramTalk) (q : Speaker) → IsKnown k
     → told_of t.account q.progress ≡ told_to k p
 told_is k p t q is side =
     told_same t.account.flow k.flow (view_facts t.account.facts) k.facts t.account.history.items k.history
-        q.progress.has_changed p.has_changed
+    q.progress.has_changed p.has_changed
     q.progress.is_encrypted p.is_encrypted is.flow is.facts is.history side.has_changed side.is_encrypted
 
 -- What a side came to, by a datagram.
 abbrev pub Hears : Side → Bytes → Account → Speaker → Account → Speaker → Type 0
 Hears s d a p b q =
     (h : Heard) → Stands allowed h p.messages → IsStepped s (datagram allowed h d) (told_of a p.progress) (told_of b
-        q.progress) q.messages
+    q.progress) q.messages
 
 told_step : (k : Talk) (s : Side) (t : DatagramTalk) (p q : Speaker) (b : Account) (d : Bytes)
     → IsKnown k t → IsSpoken (spoken k s) p → Hears s d t.account p b q
@@ -86,14 +98,16 @@ pub client_answers : {E : Type 0} (k : Talk) (t : DatagramTalk) (s : Side) (b : 
     → s ≡ ToServer
     → ((h : Heard) → Stands allowed h t.client.messages
     → OnOk r (IsStepped s (datagram allowed h d) (told_of t.account t.client.progress) (told_of b q.progress)
-        q.messages))
-    → IsKnown k t → OnOk r (IsKnown (stepped k s (datagram allowed (spoken k s).heard d)) (record t { client = q;
-        account = b }))
+    q.messages))
+    → IsKnown k t → OnOk r (IsKnown (stepped k s (datagram allowed (spoken k s).heard d)) (record t {
+      client = q;
+      account = b;
+    }))
 client_answers k t s b q d (Ok x) at hears is =
     subst (λ s. IsKnown (stepped k s (datagram allowed (spoken k s).heard d)) (record t { client = q; account = b }))
-        (sym at)
+    (sym at)
     (client_hears k t b q d (λ h stands. subst (λ s. IsStepped s (datagram allowed h d) (told_of t.account
-        t.client.progress)
+    t.client.progress)
     (told_of b q.progress) q.messages) at (hears h stands)) is)
 client_answers k t s b q d (Err e) at hears is = tt
 
@@ -102,13 +116,15 @@ pub server_answers : {E : Type 0} (k : Talk) (t : DatagramTalk) (s : Side) (b : 
     → s ≡ FromServer
     → ((h : Heard) → Stands allowed h t.server.messages
     → OnOk r (IsStepped s (datagram allowed h d) (told_of t.account t.server.progress) (told_of b q.progress)
-        q.messages))
-    → IsKnown k t → OnOk r (IsKnown (stepped k s (datagram allowed (spoken k s).heard d)) (record t { server = q;
-        account = b }))
+    q.messages))
+    → IsKnown k t → OnOk r (IsKnown (stepped k s (datagram allowed (spoken k s).heard d)) (record t {
+      server = q;
+      account = b;
+    }))
 server_answers k t s b q d (Ok x) at hears is =
     subst (λ s. IsKnown (stepped k s (datagram allowed (spoken k s).heard d)) (record t { server = q; account = b }))
-        (sym at)
+    (sym at)
     (server_hears k t b q d (λ h stands. subst (λ s. IsStepped s (datagram allowed h d) (told_of t.account
-        t.server.progress)
+    t.server.progress)
     (told_of b q.progress) q.messages) at (hears h stands)) is)
 server_answers k t s b q d (Err e) at hears is = tt

@@ -1,6 +1,31 @@
 -- The first bytes of a side, which tell whether it speaks TLS, in however many pieces.
-use Rattle.std.proofs.Common.{◌≡◌, ℕ, ◌+◌, ◌-◌, ◌<◌, ◌≤◌, [], ◌++◌, length, take, drop, Bool, true, false, Result, Ok,
-    Err, refl, sym, ◌∙◌, ap, subst, arith, append_assoc, length-append}
+use Rattle.std.proofs.Common.{
+  ◌≡◌,
+  ℕ,
+  ◌+◌,
+  ◌-◌,
+  ◌<◌,
+  ◌≤◌,
+  [],
+  ◌++◌,
+  length,
+  take,
+  drop,
+  Bool,
+  true,
+  false,
+  Result,
+  Ok,
+  Err,
+  refl,
+  sym,
+  ◌∙◌,
+  ap,
+  subst,
+  arith,
+  append_assoc,
+  length-append,
+}
 use Rattle.std.specs.Prelude.{OnOk, if◌then◌else◌, is_ok, nat_lt}
 use Rattle.std.specs.Global.{Vec}
 use Rattle.std.proofs.Math.Seq.{take-append-add}
@@ -11,8 +36,23 @@ use Rattle.tls_flow.specs.Table.{outcome_at}
 use Rattle.tls_flow.specs.declared.letter.Direction.{Direction as Side}
 use Rattle.tls_flow.specs.declared.letter.Direction.TheVariants.{ToServer, FromServer}
 use Rattle.tls_talks.specs.Front.{begins_tls}
-use Rattle.tls_talks.specs.Talks.{IsFirstBy, IsFirstHeard, IsHeardBy, IsHeardOn, IsNext, IsNextBy, Waits, front,
-    hearing, is_over, over_by, told_tls, waiting, with_hearing, with_waiting}
+use Rattle.tls_talks.specs.Talks.{
+  IsFirstBy,
+  IsFirstHeard,
+  IsHeardBy,
+  IsHeardOn,
+  IsNext,
+  IsNextBy,
+  Waits,
+  front,
+  hearing,
+  is_over,
+  over_by,
+  told_tls,
+  waiting,
+  with_hearing,
+  with_waiting,
+}
 use Rattle.tls_talks.specs.declared.talk.Hearing.{Hearing}
 use Rattle.tls_talks.specs.declared.talk.Hearing.TheVariants.{Unknown, Clear, Encrypted, Other}
 use Rattle.tls_talks.specs.declared.talk.Talk.{Talk}
@@ -49,14 +89,14 @@ front_is w f g b x n whole waits comes count =
 pub first_tls : {E : Type 0} (r : Result Unit E) (t m o u : Talk) (s : Side) (b : Bytes)
     → nat_lt (length b) (5 - length (waiting t s).items) ≡ false
     → begins_tls (front (waiting t s).items b) ≡ true → Waits t s [] m
-        → IsNext (told_tls m s) s (front (waiting t s).items b) o
+    → IsNext (told_tls m s) s (front (waiting t s).items b) o
     → OnOk r (IsNext o s (drop (5 - length (waiting t s).items) b) u)
-        → OnOk r (IsFirstHeard t s (waiting t s).items b u)
+    → OnOk r (IsFirstHeard t s (waiting t s).items b u)
 first_tls (Ok x) t m o u s b long tls waits first last =
     let w : Bytes = (waiting t s).items in
     let n : ℕ = 5 - length w in
     subst (λ c. IsFirstBy c (begins_tls (front w b)) t s w b u) (sym long) (subst (λ c. IsFirstBy false c t s w b u)
-        (sym tls) (
+    (sym tls) (
       m,
       waits,
       subst (λ y. IsNext (told_tls m s) s y u) (append_assoc w (take n b) (drop n b)
@@ -77,7 +117,7 @@ first_other t m n s b long other waits first =
 front_moves : (w p q : Bytes) → length p < 5 - length w → front (w ++ p) q ≡ front w (p ++ q)
 front_moves w p q short =
     let more : 5 - length (w ++ p) ≡ 5 - length w - length p = let e : length (w ++ p) ≡ length w + length p =
-        length-append w p in
+    length-append w p in
     omega (arith, e) in
     let whole : length p + (5 - length w - length p) ≡ 5 - length w = omega (arith, short) in
     append_assoc w p (take (5 - length (w ++ p)) q) ∙ ap (λ n. w ++ (p ++ take n q)) more
@@ -156,19 +196,21 @@ both_short t m u s p q unknown short waits last =
     let heard : IsFirstHeard m s (waiting m s).items q u =
     subst (λ h. IsHeardBy h m s q u) (hearing_waits t m s (w ++ p) waits ∙ unknown) last in
     let here : IsFirstHeard m s (w ++ p) q u = subst (λ b. IsFirstHeard m s b q u) (waiting_is t m s (w ++ p) waits)
-        heard in
+    heard in
     first_again (nat_lt (length (p ++ q)) (5 - length w)) (begins_tls (front w (p ++ q))) t m u s w p q waits
-        (front_moves w p q short)
+    (front_moves w p q short)
     (subst (λ b. IsFirstBy b (begins_tls (front w (p ++ q))) m s (w ++ p) q u) (short_moves w p q short)
     (subst (λ b. IsFirstBy (nat_lt (length q) (5 - length (w ++ p))) (begins_tls b) m s (w ++ p) q u) (front_moves w p q
-        short) here))
+    short) here))
 
 both_long : (tls : Bool) (t m u : Talk) (s : Side) (w p q : Bytes) → 5 - length w ≤ length p
     → IsFirstBy false tls t s w p m → IsHeardOn m s q u
     → IsFirstBy false tls t s w (p ++ q) u
 both_long true t m u s w p q long first last =
-    let known : IsKnown (hearing (told_tls first.0 s) s) = subst IsKnown (sym (hearing_with (record first.0 { is_tls =
-        true }) s Clear))
+    let known : IsKnown (hearing (told_tls first.0 s) s) = subst IsKnown (sym (hearing_with (record first.0 {
+      is_tls =
+          true;
+    }) s Clear))
     (λ e. absurd cc) in (
       first.0,
       first.1,

@@ -1,6 +1,32 @@
 -- What is heard of a side event by event, up to the one by which it is over.
-use Rattle.std.proofs.Common.{◌≡◌, ℕ, ◌+◌, ◌-◌, ◌^◌, ◌≤◌, ◌⊎◌, inl, inr, List, [], ◌∷◌, length, Bool, true, false, ◌||◌,
-    Option, Some, None, refl, sym, ◌∙◌, ap, subst, arith}
+use Rattle.std.proofs.Common.{
+  ◌≡◌,
+  ℕ,
+  ◌+◌,
+  ◌-◌,
+  ◌^◌,
+  ◌≤◌,
+  ◌⊎◌,
+  inl,
+  inr,
+  List,
+  [],
+  ◌∷◌,
+  length,
+  Bool,
+  true,
+  false,
+  ◌||◌,
+  Option,
+  Some,
+  None,
+  refl,
+  sym,
+  ◌∙◌,
+  ap,
+  subst,
+  arith,
+}
 use Rattle.std.specs.Global.{Vec}
 use Rattle.tls_fields.specs.Bytes.{Bytes}
 use Rattle.tls_events.specs.Item.{Event as Said}
@@ -15,8 +41,22 @@ use Rattle.tls_facts.specs.Facts.{view_facts}
 use Rattle.tls_talks.specs.Hearing.{IsFed, IsNextTaken, IsNoted}
 use Rattle.tls_talks.specs.History.{history, letter_of, with_letter}
 use Rattle.tls_talks.specs.Noting.{facts, has_sealed, is_sealed, noted}
-use Rattle.tls_talks.specs.Talks.{AreHeard, IsFollowed, IsLeft, IsNext, IsNextBy, IsTaken, flow_behind, hearing,
-    hearing_behind, is_over, over_behind, over_by, sealed_if, with_hearing}
+use Rattle.tls_talks.specs.Talks.{
+  AreHeard,
+  IsFollowed,
+  IsLeft,
+  IsNext,
+  IsNextBy,
+  IsTaken,
+  flow_behind,
+  hearing,
+  hearing_behind,
+  is_over,
+  over_behind,
+  over_by,
+  sealed_if,
+  with_hearing,
+}
 use Rattle.tls_talks.specs.declared.hearer.Hearer.{Hearer}
 use Rattle.tls_talks.specs.declared.talk.Hearing.{Hearing}
 use Rattle.tls_talks.specs.declared.talk.Hearing.TheVariants.{Encrypted}
@@ -61,7 +101,7 @@ over_is : (t u : Talk) (s : Side) (p : Bytes) (n : ℕ) (on : IsOn t s p u n)
     → is_over u s ≡ over_behind (hearing t s) s t.hearer.conversation.flow on.said
 over_is t u s p n on =
     ap (λ h. over_by h (outcome_at u.hearer.conversation.flow.state)) (hearing_is t u s (hearing_behind (hearing t s)
-        on.said) on.same)
+    on.said) on.same)
     ∙ ap (λ (f : Flow). over_by (hearing_behind (hearing t s) on.said) (outcome_at f.state))
     (flow_is on.begun u.hearer.conversation s on.said on.past ∙ ap (λ f. flow_behind s f on.said) on.fed.flow)
 
@@ -81,7 +121,7 @@ pub taken_sealed : (o : Option Said) (t : Talk) (h : Hearer) (s : Side) → IsNe
     → IsTaken o t s true (with_hearing (record t { hearer = h }) s Encrypted)
 taken_sealed (Some v) t h s some =
     let its : (with_hearing (record t { hearer = h }) s Encrypted).hearer ≡ h = hearer_with (record t { hearer = h }) s
-        Encrypted in (
+    Encrypted in (
       refl,
       subst (λ x. IsNoted t.hearer s v x) (sym its) some.1,
       ap (λ b. with_hearing (record t { hearer = h }) s (sealed_if b (hearing t s))) (value some.0)
@@ -109,13 +149,13 @@ next_same t u h s p n b on =
     ap (λ x. with_hearing (record x { hearer = h }) s (sealed_if b (hearing u s))) on.same
     ∙ with_again t s u.hearer h (hearing_behind (hearing t s) on.said) (sealed_if b (hearing u s))
     ∙ ap (λ x. with_hearing (record t { hearer = h }) s (sealed_if b x)) (hearing_is t u s (hearing_behind (hearing t s)
-        on.said) on.same)
+    on.said) on.same)
     ∙ ap (λ x. with_hearing (record t { hearer = h }) s x) (sealed_twice (has_sealed on.said) b (hearing t s))
 
 on_some : (t u w : Talk) (s : Side) (p : Bytes) (n : ℕ) (v : Said) → IsOn t s p u n → is_over u s ≡ false
     → IsNoted u.hearer s v w.hearer
     → (IsReady (ear u.hearer.conversation s) → IsReady (ear w.hearer.conversation s))
-        → w ≡ next_talk u s w.hearer (is_sealed v)
+    → w ≡ next_talk u s w.hearer (is_sealed v)
     → IsOn t s p w (n + 1)
 on_some t u w s p n v on clear noted_it kept same = record {
   begun = on.begun;
@@ -153,7 +193,7 @@ over_left b s vs c over = subst (λ b. IsLeft b s vs c c) (sym over) (refl, refl
 
 on_left : (t u : Talk) (s : Side) (p : Bytes) (n : ℕ) (on : IsOn t s p u n)
     → IsLeft (over_behind (hearing t s) s t.hearer.conversation.flow on.said) s on.said u.hearer.conversation
-        u.hearer.conversation
+    u.hearer.conversation
     → IsFollowed t s p u
 on_left t u s p n on left = record {
   begun = on.begun;

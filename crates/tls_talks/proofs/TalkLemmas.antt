@@ -1,6 +1,24 @@
 -- A side's piece that is cut in two is heard as it is whole, up to the event by which the side is over.
-use Rattle.std.proofs.Common.{◌≡◌, ◌-◌, ◌^◌, inl, inr, List, [], ◌∷◌, ◌++◌, Bool, true, false, ◌||◌, refl, sym, ◌∙◌, ap,
-    subst}
+use Rattle.std.proofs.Common.{
+  ◌≡◌,
+  ◌-◌,
+  ◌^◌,
+  inl,
+  inr,
+  List,
+  [],
+  ◌∷◌,
+  ◌++◌,
+  Bool,
+  true,
+  false,
+  ◌||◌,
+  refl,
+  sym,
+  ◌∙◌,
+  ap,
+  subst,
+}
 use Rattle.tls_fields.specs.Bytes.{Bytes}
 use Rattle.tls_events.specs.Item.{Event as Said}
 use Rattle.tls_flow.specs.Steps.{follow}
@@ -14,14 +32,37 @@ use Rattle.tls_conversations.specs.declared.conversation.Conversation.{Conversat
 use Rattle.tls_facts.specs.Facts.{view_facts}
 use Rattle.tls_talks.specs.History.{history}
 use Rattle.tls_talks.specs.Noting.{facts, has_sealed}
-use Rattle.tls_talks.specs.Talks.{AreHeard, IsFollowed, IsHeardBy, IsHeardOn, IsLeft, IsNext, IsNextBy, flow_behind,
-    hearing, hearing_behind, is_over, over_behind, over_by, sealed_if, with_hearing}
+use Rattle.tls_talks.specs.Talks.{
+  AreHeard,
+  IsFollowed,
+  IsHeardBy,
+  IsHeardOn,
+  IsLeft,
+  IsNext,
+  IsNextBy,
+  flow_behind,
+  hearing,
+  hearing_behind,
+  is_over,
+  over_behind,
+  over_by,
+  sealed_if,
+  with_hearing,
+}
 use Rattle.tls_talks.specs.declared.hearer.Hearer.{Hearer}
 use Rattle.tls_talks.specs.declared.talk.Hearing.{Hearing}
 use Rattle.tls_talks.specs.declared.talk.Hearing.TheVariants.{Unknown, Clear, Encrypted, Other}
 use Rattle.tls_talks.specs.declared.talk.Talk.{Talk}
-use Rattle.tls_talks.proofs.CutLemmas.{facts_on, fed_further, further, history_on, joined, longer, past_further,
-    sealed_on}
+use Rattle.tls_talks.proofs.CutLemmas.{
+  facts_on,
+  fed_further,
+  further,
+  history_on,
+  joined,
+  longer,
+  past_further,
+  sealed_on,
+}
 
 pub flow_is : (c d : Conversation) (s : Side) (vs : List Said) → IsPast c s vs d → d.flow ≡ flow_behind s c.flow vs
 flow_is c d s [] past = ap (λ (x : Conversation). x.flow) past
@@ -57,7 +98,8 @@ hearing_with t FromServer h = refl
 
 pub with_again : (t : Talk) (s : Side) (a b : Hearer) (h g : Hearing)
     → with_hearing (record (with_hearing (record t { hearer = a }) s h) { hearer = b }) s g ≡ with_hearing (record t {
-        hearer = b }) s g
+      hearer = b;
+    }) s g
 with_again t ToServer a b h g = refl
 with_again t FromServer a b h g = refl
 
@@ -74,7 +116,7 @@ flow_of : (t u : Talk) (s : Side) (p : Bytes) (heard : IsFollowed t s p u)
     → u.hearer.conversation.flow ≡ flow_behind s t.hearer.conversation.flow heard.said
 flow_of t u s p heard =
     left_flow (over_behind (hearing t s) s t.hearer.conversation.flow heard.said) s heard.said heard.behind
-        u.hearer.conversation heard.left
+    u.hearer.conversation heard.left
     ∙ flow_is heard.begun heard.behind s heard.said heard.past ∙ ap (λ f. flow_behind s f heard.said) heard.fed.flow
 
 hearing_of : (t u : Talk) (s : Side) (p : Bytes) (heard : IsFollowed t s p u)
@@ -118,15 +160,15 @@ over_still t m s p q first over = record {
 
 both_followed : (t m u : Talk) (s : Side) (p q : Bytes) (first : IsFollowed t s p m)
     → over_behind (hearing t s) s t.hearer.conversation.flow first.said ≡ false → IsFollowed m s q u
-        → IsFollowed t s (p ++ q) u
+    → IsFollowed t s (p ++ q) u
 both_followed t m u s p q first over last =
     let left : IsLeft false s first.said first.behind m.hearer.conversation =
     subst (λ b. IsLeft b s first.said first.behind m.hearer.conversation) over first.left in
     let whole = joined t.hearer.conversation first.begun m.hearer.conversation last.begun last.behind s p q first.said
-        last.said first.fed
+    last.said first.fed
     (subst (λ c. IsPast first.begun s first.said c) (sym left.0) first.past) last.fed last.past in
     let at_flow : m.hearer.conversation.flow ≡ flow_behind s t.hearer.conversation.flow first.said = flow_of t m s p
-        first in
+    first in
     let at_hearing : hearing m s ≡ hearing_behind (hearing t s) first.said = hearing_of t m s p first in
     record {
       begun = whole.begun;
@@ -150,7 +192,7 @@ both_followed t m u s p q first over last =
       same = last.same ∙ ap (λ x. with_hearing (record x { hearer = u.hearer }) s (hearing_behind (hearing m s)
           last.said)) first.same
           ∙ with_again t s m.hearer u.hearer (hearing_behind (hearing t s) first.said) (hearing_behind (hearing m s)
-              last.said)
+          last.said)
           ∙ ap (λ h. with_hearing (record t { hearer = u.hearer }) s (hearing_behind h last.said)) at_hearing
           ∙ ap (λ h. with_hearing (record t { hearer = u.hearer }) s h) (hearing_on (hearing t s) first.said last.said);
     }

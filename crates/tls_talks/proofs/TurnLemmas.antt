@@ -1,6 +1,25 @@
 -- What is heard of pieces is heard of the turns that they make.
-use Rattle.std.proofs.Common.{◌≡◌, ℕ, suc, ◌+◌, ◌<◌, ◌≤◌, List, [], ◌∷◌, ◌++◌, length, take, get_or, refl, sym, ◌∙◌, ap,
-    subst, arith}
+use Rattle.std.proofs.Common.{
+  ◌≡◌,
+  ℕ,
+  suc,
+  ◌+◌,
+  ◌<◌,
+  ◌≤◌,
+  List,
+  [],
+  ◌∷◌,
+  ◌++◌,
+  length,
+  take,
+  get_or,
+  refl,
+  sym,
+  ◌∙◌,
+  ap,
+  subst,
+  arith,
+}
 use Rattle.std.specs.Borrow.{Bor}
 use Rattle.std.proofs.Math.Seq.{take-suc}
 use Rattle.std.proofs.lemmas.List.{map-append, take_all}
@@ -17,10 +36,18 @@ use Rattle.tls_talks.proofs.FirstLemmas.{both_heard}
 onto_heard : (t m u : Talk) (p : Side × Bytes) (ts : List (Side × Bytes)) → IsHeardOn t p.0 p.1 m → AreHeardOn m ts u
     → AreHeardOn t (onto p ts) u
 onto_heard t m u p [] first rest = (m, first, rest)
-onto_heard t m u (ToServer, p) ((ToServer, q) ∷ ts) first rest = (rest.0, both_heard t m rest.0 ToServer p q first
-    rest.1, rest.2)
-onto_heard t m u (FromServer, p) ((FromServer, q) ∷ ts) first rest = (rest.0, both_heard t m rest.0 FromServer p q first
-    rest.1, rest.2)
+onto_heard t m u (ToServer, p) ((ToServer, q) ∷ ts) first rest = (
+  rest.0,
+  both_heard t m rest.0 ToServer p q first
+      rest.1,
+  rest.2,
+)
+onto_heard t m u (FromServer, p) ((FromServer, q) ∷ ts) first rest = (
+  rest.0,
+  both_heard t m rest.0 FromServer p q first
+      rest.1,
+  rest.2,
+)
 onto_heard t m u (ToServer, p) ((FromServer, q) ∷ ts) first rest = (m, first, rest)
 onto_heard t m u (FromServer, p) ((ToServer, q) ∷ ts) first rest = (m, first, rest)
 
@@ -41,7 +68,7 @@ pub piece_heard : (t m u : Talk) (pieces : List (Side × Bor (List ℕ))) (n : �
 piece_heard t m u pieces n q within heard last =
     let one : n + 1 ≡ suc n = omega arith in
     let next : views (take (n + 1) pieces) ≡ views (take n pieces) ++ ((get_or pieces n q).0, (get_or pieces n q).1.now)
-        ∷ []
+    ∷ []
     = ap (λ k. views (take k pieces)) one ∙ ap views (take-suc pieces n q within)
     ∙ map-append (λ (p : Side × Bor (List ℕ)). (p.0, p.1.now)) (take n pieces) (get_or pieces n q ∷ []) in
     subst (λ ps. AreHeardOn t ps u) (sym next)

@@ -7,4 +7,4 @@ use Rattle.tls_talks.proofs.datagram_talk.talk_of.Given as goal
 abbrev pub invariant-loop-side : goal.invariant-loop-side
 invariant-loop-side l =
     (k : Talk) × IsKnown k l.talk × (heard_all k (views (drop l.side-index l.datagrams)) ≡ heard_all untold (views
-        l.datagrams))
+    l.datagrams))

@@ -12,5 +12,5 @@ returns-in_ok-show_messages-in-Ok c =
     c.in-Ok.messages.items c.as_slice.result.now c.as_slice-in-Ok.result.now c.as_slice-in-Ok-2.result.now
     c.if-is_encrypted.false
     (c.in-Ok.ensures.gives.read tt) c.goes_to_server.ensures c.as_slice.ensures.value c.as_slice-in-Ok.ensures.value
-        c.as_slice-in-Ok-2.ensures.value
+    c.as_slice-in-Ok-2.ensures.value
     c.in_ok-show_messages-in-Ok.ensures c.follow_messages.ensures c.change_cipher-is_encrypted.ensures

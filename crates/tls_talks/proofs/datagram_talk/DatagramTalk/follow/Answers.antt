@@ -4,11 +4,11 @@ use Rattle.tls_talks.proofs.datagram_talk.DatagramTalk.follow.Goals as goal
 pub returns-in-ToServer : goal.returns-in-ToServer
 returns-in-ToServer c k is =
     client_answers k c.args.self.now c.args.side c.hear.new.account c.hear.new.self c.args.datagram.now c.hear.result
-        c.in-ToServer.is
+    c.in-ToServer.is
     c.hear.ensures is
 
 pub returns-in-FromServer : goal.returns-in-FromServer
 returns-in-FromServer c k is =
     server_answers k c.args.self.now c.args.side c.hear-in-FromServer.new.account c.hear-in-FromServer.new.self
-        c.args.datagram.now
+    c.args.datagram.now
     c.hear-in-FromServer.result c.in-FromServer.is c.hear-in-FromServer.ensures is

@@ -5,6 +5,6 @@ use Rattle.tls_talks.proofs.hearer.Hearer.hear.Goals as goal
 pub loop-preserved : goal.loop-preserved
 loop-preserved c =
     on_next c.args.self.now c.loop.self c.take_next.new.self c.args.side c.args.piece.now c.loop.counter
-        c.loop.has_encrypted
+    c.loop.has_encrypted
     c.in-Some.is_encrypted c.if-has_encrypted.has_encrypted c.loop.invariant (search rules) (search rules) (search
-        rules)
+    rules)

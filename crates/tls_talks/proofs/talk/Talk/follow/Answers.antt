@@ -4,15 +4,17 @@ use Rattle.tls_conversations.specs.Ears.{front_of}
 use Rattle.tls_talks.specs.Talks.{IsNext, IsTaken}
 use Rattle.tls_talks.proofs.FollowLemmas.{next_clear, on_end, on_next, on_none, on_over}
 use Rattle.tls_talks.proofs.talk.Talk.follow.Goals as goal
-use Rattle.tls_talks.proofs.talk.Talk.follow.Goals.{then-is_over-2-via-then-is_over-2,
-    then-is_over-2-via-else-is_over-2+in_ok-take_next+then-not-branch}
+use Rattle.tls_talks.proofs.talk.Talk.follow.Goals.{
+  then-is_over-2-via-then-is_over-2,
+  then-is_over-2-via-else-is_over-2+in_ok-take_next+then-not-branch,
+}
 
 pub loop-preserved : goal.loop-preserved
 loop-preserved c =
     on_next c.args.self.now c.loop.self c.take_next.new.self c.args.side c.args.piece.now c.loop.counter
-        c.loop.invariant (search rules)
+    c.loop.invariant (search rules)
     (subst (λ b. IsTaken (front_of (ear c.loop.self.hearer.conversation c.args.side)) c.loop.self c.args.side b
-        c.take_next.new.self)
+    c.take_next.new.self)
     (search rules) c.in_ok-take_next.ensures.taken)
     c.in_ok-take_next.ensures.ready
 
@@ -28,13 +30,13 @@ returns-then-is_over-2 c =
           w.self-is)
           (next_clear c.args.self.now c.loop.self c.args.side c.args.piece.now (search rules)
           (on_over c.args.self.now c.loop.self c.args.side c.args.piece.now c.loop.counter c.loop.invariant (search
-              rules)))
+          rules)))
       | then-is_over-2-via-else-is_over-2+in_ok-take_next+then-not-branch w ↦
           subst (λ u. IsNext c.args.self.now c.args.side c.args.piece.now u) (sym w.self-is)
           (next_clear c.args.self.now w.take_next.new.self c.args.side c.args.piece.now (search rules)
           (on_none c.args.self.now c.loop.self w.take_next.new.self c.args.side c.args.piece.now c.loop.counter
-              c.loop.invariant (search rules)
+          c.loop.invariant (search rules)
           (subst (λ b. IsTaken (front_of (ear c.loop.self.hearer.conversation c.args.side)) c.loop.self c.args.side b
-              w.take_next.new.self)
+          w.take_next.new.self)
           (search rules) w.in_ok-take_next.ensures.taken)))
     ]

@@ -4,7 +4,7 @@ use Rattle.tls_talks.proofs.talk.Talk.wait.Goals as goal
 pub returns-in-ToServer : goal.returns-in-ToServer
 returns-in-ToServer c =
     client_waits_on c.args.self.now c.args.side c.extend_from_slice.new.self c.args.bytes.now c.extend_from_slice.result
-        c.in-ToServer.is
+    c.in-ToServer.is
     c.extend_from_slice.ensures.items
 
 pub returns-in-FromServer : goal.returns-in-FromServer
