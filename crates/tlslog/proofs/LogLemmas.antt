@@ -1,7 +1,7 @@
 -- What the connection of a packet comes to.
-use Rattle.std.proofs.Common.{◌≡◌, refl, sym, ap, ◌∙◌, subst, Option, Some, None, List, ◌∷◌, Bool, true, false}
-use Rattle.std.specs.Prelude.{not}
-use Rattle.core.specs.Option.{unwrap_or}
+use Rattle.std.proofs.Common.{◌≡◌, refl, sym, ap, ◌∙◌, subst, Option, Some, None, List, ◌∷◌, Bool, true, false, Result, Ok, Err}
+use Rattle.std.specs.Prelude.{not, OnOk}
+use Rattle.std.specs.Option.{unwrap_or}
 use Rattle.std.specs.Map.{set_value}
 use Rattle.connections.proofs.TableLemmas.{are_ends-refl}
 use Rattle.connections.specs.Connection.{side_of}
@@ -82,6 +82,11 @@ datagram_heard g old mid c d put closed found hears = record {
   stands = written_first (ends_of_datagram g) (TakesDatagram g) old.live mid.live put d;
   closed = closed;
 }
+
+-- What follows from an answer's value holds where there is one.
+pub where_ok : {A E : Type 0} (r : Result A E) (P Q : Type 0) → (P → Q) → OnOk r P → OnOk r Q
+where_ok (Ok a) P Q f h = f h
+where_ok (Err e) P Q f h = tt
 
 pub datagram_lent : (g : Datagram) (old mid : Table Heard)
     → IsPut (ends_of_datagram g) (TakesDatagram g) old.live mid.live → None ≡ at (ends_of_datagram g) mid.live → ⊥
