@@ -1,6 +1,6 @@
 -- What the connection of a packet comes to.
 use Rattle.std.proofs.Common.{◌≡◌, refl, sym, ap, ◌∙◌, subst, Option, Some, None, List, ◌∷◌, Bool, true, false, Result, Ok, Err}
-use Rattle.std.specs.Prelude.{not, OnOk}
+use Rattle.std.specs.Prelude.{OnOk}
 use Rattle.std.specs.Option.{unwrap_or}
 use Rattle.std.specs.Map.{set_value}
 use Rattle.connections.proofs.TableLemmas.{are_ends-refl}
@@ -42,12 +42,12 @@ module _ (e : Ends) (Takes : Option (Connection Heard) → Connection Heard → 
   written_first : (d : Connection Heard) → set_value (are_ends e) ys d ≡ (e, d) ∷ others e xs
   written_first d = ap (λ l. set_value (are_ends e) l d) put.stands ∙ set_first e put.its d (others e xs)
 
-put_where_true : (b : Bool) (s : Segment) (old mid : Table Heard) → not b ≡ false → Puts b s old mid
+put_where_true : (b : Bool) (s : Segment) (old mid : Table Heard) → b ≡ true → Puts b s old mid
     → IsPut (ends_of s) (TakesSegment s) old.live mid.live
 put_where_true true s old mid is put = put
 put_where_true false s old mid is put = cc
 
-pub segment_heard : (b : Bool) (s : Segment) (old mid : Table Heard) (c d : Connection Heard) → not b ≡ false
+pub segment_heard : (b : Bool) (s : Segment) (old mid : Table Heard) (c d : Connection Heard) → b ≡ true
     → Puts b s old mid → mid.closed ≡ old.closed → Some c ≡ at (ends_of s) mid.live
     → HearsSide (side_of c s.source) c d
     → HearsSegment s old (record mid { live = set_value (are_ends (ends_of s)) mid.live d })
@@ -63,7 +63,7 @@ segment_heard b s old mid c d is puts closed found hears =
       closed = closed;
     }
 
-pub segment_lent : (b : Bool) (s : Segment) (old mid : Table Heard) → not b ≡ false → Puts b s old mid
+pub segment_lent : (b : Bool) (s : Segment) (old mid : Table Heard) → b ≡ true → Puts b s old mid
     → None ≡ at (ends_of s) mid.live → ⊥
 segment_lent b s old mid is puts none =
     some_lent (ends_of s) (TakesSegment s) old.live mid.live (put_where_true b s old mid is puts) (sym none)

@@ -62,3 +62,8 @@ abbrev pub StaysSound : Bool → Bool → Result Unit Failure → Type 0
 StaysSound old new (Ok u) = old ≡ false → new ≡ false
 StaysSound old new (Err (Capture text)) = old ≡ false → new ≡ false
 StaysSound old new (Err f) = ⊤
+
+-- Unless it exits as failed, no write failed.
+abbrev pub HasWritten : Bool → Exit → Bool → Type 0
+HasWritten old exit.Failed new = ⊤
+HasWritten old e new = old ≡ false → new ≡ false

@@ -25,7 +25,8 @@ mod style;
 mod suites;
 mod text;
 
-ghost use Rattle.std.specs.Prelude.{◌≡◌, ◌≢◌, false, true};
+ghost use Rattle.std.specs.Prelude.{◌≡◌, false, true};
+ghost use Rattle.tlslog.specs.Run.{HasWritten};
 
 use crate::arguments::{Refusal, matches, style_of};
 use crate::failure::Exit;
@@ -56,21 +57,24 @@ fn log_all<R: Runtime + AllocGlobal + RandomSource, W: Write>(
     rt: &R,
     style: &Style,
     matches: &ArgMatches<'_>,
-    out: &mut Output<W>,
-) -> Exit
-    ensures { out.old.has_failed ≡ false → result ≢ Exit.Failed → out.new.has_failed ≡ false }
+    out: Output<W>,
+) -> (Exit, Output<W>)
+    ensures { HasWritten out.has_failed result.0 result.1.has_failed }
 {
-    if !write_header(rt.alloc(), style, out) {
-        return Exit::Failed;
+    let mut out = out;
+    if !write_header(rt.alloc(), style, &mut out) {
+        return (Exit::Failed, out);
     }
     let Some(paths) = matches.get_strs("captures") else {
         return log_standard_input(rt, style, out);
     };
     let mut exit = Exit::Clean;
-    for path in paths {
-        exit = exit.and(log_file(rt, style, path, out));
+    'paths: for path in paths {
+        let (of_path, behind) = log_file(rt, style, path, out);
+        exit = exit.and(of_path);
+        out = behind;
     }
-    exit
+    (exit, out)
 }
 
 /// Tells why the arguments are refused, and which status that is.
@@ -99,8 +103,8 @@ fn run<R: Runtime + AllocGlobal + RandomSource>(rt: &R, words: &[String]) -> u8 
     match matches(rt.alloc(), words) {
         Ok(matches) => match style_of(rt, &matches) {
             Ok(style) => {
-                let mut out = Output::new(io::writer(rt));
-                u8::from(log_all(rt, &style, &matches, &mut out))
+                let (exit, _out) = log_all(rt, &style, &matches, Output::new(io::writer(rt)));
+                u8::from(exit)
             }
             Err(refusal) => refuse(rt, refusal),
         },

@@ -1,7 +1,7 @@
 //! The run over one capture.
 ghost use Rattle.std.specs.Prelude.{◌≡◌, ◌≢◌, false};
 ghost use Rattle.tlslog.specs.Output.{Tells};
-ghost use Rattle.tlslog.specs.Run.{EndsBy, Exits, ExitsBy, StaysSound};
+ghost use Rattle.tlslog.specs.Run.{EndsBy, Exits, ExitsBy, HasWritten, StaysSound};
 
 use crate::counts::{Counts, add_one};
 use crate::failure::{Exit, Failure};
@@ -150,8 +150,8 @@ fn log_packet<W: Write>(
 struct Logger<'a, W> {
     alloc: Global,
     style: &'a Style,
-    log: &'a mut Log,
-    out: &'a mut Output<W>,
+    log: Log,
+    out: Output<W>,
 }
 
 impl<'a, W: Write> PacketVisitor for Logger<'a, W> {
@@ -160,31 +160,19 @@ impl<'a, W: Write> PacketVisitor for Logger<'a, W> {
     ghost use Rattle.std.specs.Prelude.{not};
 
     // No write failed.
-    ghost is_sound = { λ l. not l.out.now.has_failed };
+    ghost is_sound = { λ l. not l.out.has_failed };
 
     fn visit(&mut self, packet: Packet<'_>) -> Result<(), LineError> {
-        log_packet(self.alloc, self.style, self.log, packet, self.out)
+        log_packet(self.alloc, self.style, &mut self.log, packet, &mut self.out)
     }
 }
 
 /// Logs all that the reader gives.
-fn log_packets<I: Read, W: Write>(
-    alloc: Global,
-    style: &Style,
-    log: &mut Log,
-    reader: &mut I,
-    out: &mut Output<W>,
-) -> Result<(), Failure>
+fn log_packets<I: Read, W: Write>(logger: &mut Logger<'_, W>, reader: &mut I) -> Result<(), Failure>
     ensures ends { EndsBy (I.remaining reader.old) (I.remaining reader.new) result }
-    ensures sound { StaysSound out.old.has_failed out.new.has_failed result }
+    ensures sound { StaysSound logger.old.out.has_failed logger.new.out.has_failed result }
 {
-    let mut logger = Logger {
-        alloc,
-        style,
-        log,
-        out,
-    };
-    match visit_packets(alloc, reader, &mut logger) {
+    match visit_packets(logger.alloc, reader, logger) {
         Ok(()) => Ok(()),
         Err(e) => Err(Failure::from(e)),
     }
@@ -227,29 +215,27 @@ fn tell<R: Runtime>(rt: &R, name: &str, failure: Failure, packets: u64) -> Exit
 /// Logs all that the reader gives, and the connections that are left at its end, and says how that ended.
 fn log_whole<R: Runtime + AllocGlobal, I: Read, W: Write>(
     rt: &R,
-    style: &Style,
     name: &str,
-    log: &mut Log,
+    logger: &mut Logger<'_, W>,
     reader: &mut I,
-    out: &mut Output<W>,
 ) -> Exit
     ensures exits { Exits (I.remaining reader.old) (I.remaining reader.new) result }
-    ensures written { out.old.has_failed ≡ false → result ≢ Exit.Failed → out.new.has_failed ≡ false }
+    ensures written { logger.old.out.has_failed ≡ false → result ≢ Exit.Failed → logger.new.out.has_failed ≡ false }
 {
-    let exit = match log_packets(rt.alloc(), style, log, reader, out) {
+    let exit = match log_packets(logger, reader) {
         Ok(()) => Exit::Clean,
-        Err(failure) => tell(rt, name, failure, log.counts.packets),
+        Err(failure) => tell(rt, name, failure, logger.log.counts.packets),
     };
     if exit == Exit::Failed {
         return exit;
     }
-    match print_left(rt.alloc(), style, log, out) {
+    match print_left(logger.alloc, logger.style, &mut logger.log, &mut logger.out) {
         Ok(()) => exit,
-        Err(e) => exit.and(tell(rt, name, Failure::from(e), log.counts.packets)),
+        Err(e) => exit.and(tell(rt, name, Failure::from(e), logger.log.counts.packets)),
     }
 }
 
-/// Logs a capture that is read from there, under that name.
+/// Logs a capture that is read from there, under that name, and hands back where its lines go.
 ///
 /// The run is clean where the reader has a whole capture, which was read to its end, and every line was written; it is broken where
 /// the reader has none, or one that is broken off. Where memory ran out, a read failed or a write failed, it failed.
@@ -258,23 +244,31 @@ pub fn log_input<R: Runtime + AllocGlobal + RandomSource, I: Read, W: Write>(
     style: &Style,
     name: &str,
     reader: &mut I,
-    out: &mut Output<W>,
-) -> Exit
-    ensures exits { Exits (I.remaining reader.old) (I.remaining reader.new) result }
-    ensures written { out.old.has_failed ≡ false → result ≢ Exit.Failed → out.new.has_failed ≡ false }
+    out: Output<W>,
+) -> (Exit, Output<W>)
+    ensures exits { Exits (I.remaining reader.old) (I.remaining reader.new) result.0 }
+    ensures written { HasWritten out.has_failed result.0 result.1.has_failed }
 {
     let Ok(keys) = RandomState::new(rt) else {
-        return tell(rt, name, Failure::Reading, 0);
+        return (tell(rt, name, Failure::Reading, 0), out);
     };
     let keeps_messages = matches!(style.lines, Lines::Messages(_));
-    let mut log = match Log::new(rt.alloc(), keys, keeps_messages) {
+    let log = match Log::new(rt.alloc(), keys, keeps_messages) {
         Ok(log) => log,
-        Err(_) => return tell(rt, name, Failure::OutOfMemory, 0),
+        Err(_) => return (tell(rt, name, Failure::OutOfMemory, 0), out),
     };
-    let exit = log_whole(rt, style, name, &mut log, reader, out);
+    let alloc = rt.alloc();
+    let mut logger = Logger {
+        alloc,
+        style,
+        log,
+        out,
+    };
+    let exit = log_whole(rt, name, &mut logger, reader);
+    let Logger { log, out, .. } = logger;
     match log.counts.tell(rt, name) {
-        Ok(()) => exit,
-        Err(_) => Exit::Failed,
+        Ok(()) => (exit, out),
+        Err(_) => (Exit::Failed, out),
     }
 }
 
@@ -283,19 +277,16 @@ pub fn log_file<R: Runtime + AllocGlobal + RandomSource, W: Write>(
     rt: &R,
     style: &Style,
     path: &str,
-    out: &mut Output<W>,
-) -> Exit
-    ensures { out.old.has_failed ≡ false → result ≢ Exit.Failed → out.new.has_failed ≡ false }
+    out: Output<W>,
+) -> (Exit, Output<W>)
+    ensures { HasWritten out.has_failed result.0 result.1.has_failed }
 {
     match fs::open(rt, path) {
-        Ok(file) => log_input(
-            rt,
-            style,
-            path,
-            &mut Watched::new(rt, path, path, file),
-            out,
-        ),
-        Err(_) => tell(rt, path, Failure::Reading, 0),
+        Ok(file) => {
+            let mut reader = Watched::new(rt, path, path, file);
+            log_input(rt, style, path, &mut reader, out)
+        }
+        Err(_) => (tell(rt, path, Failure::Reading, 0), out),
     }
 }
 
@@ -303,9 +294,9 @@ pub fn log_file<R: Runtime + AllocGlobal + RandomSource, W: Write>(
 pub fn log_standard_input<R: Runtime + AllocGlobal + RandomSource, W: Write>(
     rt: &R,
     style: &Style,
-    out: &mut Output<W>,
-) -> Exit
-    ensures { out.old.has_failed ≡ false → result ≢ Exit.Failed → out.new.has_failed ≡ false }
+    out: Output<W>,
+) -> (Exit, Output<W>)
+    ensures { HasWritten out.has_failed result.0 result.1.has_failed }
 {
     let name = "standard input";
     let mut reader = Watched::new(rt, name, STANDARD_INPUT, rt.reader());
