@@ -10,6 +10,8 @@ import subprocess
 from collections import Counter
 from pathlib import Path
 
+import exchange_fields
+
 TOP = Path(__file__).resolve().parent.parent
 # Some suites by the names of the registry.
 SUITES = """
@@ -90,13 +92,16 @@ def key(message):
 
 def messages(ask, files):
     """The messages are those that tshark has, which `captures/messages` says, at their times; each has its place, and all have their fields
-    as comma-separated values too."""
+    as comma-separated values too. Key exchanges, signatures and keys known before have the fields that tshark has, which
+    `captures/exchanges` says."""
     wanted = Counter((TOP / "captures" / "messages").read_text().splitlines())
-    found, places, rows = Counter(), Counter(), []
+    fields_wanted = Counter((TOP / "captures" / "exchanges").read_text().splitlines())
+    found, fields_found, places, rows = Counter(), Counter(), Counter(), []
     for file in files:
         status, text, _ = ask(["--messages", file])
         want(status == 0, "--messages", file, status)
         said = [json.loads(row) for row in text.splitlines()]
+        fields_found.update(exchange_fields.lines(Path(file).stem, said))
         rows += said
         for message in said:
             want(list(message) == [field for field in OF_MESSAGES if field in message], "fields of a message:", *message)
@@ -111,12 +116,13 @@ def messages(ask, files):
             else:
                 want(kind in (CHANGE, HEARTBEAT), "a message of the type", kind)
     want(found == wanted, "messages that tshark hasn't:", found - wanted, "messages that it has:", wanted - found)
+    want(fields_found == fields_wanted, "fields that tshark hasn't:", fields_found - fields_wanted, "that it has:", fields_wanted - fields_found)
     status, text, _ = ask(["--messages", "--format", "csv", *files])
     names, *others = records(text)
     want(status == 0 and names == OF_MESSAGES and len(others) == len(rows), "messages as csv:", status, names)
     for message, row in zip(rows, others):
         want(row == [as_text(message[name]) if name in message else "" for name in names], "csv:", message, row)
-    return len(rows)
+    return len(rows), fields_found.total()
 
 
 def counted(values):
@@ -197,5 +203,7 @@ def check(program, ask, files, lines, room):
     count = fields(ask, files, lines)
     suites(ask, files, lines, room)
     print(f"logs: {count} fields alone, in another order and as comma-separated values, and names of suites, are as they are stored")
-    print(f"logs: {messages(ask, files)} messages are those that tshark has, with their places, also as comma-separated values")
+    count, with_fields = messages(ask, files)
+    print(f"logs: {count} messages are those that tshark has, with their places, also as comma-separated values; {with_fields} of them have the "
+          "fields of key exchanges, signatures and keys known before that tshark has")
     print(f"logs: {uses(program, files, lines, room)} uses of docs/TLSLOG.md print what the stored lines want")

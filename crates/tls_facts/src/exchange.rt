@@ -8,9 +8,9 @@ ghost use Rattle.tls_facts.specs.Exchange.{has_hint as has_hint_of, hinted_param
 use tls_base::{ECParameters, ECParametersContent, NamedGroup, parse_ec_parameters};
 use tls_fields::{IResult, counted2};
 
-/// The cipher suites whose ServerKeyExchange begins with the parameters of a curve: those of ECDHE, without those that have a
-/// key known to both before.
-pub(crate) fn names_curve(suite: u16) -> bool
+/// Whether the ServerKeyExchange of a cipher suite begins with the parameters of a curve (RFC 8422, section 5.4): those of ECDHE, without
+/// those that have a key known to both before. Suites of fixed keys, which have no such message, are among them.
+pub fn names_curve(suite: u16) -> bool
     ensures { result ≡ names_curve_of suite }
 {
     matches!(suite,
@@ -18,8 +18,9 @@ pub(crate) fn names_curve(suite: u16) -> bool
         | 0xc072..=0xc079 | 0xc086..=0xc08d | 0xc0ac..=0xc0af | 0xcca8..=0xcca9)
 }
 
-/// The cipher suites whose ServerKeyExchange has a hint of the key known to both in front of the parameters: those of ECDHE_PSK.
-pub(crate) fn has_hint(suite: u16) -> bool
+/// Whether the ServerKeyExchange of a cipher suite has a hint of the key known to both in front of the parameters of a curve (RFC 5489,
+/// section 2): those of ECDHE_PSK.
+pub fn has_hint(suite: u16) -> bool
     ensures { result ≡ has_hint_of suite }
 {
     matches!(suite, 0xc033..=0xc03b | 0xc070..=0xc071 | 0xc09a..=0xc09b | 0xccac | 0xd001..=0xd005)

@@ -1,7 +1,7 @@
 //! What the messages of a connection of TLS or DTLS say of it in the clear: its hellos, its certificates and its alerts.
 //!
 //! [`Facts`] is what is known so far. Each handshake message and each alert, of whichever side, adds to it; its calls tell what is known,
-//! field by field.
+//! field by field. [`names_curve`] and [`has_hint`] tell which suites have a key exchange over a curve.
 #![tactic(auto, using(tls_fields::proofs::OneAnswerLemmas::read_allowed))]
 
 mod exchange;
@@ -10,5 +10,6 @@ mod hellos;
 mod parts;
 mod told;
 
+pub use exchange::{has_hint, names_curve};
 pub use facts::Facts;
 pub use parts::{CertificateFacts, ClientParts, ServerParts};

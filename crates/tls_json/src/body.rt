@@ -1,5 +1,8 @@
 //! The bodies of handshake messages.
+use crate::chosen::Chosen;
+use crate::datagrams::whole_message;
 use crate::hello::{ClientHello, HelloRetryRequest, ServerHello};
+use crate::key_exchange::{ClientKeyExchange, ServerKeyExchange, Signature};
 use crate::text::{blobs, codes, hexadecimal, name, number, numbers, some_hexadecimal};
 use serde::Serialize;
 use std::alloc::{AllocError, Global};
@@ -8,7 +11,7 @@ use tls_fields::{Items, counted2, number4};
 use tls_hs::{
     CertificateRequestView, HandshakeView, RawCertificate, RawHandshake, TlsMessageHandshake,
 };
-use tls_parser::{DTLSBodyView, DTLSMessageHandshakeBody, DTLSRawHandshake};
+use tls_parser::{DTLSBodyView, DTLSMessageHandshakeBody};
 
 /// A certificate chain (RFC 5246, section 7.4.2), and the bytes that it leaves of its list.
 #[derive(Debug, Drop, Serialize)]
@@ -84,6 +87,10 @@ pub enum Body {
     HelloVerifyRequest(HelloVerifyRequest),
     Finished(Finished),
     KeyUpdate(KeyUpdate),
+    ServerKeyExchange(ServerKeyExchange),
+    ClientKeyExchange(ClientKeyExchange),
+    /// A CertificateVerify (RFC 5246, section 7.4.8).
+    Signature(Signature),
     /// Of another type, or not read.
     Bytes(String),
 }
@@ -235,15 +242,62 @@ impl Content {
         Content::of_body(alloc, Some(Body::NewSessionTicket(ticket)), behind, bytes)
     }
 
-    /// That of a message of TLS, by its type and its body.
+    /// That of a message whose fields depend on what the server chose.
+    fn of_exchange(
+        alloc: Global,
+        chosen: Chosen,
+        msg_type: TlsHandshakeType,
+        bytes: &[u8],
+    ) -> Result<Content, AllocError> {
+        let read = match msg_type {
+            TlsHandshakeType::ServerKeyExchange => {
+                match ServerKeyExchange::new(alloc, chosen, bytes)? {
+                    Some((behind, body)) => Some((behind, Body::ServerKeyExchange(body))),
+                    None => None,
+                }
+            }
+            TlsHandshakeType::ClientKeyExchange => {
+                match ClientKeyExchange::new(alloc, chosen, bytes)? {
+                    Some((behind, body)) => Some((behind, Body::ClientKeyExchange(body))),
+                    None => None,
+                }
+            }
+            _ => match Signature::new(alloc, chosen.version, bytes)? {
+                Some((behind, body)) => Some((behind, Body::Signature(body))),
+                None => None,
+            },
+        };
+        match read {
+            Some((behind, body)) => Content::of_body(alloc, Some(body), behind, bytes),
+            None => Content::of_bytes(alloc, bytes),
+        }
+    }
+
+    /// That of a message of TLS, by its type and its body, and by what the server chose in front of it.
     pub fn new(
+        alloc: Global,
+        chosen: Option<Chosen>,
+        msg_type: TlsHandshakeType,
+        body: &[u8],
+    ) -> Result<Content, AllocError> {
+        match msg_type {
+            TlsHandshakeType::NewSessionTicket => Content::of_ticket(alloc, body),
+            TlsHandshakeType::ServerKeyExchange
+            | TlsHandshakeType::ClientKeyExchange
+            | TlsHandshakeType::CertificateVerify => match chosen {
+                Some(chosen) => Content::of_exchange(alloc, chosen, msg_type, body),
+                None => Content::of_bytes(alloc, body),
+            },
+            _ => Content::of_itself(alloc, msg_type, body),
+        }
+    }
+
+    /// That of a message which needs no other to be read.
+    fn of_itself(
         alloc: Global,
         msg_type: TlsHandshakeType,
         body: &[u8],
     ) -> Result<Content, AllocError> {
-        if msg_type == TlsHandshakeType::NewSessionTicket {
-            return Content::of_ticket(alloc, body);
-        }
         let message = RawHandshake { msg_type, body };
         match message.parse_body() {
             Ok((behind, read)) => Content::of_body(alloc, body_of(alloc, read)?, behind, body),
@@ -254,6 +308,7 @@ impl Content {
     /// That of a message of DTLS. But for the hellos and the HelloVerifyRequest the bodies are those of TLS (RFC 6347, section 4.2).
     pub fn of_datagrams(
         alloc: Global,
+        chosen: Option<Chosen>,
         msg_type: TlsHandshakeType,
         body: &[u8],
     ) -> Result<Content, AllocError> {
@@ -263,7 +318,7 @@ impl Content {
             | TlsHandshakeType::HelloVerifyRequest => {
                 Content::of_datagrams_alone(alloc, msg_type, body)
             }
-            _ => Content::new(alloc, msg_type, body),
+            _ => Content::new(alloc, chosen, msg_type, body),
         }
     }
 
@@ -273,16 +328,8 @@ impl Content {
         msg_type: TlsHandshakeType,
         body: &[u8],
     ) -> Result<Content, AllocError> {
-        let Ok(length) = u32::try_from(body.len()) else {
+        let Some(message) = whole_message(msg_type, body) else {
             return Content::of_bytes(alloc, body);
-        };
-        let message = DTLSRawHandshake {
-            msg_type,
-            length,
-            message_seq: 0,
-            fragment_offset: 0,
-            fragment_length: length,
-            body,
         };
         match message.parse_body() {
             Ok((behind, read)) => {

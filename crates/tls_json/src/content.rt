@@ -1,5 +1,6 @@
 //! How the content of an extension is read, by its type.
 use crate::data::{Data, Filter, KeyShare, ServerName};
+use crate::offers;
 use crate::text::{blobs, codes, hexadecimal, name, number, numbers};
 use std::alloc::{AllocError, Global};
 use tls_base::{NamedGroup, TlsExtensionType, TlsVersion};
@@ -9,6 +10,16 @@ use tls_ext::{
     server_names, signature_algorithms, supported_groups,
 };
 use tls_fields::{Counted1, Counted2, IResult, InPlace, Items, counted1, counted2};
+
+/// The types of extensions that the library has no name for (RFC 8879, section 7.1; RFC 9345, section 4.1.1; RFC 9146, section 10.1;
+/// RFC 9849, section 11.1).
+const COMPRESS_CERTIFICATE: TlsExtensionType = TlsExtensionType(27);
+
+const DELEGATED_CREDENTIAL: TlsExtensionType = TlsExtensionType(34);
+
+const CONNECTION_ID: TlsExtensionType = TlsExtensionType(54);
+
+const ENCRYPTED_CLIENT_HELLO: TlsExtensionType = TlsExtensionType(0xfe0d);
 
 /// Who sent an extension.
 #[derive(Clone, Copy, Debug, PartialEq, Eq)]
@@ -20,7 +31,7 @@ pub enum Sender {
 }
 
 /// A content by its fields; `None` where not all of it is read.
-type Answer = Result<Option<Data>, AllocError>;
+pub type Answer = Result<Option<Data>, AllocError>;
 
 /// A list of which all is read, up to the end of its extension.
 fn whole<'a, T: InPlace<'a>>(answer: IResult<&'a [u8], Items<'a, T>>) -> Option<Items<'a, T>> {
@@ -263,6 +274,10 @@ fn of_sender(alloc: Global, sender: Sender, kind: TlsExtensionType, content: &[u
         (TlsExtensionType::SupportedVersions, Sender::Server) => selected_version(alloc, content),
         (TlsExtensionType::KeyShare, Sender::Client) => client_shares(alloc, content),
         (TlsExtensionType::KeyShare, Sender::Server) => server_share(alloc, content),
+        (TlsExtensionType::PreSharedKey, Sender::Client) => offers::known_keys(alloc, content),
+        (TlsExtensionType::PreSharedKey, Sender::Server) => Ok(offers::selected_key(content)),
+        (DELEGATED_CREDENTIAL, Sender::Client) => schemes(alloc, content),
+        (ENCRYPTED_CLIENT_HELLO, Sender::Client) => offers::encrypted_hello(alloc, content),
         _ => Ok(single(kind, content)),
     }
 }
@@ -284,6 +299,9 @@ fn read(alloc: Global, sender: Sender, kind: TlsExtensionType, content: &[u8]) -
         TlsExtensionType::PskExchangeModes => key_exchange_modes(alloc, content),
         TlsExtensionType::CertificateAuthorities => authorities(alloc, content),
         TlsExtensionType::OidFilters => filters(alloc, content),
+        TlsExtensionType::UseSrtp => offers::srtp_profiles(alloc, content),
+        COMPRESS_CERTIFICATE => offers::compressions(alloc, content),
+        CONNECTION_ID => offers::connection_id(alloc, content),
         TlsExtensionType::RenegotiationInfo => renegotiation(alloc, content),
         TlsExtensionType::EncryptedServerName => encrypted_server_name(alloc, content),
         _ => of_sender(alloc, sender, kind, content),

@@ -22,6 +22,20 @@ pub struct Filter {
     pub certificate_extension_values: String,
 }
 
+/// A key that a client knows before (RFC 8446, section 4.2.11).
+#[derive(Debug, Drop, Serialize)]
+pub struct PskIdentity {
+    pub identity: String,
+    pub obfuscated_ticket_age: u32,
+}
+
+/// How a hello is encrypted (RFC 9849, section 4).
+#[derive(Debug, Drop, Serialize)]
+pub struct HpkeSymmetricCipherSuite {
+    pub kdf_id: String,
+    pub aead_id: String,
+}
+
 /// The content of an extension.
 #[derive(Debug, Drop, Serialize)]
 #[serde(untagged)]
@@ -51,6 +65,12 @@ pub enum Data {
     Schemes {
         supported_signature_algorithms: Vec<String>,
     },
+    /// use_srtp (RFC 5764, section 4.1.1).
+    SrtpProfiles {
+        #[serde(rename = "SRTPProtectionProfiles")]
+        profiles: Vec<String>,
+        srtp_mki: String,
+    },
     /// heartbeat (RFC 6520, section 2).
     Heartbeat {
         mode: u8,
@@ -63,8 +83,21 @@ pub enum Data {
     Timestamps {
         sct_list: Vec<String>,
     },
+    /// compress_certificate (RFC 8879, section 3).
+    Compressions {
+        algorithms: Vec<u16>,
+    },
     /// record_size_limit, which is a number (RFC 8449, section 4).
     RecordSizeLimit(u16),
+    /// A client's pre_shared_key (RFC 8446, section 4.2.11).
+    OfferedPsks {
+        identities: Vec<PskIdentity>,
+        binders: Vec<String>,
+    },
+    /// A server's.
+    SelectedIdentity {
+        selected_identity: u16,
+    },
     /// early_data of a ticket (RFC 8446, section 4.2.10).
     EarlyData {
         max_early_data_size: u32,
@@ -104,6 +137,19 @@ pub enum Data {
     /// A server's that asks for another.
     SelectedGroup {
         selected_group: String,
+    },
+    /// connection_id (RFC 9146, section 3).
+    ConnectionId {
+        cid: String,
+    },
+    /// A client's encrypted_client_hello, as it stands in the hello that isn't encrypted (RFC 9849, section 5).
+    EncryptedClientHello {
+        #[serde(rename = "type")]
+        kind: u8,
+        cipher_suite: HpkeSymmetricCipherSuite,
+        config_id: u8,
+        enc: String,
+        payload: String,
     },
     /// renegotiation_info (RFC 5746, section 3.2).
     Renegotiation {

@@ -4,6 +4,8 @@
 //! written by `serde`: numbers that stand for a thing are hexadecimal, as `0xc02f`, counts and codes of one byte are decimal, bytes are
 //! hexadecimal without `0x`, and names that a peer sent are text in which whatever is no printable ASCII is escaped, as `\xff`.
 //!
+//! Key exchanges and signatures are read by what the server chose: [`Chosen`] is that of a ServerHello.
+//!
 //! Nothing is left out. A body, or the content of an extension, that isn't read is a text: its bytes in hexadecimal. Bytes behind the
 //! last field of a body stand in `rest` beside the body, and those that the last list of a body leaves of its own in `rest` inside.
 #![tactic(auto)]
@@ -11,17 +13,23 @@
 mod alert;
 mod body;
 mod change;
+mod chosen;
 mod content;
 mod data;
+mod datagrams;
+mod exchange;
 mod extension;
 mod heartbeat;
 mod hello;
+mod key_exchange;
 mod message;
 mod names;
+mod offers;
 mod text;
 
 pub use alert::AlertMessage;
 pub use change::ChangeCipherSpec;
+pub use chosen::Chosen;
 pub use heartbeat::HeartbeatMessage;
 pub use message::Message;
 pub use names::{alert_name, extension_name, message_name};

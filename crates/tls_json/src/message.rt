@@ -1,5 +1,6 @@
 //! Handshake messages.
 use crate::body::Content;
+use crate::chosen::Chosen;
 use crate::names::message_name;
 use serde::Serialize;
 use std::alloc::{AllocError, Global};
@@ -22,10 +23,15 @@ pub struct Message {
 }
 
 impl Message {
-    /// A whole message of TLS, its header of 4 bytes first (RFC 8446, section 4); `None` where it isn't whole.
+    /// A whole message of TLS, its header of 4 bytes first (RFC 8446, section 4); `None` where it isn't whole. `chosen` is that of the last
+    /// ServerHello in front of it: with none, a key exchange and a CertificateVerify are their bytes.
     ///
     /// `AllocError` where memory runs out.
-    pub fn new(alloc: Global, message: &[u8]) -> Result<Option<Message>, AllocError> {
+    pub fn new(
+        alloc: Global,
+        chosen: Option<Chosen>,
+        message: &[u8],
+    ) -> Result<Option<Message>, AllocError> {
         let Ok((_, raw)) = RawHandshake::read(message) else {
             return Ok(None);
         };
@@ -34,15 +40,16 @@ impl Message {
             name: message_name(raw.msg_type),
             length: raw.body.len(),
             message_seq: None,
-            content: Content::new(alloc, raw.msg_type, raw.body)?,
+            content: Content::new(alloc, chosen, raw.msg_type, raw.body)?,
         }))
     }
 
-    /// A whole message of DTLS, by its type, its number and its body, which was put together from its fragments.
+    /// A whole message of DTLS, by its type, its number and its body, which was put together from its fragments; `chosen` as for TLS.
     ///
     /// `AllocError` where memory runs out.
     pub fn of_datagrams(
         alloc: Global,
+        chosen: Option<Chosen>,
         msg_type: TlsHandshakeType,
         message_seq: u16,
         body: &[u8],
@@ -52,7 +59,7 @@ impl Message {
             name: message_name(msg_type),
             length: body.len(),
             message_seq: Some(message_seq),
-            content: Content::of_datagrams(alloc, msg_type, body)?,
+            content: Content::of_datagrams(alloc, chosen, msg_type, body)?,
         })
     }
 }

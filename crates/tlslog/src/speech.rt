@@ -7,7 +7,7 @@ use std::mem;
 use tls_base::{TlsHandshakeType, TlsMessageAlert};
 use tls_conversations::{Conversation, Said};
 use tls_flow::Direction;
-use tls_json::{AlertMessage, ChangeCipherSpec, HeartbeatMessage, Message, message_name};
+use tls_json::{AlertMessage, ChangeCipherSpec, Chosen, HeartbeatMessage, Message, message_name};
 
 /// A message, and where it stands.
 #[derive(Drop)]
@@ -46,6 +46,8 @@ enum Ears {
 pub struct Speech {
     alloc: Global,
     ears: Ears,
+    // That of the last ServerHello: key exchanges behind it are read by it.
+    chosen: Option<Chosen>,
     client_count: u64,
     server_count: u64,
     told: Vec<Spoken>,
@@ -68,13 +70,20 @@ fn alert_word(alert: &TlsMessageAlert) -> Word {
     }
 }
 
-/// A handshake message of TLS, its header first.
-fn handshake_word(alloc: Global, message: &[u8]) -> Result<Word, AllocError> {
+/// A handshake message of TLS, its header first; it may be a ServerHello that chooses.
+fn handshake_word(
+    alloc: Global,
+    chosen: &mut Option<Chosen>,
+    message: &[u8],
+) -> Result<Word, AllocError> {
+    if let Some(choice) = Chosen::new(message) {
+        *chosen = Some(choice);
+    }
     let name = match message.first() {
         Some(kind) => message_name(TlsHandshakeType(*kind)),
         None => None,
     };
-    let message = match Message::new(alloc, message)? {
+    let message = match Message::new(alloc, *chosen, message)? {
         Some(message) => Some(Cell::Message(message)),
         None => None,
     };
@@ -95,12 +104,18 @@ fn heartbeat_word(alloc: Global, fragment: &[u8]) -> Result<Word, AllocError> {
 }
 
 /// What a side of TLS says; nothing where that is no message in the clear.
-fn word_of(alloc: Global, said: &Said<'_>) -> Result<Option<Word>, AllocError> {
+fn word_of(
+    alloc: Global,
+    chosen: &mut Option<Chosen>,
+    said: &Said<'_>,
+) -> Result<Option<Word>, AllocError> {
     let Said::Event(event) = said else {
         return Ok(None);
     };
     match event {
-        tls_conversations::Event::Handshake(message) => Ok(Some(handshake_word(alloc, message)?)),
+        tls_conversations::Event::Handshake(message) => {
+            Ok(Some(handshake_word(alloc, chosen, message)?))
+        }
         tls_conversations::Event::ChangeCipherSpec => Ok(Some(change())),
         tls_conversations::Event::Alert(alert) => Ok(Some(alert_word(alert))),
         tls_conversations::Event::Heartbeat(fragment) => {
@@ -111,22 +126,35 @@ fn word_of(alloc: Global, said: &Said<'_>) -> Result<Option<Word>, AllocError> {
     }
 }
 
-/// The same of DTLS.
+/// A handshake message of DTLS; it may be a ServerHello that chooses.
+fn handshake_word_of_datagrams(
+    alloc: Global,
+    chosen: &mut Option<Chosen>,
+    message: &dtls_stream::Message,
+) -> Result<Word, AllocError> {
+    let body = message.body.as_slice();
+    if let Some(choice) = Chosen::of_datagrams(message.msg_type, body) {
+        *chosen = Some(choice);
+    }
+    let number = message.message_seq;
+    let read = Message::of_datagrams(alloc, *chosen, message.msg_type, number, body)?;
+    Ok(Word {
+        content_type: 22,
+        name: message_name(message.msg_type),
+        message: Some(Cell::Message(read)),
+    })
+}
+
+/// What a side of DTLS says; nothing where that is no message in the clear.
 fn word_in_datagram(
     alloc: Global,
+    chosen: &mut Option<Chosen>,
     event: &dtls_stream::Event<'_>,
 ) -> Result<Option<Word>, AllocError> {
     match event {
-        dtls_stream::Event::Handshake(message) => Ok(Some(Word {
-            content_type: 22,
-            name: message_name(message.msg_type),
-            message: Some(Cell::Message(Message::of_datagrams(
-                alloc,
-                message.msg_type,
-                message.message_seq,
-                message.body.as_slice(),
-            )?)),
-        })),
+        dtls_stream::Event::Handshake(message) => {
+            Ok(Some(handshake_word_of_datagrams(alloc, chosen, message)?))
+        }
         dtls_stream::Event::ChangeCipherSpec => Ok(Some(change())),
         dtls_stream::Event::Alert(alert) => Ok(Some(alert_word(alert))),
         dtls_stream::Event::Encrypted(_) => Ok(None),
@@ -137,6 +165,7 @@ fn word_in_datagram(
 /// All that a side of TLS says next.
 fn words_of(
     alloc: Global,
+    chosen: &mut Option<Chosen>,
     conversation: &mut Conversation,
     direction: Direction,
     bytes: &[u8],
@@ -148,7 +177,7 @@ fn words_of(
     for _ in 0..u64::MAX {
         match conversation.front(direction) {
             Some(said) => {
-                if let Some(word) = word_of(alloc, &said)? {
+                if let Some(word) = word_of(alloc, chosen, &said)? {
                     words.push(word)?;
                 }
             }
@@ -162,13 +191,14 @@ fn words_of(
 /// All that a datagram of one side says.
 fn words_in_datagram(
     alloc: Global,
+    chosen: &mut Option<Chosen>,
     messages: &mut Messages,
     datagram: &[u8],
 ) -> Result<Vec<Word>, AllocError> {
     let (mut events, mut words) = (Vec::new(alloc), Vec::new(alloc));
     read_datagram(alloc, messages, datagram, &mut events).map_err(|_e| AllocError)?;
     for event in &events {
-        if let Some(word) = word_in_datagram(alloc, event)? {
+        if let Some(word) = word_in_datagram(alloc, chosen, event)? {
             words.push(word)?;
         }
     }
@@ -188,6 +218,7 @@ impl Speech {
         Speech {
             alloc,
             ears,
+            chosen: None,
             client_count: 0,
             server_count: 0,
             told: Vec::new(alloc),
@@ -199,15 +230,16 @@ impl Speech {
         let words = match (&mut self.ears, direction) {
             (Ears::Stream(conversation), _) => words_of(
                 self.alloc,
+                &mut self.chosen,
                 conversation,
                 direction,
                 bytes,
             )?,
             (Ears::Datagrams(client, _), Direction::ToServer) => {
-                words_in_datagram(self.alloc, client, bytes)?
+                words_in_datagram(self.alloc, &mut self.chosen, client, bytes)?
             }
             (Ears::Datagrams(_, server), Direction::FromServer) => {
-                words_in_datagram(self.alloc, server, bytes)?
+                words_in_datagram(self.alloc, &mut self.chosen, server, bytes)?
             }
         };
         for word in words {

@@ -1,0 +1,53 @@
+//! What a server chose: it says which fields the key exchanges and signatures behind its ServerHello have.
+use crate::datagrams::whole_message;
+use tls_base::{TlsCipherSuiteID, TlsHandshakeType, TlsVersion};
+use tls_fields::InPlace;
+use tls_hs::{HandshakeView, RawHandshake, TlsMessageHandshake};
+use tls_parser::{DTLSBodyView, DTLSMessageHandshakeBody};
+
+/// The version and the suite of a ServerHello.
+#[derive(Clone, Copy, Debug, PartialEq, Eq)]
+pub struct Chosen {
+    pub(crate) version: TlsVersion,
+    pub(crate) cipher: TlsCipherSuiteID,
+}
+
+impl Chosen {
+    /// By a whole message of TLS, its header of 4 bytes first (RFC 5246, section 7.4.1.3); `None` where it is no ServerHello, or can't be read.
+    pub fn new(message: &[u8]) -> Option<Chosen> {
+        let Ok((_, raw)) = RawHandshake::read(message) else {
+            return None;
+        };
+        if raw.msg_type != TlsHandshakeType::ServerHello {
+            return None;
+        }
+        match raw.parse_body() {
+            Ok((_, HandshakeView::Other(TlsMessageHandshake::ServerHello(hello)))) => {
+                Some(Chosen {
+                    version: hello.version,
+                    cipher: hello.cipher,
+                })
+            }
+            _ => None,
+        }
+    }
+
+    /// By a whole message of DTLS, by its type and its body; `None` where it is no ServerHello, or can't be read.
+    pub fn of_datagrams(msg_type: TlsHandshakeType, body: &[u8]) -> Option<Chosen> {
+        if msg_type != TlsHandshakeType::ServerHello {
+            return None;
+        }
+        let Some(message) = whole_message(msg_type, body) else {
+            return None;
+        };
+        match message.parse_body() {
+            Ok((_, DTLSBodyView::Other(DTLSMessageHandshakeBody::ServerHello(hello)))) => {
+                Some(Chosen {
+                    version: hello.version,
+                    cipher: hello.cipher,
+                })
+            }
+            _ => None,
+        }
+    }
+}
