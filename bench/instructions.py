@@ -1,5 +1,5 @@
-"""Makes a table of what callgrind counted: of each case and side three dumps, of which the third has ten calls more than
-the second. The first warmed up.
+"""Makes a table of what callgrind counted: of each case and side four dumps, of which the last has ten calls more than
+the one before. The first two warmed up.
 
     instructions.py FOLDER table           the table
     instructions.py FOLDER store FILE      writes our side's counts to FILE
@@ -22,12 +22,16 @@ def total(folder, number):
     sys.exit(f"instructions.py: {folder}/dump.{number} has no total")
 
 
+def last_dumps(place):
+    """The numbers of the last dumps of both sides of a case."""
+    return (8 * place + 4, 8 * place + 8)
+
+
 def counted(folder):
     """Each case: its group, its name, and the instructions of a call on our side and on Rust's."""
     found = []
     for place, (group, name) in enumerate(cases_of(folder)):
-        first = 6 * place + 1
-        ours, rust = ((total(folder, at + 2) - total(folder, at + 1)) / 10 for at in (first, first + 3))
+        ours, rust = ((total(folder, last) - total(folder, last - 1)) / 10 for last in last_dumps(place))
         found.append((group, name, ours, rust))
     return found
 
@@ -82,9 +86,9 @@ def moves_table(folder, program):
     print("|---|---|---|---|---|---|---|---|---|---|")
     for place, (group, name) in enumerate(cases_of(folder)):
         sides = []
-        for first in (6 * place + 1, 6 * place + 4):
-            found = by_kind(folder, first + 2, moving)
-            found.subtract(by_kind(folder, first + 1, moving))
+        for last in last_dumps(place):
+            found = by_kind(folder, last, moving)
+            found.subtract(by_kind(folder, last - 1, moving))
             sides.append([found[kind] / 10 for kind in ("moves", "wrapper", "other")])
         cells = " | ".join(f"{count:.0f}" for side in sides for count in side)
         ours, rust = (sum(side) for side in sides)

@@ -170,22 +170,33 @@ fn writer(all: &mut Cases) {
     all.add("writer", name, ours, repeated(rust::rust_gen_extensions, bytes));
 }
 
+/// Conversations: what they are, their records, and the side that each comes from.
+fn conversations() -> [(&'static str, &'static [u8], &'static [u8]); 2] {
+    [("handshake", false), ("with a client's certificate", true)].map(|(what, with_certificate)| {
+        let (bytes, sides) = inputs::conversation(with_certificate);
+        (what, leak(bytes), leak(sides))
+    })
+}
+
 fn states(all: &mut Cases) {
     let calls: [(&str, Sided); 3] = [
         ("tls_state_transition", ours::ours_transitions),
         ("update", ours::ours_updates),
         ("run", ours::ours_runs),
     ];
-    let flows: [(&str, Sided); 2] = [("made of messages", ours::ours_flows), ("made before", ours::ours_events)];
-    for (what, with_certificate) in [("handshake", false), ("with a client's certificate", true)] {
-        let (bytes, sides) = inputs::conversation(with_certificate);
-        let (bytes, sides) = (leak(bytes), leak(sides));
+    for (what, bytes, sides) in conversations() {
         for (call, o) in calls {
             let name = format!("{what}, {} messages, {call}", sides.len());
             all.add("states", name, sided(o, bytes, sides), sided(rust::rust_transitions, bytes, sides));
         }
-        // Peers' handshakes have nothing beside them in Rust: they stand beside our `update`.
-        for (made, o) in flows {
+    }
+}
+
+/// Peers' handshakes have nothing beside them in Rust: they stand beside our `update`.
+fn flows(all: &mut Cases) {
+    let calls: [(&str, Sided); 2] = [("made of messages", ours::ours_flows), ("made before", ours::ours_events)];
+    for (what, bytes, sides) in conversations() {
+        for (made, o) in calls {
             let name = format!("{what}, {} events {made}, beside `update`", sides.len());
             all.add("flows", name, sided(o, bytes, sides), sided(ours::ours_updates, bytes, sides));
         }
@@ -227,19 +238,33 @@ fn joined(all: &mut Cases) {
     }
 }
 
-/// All cases that are called in batches.
-pub fn all() -> Vec<Case> {
+/// The cases of calls that the Rust crate has, too.
+fn of_both() -> Vec<Case> {
     let mut all = Cases(Vec::new());
     records(&mut all);
     messages(&mut all);
     extensions(&mut all);
-    in_place(&mut all);
     dtls(&mut all);
     keys(&mut all);
     writer(&mut all);
     states(&mut all);
+    all.0
+}
+
+/// The cases of calls that it hasn't.
+fn of_ours() -> Vec<Case> {
+    let mut all = Cases(Vec::new());
+    in_place(&mut all);
+    flows(&mut all);
     joined(&mut all);
     all.0
+}
+
+/// All cases that are called in batches, in two parts.
+pub const PARTS: [fn() -> Vec<Case>; 2] = [of_both, of_ours];
+
+pub fn all() -> Vec<Case> {
+    PARTS.iter().flat_map(|part| part()).collect()
 }
 
 /// A stream, the size of its pieces, and the calls that cut it: ours and what stands beside it.

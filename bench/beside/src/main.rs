@@ -80,9 +80,8 @@ fn agrees(case: &Case) -> bool {
     (case.ours)(3) == (case.rust)(3)
 }
 
-/// The wanted cases, without those of which the answers differ.
-fn measured(wanted: &[String]) -> Vec<Case> {
-    let mut list = cases::all();
+/// The wanted ones of these cases, without those of which the answers differ.
+fn measured(mut list: Vec<Case>, wanted: &[String]) -> Vec<Case> {
     list.retain(|case| is_wanted(wanted, case.group, &case.name) && agrees(case));
     list
 }
@@ -91,7 +90,7 @@ fn times(wanted: &[String]) {
     println!("| group | case | ns, ours | ns, Rust | ratio | quartiles |\n|---|---|---|---|---|---|");
     let mut logs = 0.0;
     let mut count = 0;
-    for case in measured(wanted) {
+    for case in measured(cases::all(), wanted) {
         let size = batch_size(&case);
         let mut ratios = Vec::new();
         let (mut all_ours, mut all_rust) = (Vec::new(), Vec::new());
@@ -155,12 +154,13 @@ pub extern "C" fn bench_mark() {
     black_box(());
 }
 
-/// Each side of each case: once to warm up, once, and eleven times, with a mark after each.
+/// Each side of each case: twice to warm up, once, and eleven times, with a mark after each. A part is counted before the next is made:
+/// what a request for memory costs depends on what was let go of before.
 fn instructions(wanted: &[String]) {
-    for case in measured(wanted) {
+    for case in cases::PARTS.iter().flat_map(|part| measured(part(), wanted)) {
         println!("{}\t{}", case.group, case.name);
         for side in [&case.ours, &case.rust] {
-            for times in [1, 1, 11] {
+            for times in [1, 1, 1, 11] {
                 black_box(side(black_box(times)));
                 bench_mark();
             }
@@ -214,7 +214,7 @@ fn counted(wanted: &[String], total: usize) {
         memory::asked()
     };
     println!("| group | case | requests, ours | requests, Rust |\n|---|---|---|---|");
-    for case in measured(wanted) {
+    for case in measured(cases::all(), wanted) {
         let [ours, rust] = [&case.ours, &case.rust]
             .map(|side| count(side, 2).requests - count(side, 1).requests);
         println!("| {} | {} | {ours} | {rust} |", case.group, case.name);
