@@ -1,8 +1,8 @@
 -- What is handed out of a stream, by the stream and its segments alone.
-use Rattle.std.specs.Prelude.{◌≡◌, ℕ, ◌+◌, ◌^◌, ◌<◌, ◌≤◌, ◌⊎◌, Some, List, [], ◌∷◌, ◌++◌, length}
+use Rattle.std.specs.Prelude.{◌≡◌, ◌↔◌, ℕ, ◌+◌, ◌%◌, ◌^◌, ◌<◌, ◌≤◌, ◌⊎◌, Some, List, [], ◌∷◌, ◌++◌, length, take}
 use Rattle.std.specs.Borrow.{Bor}
 use Rattle.std.specs.Option.{IsSome}
-use Rattle.segments.specs.Cells.{Bytes, Held, ahead, byte_at, cell}
+use Rattle.segments.specs.Cells.{Bytes, Held, ahead, byte_at, cell, run, wanted, with_segment, without_front}
 
 -- A segment: the sequence number of its first byte, and its bytes.
 abbrev pub Segment : Type 0
@@ -56,3 +56,35 @@ pub record IsMadeOf (stream : Bytes) (IsKnown : ℕ → Type 0) (h : Held) : Typ
 abbrev pub IsAmong : List (ℕ × Bytes) → ℕ → Type 0
 IsAmong [] i = ⊥
 IsAmong (s ∷ ss) i = IsOver s.0 s.1 i ⊎ IsAmong ss i
+
+-- Of two lists of segments that cover the same places, the same is handed out.
+abbrev pub HandsOutTheSame : Bytes → ℕ → List Segment → List Segment → Type 0
+HandsOutTheSame stream first p q = (x y : Bytes)
+    → ((i : ℕ) → IsCovered first p i ↔ IsCovered first q i)
+    → IsLongestFront stream (IsCovered first p) x
+    → IsLongestFront stream (IsCovered first q) y
+    → x ≡ y
+
+-- Where these bytes of the stream are known, a part of it at a place near the wanted one makes its own places known, and nothing else.
+abbrev pub MakesItsPlacesKnown : Bytes → List (ℕ × Bytes) → Held → Type 0
+MakesItsPlacesKnown stream known h = (place seq : ℕ) (b : Bytes)
+    → IsMadeOf stream (IsAmong known) h
+    → IsPart stream place b
+    → (h.first + place) % 2 ^ 32 ≡ seq
+    → wanted h ≤ place + 2 ^ 31
+    → place < wanted h + 2 ^ 31
+    → IsMadeOf stream (IsAmong ((place, b) ∷ known)) (with_segment seq b h)
+
+-- What is known stays so where some of what is available is handed out.
+abbrev pub KeepsWhatIsKnown : Bytes → List (ℕ × Bytes) → Held → Type 0
+KeepsWhatIsKnown stream known h = (n : ℕ)
+    → IsMadeOf stream (IsAmong known) h
+    → n ≤ length (run h.cells)
+    → IsMadeOf stream (IsAmong known) (without_front n h)
+
+-- What was handed out, and then what is available, is the longest front that is known.
+abbrev pub EndsTheLongestFront : Bytes → List (ℕ × Bytes) → Held → Type 0
+EndsTheLongestFront stream known h =
+    IsMadeOf stream (IsAmong known) h
+    → h.taken ≤ length stream
+    → IsLongestFront stream (IsAmong known) (take h.taken stream ++ run h.cells)

@@ -235,7 +235,7 @@ impl TryFrom<u8> for TlsCipherMac {
 pub enum TlsPRF {
     /// That of the version: the suite names none (RFC 5246, section 5).
     Default,
-    /// None.
+    /// None: no keys are made, as in the first state of a connection (RFC 5246, section 6.1).
     Null,
     /// By HMAC of MD5 and of SHA-1 (RFC 2246, section 5).
     Md5AndSha1,

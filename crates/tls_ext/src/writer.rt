@@ -10,13 +10,13 @@ ghost use Rattle.tls_ext.specs.ExtensionText.{IsReadBack, WritesExtension, Write
 use crate::extension::TlsExtension;
 use std::alloc::Global;
 use std::io::Write;
-use tls_fields::writer::builder::add2;
+use tls_fields::writer::builder::append2;
 use tls_fields::{GenError, write_whole};
 
 mod builder;
 mod judge;
 
-use builder::{add_extension, add_extensions};
+use builder::{append_extension, append_extensions};
 use judge::{extension_len, extensions_len};
 
 /// Writes an extension (RFC 8446, section 4.2): 2 bytes of type, 2 bytes of length, and the content. All numbers are
@@ -46,7 +46,7 @@ pub fn gen_tls_extension<W: Write>(
 {
     let len = extension_len(extension)?;
     let mut text = Vec::with_capacity(alloc, len)?;
-    add_extension(&mut text, extension, len);
+    append_extension(&mut text, extension, len);
     write_whole(w, &text)
 }
 
@@ -72,7 +72,7 @@ pub fn gen_tls_extensions<W: Write>(
 {
     let len = extensions_len(extensions)?;
     let mut text = Vec::with_capacity(alloc, len)?;
-    add2(&mut text, (len - 2) as u16);
-    add_extensions(&mut text, extensions);
+    append2(&mut text, (len - 2) as u16);
+    append_extensions(&mut text, extensions);
     write_whole(w, &text)
 }

@@ -13,3 +13,4 @@ mod told;
 pub use exchange::{has_hint, names_curve};
 pub use facts::Facts;
 pub use parts::{CertificateFacts, ClientParts, ServerParts};
+pub use told::{DELEGATED_CREDENTIAL, ENCRYPTED_CLIENT_HELLO};

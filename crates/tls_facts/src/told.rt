@@ -23,11 +23,11 @@ use tls_base::{
 use tls_ext::{ExtensionType, KeyShareEntry, best_version, extension_types};
 use tls_fields::{Counted1, Items};
 
-/// The encrypted_client_hello of RFC 9849, section 5.
-const ENCRYPTED_CLIENT_HELLO: TlsExtensionType = TlsExtensionType(0xfe0d);
+/// The encrypted_client_hello of RFC 9849, section 5, which the library has no name for.
+pub const ENCRYPTED_CLIENT_HELLO: TlsExtensionType = TlsExtensionType(0xfe0d);
 
-/// The delegated_credential of RFC 9345, section 4.1.1.
-const DELEGATED_CREDENTIAL: TlsExtensionType = TlsExtensionType(34);
+/// The delegated_credential of RFC 9345, section 4.1.1, which the library has no name for.
+pub const DELEGATED_CREDENTIAL: TlsExtensionType = TlsExtensionType(34);
 
 /// What is held, as it stands.
 fn lent(bytes: &Option<Vec<u8>>) -> Option<&[u8]>

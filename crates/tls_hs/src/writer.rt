@@ -69,7 +69,7 @@ fn writable_of<'b, 'a>(m: &'b TlsMessageHandshake<'a>) -> Option<Writable<'b, 'a
 
 impl Writable<'_, '_> {
     /// Its text, in memory of exactly its length.
-    fn to_text(&self, alloc: Global) -> Result<Vec<u8>, GenError>
+    fn to_bytes(&self, alloc: Global) -> Result<Vec<u8>, GenError>
         ensures text { BuildsHandshake (view_writable self.now) (result_map_both (λ v. v.items) (λ e. e) result) }
         ensures range { IfOk result (λ _. InRangeHandshake (view_writable self.now)) }
     {
@@ -83,7 +83,7 @@ impl Writable<'_, '_> {
     fn write<W: Write>(&self, alloc: Global, w: &mut W) -> Result<(), GenError>
         ensures { WritesHandshake (view_writable self.now) W.contents w.old w.new result }
     {
-        let text = self.to_text(alloc)?;
+        let text = self.to_bytes(alloc)?;
         write_whole(w, &text)
     }
 }

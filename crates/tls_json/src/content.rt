@@ -9,17 +9,14 @@ use tls_ext::{
     parse_tls_extension_encrypted_server_name, protocol_names, psk_key_exchange_modes,
     server_names, signature_algorithms, supported_groups,
 };
+use tls_facts::{DELEGATED_CREDENTIAL, ENCRYPTED_CLIENT_HELLO};
 use tls_fields::{Counted1, Counted2, IResult, InPlace, Items, counted1, counted2};
 
-/// The types of extensions that the library has no name for (RFC 8879, section 7.1; RFC 9345, section 4.1.1; RFC 9146, section 10.1;
-/// RFC 9849, section 11.1).
+/// The compress_certificate of RFC 8879, section 7.1, which the library has no name for.
 const COMPRESS_CERTIFICATE: TlsExtensionType = TlsExtensionType(27);
 
-const DELEGATED_CREDENTIAL: TlsExtensionType = TlsExtensionType(34);
-
+/// The connection_id of RFC 9146, section 10.1, which the library has no name for.
 const CONNECTION_ID: TlsExtensionType = TlsExtensionType(54);
-
-const ENCRYPTED_CLIENT_HELLO: TlsExtensionType = TlsExtensionType(0xfe0d);
 
 /// Who sent an extension.
 #[derive(Clone, Copy, Debug, PartialEq, Eq)]

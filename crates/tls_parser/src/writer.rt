@@ -27,7 +27,7 @@ use crate::writer::builder::{append_message, append_messages};
 use crate::writer::judge::{fragment_len, message_len};
 use std::alloc::Global;
 use std::io::Write;
-use tls_fields::writer::builder::{add1, add2};
+use tls_fields::writer::builder::{append1, append2};
 use tls_fields::{GenError, write_whole};
 use tls_hs::writer::builder::append_handshake;
 use tls_hs::writer::judge::handshake_len;
@@ -81,9 +81,9 @@ fn plaintext_bytes(alloc: Global, p: &TlsPlaintext) -> Result<Vec<u8>, GenError>
 {
     let n = fragment_len(&p.msg)?;
     let mut out = Vec::with_capacity(alloc, 5 + n)?;
-    add1(&mut out, p.hdr.record_type.0);
-    add2(&mut out, p.hdr.version.0);
-    add2(&mut out, n as u16);
+    append1(&mut out, p.hdr.record_type.0);
+    append2(&mut out, p.hdr.version.0);
+    append2(&mut out, n as u16);
     append_messages(&mut out, &p.msg);
     Ok(out)
 }

@@ -11,8 +11,8 @@ use Rattle.tls_fields.specs.Meaning.{Refusal}
 use Rattle.tls_ext.specs.InPlace.{first_name, picked}
 use Rattle.std.specs.Option.{option_map}
 use Rattle.tls_fields.specs.Items.{Tells}
-use Rattle.tls_places.specs.Place.{IsWithin, Lies, Stands}
-use Rattle.tls_places.proofs.OutwardLemmas.{Found, ok_found}
+use Rattle.tls_places.specs.Place.{Found, IsWithin, Lies, Stands}
+use Rattle.tls_places.proofs.OutwardLemmas.{ok_found}
 
 -- the same place, in bytes that are the same
 pub stands_same : (b w x : Bytes) (p : Place) → b ≡ w → Stands b p x → Stands w p x

@@ -32,9 +32,8 @@ use Rattle.tls_hs.specs.Hello.{ClientHello, client_hello, session_id, cipher_sui
 use Rattle.tls_ext.specs.InPlace.{host_name}
 use Rattle.tls_parser.specs.InPlace.{body_of_type, host_name_of_record, name_in_body, name_in_hello, name_in_record}
 use Rattle.tls_parser.specs.Record.{RawRecord, raw_record}
-use Rattle.tls_places.specs.Place.{EndsIn, MayStand, Stands}
+use Rattle.tls_places.specs.Place.{EndsIn, Found, MayStand, Stands}
 use Rattle.tls_places.proofs.LastLemmas.{behind, counted_last, ends_in_after, maybe_last}
-use Rattle.tls_places.proofs.OutwardLemmas.{Found}
 
 -- the extensions end a ClientHello
 pub extensions_last : (b r : Bytes) (v : ClientHello) → Allows client_hello b (Ok (v, r)) → EndsIn b v.extensions r

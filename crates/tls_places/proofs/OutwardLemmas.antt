@@ -1,20 +1,13 @@
 -- What is found in a part is found in the whole.
 use Rattle.std.proofs.Common.{◌≡◌, Option, Some, Result, Ok, ◌∙◌, ap, subst}
 use Rattle.std.specs.Option.{option_map}
-use Rattle.std.specs.Borrow.{Bor}
 use Rattle.tls_fields.specs.Bytes.{Bytes}
 use Rattle.tls_fields.specs.Items.{Tells}
 use Rattle.tls_fields.specs.Meaning.{Refusal}
 use Rattle.tls_fields.specs.Place.{bytes_at}
 use Rattle.tls_fields.specs.declared.places.Place.{Place}
-use Rattle.tls_fields.specs.declared.result.Error.{Error}
-use Rattle.tls_fields.specs.declared.result.Err.{Err as Failed}
-use Rattle.std.proofs.Common.{List, ℕ}
-use Rattle.tls_places.specs.Place.{IsWithin, Lies, Stands}
+use Rattle.tls_places.specs.Place.{Found, IsWithin, Lies, Stands}
 use Rattle.tls_places.proofs.PlaceLemmas.{lies_stands}
-
-abbrev pub Found : Type 0
-Found = Result (Option Place) (Failed (Error (Bor (List ℕ))))
 
 abbrev pub ok_found : Option Place → Found
 ok_found o = Ok o

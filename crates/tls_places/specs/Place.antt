@@ -17,11 +17,16 @@ use Rattle.std.specs.Prelude.{
   Ok,
   ⊤,
 }
+use Rattle.std.specs.Borrow.{Bor}
 use Rattle.std.specs.Iterator.{YieldsFirstBy}
+use Rattle.std.specs.Option.{option_map}
 use Rattle.tls_fields.specs.Bytes.{Bytes}
-use Rattle.tls_fields.specs.Meaning.{EndsWith}
+use Rattle.tls_fields.specs.Items.{Tells}
+use Rattle.tls_fields.specs.Meaning.{EndsWith, Refusal}
 use Rattle.tls_fields.specs.Place.{bytes_at}
 use Rattle.tls_fields.specs.declared.places.Place.{Place}
+use Rattle.tls_fields.specs.declared.result.Error.{Error}
+use Rattle.tls_fields.specs.declared.result.Err.{Err as Failed}
 
 -- The place lies within b.
 abbrev pub Lies : Bytes → Place → Type 0
@@ -67,3 +72,12 @@ pub record YieldsPlaced {S X A : Type 0} (view : X → A) (content : X → Bytes
 abbrev pub IsWithin : {E : Type 0} → Bytes → Result (Option Place) E → Type 0
 IsWithin b (Ok (Some p)) = Lies b p
 IsWithin b r = ⊤
+
+-- What a call returned that looks for a place.
+abbrev pub Found : Type 0
+Found = Result (Option Place) (Failed (Error (Bor (List ℕ))))
+
+-- What is told by a place in the part of b that stands at p is told by one in b: the same bytes, or the same refusal.
+abbrev pub TellsTheSame : Bytes → Place → Found → Found → Type 0
+TellsTheSame b p found result = (a : Result (Option Bytes) Refusal) → Lies b p → IsWithin (bytes_at b p) found
+    → Tells (option_map (bytes_at (bytes_at b p))) a found → Tells (option_map (bytes_at b)) a result

@@ -1,11 +1,10 @@
 //! Where parts stand in the bytes that they were read from.
-ghost use Rattle.std.specs.Prelude.{◌≡◌, ◌++◌, Option, Result};
+ghost use Rattle.std.specs.Prelude.{◌≡◌, ◌++◌};
 ghost use Rattle.tls_fields.specs.Bytes.{Bytes};
 ghost use Rattle.std.specs.Option.{option_map};
-ghost use Rattle.tls_fields.specs.Meaning.{EndsWith, Refusal};
-ghost use Rattle.tls_fields.specs.Items.{Tells};
+ghost use Rattle.tls_fields.specs.Meaning.{EndsWith};
 ghost use Rattle.tls_fields.specs.Place.{bytes_at as bytes_there};
-ghost use Rattle.tls_places.specs.Place.{EndsIn, IsWithin, Lies, MayBeginAt, MayStand, Stands};
+ghost use Rattle.tls_places.specs.Place.{EndsIn, IsWithin, Lies, MayBeginAt, MayStand, Stands, TellsTheSame};
 
 use tls_fields::{Err, Error, Place};
 
@@ -81,8 +80,7 @@ pub(crate) fn outward<'a>(
     outer: Place,
     found: Result<Option<Place>, Err<Error<&'a [u8]>>>,
 ) -> Result<Option<Place>, Err<Error<&'a [u8]>>>
-    ensures tells { (a : Result (Option Bytes) Refusal) → Lies whole.now outer → IsWithin (bytes_there whole.now outer) found.entry
-        → Tells (option_map (bytes_there (bytes_there whole.now outer))) a found.entry → Tells (option_map (bytes_there whole.now)) a result }
+    ensures tells { TellsTheSame whole.now outer found.entry result }
     ensures within { Lies whole.now outer → IsWithin (bytes_there whole.now outer) found.entry → IsWithin whole.now result }
 {
     match found? {

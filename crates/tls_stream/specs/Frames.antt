@@ -113,3 +113,14 @@ joined pieces = flat_map (λ p. p.now) pieces
 pub record IsSplit (f : Shape) (x : Bytes) (taken : List Bytes) (held : Bytes) : Type 0 where
   pub taken_are : taken ≡ frames f x
   pub held_is : (held ≡ left f x) ⊎ (IsTooLarge f held × ((s : Bytes) × (left f x ≡ held ++ s)))
+
+-- Two cuttings of the same bytes take the same frames.
+abbrev pub CuttingsTakeTheSame : Shape → Type 0
+CuttingsTakeTheSame f = (p q : List (Bor (List ℕ))) (taken taken' : List Bytes) (held held' : Bytes)
+    → joined p ≡ joined q → IsSplit f (joined p) taken held → IsSplit f (joined q) taken' held' → taken ≡ taken'
+
+-- They hold the same too, save where the length in the header that stands next is too large.
+abbrev pub CuttingsHoldTheSame : Shape → Type 0
+CuttingsHoldTheSame f = (p q : List (Bor (List ℕ))) (taken taken' : List Bytes) (held held' : Bytes)
+    → joined p ≡ joined q → IsSplit f (joined p) taken held → IsSplit f (joined q) taken' held'
+    → (IsTooLarge f held → ⊥) → held ≡ held'

@@ -1,6 +1,5 @@
 //! What stands of the frames of streams. Each function's contract is one law; its body is empty.
-ghost use Rattle.std.specs.Prelude.{◌≡◌, ◌↔◌, ◌<◌, ◌++◌, ◌∷◌, List, [], ℕ, Some, None, IsSome, Err};
-ghost use Rattle.std.specs.Borrow.{Bor};
+ghost use Rattle.std.specs.Prelude.{◌≡◌, ◌↔◌, ◌<◌, ◌++◌, ◌∷◌, [], ℕ, Some, None, IsSome, Err};
 ghost use Rattle.std.specs.List.{concat};
 ghost use Rattle.tls_fields.specs.Bytes.{Bytes};
 ghost use Rattle.tls_fields.specs.Meaning.{Lacks};
@@ -9,7 +8,7 @@ ghost use Rattle.tls_parser.specs.Framing as framing;
 ghost use Rattle.tls_parser.specs.Record.{raw_record};
 ghost use Rattle.tls_hs.specs.Message.{handshake};
 ghost use Rattle.tls_stream.specs.Records.{front_of, message_frame, record_frame, with_rest};
-ghost use Rattle.tls_stream.specs.Frames.{IsSplit, IsTooLarge, IsWhole, NeedsMore, Shape, front, frames, left, joined};
+ghost use Rattle.tls_stream.specs.Frames.{CuttingsHoldTheSame, CuttingsTakeTheSame, IsTooLarge, IsWhole, NeedsMore, Shape, front, frames, left};
 
 /// The frames are the one that stands in front, and then those of the rest; where none stands there, there are none, and
 /// all is left.
@@ -51,10 +50,8 @@ pub fn what_stands_in_front()
 /// records. What is held is the same too, save where the length in the header that stands next is too large.
 #[tactic(auto, using(crate::proofs::PieceLemmas::same_taken, crate::proofs::PieceLemmas::same_held))]
 pub fn two_cuttings_have_the_same_frames()
-    ensures taken { (f : Shape) (p q : List (Bor (List ℕ))) (taken taken' : List Bytes) (held held' : Bytes) → joined p ≡ joined q
-        → IsSplit f (joined p) taken held → IsSplit f (joined q) taken' held' → taken ≡ taken' }
-    ensures held { (f : Shape) (p q : List (Bor (List ℕ))) (taken taken' : List Bytes) (held held' : Bytes) → joined p ≡ joined q
-        → IsSplit f (joined p) taken held → IsSplit f (joined q) taken' held' → (IsTooLarge f held → ⊥) → held ≡ held' }
+    ensures taken { (f : Shape) → CuttingsTakeTheSame f }
+    ensures held { (f : Shape) → CuttingsHoldTheSame f }
 {}
 
 /// A record as a frame: it stands in front just where [`tls_parser::parse_tls_raw_record`] reads one, and is what that takes.

@@ -8,3 +8,5 @@ pub mod Transition
 pub mod Out
 pub mod Shown
 pub mod Transfer
+pub mod Plain
+pub mod Run

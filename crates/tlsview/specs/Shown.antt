@@ -1,12 +1,13 @@
 -- What was printed and followed by a step of the run.
-use Rattle.std.specs.Prelude.{◌≡◌, ◌++◌, ◌||◌, ℕ, Bool, List, Option, Some, None, Result, Ok, Err}
+use Rattle.std.specs.Prelude.{◌≡◌, ◌++◌, ◌||◌, ℕ, Bool, List, Option, Some, None, option_map, Result, Ok, Err}
 use Rattle.tls_fields.specs.Meaning.{Answer, Refusal, Broken, Lacks}
 use Rattle.tls_parser.specs.Record.{RawRecord}
 use Rattle.tls_states.specs.declared.state.TlsState.{TlsState}
 use Rattle.tlsview.specs.Fault.{Fault, Refused, view_fault}
-use Rattle.tlsview.specs.Out.{Content, Half, content_of, content_text, state_behind, cipher_behind}
+use Rattle.tlsview.specs.Out.{Content, Half, content_of, content_text, state_behind, cipher_behind, half_part, line_part}
 use Rattle.tlsview.specs.declared.conversation.Conversation.{Conversation}
 use Rattle.tlsview.specs.declared.direction.Direction.{Direction}
+use Rattle.tlsview.specs.declared.fault.Fault as rust_fault
 use Rattle.tlsview.specs.declared.records.Next as rust
 use Rattle.tlsview.specs.declared.records.Next.TheVariants as next
 
@@ -35,3 +36,13 @@ IsNext d text state text' state' enc (Err (Lacks missing)) next.Nothing = (text'
 IsNext d text state text' state' enc (Err (Broken kind)) (next.Fault fault) =
     (text' ≡ text) × (state' ≡ state) × (view_fault fault ≡ Refused (Broken kind))
 IsNext d text state text' state' enc a n = ⊥
+
+-- the records of a direction were printed, and the fault is answered that ends them, or what is known behind them
+abbrev pub AreShown : Direction → List ℕ → Half → List ℕ → Half → Option rust_fault.Fault → Type 0
+AreShown d text h text' h' fault =
+    (text' ≡ text ++ (half_part d h).0) × ((half_part d h).1 ≡ or_fault (option_map view_fault fault) h')
+
+-- so was what a line says, of the conversation
+abbrev pub IsLineShown : List ℕ → List ℕ → Conversation → List ℕ → Conversation → Option rust_fault.Fault → Type 0
+IsLineShown line text c text' c' fault =
+    (text' ≡ text ++ (line_part c line).0) × ((line_part c line).1 ≡ or_end (option_map view_fault fault) c')

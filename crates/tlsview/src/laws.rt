@@ -1,12 +1,9 @@
 //! What the definitions say.
-ghost use Rattle.std.specs.Prelude.{◌≡◌, ◌≢◌, ℕ, ◌↔◌, List, [], IsSome, Ok, Err, false};
-ghost use Rattle.tls_fields.specs.Bytes.{Bytes};
-ghost use Rattle.tls_fields.specs.Meaning.{Broken};
-ghost use Rattle.tls_fields.specs.declared.result.ErrorKind.{ErrorKind};
+ghost use Rattle.std.specs.Prelude.{◌≡◌, ◌≢◌, ℕ, ◌↔◌, List, IsSome};
 ghost use Rattle.tls_fields.specs.Reading.{reading};
-ghost use Rattle.tls_parser.specs.Record.{Plaintext, plaintext, raw_record};
-ghost use Rattle.tlsview.specs.Fault.{Refused};
-ghost use Rattle.tlsview.specs.Out.{Half, Messages, Part, content_part, half_part, out, record_part};
+ghost use Rattle.tls_parser.specs.Record.{raw_record};
+ghost use Rattle.tlsview.specs.Out.{Half, half_part, out, record_part};
+ghost use Rattle.tlsview.specs.Plain.{PlaintextIsPrinted, PlaintextIsRefused};
 ghost use Rattle.tlsview.specs.Exit.{status_of};
 ghost use Rattle.tlsview.specs.Statement.{IsStatement, said_by};
 ghost use Rattle.tlsview.specs.declared.direction.Direction.{Direction};
@@ -29,12 +26,8 @@ pub fn record_by_record()
 /// A record that isn't encrypted is read as `parse_tls_plaintext` reads it: its messages are printed, and its refusal is
 /// the fault.
 pub fn plain_records_are_plaintext()
-    ensures read { (direction : Direction) (h : Half) (p : Plaintext) (rest : Bytes) (behind : Half → Part Half) → h.is_encrypted ≡ false
-        → reading plaintext h.left ≡ Ok (p, rest)
-        → record_part direction h (reading raw_record h.left) behind ≡ content_part direction h rest (Ok (Messages p.messages)) behind }
-    ensures refused { (direction : Direction) (h : Half) (kind : ErrorKind) (behind : Half → Part Half) → h.is_encrypted ≡ false
-        → reading plaintext h.left ≡ Err (Broken kind)
-        → record_part direction h (reading raw_record h.left) behind ≡ ([], Err (Refused (Broken kind))) }
+    ensures read { (direction : Direction) (h : Half) → PlaintextIsPrinted direction h }
+    ensures refused { (direction : Direction) (h : Half) → PlaintextIsRefused direction h }
 {}
 
 /// At a slice and a vector the run is `out`.

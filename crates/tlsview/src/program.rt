@@ -1,8 +1,7 @@
 //! The whole run, over any reader and writer.
-ghost use Rattle.std.specs.Prelude.{◌≡◌, ◌≢◌, ◌<◌, ◌≤◌, ◌⊎◌, ℕ, [], false, true, take, length, Some, IfSome, IfErr, IfOk};
-ghost use Rattle.std.specs.Io.KnownBytes.{Appends};
-ghost use Rattle.tlsview.specs.Out.{out};
+ghost use Rattle.std.specs.Prelude.{◌≡◌, ◌≢◌, ◌≤◌, ◌⊎◌, false, true, IfErr, IfOk};
 ghost use Rattle.tlsview.specs.Exit.{status_of};
+ghost use Rattle.tlsview.specs.Run.{WritesFront, WritesOut};
 ghost use Rattle.tlsview.specs.Transfer.{most_reads};
 
 use crate::exit::Exit;
@@ -25,10 +24,8 @@ pub fn run<R: Read, W: Write>(
     requires fresh_writer { w.old.has_failed ≡ false }
     ensures same_reader { r.new.reader.ghost_name ≡ r.old.reader.ghost_name }
     ensures same_writer { w.new.writer.ghost_name ≡ w.old.writer.ghost_name }
-    ensures told { IfOk result (λ exit. IfSome (R.remaining r.old.reader.now) (λ x.
-        (R.remaining r.new.reader.now ≡ Some [])
-        × Appends (W.contents w.old.writer.now) (W.contents w.new.writer.now) (out x).0
-        × (status_of exit ≡ (out x).1))) }
+    ensures told { IfOk result (λ exit.
+        WritesOut R.remaining W.contents r.old.reader.now r.new.reader.now w.old.writer.now w.new.writer.now (status_of exit)) }
     ensures exit { IfOk result (λ exit. exit ≢ Exit.Failed) }
 
     // It fails for want of memory, at a fault of the reader or after all of its calls, or at a fault of the writer.
@@ -36,10 +33,8 @@ pub fn run<R: Read, W: Write>(
         ⊎ (((e ≡ Failure.Reading) × ((r.new.has_failed ≡ true) ⊎ (r.new.calls ≡ most_reads)))
         ⊎ ((e ≡ Failure.Writing) × (w.new.has_failed ≡ true)))) }
     ensures unwritten { IfErr result (λ e. e ≢ Failure.Writing → w.new.writer.now ≡ w.old.writer.now) }
-    ensures partly_written { IfErr result (λ e. e ≡ Failure.Writing → IfSome (R.remaining r.old.reader.now) (λ x.
-        (R.remaining r.new.reader.now ≡ Some [])
-        × (n : ℕ) × (n < length (out x).0)
-        × Appends (W.contents w.old.writer.now) (W.contents w.new.writer.now) (take n (out x).0))) }
+    ensures partly_written { IfErr result (λ e. e ≡ Failure.Writing
+        → WritesFront R.remaining W.contents r.old.reader.now r.new.reader.now w.old.writer.now w.new.writer.now) }
 {
     let input = read_whole(alloc, r)?;
     let report = report_of(alloc, input.as_slice())?;
@@ -57,13 +52,10 @@ pub fn run<R: Read, W: Write>(
 /// Which fault a failed run had is in the contract of [`run`].
 pub fn view<R: Read, W: Write>(alloc: Global, r: &mut R, w: &mut W) -> u8
     // A run that doesn't fail has read all, and has written and answered what `out` says.
-    ensures told { result ≢ status_of Exit.Failed → IfSome (R.remaining r.old) (λ x. (R.remaining r.new ≡ Some [])
-        × Appends (W.contents w.old) (W.contents w.new) (out x).0 × (result ≡ (out x).1)) }
+    ensures told { result ≢ status_of Exit.Failed → WritesOut R.remaining W.contents r.old r.new w.old w.new result }
     ensures status { result ≤ status_of Exit.Failed }
     // A run that fails hasn't written, or has read all and written a front of what `out` says that isn't all of it.
-    ensures failed { result ≡ status_of Exit.Failed → (w.new ≡ w.old) ⊎ IfSome (R.remaining r.old) (λ x.
-        (R.remaining r.new ≡ Some []) × (n : ℕ) × (n < length (out x).0)
-        × Appends (W.contents w.old) (W.contents w.new) (take n (out x).0)) }
+    ensures failed { result ≡ status_of Exit.Failed → (w.new ≡ w.old) ⊎ WritesFront R.remaining W.contents r.old r.new w.old w.new }
 {
     let mut reader = Tally::new(r);
     let mut writer = Sink::new(w);

@@ -1,5 +1,5 @@
 //! The records of one direction, as text.
-ghost use Rattle.std.specs.Prelude.{◌≡◌, ◌∷◌, ◌++◌, Ok, codes, flat_map, map, option_map, IfOk, OnOk};
+ghost use Rattle.std.specs.Prelude.{◌≡◌, ◌∷◌, ◌++◌, Ok, codes, flat_map, map, IfOk, OnOk};
 ghost use Rattle.std.specs.List.{list_any};
 ghost use Rattle.std.specs.String.{string_bytes};
 ghost use Rattle.tls_fields.specs.Reading.{reading};
@@ -8,9 +8,8 @@ ghost use Rattle.tls_parser.specs.Record.{view_raw_record, raw_record};
 ghost use Rattle.tls_states.specs.Letters as letters;
 ghost use Rattle.tls_states.specs.Steps.{run};
 ghost use Rattle.tlsview.specs.Direction.{sign_of};
-ghost use Rattle.tlsview.specs.Fault.{view_fault};
-ghost use Rattle.tlsview.specs.Shown.{IsShown, IsNext, or_fault};
-ghost use Rattle.tlsview.specs.Out.{content_of, message_line, fed, half, half_part};
+ghost use Rattle.tlsview.specs.Shown.{AreShown, IsShown, IsNext};
+ghost use Rattle.tlsview.specs.Out.{content_of, message_line, fed, half};
 ghost use Rattle.tlsview.specs.Transition.{changes_cipher};
 
 use crate::conversation::Side;
@@ -139,8 +138,7 @@ fn show_records(
     side: &mut Side,
     context: &mut ParseContext,
 ) -> Result<Option<Fault>, AllocError>
-    ensures { IfOk result (λ fault. (string_bytes text.new ≡ string_bytes text.old ++ (half_part direction (half side.old context.old)).0)
-        × ((half_part direction (half side.old context.old)).1 ≡ or_fault (option_map view_fault fault) (half side.new context.new))) }
+    ensures { IfOk result (AreShown direction (string_bytes text.old) (half side.old context.old) (string_bytes text.new) (half side.new context.new)) }
 {
     'records: loop {
         let next = show_next(alloc, text, direction, side, context)?;
@@ -164,9 +162,8 @@ pub fn show_bytes(
     context: &mut ParseContext,
     bytes: &[u8],
 ) -> Result<Option<Fault>, AllocError>
-    ensures { IfOk result (λ fault.
-        (string_bytes text.new ≡ string_bytes text.old ++ (half_part direction (half (fed side.old bytes.now) context.old)).0)
-        × ((half_part direction (half (fed side.old bytes.now) context.old)).1 ≡ or_fault (option_map view_fault fault) (half side.new context.new))) }
+    ensures { IfOk result (AreShown direction (string_bytes text.old) (half (fed side.old bytes.now) context.old)
+        (string_bytes text.new) (half side.new context.new)) }
 {
     match side.stream.feed(bytes) {
         Ok(()) => show_records(alloc, text, direction, side, context),

@@ -1,9 +1,8 @@
 //! What an input says, as text.
-ghost use Rattle.std.specs.Prelude.{◌≡◌, ◌++◌, ◌≢◌, length, option_map, Some, None, Ok, IfOk, IsSome};
+ghost use Rattle.std.specs.Prelude.{◌≡◌, ◌++◌, ◌≢◌, length, Some, None, Ok, IfOk, IsSome};
 ghost use Rattle.std.specs.String.{string_bytes};
-ghost use Rattle.tlsview.specs.Fault.{view_fault};
-ghost use Rattle.tlsview.specs.Out.{end_of, line_part, missing, out};
-ghost use Rattle.tlsview.specs.Shown.{or_end};
+ghost use Rattle.tlsview.specs.Out.{end_of, missing, out};
+ghost use Rattle.tlsview.specs.Shown.{IsLineShown};
 ghost use Rattle.tlsview.specs.Exit.{status_of};
 
 use crate::conversation::{Conversation, Side};
@@ -33,8 +32,7 @@ fn show_line(
     bytes: &mut Vec<u8>,
     line: &[u8],
 ) -> Result<Option<Fault>, AllocError>
-    ensures { IfOk result (λ fault. (string_bytes text.new ≡ string_bytes text.old ++ (line_part conversation.old line.now).0)
-        × ((line_part conversation.old line.now).1 ≡ or_end (option_map view_fault fault) conversation.new)) }
+    ensures { IfOk result (IsLineShown line.now (string_bytes text.old) conversation.old (string_bytes text.new) conversation.new) }
 {
     if line.is_empty() {
         return Ok(None);

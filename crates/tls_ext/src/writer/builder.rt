@@ -9,10 +9,10 @@ ghost use Rattle.tls_ext.specs.ExtensionText.{FitsExtension, FitsExtensions, InR
 use crate::extension::TlsExtension;
 use crate::writer::judge::extension_len;
 use tls_base::{NamedGroup, SNIType, TlsExtensionType};
-use tls_fields::writer::builder::{add_bytes, add1, add2};
+use tls_fields::writer::builder::{append_bytes, append1, append2};
 
-/// Adds the names of a server.
-fn add_names(out: &mut Vec<u8>, names: &[(SNIType, &[u8])])
+/// Appends the names of a server.
+fn append_names(out: &mut Vec<u8>, names: &[(SNIType, &[u8])])
     requires fits { length (names_text (map view_server_name names.now)) ≤ 65535 }
     requires room { vec_len out.old + length (names_text (map view_server_name names.now)) ≤ vec_capacity out.old }
     ensures items { out.new.items ≡ out.old.items ++ names_text (map view_server_name names.now) }
@@ -21,14 +21,14 @@ fn add_names(out: &mut Vec<u8>, names: &[(SNIType, &[u8])])
     ensures capacity { vec_capacity out.old ≤ vec_capacity out.new }
 {
     for (name_type, name) in names {
-        add1(out, name_type.0);
-        add2(out, name.len() as u16);
-        add_bytes(out, name);
+        append1(out, name_type.0);
+        append2(out, name.len() as u16);
+        append_bytes(out, name);
     }
 }
 
-/// Adds groups, 2 bytes each.
-fn add_groups(out: &mut Vec<u8>, groups: &[NamedGroup])
+/// Appends groups, 2 bytes each.
+fn append_groups(out: &mut Vec<u8>, groups: &[NamedGroup])
     requires { vec_len out.old + 2 * length groups.now ≤ vec_capacity out.old }
     ensures items { out.new.items ≡ out.old.items ++ numbers_text 2 (map (λ g. g.0) groups.now) }
     ensures range { All (λ x. x < 256 ^ 2) (map (λ g. g.0) groups.now) }
@@ -36,12 +36,12 @@ fn add_groups(out: &mut Vec<u8>, groups: &[NamedGroup])
     ensures capacity { vec_capacity out.old ≤ vec_capacity out.new }
 {
     for group in groups {
-        add2(out, group.0);
+        append2(out, group.0);
     }
 }
 
-/// Adds the text of an extension, which has `len` bytes.
-pub(crate) fn add_extension(out: &mut Vec<u8>, extension: &TlsExtension, len: usize)
+/// Appends the text of an extension, which has `len` bytes.
+pub(crate) fn append_extension(out: &mut Vec<u8>, extension: &TlsExtension, len: usize)
     requires fits { FitsExtension (view extension.now) }
     requires length { len ≡ length (extension_text (view extension.now)) }
     requires room { vec_len out.old + len ≤ vec_capacity out.old }
@@ -50,24 +50,25 @@ pub(crate) fn add_extension(out: &mut Vec<u8>, extension: &TlsExtension, len: us
     ensures len { vec_len out.new ≡ vec_len out.old + len }
     ensures capacity { vec_capacity out.old ≤ vec_capacity out.new }
 {
-    add2(out, TlsExtensionType::from(extension).0);
-    add2(out, (len - 4) as u16);
+    append2(out, TlsExtensionType::from(extension).0);
+    append2(out, (len - 4) as u16);
     match extension {
         TlsExtension::SNI(names) => {
-            add2(out, (len - 6) as u16);
-            add_names(out, names);
+            append2(out, (len - 6) as u16);
+            append_names(out, names);
         }
-        TlsExtension::MaxFragmentLength(code) => add1(out, *code),
+        TlsExtension::MaxFragmentLength(code) => append1(out, *code),
         TlsExtension::EllipticCurves(groups) => {
-            add2(out, (2 * groups.len()) as u16);
-            add_groups(out, groups);
+            append2(out, (2 * groups.len()) as u16);
+            append_groups(out, groups);
         }
+        // The judge takes no other kind.
         _ => {}
     }
 }
 
-/// Adds the texts of extensions, one after the other.
-pub(crate) fn add_extensions(out: &mut Vec<u8>, extensions: &[TlsExtension])
+/// Appends the texts of extensions, one after the other.
+pub(crate) fn append_extensions(out: &mut Vec<u8>, extensions: &[TlsExtension])
     requires fits { FitsExtensions (map view extensions.now) }
     requires room { vec_len out.old + length (joined_text (map view extensions.now)) ≤ vec_capacity out.old }
     ensures items { out.new.items ≡ out.old.items ++ joined_text (map view extensions.now) }
@@ -75,7 +76,7 @@ pub(crate) fn add_extensions(out: &mut Vec<u8>, extensions: &[TlsExtension])
 {
     for extension in extensions {
         if let Ok(len) = extension_len(extension) {
-            add_extension(out, extension, len);
+            append_extension(out, extension, len);
         }
     }
 }

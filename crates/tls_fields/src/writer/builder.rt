@@ -1,11 +1,11 @@
-//! Adds the parts of a text to a vector that has room for them.
+//! Appends the parts of a text to a vector that has room for them.
 ghost use Rattle.std.specs.Prelude.{◌≡◌, ◌<◌, ◌≤◌, ◌+◌, ◌^◌, ◌++◌, length, vec_len, vec_capacity};
 ghost use Rattle.std.specs.Option.{option_map};
 ghost use Rattle.tls_fields.specs.Bytes.{bytes_of};
 ghost use Rattle.tls_fields.specs.Text.{held as held_of};
 
-/// Adds a number of 1 byte.
-pub fn add1(out: &mut Vec<u8>, n: u8)
+/// Appends a number of 1 byte.
+pub fn append1(out: &mut Vec<u8>, n: u8)
     requires { vec_len out.old + 1 ≤ vec_capacity out.old }
     ensures items { out.new.items ≡ out.old.items ++ bytes_of 1 n }
     ensures range { n < 256 ^ 1 }
@@ -15,8 +15,8 @@ pub fn add1(out: &mut Vec<u8>, n: u8)
     out.push_reserved(n);
 }
 
-/// Adds a number of 2 bytes, big-endian.
-pub fn add2(out: &mut Vec<u8>, n: u16)
+/// Appends a number of 2 bytes, big-endian.
+pub fn append2(out: &mut Vec<u8>, n: u16)
     requires { vec_len out.old + 2 ≤ vec_capacity out.old }
     ensures items { out.new.items ≡ out.old.items ++ bytes_of 2 n }
     ensures range { n < 256 ^ 2 }
@@ -27,8 +27,8 @@ pub fn add2(out: &mut Vec<u8>, n: u16)
     out.push_reserved((n % 256) as u8);
 }
 
-/// Adds a number of 3 bytes, big-endian.
-pub fn add3(out: &mut Vec<u8>, n: u32)
+/// Appends a number of 3 bytes, big-endian.
+pub fn append3(out: &mut Vec<u8>, n: u32)
     requires room { vec_len out.old + 3 ≤ vec_capacity out.old }
     requires range { n < 256 ^ 3 }
     ensures items { out.new.items ≡ out.old.items ++ bytes_of 3 n }
@@ -40,8 +40,8 @@ pub fn add3(out: &mut Vec<u8>, n: u32)
     out.push_reserved((n % 256) as u8);
 }
 
-/// Adds these bytes.
-pub fn add_bytes(out: &mut Vec<u8>, b: &[u8])
+/// Appends these bytes.
+pub fn append_bytes(out: &mut Vec<u8>, b: &[u8])
     requires { vec_len out.old + length b.now ≤ vec_capacity out.old }
     ensures items { out.new.items ≡ out.old.items ++ b.now }
     ensures len { vec_len out.new ≡ vec_len out.old + length b.now }

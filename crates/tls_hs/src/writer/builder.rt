@@ -21,34 +21,34 @@ use crate::server_hello::{TlsServerHelloContents, TlsServerHelloV13Draft18Conten
 use crate::session::TlsClientKeyExchangeContents;
 use crate::writer::{Writable, writable_of};
 use tls_base::{TlsCipherSuiteID, TlsCompressionID, TlsHandshakeType};
-use tls_fields::writer::builder::{add_bytes, add1, add2, add3, held};
+use tls_fields::writer::builder::{append_bytes, append1, append2, append3, held};
 
-/// Adds bytes after 1 byte of their count.
-fn add_counted1(out: &mut Vec<u8>, b: &[u8])
+/// Appends bytes after 1 byte of their count.
+fn append_counted1(out: &mut Vec<u8>, b: &[u8])
     requires fits { length b.now ≤ 255 }
     requires room { vec_len out.old + 1 + length b.now ≤ vec_capacity out.old }
     ensures items { out.new.items ≡ out.old.items ++ counted_text 1 b.now }
     ensures len { vec_len out.new ≡ vec_len out.old + 1 + length b.now }
     ensures capacity { vec_capacity out.old ≤ vec_capacity out.new }
 {
-    add1(out, b.len() as u8);
-    add_bytes(out, b);
+    append1(out, b.len() as u8);
+    append_bytes(out, b);
 }
 
-/// Adds bytes after 2 bytes of their count.
-fn add_counted2(out: &mut Vec<u8>, b: &[u8])
+/// Appends bytes after 2 bytes of their count.
+fn append_counted2(out: &mut Vec<u8>, b: &[u8])
     requires fits { length b.now ≤ 65535 }
     requires room { vec_len out.old + 2 + length b.now ≤ vec_capacity out.old }
     ensures items { out.new.items ≡ out.old.items ++ counted_text 2 b.now }
     ensures len { vec_len out.new ≡ vec_len out.old + 2 + length b.now }
     ensures capacity { vec_capacity out.old ≤ vec_capacity out.new }
 {
-    add2(out, b.len() as u16);
-    add_bytes(out, b);
+    append2(out, b.len() as u16);
+    append_bytes(out, b);
 }
 
-/// Adds cipher suites, 2 bytes each.
-fn add_each_suite(out: &mut Vec<u8>, suites: &[TlsCipherSuiteID])
+/// Appends cipher suites, 2 bytes each.
+fn append_each_suite(out: &mut Vec<u8>, suites: &[TlsCipherSuiteID])
     requires { vec_len out.old + 2 * length suites.now ≤ vec_capacity out.old }
     ensures items { out.new.items ≡ out.old.items ++ numbers_text 2 (map (λ x. x.0) suites.now) }
     ensures range { All (λ x. x < 256 ^ 2) (map (λ x. x.0) suites.now) }
@@ -56,12 +56,12 @@ fn add_each_suite(out: &mut Vec<u8>, suites: &[TlsCipherSuiteID])
     ensures capacity { vec_capacity out.old ≤ vec_capacity out.new }
 {
     for suite in suites {
-        add2(out, suite.0);
+        append2(out, suite.0);
     }
 }
 
-/// Adds compression methods, 1 byte each.
-fn add_each_method(out: &mut Vec<u8>, methods: &[TlsCompressionID])
+/// Appends compression methods, 1 byte each.
+fn append_each_method(out: &mut Vec<u8>, methods: &[TlsCompressionID])
     requires { vec_len out.old + length methods.now ≤ vec_capacity out.old }
     ensures items { out.new.items ≡ out.old.items ++ numbers_text 1 (map (λ x. x.0) methods.now) }
     ensures range { All (λ x. x < 256 ^ 1) (map (λ x. x.0) methods.now) }
@@ -69,12 +69,12 @@ fn add_each_method(out: &mut Vec<u8>, methods: &[TlsCompressionID])
     ensures capacity { vec_capacity out.old ≤ vec_capacity out.new }
 {
     for method in methods {
-        add1(out, method.0);
+        append1(out, method.0);
     }
 }
 
-/// Adds cipher suites after 2 bytes of their count in bytes.
-fn add_suites(out: &mut Vec<u8>, suites: &[TlsCipherSuiteID])
+/// Appends cipher suites after 2 bytes of their count in bytes.
+fn append_suites(out: &mut Vec<u8>, suites: &[TlsCipherSuiteID])
     requires fits { length suites.now ≤ 32767 }
     requires room { vec_len out.old + 2 + 2 * length suites.now ≤ vec_capacity out.old }
     ensures items { out.new.items ≡ out.old.items ++ counted_text 2 (numbers_text 2 (map (λ x. x.0) suites.now)) }
@@ -82,12 +82,12 @@ fn add_suites(out: &mut Vec<u8>, suites: &[TlsCipherSuiteID])
     ensures len { vec_len out.new ≡ vec_len out.old + 2 + 2 * length suites.now }
     ensures capacity { vec_capacity out.old ≤ vec_capacity out.new }
 {
-    add2(out, (2 * suites.len()) as u16);
-    add_each_suite(out, suites);
+    append2(out, (2 * suites.len()) as u16);
+    append_each_suite(out, suites);
 }
 
-/// Adds compression methods after 1 byte of their count.
-fn add_methods(out: &mut Vec<u8>, methods: &[TlsCompressionID])
+/// Appends compression methods after 1 byte of their count.
+fn append_methods(out: &mut Vec<u8>, methods: &[TlsCompressionID])
     requires fits { length methods.now ≤ 255 }
     requires room { vec_len out.old + 1 + length methods.now ≤ vec_capacity out.old }
     ensures items { out.new.items ≡ out.old.items ++ counted_text 1 (numbers_text 1 (map (λ x. x.0) methods.now)) }
@@ -95,11 +95,11 @@ fn add_methods(out: &mut Vec<u8>, methods: &[TlsCompressionID])
     ensures len { vec_len out.new ≡ vec_len out.old + 1 + length methods.now }
     ensures capacity { vec_capacity out.old ≤ vec_capacity out.new }
 {
-    add1(out, methods.len() as u8);
-    add_each_method(out, methods);
+    append1(out, methods.len() as u8);
+    append_each_method(out, methods);
 }
 
-/// Adds the body of a ClientHello.
+/// Appends the body of a ClientHello.
 #[tactic(auto, using(crate::proofs::LengthLemmas::client_hello_length))]
 fn append_client_hello(out: &mut Vec<u8>, h: &TlsClientHelloContents)
     requires fits { FitsClientHello (view_client_hello h.now) }
@@ -109,15 +109,15 @@ fn append_client_hello(out: &mut Vec<u8>, h: &TlsClientHelloContents)
     ensures len { vec_len out.new ≡ vec_len out.old + length (client_hello_text (view_client_hello h.now)) }
     ensures capacity { vec_capacity out.old ≤ vec_capacity out.new }
 {
-    add2(out, h.version.0);
-    add_bytes(out, h.random);
-    add_counted1(out, held(h.session_id));
-    add_suites(out, &h.ciphers);
-    add_methods(out, &h.comp);
-    add_counted2(out, held(h.ext));
+    append2(out, h.version.0);
+    append_bytes(out, h.random);
+    append_counted1(out, held(h.session_id));
+    append_suites(out, &h.ciphers);
+    append_methods(out, &h.comp);
+    append_counted2(out, held(h.ext));
 }
 
-/// Adds the body of a ServerHello.
+/// Appends the body of a ServerHello.
 #[tactic(auto, using(crate::proofs::LengthLemmas::server_hello_length))]
 fn append_server_hello(out: &mut Vec<u8>, h: &TlsServerHelloContents)
     requires fits { FitsServerHello (view_server_hello h.now) }
@@ -127,15 +127,15 @@ fn append_server_hello(out: &mut Vec<u8>, h: &TlsServerHelloContents)
     ensures len { vec_len out.new ≡ vec_len out.old + length (server_hello_text (view_server_hello h.now)) }
     ensures capacity { vec_capacity out.old ≤ vec_capacity out.new }
 {
-    add2(out, h.version.0);
-    add_bytes(out, h.random);
-    add_counted1(out, held(h.session_id));
-    add2(out, h.cipher.0);
-    add1(out, h.compression.0);
-    add_counted2(out, held(h.ext));
+    append2(out, h.version.0);
+    append_bytes(out, h.random);
+    append_counted1(out, held(h.session_id));
+    append2(out, h.cipher.0);
+    append1(out, h.compression.0);
+    append_counted2(out, held(h.ext));
 }
 
-/// Adds the body of a ServerHello of draft 18 of TLS 1.3.
+/// Appends the body of a ServerHello of draft 18 of TLS 1.3.
 #[tactic(auto, using(crate::proofs::LengthLemmas::server_hello_draft18_length))]
 fn append_server_hello_draft18(out: &mut Vec<u8>, h: &TlsServerHelloV13Draft18Contents)
     requires fits { FitsServerHelloDraft18 (view_server_hello_draft18 h.now) }
@@ -145,13 +145,13 @@ fn append_server_hello_draft18(out: &mut Vec<u8>, h: &TlsServerHelloV13Draft18Co
     ensures len { vec_len out.new ≡ vec_len out.old + length (server_hello_draft18_text (view_server_hello_draft18 h.now)) }
     ensures capacity { vec_capacity out.old ≤ vec_capacity out.new }
 {
-    add2(out, h.version.0);
-    add_bytes(out, h.random);
-    add2(out, h.cipher.0);
-    add_counted2(out, held(h.ext));
+    append2(out, h.version.0);
+    append_bytes(out, h.random);
+    append2(out, h.cipher.0);
+    append_counted2(out, held(h.ext));
 }
 
-/// Adds the body of a ClientKeyExchange.
+/// Appends the body of a ClientKeyExchange.
 fn append_client_key_exchange(out: &mut Vec<u8>, k: &TlsClientKeyExchangeContents)
     requires fits { FitsClientKeyExchange (view_client_key_exchange k.now) }
     requires room { vec_len out.old + length (client_key_exchange_text (view_client_key_exchange k.now)) ≤ vec_capacity out.old }
@@ -160,9 +160,9 @@ fn append_client_key_exchange(out: &mut Vec<u8>, k: &TlsClientKeyExchangeContent
     ensures capacity { vec_capacity out.old ≤ vec_capacity out.new }
 {
     match k {
-        TlsClientKeyExchangeContents::Dh(b) => add_counted2(out, b),
-        TlsClientKeyExchangeContents::Ecdh(p) => add_counted1(out, p.point),
-        TlsClientKeyExchangeContents::Unknown(b) => add_bytes(out, b),
+        TlsClientKeyExchangeContents::Dh(b) => append_counted2(out, b),
+        TlsClientKeyExchangeContents::Ecdh(p) => append_counted1(out, p.point),
+        TlsClientKeyExchangeContents::Unknown(b) => append_bytes(out, b),
     }
 }
 
@@ -181,7 +181,7 @@ impl Writable<'_, '_> {
         }
     }
 
-    /// Adds its body.
+    /// Appends its body.
     fn append_body(&self, out: &mut Vec<u8>)
         requires fits { FitsBody (view_writable self.now) }
         requires room { vec_len out.old + length (body_text (view_writable self.now)) ≤ vec_capacity out.old }
@@ -196,11 +196,11 @@ impl Writable<'_, '_> {
             Writable::ServerHello(h) => append_server_hello(out, h),
             Writable::ServerHelloV13Draft18(h) => append_server_hello_draft18(out, h),
             Writable::ClientKeyExchange(k) => append_client_key_exchange(out, k),
-            Writable::Finished(b) => add_bytes(out, b),
+            Writable::Finished(b) => append_bytes(out, b),
         }
     }
 
-    /// Adds the message, with its type and the length of its body in front, which is `n`.
+    /// Appends the message, with its type and the length of its body in front, which is `n`.
     pub(crate) fn append(&self, out: &mut Vec<u8>, n: usize)
         requires fits { FitsHandshake (view_writable self.now) }
         requires count { n ≡ length (body_text (view_writable self.now)) }
@@ -210,13 +210,13 @@ impl Writable<'_, '_> {
         ensures len { vec_len out.new ≡ vec_len out.old + 4 + n }
         ensures capacity { vec_capacity out.old ≤ vec_capacity out.new }
     {
-        add1(out, self.msg_type().0);
-        add3(out, n as u32);
+        append1(out, self.msg_type().0);
+        append3(out, n as u32);
         self.append_body(out);
     }
 }
 
-/// Adds a handshake message that fits to a vector that has room for it.
+/// Appends a handshake message that fits to a vector that has room for it.
 pub fn append_handshake(out: &mut Vec<u8>, m: &TlsMessageHandshake)
     requires fits { FitsHandshake (view_handshake m.now) }
     requires room { vec_len out.old + length (handshake_text (view_handshake m.now)) ≤ vec_capacity out.old }

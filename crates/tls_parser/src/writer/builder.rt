@@ -4,11 +4,11 @@ ghost use Rattle.std.specs.List.{All};
 ghost use Rattle.tls_hs.specs.Message.{view_message};
 ghost use Rattle.tls_parser.specs.RecordText.{message_text, FitsMessage, InRangeMessage, fragment_text};
 
-use tls_fields::writer::builder::add1;
+use tls_fields::writer::builder::append1;
 use tls_hs::TlsMessage;
 use tls_hs::writer::builder::append_handshake;
 
-/// Adds a message.
+/// Appends a message.
 pub(crate) fn append_message(out: &mut Vec<u8>, m: &TlsMessage)
     requires fits { FitsMessage (view_message m.now) }
     requires room { vec_len out.old + length (message_text (view_message m.now)) ≤ vec_capacity out.old }
@@ -19,12 +19,12 @@ pub(crate) fn append_message(out: &mut Vec<u8>, m: &TlsMessage)
 {
     match m {
         TlsMessage::Handshake(h) => append_handshake(out, h),
-        TlsMessage::ChangeCipherSpec => add1(out, 1),
+        TlsMessage::ChangeCipherSpec => append1(out, 1),
         TlsMessage::Alert(_) | TlsMessage::ApplicationData(_) | TlsMessage::Heartbeat(_) => {}
     }
 }
 
-/// Adds messages, one after the other.
+/// Appends messages, one after the other.
 pub(crate) fn append_messages(out: &mut Vec<u8>, messages: &[TlsMessage])
     requires fits { All FitsMessage (map view_message messages.now) }
     requires room { vec_len out.old + length (fragment_text (map view_message messages.now)) ≤ vec_capacity out.old }

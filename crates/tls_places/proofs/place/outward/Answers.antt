@@ -1,5 +1,6 @@
 use Rattle.std.proofs.Common.{◌≡◌, ◌∙◌, ap, Ok, Some}
-use Rattle.tls_places.proofs.OutwardLemmas.{Found, some_told, some_within}
+use Rattle.tls_places.specs.Place.{Found}
+use Rattle.tls_places.proofs.OutwardLemmas.{some_told, some_within}
 use Rattle.tls_places.proofs.place.outward.Goals as goal
 
 found_is : (c : goal.After-place_within) → ◌≡◌ {A = Found} c.args.found (Ok (Some c.in-Some.inner))

@@ -2,7 +2,7 @@ use Rattle.std.proofs.Common.{◌≡◌, ◌≤◌, ◌+◌, ◌^◌, ◌<◌, �
 use Rattle.std.specs.List.{All, flat_map}
 use Rattle.tls_ext.specs.Extension.{view_server_name}
 use Rattle.tls_ext.specs.ExtensionText.{server_name_text}
-use Rattle.tls_ext.proofs.writer.builder.add_names.Given as goal
+use Rattle.tls_ext.proofs.writer.builder.append_names.Given as goal
 
 abbrev pub invariant-loop-name_type : goal.invariant-loop-name_type
 invariant-loop-name_type l = record {

@@ -2,7 +2,7 @@ use Rattle.std.proofs.Common.{◌≡◌, ◌≤◌, ◌+◌, ◌++◌, length, m
 use Rattle.std.specs.List.{All, flat_map}
 use Rattle.tls_ext.specs.Extension.{view}
 use Rattle.tls_ext.specs.ExtensionText.{extension_text, InRangeExtension}
-use Rattle.tls_ext.proofs.writer.builder.add_extensions.Given as goal
+use Rattle.tls_ext.proofs.writer.builder.append_extensions.Given as goal
 
 abbrev pub invariant-loop-extension : goal.invariant-loop-extension
 invariant-loop-extension l = record {

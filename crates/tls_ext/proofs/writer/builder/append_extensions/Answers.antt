@@ -25,8 +25,8 @@ use Rattle.tls_ext.specs.Extension.{view}
 use Rattle.tls_ext.specs.declared.extension.TlsExtension.{TlsExtension}
 use Rattle.tls_ext.specs.ExtensionText.{extension_text, FitsExtension, RefusedExtension, InRangeExtension}
 use Rattle.tls_fields.proofs.WriterLemmas.{fits_at, fits_behind, texts_taken, room_for}
-use Rattle.tls_ext.proofs.writer.builder.add_extensions.Goals as goal
-use Rattle.tls_ext.proofs.writer.builder.add_extensions.Goals.{in-Ok, in_default}
+use Rattle.tls_ext.proofs.writer.builder.append_extensions.Goals as goal
+use Rattle.tls_ext.proofs.writer.builder.append_extensions.Goals.{in-Ok, in_default}
 
 -- what fits has a length
 never : (r : Result ℕ GenError) (x : TlsExtension) → Judges (FitsExtension (view x)) (RefusedExtension (view x))
@@ -34,8 +34,8 @@ never : (r : Result ℕ GenError) (x : TlsExtension) → Judges (FitsExtension (
 never (Ok n) x j fits other = other n refl
 never (Err e) x j fits other = j.1 fits
 
-pub add_extension-requires-clause-room : goal.add_extension-requires-clause-room
-add_extension-requires-clause-room c = omega (
+pub append_extension-requires-clause-room : goal.append_extension-requires-clause-room
+append_extension-requires-clause-room c = omega (
   arith,
   room_for extension_text view c.args.extensions.now
       c.loop-extension.extension-index c.extension-item.result c.loop-extension-test.true c.extension-item.is,
@@ -53,17 +53,17 @@ loop-extension-preserved c =
       | in-Ok w ↦ record {
         items =
             ap (λ v. v.items) w.out-is
-            ∙ w.add_extension.ensures.items
+            ∙ w.append_extension.ensures.items
             ∙ ap (λ t. t ++ extension_text (view x)) c.loop-extension.invariant.items
             ∙ append_assoc c.args.out.now.items (flat_map extension_text (map view (take i es)))
             (extension_text (view x))
             ∙ ap (λ t. c.args.out.now.items ++ t) (sym more);
         range = fits_behind InRangeExtension view es i x h c.extension-item.is c.loop-extension.invariant.range
-            w.add_extension.ensures.range;
+            w.append_extension.ensures.range;
         count = omega (
           arith,
           ap (λ v. vec_len v) w.out-is,
-          w.add_extension.ensures.len,
+          w.append_extension.ensures.len,
           w.in-Ok.ensures.1,
           c.loop-extension.invariant.count,
           ap length more,
@@ -72,7 +72,7 @@ loop-extension-preserved c =
         room = omega (
           arith,
           ap (λ v. vec_capacity v) w.out-is,
-          w.add_extension.ensures.capacity,
+          w.append_extension.ensures.capacity,
           c.loop-extension.invariant.room,
         );
       }

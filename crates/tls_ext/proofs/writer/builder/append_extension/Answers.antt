@@ -5,7 +5,7 @@ use Rattle.tls_fields.proofs.TextLemmas.{length-numbers}
 use Rattle.tls_ext.specs.Extension.{view, supported_groups}
 use Rattle.tls_ext.specs.ExtensionText.{extension_text}
 use Rattle.tls_ext.proofs.ExtensionTextLemmas.{length-counted, length-extension}
-use Rattle.tls_ext.proofs.writer.builder.add_extension.Goals as goal
+use Rattle.tls_ext.proofs.writer.builder.append_extension.Goals as goal
 
 length-groups : (xs : List ℕ) → length (extension_text (supported_groups xs)) ≡ 6 + 2 * length xs
 length-groups xs = omega (
@@ -15,8 +15,8 @@ length-groups xs = omega (
   length-numbers 2 xs,
 )
 
-pub add_groups-requires : goal.add_groups-requires
-add_groups-requires c =
+pub append_groups-requires : goal.append_groups-requires
+append_groups-requires c =
     let groups = c.in-EllipticCurves.groups.items in
     let size = length-groups (map (λ g. g.0) groups) in
     let count : length (map (λ g. g.0) groups) ≡ length groups = length-map _ _ in
@@ -33,12 +33,12 @@ add_groups-requires c =
       size,
       count,
       same,
-      c.add2.ensures.len,
-      c.add2.ensures.capacity,
-      c.add2-2.ensures.len,
-      c.add2-2.ensures.capacity,
-      c.add2-in-EllipticCurves.ensures.len,
-      c.add2-in-EllipticCurves.ensures.capacity,
+      c.append2.ensures.len,
+      c.append2.ensures.capacity,
+      c.append2-2.ensures.len,
+      c.append2-2.ensures.capacity,
+      c.append2-in-EllipticCurves.ensures.len,
+      c.append2-in-EllipticCurves.ensures.capacity,
     )
 
 pub overflow_cast-len-in-EllipticCurves : goal.overflow_cast-len-in-EllipticCurves

@@ -27,7 +27,7 @@ use Rattle.tls_ext.specs.Extension.{view_server_name}
 use Rattle.tls_ext.specs.ExtensionText.{server_name_text}
 use Rattle.tls_fields.proofs.WriterLemmas.{texts_more, texts_at, room_at}
 use Rattle.tls_ext.proofs.ExtensionTextLemmas.{length-name}
-use Rattle.tls_ext.proofs.writer.builder.add_names.Goals as goal
+use Rattle.tls_ext.proofs.writer.builder.append_names.Goals as goal
 
 abbrev nameless : SNIType × Bor (List ℕ)
 nameless = (record { 0 = 0 }, record { ref_ptr = (0, 0); now = [] })
@@ -42,17 +42,17 @@ room names i h = omega (
   length-name (view_server_name (get_or names i nameless)),
 )
 
-pub add1-requires : goal.add1-requires
-add1-requires c = omega (arith, room c.args.names.now c.loop-name_type.name_type-index c.loop-name_type-test.true)
+pub append1-requires : goal.append1-requires
+append1-requires c = omega (arith, room c.args.names.now c.loop-name_type.name_type-index c.loop-name_type-test.true)
 
 pub overflow_cast-name : goal.overflow_cast-name
 overflow_cast-name c = omega (arith, room c.args.names.now c.loop-name_type.name_type-index c.loop-name_type-test.true)
 
-pub add2-requires : goal.add2-requires
-add2-requires c = omega (arith, room c.args.names.now c.loop-name_type.name_type-index c.loop-name_type-test.true)
+pub append2-requires : goal.append2-requires
+append2-requires c = omega (arith, room c.args.names.now c.loop-name_type.name_type-index c.loop-name_type-test.true)
 
-pub add_bytes-requires : goal.add_bytes-requires
-add_bytes-requires c = omega (arith, room c.args.names.now c.loop-name_type.name_type-index c.loop-name_type-test.true)
+pub append_bytes-requires : goal.append_bytes-requires
+append_bytes-requires c = omega (arith, room c.args.names.now c.loop-name_type.name_type-index c.loop-name_type-test.true)
 
 -- a name, field by field, behind others
 joined : (a b c d e t u n : Bytes) → b ≡ a ++ t → c ≡ b ++ u → d ≡ c ++ n → e ≡ a ++ (t ++ (u ++ n)) → d ≡ e
@@ -67,20 +67,20 @@ loop-name_type-preserved c =
     let name = get_or names i nameless in
     let more = texts_more server_name_text view_server_name names i nameless h in
     record {
-      items = joined c.loop-name_type.out.items c.add1.new.out.items c.add2.new.out.items c.add_bytes.new.out.items _
+      items = joined c.loop-name_type.out.items c.append1.new.out.items c.append2.new.out.items c.append_bytes.new.out.items _
           (bytes_of 1 name.0.0) (bytes_of 2 (length name.1.now)) name.1.now
-          c.add1.ensures.items c.add2.ensures.items c.add_bytes.ensures.items
+          c.append1.ensures.items c.append2.ensures.items c.append_bytes.ensures.items
           (ap (λ t. c.args.out.now.items ++ t) more ∙ sym (append_assoc c.args.out.now.items _ _)
           ∙ ap (λ t. t ++ server_name_text (view_server_name name)) (sym c.loop-name_type.invariant.items));
       range = all_behind (λ n. n.name_type < 256 ^ 1) view_server_name names i nameless h
-          c.loop-name_type.invariant.range c.add1.ensures.range;
+          c.loop-name_type.invariant.range c.append1.ensures.range;
       count = omega (
         arith,
-        c.add1.ensures.len,
-        c.add2.ensures.len,
-        c.add_bytes.ensures.len,
+        c.append1.ensures.len,
+        c.append2.ensures.len,
+        c.append_bytes.ensures.len,
         texts_at server_name_text view_server_name names i nameless h,
         length-name (view_server_name name),
       );
-      room = omega (arith, c.add1.ensures.capacity, c.add2.ensures.capacity, c.add_bytes.ensures.capacity);
+      room = omega (arith, c.append1.ensures.capacity, c.append2.ensures.capacity, c.append_bytes.ensures.capacity);
     }
