@@ -9,6 +9,7 @@ use Rattle.capture.specs.Pcap as pcap
 use Rattle.capture.specs.Pcapng.{Block, SECTION, next_block}
 use Rattle.packets.specs.Section.{Packet, Section, Heard, view_packet, view_section, beginning, hear}
 use Rattle.packets.specs.declared.reader.Form as stored
+use Rattle.packets.specs.declared.reader.Packet as lent
 use Rattle.packets.specs.declared.reader.Form.TheVariants as form
 use Rattle.packets.specs.declared.reader.Step as rust
 use Rattle.packets.specs.declared.reader.Step.TheVariants as step
@@ -98,6 +99,10 @@ abbrev pub Answers : {X Y S : Type 0} → (X → Y) → Result (Y × S) CaptureE
 Answers view said old (Ok x) new = said ≡ Ok (view x, new)
 Answers view said old (Err error.OutOfMemory) new = new ≡ old
 Answers view said old (Err e) new = (said ≡ Err e) × (new ≡ old)
+
+-- So does a call that answers a packet of a section.
+abbrev pub AnswersPacket : Heard → Section → Result lent.Packet CaptureError → Section → Type 0
+AnswersPacket said old r new = Answers (λ p. Some (view_packet p)) said old r new
 
 -- The form that begins there, and what follows; none where bytes are missing.
 abbrev pub IsForm : Said → Result (Option (stored.Form × Bor (List ℕ))) CaptureError → Type 0

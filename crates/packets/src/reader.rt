@@ -2,7 +2,7 @@
 ghost use Rattle.std.specs.Prelude.{◌≡◌, ◌↔◌, ◌≢◌, true, Option, Some, None, Result, Ok, Err};
 ghost use Rattle.tls_fields.specs.Layout.{number};
 ghost use Rattle.tls_fields.specs.Reading.{reading};
-ghost use Rattle.capture.specs.Pcap.{packet as packet_layout, view_format};
+ghost use Rattle.capture.specs.Pcap.{view_format};
 ghost use Rattle.capture.specs.Pcapng.{next_block};
 ghost use Rattle.packets.specs.Section.{view_section};
 ghost use Rattle.packets.specs.Front.{
@@ -15,7 +15,6 @@ ghost use Rattle.packets.specs.Front.{
   block_front,
   form_front,
   front,
-  pcap_front,
   view_form,
   view_step,
 };
@@ -117,7 +116,7 @@ fn form_of(alloc: Global, i: &[u8]) -> Result<Option<(Form, &[u8])>, CaptureErro
 /// The packet of a pcap file in front.
 fn pcap_step(i: &[u8], format: Format, link_type: u16) -> Result<Step<'_>, CaptureError>
     ensures { let s = Pcap (view_format format) link_type in
-        Answers view_step (pcap_front (view_format format) link_type (reading (packet_layout (view_format format)) i.now)) s result s }
+        Answers view_step (front s i.now) s result s }
 {
     match parse_pcap_packet(i, format) {
         Ok((rest, packet)) => Ok(Step::Packet(

@@ -10,7 +10,7 @@ ghost use Rattle.capture.specs.Pcapng.{
   view_interface,
   view_packet as view_block_packet,
 };
-ghost use Rattle.packets.specs.Front.{Answers};
+ghost use Rattle.packets.specs.Front.{Answers, AnswersPacket};
 ghost use Rattle.packets.specs.Section.{
   beginning,
   begun,
@@ -78,9 +78,8 @@ impl Section {
 
     /// Keeps the interface that a block describes.
     fn describe(&mut self, block: Block<'_>) -> Result<(), CaptureError>
-        ensures { Answers (λ _. None)
-            (described (view_section self.old) (reading (interface_layout block.entry.order) block.entry.body.now))
-            (view_section self.old) result (view_section self.new) }
+        ensures { let s = view_section self.old in
+            Answers (λ _. None) (described s (reading (interface_layout block.entry.order) block.entry.body.now)) s result (view_section self.new) }
     {
         let Ok((_, interface)) = parse_interface(block.body, block.order) else {
             return Err(CaptureError::Broken);
@@ -93,9 +92,9 @@ impl Section {
 
     /// The packet, whose time is in units of the interface that it names.
     fn timed<'a>(&mut self, packet: BlockPacket<'a>) -> Result<Packet<'a>, CaptureError>
-        ensures { Answers (λ p. Some (view_packet p))
-            (let s = view_section self.old in timed_of s (view_block_packet packet.entry) (slice_get s.interfaces packet.entry.interface))
-            (view_section self.old) result (view_section self.new) }
+        ensures { let s = view_section self.old in
+            let said = timed_of s (view_block_packet packet.entry) (slice_get s.interfaces packet.entry.interface) in
+            AnswersPacket said s result (view_section self.new) }
     {
         let Some(interface) = self.interfaces.get(packet.interface as usize).copied() else {
             return Err(CaptureError::Broken);
@@ -109,9 +108,8 @@ impl Section {
 
     /// The packet of an Enhanced Packet Block.
     fn enhanced<'a>(&mut self, block: Block<'a>) -> Result<Packet<'a>, CaptureError>
-        ensures { Answers (λ p. Some (view_packet p))
-            (timed (view_section self.old) (reading (enhanced_packet block.entry.order) block.entry.body.now))
-            (view_section self.old) result (view_section self.new) }
+        ensures { let s = view_section self.old in
+            AnswersPacket (timed s (reading (enhanced_packet block.entry.order) block.entry.body.now)) s result (view_section self.new) }
     {
         match parse_enhanced_packet(block.body, block.order) {
             Ok((_, packet)) => self.timed(packet),
@@ -121,9 +119,8 @@ impl Section {
 
     /// The packet of a Packet Block.
     fn obsolete<'a>(&mut self, block: Block<'a>) -> Result<Packet<'a>, CaptureError>
-        ensures { Answers (λ p. Some (view_packet p))
-            (timed (view_section self.old) (reading (obsolete_packet block.entry.order) block.entry.body.now))
-            (view_section self.old) result (view_section self.new) }
+        ensures { let s = view_section self.old in
+            AnswersPacket (timed s (reading (obsolete_packet block.entry.order) block.entry.body.now)) s result (view_section self.new) }
     {
         match parse_obsolete_packet(block.body, block.order) {
             Ok((_, packet)) => self.timed(packet),
@@ -134,7 +131,7 @@ impl Section {
     /// The packet of a Simple Packet Block, which has the time of the packet before it.
     fn simple<'a>(&self, block: Block<'a>) -> Result<Packet<'a>, CaptureError>
         ensures { let s = view_section self.now in
-            Answers (λ p. Some (view_packet p)) (simple s block.entry.order block.entry.body.now (slice_get s.interfaces 0)) s result s }
+            AnswersPacket (simple s block.entry.order block.entry.body.now (slice_get s.interfaces 0)) s result s }
     {
         let Some(interface) = self.interfaces.first().copied() else {
             return Err(CaptureError::Broken);

@@ -1,5 +1,6 @@
 -- What a hello says that a fingerprint is made of.
 use Rattle.std.specs.Prelude.{ℕ, List, [], Option, Some, None, Result, Ok, Err}
+use Rattle.std.specs.List.Sorted.{IsPermutation}
 use Rattle.std.specs.Option.{option_map}
 use Rattle.tls_fields.specs.Bytes.{Bytes}
 use Rattle.tls_fields.specs.Layout.{number}
@@ -45,6 +46,10 @@ view_server h = record {
 -- The types of extensions, in their order, up to the first that isn't whole.
 abbrev pub types_in : Bytes → List ℕ
 types_in b = items_in extension_type b
+
+-- They send extensions of the same types, in any order.
+abbrev pub SendSameTypes : Client → Client → Type 0
+SendSameTypes g h = IsPermutation (types_in g.extensions) (types_in h.extensions)
 
 -- What is told, and nothing where it is refused.
 abbrev pub known : {A : Type 0} → Result (Option A) Refusal → Option A

@@ -1,7 +1,7 @@
 //! What stands of the definitions alone. Each function's contract is one law; its body is empty.
 ghost use Rattle.std.specs.Prelude.{◌≡◌, ℕ, List};
 ghost use Rattle.std.specs.List.Sorted.{IsNonDecreasing, IsPermutation};
-ghost use Rattle.tls_fingerprints.specs.Hellos.{Client, algorithms_in, types_in};
+ghost use Rattle.tls_fingerprints.specs.Hellos.{Client, SendSameTypes, algorithms_in};
 ghost use Rattle.tls_fingerprints.specs.Numbers.{rising};
 ghost use Rattle.tls_fingerprints.specs.Ja4.{ja4_suites_of, ja4_types_of};
 
@@ -17,6 +17,5 @@ pub fn ja4_suites_in_any_order()
 
 /// Clients that send the same types of extensions, in any order, and the same signature algorithms in one order, have the same third part.
 pub fn ja4_types_in_any_order()
-    ensures { (g h : Client) → IsPermutation (types_in g.extensions) (types_in h.extensions)
-        → algorithms_in g.extensions ≡ algorithms_in h.extensions → ja4_types_of g ≡ ja4_types_of h }
+    ensures { (g h : Client) → SendSameTypes g h → algorithms_in g.extensions ≡ algorithms_in h.extensions → ja4_types_of g ≡ ja4_types_of h }
 {}

@@ -9,10 +9,12 @@ use Rattle.tls_fields.specs.Items.{items_in, refusal_in, decode_while, value_of}
 use Rattle.tls_fields.specs.Text.{held}
 use Rattle.tls_hs.specs.Hello.{ClientHello, client_hello}
 use Rattle.tls_hs.specs.InPlace.{raw_handshake}
-use Rattle.tls_hs.specs.Messages.{message_of, raw_messages}
+use Rattle.tls_hs.specs.Message.{Message}
+use Rattle.tls_hs.specs.Messages.{message_of, messages_of_type, raw_messages}
 use Rattle.tls_ext.specs.InPlace.{first_of, found, host_name}
 use Rattle.tls_parser.specs.Record.{RecordHeader, RawRecord, Plaintext, raw_record, record_content, view_header}
 use Rattle.tls_parser.specs.declared.plaintext_view.PlaintextView.{PlaintextView}
+use Rattle.tls_parser.specs.declared.record.TlsRecordHeader.{TlsRecordHeader}
 
 -- A record in place says the messages that it decodes to, up to the first that is refused.
 abbrev pub view_plaintext_in_place : PlaintextView → Plaintext
@@ -20,6 +22,10 @@ view_plaintext_in_place p = record {
   header = view_header p.hdr;
   messages = decode_while message_of (raw_messages p.msg);
 }
+
+-- Those of a fragment with that header in front.
+abbrev pub messages_of_fragment : TlsRecordHeader → Bytes → List Message
+messages_of_fragment h b = decode_while message_of (messages_of_type h.record_type.0 h.len b)
 
 -- Whether an item is read, with no further bytes to come.
 abbrev pub judged : {A : Type 0} → Answer A → Result Unit Refusal

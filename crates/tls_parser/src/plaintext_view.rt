@@ -7,8 +7,8 @@ ghost use Rattle.tls_fields.specs.Answers.{Gives, IsRefusal, refusal_of};
 ghost use Rattle.tls_fields.specs.Items.{Tells, decode_while, value_of};
 ghost use Rattle.tls_fields.specs.Reading.{reading};
 ghost use Rattle.tls_hs.specs.Message.{heartbeat as heartbeat_layout};
-ghost use Rattle.tls_hs.specs.Messages.{message_of, messages_of_type, raw_messages};
-ghost use Rattle.tls_parser.specs.InPlace.{as_complete, body_of_type, first_judged as first_judged_of, host_name_of_record, view_plaintext_in_place};
+ghost use Rattle.tls_hs.specs.Messages.{message_of, raw_messages};
+ghost use Rattle.tls_parser.specs.InPlace.{as_complete, body_of_type, first_judged as first_judged_of, host_name_of_record, messages_of_fragment, view_plaintext_in_place};
 ghost use Rattle.tls_parser.specs.Record.{plaintext, record_content, view_header};
 
 use crate::record::{TlsRawRecord, TlsRecordHeader, parse_tls_raw_record};
@@ -70,8 +70,7 @@ fn heartbeat_judged(i: &[u8], len: u16) -> Result<(), Err<Error<&[u8]>>>
 /// Judges the fragment `i` of a record with the header `hdr` as [`crate::parse_tls_record_with_header`] does: by its first message.
 #[tactic(auto, using(crate::proofs::InPlaceLemmas::judges_change_cipher_specs, crate::proofs::InPlaceLemmas::judges_alerts, crate::proofs::InPlaceLemmas::judges_handshakes, crate::proofs::InPlaceLemmas::all_data, crate::proofs::InPlaceLemmas::judges_heartbeat), unfolding(crate::specs::Record::record_content))]
 fn fragment_judged<'a>(i: &'a [u8], hdr: &TlsRecordHeader) -> Result<(), Err<Error<&'a [u8]>>>
-    ensures { Tells (λ u. decode_while message_of (messages_of_type hdr.now.record_type.0 hdr.now.len i.now))
-        (value_of (reading (record_content (view_header hdr.now)) i.now)) result }
+    ensures { Tells (λ u. messages_of_fragment hdr.now i.now) (value_of (reading (record_content (view_header hdr.now)) i.now)) result }
 {
     match hdr.record_type {
         TlsRecordType::ChangeCipherSpec => first_judged::<ChangeCipherSpec>(i),

@@ -16,6 +16,10 @@ use Rattle.tls_uses.specs.declared.proxy.Passed.TheVariants.{AsItCame, Changed, 
 abbrev pub alone : ClientHello → List Message
 alone hello = Handshake (handshakes.ClientHello hello) ∷ []
 
+-- They are anything else than one ClientHello.
+abbrev pub AreAnythingElse : List Message → Type 0
+AreAnythingElse messages = (hello : ClientHello) → messages ≡ alone hello → ⊥
+
 -- In front of b stands a record of type handshake, whose fragment holds this ClientHello and nothing else; behind it stands
 -- the rest.
 pub record HoldsHello (b : Bytes) (header : RecordHeader) (hello : ClientHello) (rest : Bytes) : Type 0 where

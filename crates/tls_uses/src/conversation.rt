@@ -3,7 +3,7 @@ ghost use Rattle.std.specs.Prelude.{◌≡◌, IfOk};
 ghost use Rattle.tls_stream.specs.Frames.{elements};
 ghost use Rattle.tls_events.specs.Events.{fed};
 ghost use Rattle.tls_events.specs.Taken.{AreTaken};
-ghost use Rattle.tls_uses.specs.Conversation.{by_client, by_server, messages_in, of_client, of_server};
+ghost use Rattle.tls_uses.specs.Conversation.{AreMessagesOf, of_client, of_server};
 
 use std::alloc::Global;
 use tls_events::{Direction, take_messages};
@@ -67,9 +67,7 @@ fn add_messages(
 ///
 /// `OutOfMemory` where a piece, a message or a list could not be held.
 pub fn conversation_messages(alloc: Global, pieces: &[Piece]) -> Result<Messages, OutOfMemory>
-    ensures { IfOk result (λ messages.
-        (elements messages.client.items ≡ messages_in (by_client pieces.now))
-        × (elements messages.server.items ≡ messages_in (by_server pieces.now))) }
+    ensures { IfOk result (AreMessagesOf pieces.now) }
 {
     let mut client = Direction::new(alloc);
     let mut server = Direction::new(alloc);

@@ -2,9 +2,9 @@
 ghost use Rattle.std.specs.Prelude.{◌≡◌, ◌↔◌, ◌≤◌, ◌+◌, length, IsTrue, MatchOption, map};
 ghost use Rattle.tls_parser.specs.Bytes.{AreBytes};
 ghost use Rattle.tls_parser.specs.Framing.{max_fragment_length};
-ghost use Rattle.tls_parser.specs.Hello.{ClientHello as Hello, view_client_hello};
+ghost use Rattle.tls_parser.specs.Hello.{view_client_hello};
 ghost use Rattle.tls_parser.specs.Message.{view_message};
-ghost use Rattle.tls_uses.specs.Proxy.{alone, PassesOn};
+ghost use Rattle.tls_uses.specs.Proxy.{AreAnythingElse, alone, PassesOn};
 
 use std::alloc::Global;
 use tls_parser::{
@@ -34,9 +34,8 @@ fn fits_record(bytes: &[u8]) -> bool
 
 /// The ClientHello, where it is the only message.
 fn hello_alone<'a>(mut messages: Vec<TlsMessage<'a>>) -> Option<TlsClientHelloContents<'a>>
-    ensures { MatchOption result
-        ((h : Hello) → map view_message messages.entry.items ≡ alone h → ⊥)
-        (λ h. map view_message messages.entry.items ≡ alone (view_client_hello h)) }
+    ensures { let found = map view_message messages.entry.items in
+        MatchOption result (AreAnythingElse found) (λ h. found ≡ alone (view_client_hello h)) }
 {
     let message = messages.pop()?;
     if !messages.is_empty() {

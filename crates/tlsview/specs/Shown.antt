@@ -1,12 +1,16 @@
 -- What was printed and followed by a step of the run.
-use Rattle.std.specs.Prelude.{◌≡◌, ◌++◌, ◌||◌, ℕ, Bool, List, Option, Some, None, option_map, Result, Ok, Err}
+use Rattle.std.specs.Prelude.{◌≡◌, ◌≢◌, ◌++◌, ◌||◌, ℕ, Bool, List, Option, Some, None, option_map, Result, Ok, Err}
 use Rattle.tls_fields.specs.Meaning.{Answer, Refusal, Broken, Lacks}
-use Rattle.tls_parser.specs.Record.{RawRecord}
+use Rattle.tls_fields.specs.Reading.{reading}
+use Rattle.tls_parser.specs.Record.{RawRecord, raw_record}
 use Rattle.tls_states.specs.declared.state.TlsState.{TlsState}
 use Rattle.tlsview.specs.Fault.{Fault, Refused, view_fault}
-use Rattle.tlsview.specs.Out.{Content, Half, content_of, content_text, state_behind, cipher_behind, half_part, line_part}
+use Rattle.tlsview.specs.Out.{Content, Half, content_of, content_text, state_behind, cipher_behind, end_of, half_part, line_part}
+use Rattle.tlsview.specs.Exit.{status_of}
 use Rattle.tlsview.specs.declared.conversation.Conversation.{Conversation}
 use Rattle.tlsview.specs.declared.direction.Direction.{Direction}
+use Rattle.tlsview.specs.declared.exit.Exit.{Exit}
+use Rattle.tlsview.specs.declared.exit.Exit.TheVariants.{Failed}
 use Rattle.tlsview.specs.declared.fault.Fault as rust_fault
 use Rattle.tlsview.specs.declared.records.Next as rust
 use Rattle.tlsview.specs.declared.records.Next.TheVariants as next
@@ -29,6 +33,10 @@ IsShown d text state text' state' enc (Err e) (next.Fault fault) =
     (text' ≡ text) × (state' ≡ state) × (view_fault fault ≡ Refused e)
 IsShown d text state text' state' enc c n = ⊥
 
+-- that was done with this record
+abbrev pub IsRecordShown : Direction → List ℕ → TlsState → List ℕ → TlsState → Bool → RawRecord → rust.Next → Type 0
+IsRecordShown d text state text' state' enc raw n = IsShown d text state text' state' enc (content_of enc raw) n
+
 -- so was the record that stands next; where bytes of it are missing nothing was done
 abbrev pub IsNext : Direction → List ℕ → TlsState → List ℕ → TlsState → Bool → Answer RawRecord → rust.Next → Type 0
 IsNext d text state text' state' enc (Ok x) n = IsShown d text state text' state' enc (content_of enc x.0) n
@@ -36,6 +44,10 @@ IsNext d text state text' state' enc (Err (Lacks missing)) next.Nothing = (text'
 IsNext d text state text' state' enc (Err (Broken kind)) (next.Fault fault) =
     (text' ≡ text) × (state' ≡ state) × (view_fault fault ≡ Refused (Broken kind))
 IsNext d text state text' state' enc a n = ⊥
+
+-- that was done with the record in front of the stream
+abbrev pub IsNextShown : Direction → List ℕ → TlsState → List ℕ → TlsState → Bool → List ℕ → rust.Next → Type 0
+IsNextShown d text state text' state' enc stream n = IsNext d text state text' state' enc (reading raw_record stream) n
 
 -- the records of a direction were printed, and the fault is answered that ends them, or what is known behind them
 abbrev pub AreShown : Direction → List ℕ → Half → List ℕ → Half → Option rust_fault.Fault → Type 0
@@ -46,3 +58,7 @@ AreShown d text h text' h' fault =
 abbrev pub IsLineShown : List ℕ → List ℕ → Conversation → List ℕ → Conversation → Option rust_fault.Fault → Type 0
 IsLineShown line text c text' c' fault =
     (text' ≡ text ++ (line_part c line).0) × ((line_part c line).1 ≡ or_end (option_map view_fault fault) c')
+
+-- so was the end of the conversation, and the run doesn't fail
+abbrev pub IsEndShown : List ℕ → List ℕ → Conversation → Exit → Type 0
+IsEndShown text text' c exit = (exit ≢ Failed) × (text' ≡ text ++ (end_of c).0) × (status_of exit ≡ (end_of c).1)

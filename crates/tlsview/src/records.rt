@@ -2,14 +2,13 @@
 ghost use Rattle.std.specs.Prelude.{◌≡◌, ◌∷◌, ◌++◌, Ok, codes, flat_map, map, IfOk, OnOk};
 ghost use Rattle.std.specs.List.{list_any};
 ghost use Rattle.std.specs.String.{string_bytes};
-ghost use Rattle.tls_fields.specs.Reading.{reading};
 ghost use Rattle.tls_hs.specs.Message.{view_message};
-ghost use Rattle.tls_parser.specs.Record.{view_raw_record, raw_record};
+ghost use Rattle.tls_parser.specs.Record.{view_raw_record};
 ghost use Rattle.tls_states.specs.Letters as letters;
 ghost use Rattle.tls_states.specs.Steps.{run};
 ghost use Rattle.tlsview.specs.Direction.{sign_of};
-ghost use Rattle.tlsview.specs.Shown.{AreShown, IsShown, IsNext};
-ghost use Rattle.tlsview.specs.Out.{content_of, message_line, fed, half};
+ghost use Rattle.tlsview.specs.Shown.{AreShown, IsNextShown, IsRecordShown};
+ghost use Rattle.tlsview.specs.Out.{message_line, fed, half};
 ghost use Rattle.tlsview.specs.Transition.{changes_cipher};
 
 use crate::conversation::Side;
@@ -93,8 +92,8 @@ fn show_record(
     context: &mut ParseContext,
     raw: &TlsRawRecord,
 ) -> Result<Next, AllocError>
-    ensures { IfOk result (IsShown direction (string_bytes text.old) context.old (string_bytes text.new) context.new
-        is_encrypted (content_of is_encrypted (view_raw_record raw.now))) }
+    ensures { IfOk result (IsRecordShown direction (string_bytes text.old) context.old (string_bytes text.new) context.new
+        is_encrypted (view_raw_record raw.now)) }
 {
     if is_encrypted {
         add_line(text, direction, "Encrypted")?;
@@ -119,8 +118,8 @@ fn show_next(
     side: &Side,
     context: &mut ParseContext,
 ) -> Result<Next, AllocError>
-    ensures { IfOk result (IsNext direction (string_bytes text.old) context.old (string_bytes text.new) context.new
-        side.now.is_encrypted (reading raw_record side.now.stream)) }
+    ensures { IfOk result (IsNextShown direction (string_bytes text.old) context.old (string_bytes text.new) context.new
+        side.now.is_encrypted side.now.stream) }
 {
     match side.stream.front() {
         Ok((_, raw)) => show_record(alloc, text, direction, side.is_encrypted, context, &raw),

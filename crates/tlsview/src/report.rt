@@ -1,8 +1,8 @@
 //! What an input says, as text.
-ghost use Rattle.std.specs.Prelude.{◌≡◌, ◌++◌, ◌≢◌, length, Some, None, Ok, IfOk, IsSome};
+ghost use Rattle.std.specs.Prelude.{◌≡◌, ◌≢◌, length, Some, None, Ok, IfOk, IsSome};
 ghost use Rattle.std.specs.String.{string_bytes};
-ghost use Rattle.tlsview.specs.Out.{end_of, missing, out};
-ghost use Rattle.tlsview.specs.Shown.{IsLineShown};
+ghost use Rattle.tlsview.specs.Out.{missing, out};
+ghost use Rattle.tlsview.specs.Shown.{IsEndShown, IsLineShown};
 ghost use Rattle.tlsview.specs.Exit.{status_of};
 
 use crate::conversation::{Conversation, Side};
@@ -76,8 +76,7 @@ fn missing_of(side: &Side) -> Option<usize>
 
 /// Prints the end of a run without a fault before it.
 fn show_end(text: &mut String, conversation: &Conversation) -> Result<Exit, AllocError>
-    ensures { IfOk result (λ exit. (exit ≢ Exit.Failed) × (string_bytes text.new ≡ string_bytes text.old ++ (end_of conversation.now).0)
-        × (status_of exit ≡ (end_of conversation.now).1)) }
+    ensures { IfOk result (IsEndShown (string_bytes text.old) (string_bytes text.new) conversation.now) }
 {
     let missing = match missing_of(&conversation.to_server) {
         Some(missing) => Some(missing),

@@ -52,7 +52,8 @@ pub append2-requires : goal.append2-requires
 append2-requires c = omega (arith, room c.args.names.now c.loop-name_type.name_type-index c.loop-name_type-test.true)
 
 pub append_bytes-requires : goal.append_bytes-requires
-append_bytes-requires c = omega (arith, room c.args.names.now c.loop-name_type.name_type-index c.loop-name_type-test.true)
+append_bytes-requires c =
+    omega (arith, room c.args.names.now c.loop-name_type.name_type-index c.loop-name_type-test.true)
 
 -- a name, field by field, behind others
 joined : (a b c d e t u n : Bytes) → b ≡ a ++ t → c ≡ b ++ u → d ≡ c ++ n → e ≡ a ++ (t ++ (u ++ n)) → d ≡ e
@@ -67,7 +68,8 @@ loop-name_type-preserved c =
     let name = get_or names i nameless in
     let more = texts_more server_name_text view_server_name names i nameless h in
     record {
-      items = joined c.loop-name_type.out.items c.append1.new.out.items c.append2.new.out.items c.append_bytes.new.out.items _
+      items = joined c.loop-name_type.out.items c.append1.new.out.items c.append2.new.out.items
+          c.append_bytes.new.out.items _
           (bytes_of 1 name.0.0) (bytes_of 2 (length name.1.now)) name.1.now
           c.append1.ensures.items c.append2.ensures.items c.append_bytes.ensures.items
           (ap (λ t. c.args.out.now.items ++ t) more ∙ sym (append_assoc c.args.out.now.items _ _)

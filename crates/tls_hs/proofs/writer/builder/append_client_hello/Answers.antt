@@ -22,4 +22,5 @@ returns-clause-items c =
     (numbers_text 2 (map (λ x. x.0) x))) c.deref.ensures.value)
     (c.append_methods.ensures.items ∙ ap (λ x. c.append_suites.new.out.items ++ counted_text 1
     (numbers_text 1 (map (λ x. x.0) x))) c.deref-2.ensures.value)
-    (c.append_counted2.ensures.items ∙ ap (λ x. c.append_methods.new.out.items ++ counted_text 2 x) c.held-2.ensures.bytes)
+    (c.append_counted2.ensures.items
+    ∙ ap (λ x. c.append_methods.new.out.items ++ counted_text 2 x) c.held-2.ensures.bytes)
