@@ -22,7 +22,7 @@ def tree(room, name, keeps=False):
     listed = (TOP / "crates.txt").read_text()
     (room / "crates.txt").write_text(listed.replace(f"{HOST}:", f"{HOST}: {MORE}"))
     pack = subprocess.run(
-        ["tar", "cf", "-", "--exclude=out", "--exclude=must-fail", "."],
+        ["tar", "cf", "-", "--exclude=out", "--exclude=must-fail", "--exclude=wrong", "."],
         cwd=TOP / "crates",
         stdout=subprocess.PIPE,
         check=True,

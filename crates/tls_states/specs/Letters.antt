@@ -59,5 +59,9 @@ abbrev pub letter_of : TlsMessage → Bool → Letter
 letter_of m to_server = letter_of_viewed (messages.view_message m) to_server
 
 -- A conversation: each message, and whether it goes to the server.
-abbrev pub word : List (Bor TlsMessage × Bool) → Word
-word messages = map (λ m. letter_of m.0.now m.1) messages
+abbrev pub word : List (TlsMessage × Bool) → Word
+word messages = map (λ m. letter_of m.0 m.1) messages
+
+-- The same of messages that are borrowed.
+abbrev pub borrowed_word : List (Bor TlsMessage × Bool) → Word
+borrowed_word messages = map (λ m. letter_of m.0.now m.1) messages

@@ -1,7 +1,7 @@
 //! A conversation that is followed.
 ghost use Rattle.std.specs.Prelude.{◌≡◌, ◌↔◌, ◌⊎◌, Ok};
 ghost use Rattle.tls_states.specs.Conversations.{HasHandshake, IsNoHandshake};
-ghost use Rattle.tls_states.specs.Letters.{letter_of, word};
+ghost use Rattle.tls_states.specs.Letters.{borrowed_word, letter_of, word};
 ghost use Rattle.tls_states.specs.Steps.{step, run as run_of, IsUpdate};
 ghost use Rattle.tls_states.specs.declared.state.TlsState.{TlsState};
 ghost use Rattle.tls_states.specs.declared.state.TlsState.TheVariants as state;
@@ -71,10 +71,22 @@ impl ParseContext {
     /// HelloRequests behind the ClientHello, may stand anywhere. It is [`TlsState::Invalid`] exactly where they don't,
     /// can't become one by further messages, and aren't the beginning of one and then a fatal alert as the last message.
     /// A message behind that alert makes it `Invalid`.
-    pub fn run(&mut self, messages: &[(&TlsMessage<'_>, bool)])
+    pub fn run(&mut self, messages: &[(TlsMessage<'_>, bool)])
         ensures by_steps { self.new ≡ run_of self.old (word messages.now) }
         ensures encrypted { self.old ≡ state.None → (self.new ≡ state.SessionEncrypted) ↔ HasHandshake (word messages.now) }
         ensures invalid { self.old ≡ state.None → (self.new ≡ state.Invalid) ↔ IsNoHandshake (word messages.now) }
+    {
+        for i in 0..messages.len() {
+            let (message, to_server) = &messages[i];
+            let _ = self.update(message, *to_server);
+        }
+    }
+
+    /// The same for messages that the caller holds elsewhere, so that none has to be moved into the list.
+    pub fn run_borrowed(&mut self, messages: &[(&TlsMessage<'_>, bool)])
+        ensures by_steps { self.new ≡ run_of self.old (borrowed_word messages.now) }
+        ensures encrypted { self.old ≡ state.None → (self.new ≡ state.SessionEncrypted) ↔ HasHandshake (borrowed_word messages.now) }
+        ensures invalid { self.old ≡ state.None → (self.new ≡ state.Invalid) ↔ IsNoHandshake (borrowed_word messages.now) }
     {
         for i in 0..messages.len() {
             let (message, to_server) = &messages[i];

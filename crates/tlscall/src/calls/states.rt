@@ -55,12 +55,27 @@ fn run(asked: &Asked) -> Told {
     let Some(messages) = conversation(asked)? else {
         return no_record(alloc);
     };
+    let mut sided = Vec::new(alloc);
+    for (message, piece) in messages {
+        sided.push((message, is_to_server(piece)))?;
+    }
+    let mut context = ParseContext::new();
+    context.run(&sided);
+    plain(alloc, context.state())
+}
+
+/// The same, of borrowed messages.
+fn run_borrowed(asked: &Asked) -> Told {
+    let alloc = asked.alloc;
+    let Some(messages) = conversation(asked)? else {
+        return no_record(alloc);
+    };
     let mut borrowed = Vec::new(alloc);
     for (message, piece) in &messages {
         borrowed.push((message, is_to_server(piece)))?;
     }
     let mut context = ParseContext::new();
-    context.run(&borrowed);
+    context.run_borrowed(&borrowed);
     plain(alloc, context.state())
 }
 
@@ -111,6 +126,7 @@ pub fn states(asked: &Asked) -> Told {
     table!(asked;
         ;
         "ParseContext::run" => run(asked),
+        "ParseContext::run_borrowed" => run_borrowed(asked),
         "ParseContext::update" => updates(asked),
         "tls_state_transition" => transitions(asked),
     )
