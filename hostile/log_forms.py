@@ -54,13 +54,16 @@ def records(text):
 
 
 def fields(ask, files, lines):
-    """Each field alone, all in another order, and all as comma-separated values: the values are those of the lines."""
+    """Each field alone, all in another order, and all as comma-separated values: the values are those of the lines. Each is in docs/TLSLOG.md."""
     status, text, _ = ask(["--format", "csv", *files])
     names, *rows = records(text)
     want(status == 0 and len(rows) == len(lines), "csv:", status, len(rows))
     for line, row in zip(lines, rows):
         want(row == [as_text(line[name]) if name in line else "" for name in names], "csv:", line, row)
     want({name for line in lines for name in line} <= {*names}, "csv has no column for a field of a line")
+    page = (TOP / "docs" / "TLSLOG.md").read_text()
+    lacking = [name for name in names if f"`{name}`" not in page]
+    want(not lacking, "docs/TLSLOG.md says nothing of", lacking)
     for name in names:
         status, text, _ = ask(["--fields", name, *files])
         wanted = [{name: line[name]} if name in line else {} for line in lines]
