@@ -1,6 +1,7 @@
 pub mod Extension
 pub mod Content
 pub mod Tagged
+pub mod Within
 pub mod Dispatch
 pub mod InPlace
 pub mod Kinds

@@ -4,8 +4,9 @@
 //! also where the RFC has a lower bound on its length.
 #![tactic(auto, using(tls_fields::proofs::OneAnswerLemmas::read_allowed))]
 
-ghost use Rattle.std.specs.Prelude.{◌≤◌, length};
+ghost use Rattle.std.specs.Prelude.{◌≤◌, length, Ok};
 ghost use Rattle.tls_fields.specs.Answers.{Gives, GivesOrMemory};
+ghost use Rattle.tls_fields.specs.Layout.{rest};
 ghost use Rattle.tls_ext.specs.Extension.{OidFilter as OIDFilter, ServerName as ServerNameEntry};
 ghost use Rattle.tls_ext.specs.Extension.{view_oid_filter, view_server_name, view};
 ghost use Rattle.tls_ext.specs.Content as content;
@@ -16,13 +17,23 @@ use std::alloc::Global;
 use tls_base::{CertificateStatusType, NamedGroup, SNIType, TlsCipherSuiteID, TlsVersion};
 use tls_fields::{
     Counted1, ErrorKind, IResult, InPlace, Number2, Room, block, counted1, counted2, hops2, items,
-    maybe2, number1, number2, number4, pairs, refused, rest,
+    maybe2, number1, number2, number4, pairs, refused,
 };
+
+/// All bytes of a content, behind what is left of them: nothing. It never refuses.
+#[tactic(auto, using(tls_fields::proofs::OneAnswerLemmas::read_allowed), unfolding(tls_fields::specs::Reading::split_at))]
+#[inline(always)]
+pub(crate) fn whole(i: &[u8]) -> (&[u8], &[u8])
+    ensures { Gives (λ v. v.now) rest i.now (Ok result) }
+{
+    let (bytes, left) = i.split_at(i.len());
+    (left, bytes)
+}
 
 /// All bytes of a content, as an extension of that kind.
 macro_rules! opaque {
     ($i:ident, $kind:ident) => {{
-        let (i, bytes) = rest($i)?;
+        let (i, bytes) = whole($i);
         Ok((i, TlsExtension::$kind(bytes)))
     }};
 }
@@ -199,7 +210,7 @@ pub(crate) fn status_request_content(i: &[u8]) -> IResult<&[u8], TlsExtension>
         return Ok((i, TlsExtension::StatusRequest(None)));
     }
     let (i, status_type) = CertificateStatusType::parse(i)?;
-    let (i, request) = rest(i)?;
+    let (i, request) = whole(i);
     Ok((i, TlsExtension::StatusRequest(Some((status_type, request)))))
 }
 

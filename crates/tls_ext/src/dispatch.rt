@@ -14,7 +14,7 @@ use crate::kind::{Kind, ListKind, Side, kind_of, rows};
 use std::alloc::Global;
 use std::marker::PhantomData;
 use tls_base::TlsExtensionType;
-use tls_fields::{IResult, Item, Room, counted2, hops2, items, rest};
+use tls_fields::{IResult, Item, Room, counted2, hops2, items};
 
 /// For each row of the table whose content is a list the arm that reads it.
 macro_rules! read_list {
@@ -70,13 +70,13 @@ fn extension_content(
     ensures { GivesOrMemory view (content_layout side kind.0) i.now result }
 {
     if kind.0 & 0x0f0f == 0x0a0a {
-        let (i, content) = rest(i)?;
+        let (i, content) = content::whole(i);
         return Ok((i, TlsExtension::Grease(kind.0, content)));
     }
     match kind_of(kind.0, side) {
         Some(kind) => kind_content(alloc, i, kind),
         None => {
-            let (i, content) = rest(i)?;
+            let (i, content) = content::whole(i);
             Ok((i, TlsExtension::Unknown(kind, content)))
         }
     }

@@ -9,6 +9,8 @@ ghost use Rattle.tls_fields.specs.Answers.{Gives, GivesOrMemory};
 ghost use Rattle.tls_base.specs.ExtensionNumbers as extension_number;
 ghost use Rattle.tls_ext.specs.Extension.{view};
 ghost use Rattle.tls_ext.specs.Content as content;
+ghost use Rattle.std.specs.Prelude.{◌≡◌};
+ghost use Rattle.tls_ext.specs.Within.{with_rest};
 ghost use Rattle.tls_ext.specs.Tagged.{tagged, tagged_bytes as tagged_bytes_layout, tagged_heartbeat, unknown};
 
 use crate::content::{
@@ -35,12 +37,22 @@ fn tagged_bytes(i: &[u8], kind: TlsExtensionType) -> IResult<&[u8], &[u8]>
     counted2(i)
 }
 
+/// What a content is read as, with what stands behind the content in place of its own rest.
+#[inline(always)]
+fn within<'a, T: Drop>(rest: &'a [u8], read: IResult<&'a [u8], T>) -> IResult<&'a [u8], T>
+    ensures { result ≡ with_rest rest.entry read.entry }
+{
+    match read {
+        Ok((_, value)) => Ok((rest, value)),
+        Err(e) => Err(e),
+    }
+}
+
 /// An extension of that type, whose content that call reads.
 macro_rules! tagged {
     ($i:ident, $kind:ident, $read:ident $(, $alloc:ident)?) => {{
-        let (i, content) = tagged_bytes($i, TlsExtensionType::$kind)?;
-        let (_, extension) = $read($($alloc,)? content)?;
-        Ok((i, extension))
+        let (rest, content) = tagged_bytes($i, TlsExtensionType::$kind)?;
+        within(rest, $read($($alloc,)? content))
     }};
 }
 
@@ -242,9 +254,8 @@ pub fn parse_tls_extension_heartbeat(i: &[u8]) -> IResult<&[u8], TlsExtension>
             code: ErrorKind::Verify,
         }));
     }
-    let (i, content) = block(i, 1)?;
-    let (_, extension) = parse_tls_extension_heartbeat_content(content)?;
-    Ok((i, extension))
+    let (rest, content) = block(i, 1)?;
+    within(rest, parse_tls_extension_heartbeat_content(content))
 }
 
 /// Reads an extension of any type as `Unknown` (RFC 8446, section 4.2): 2 bytes of type, 2 bytes of length, and that many

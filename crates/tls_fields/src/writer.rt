@@ -9,7 +9,7 @@ use std::io::Write;
 pub mod builder;
 
 /// Why a value is not written.
-#[derive(Debug, PartialEq, Drop)]
+#[derive(Clone, Debug, PartialEq, Drop)]
 pub enum GenError {
     /// The writer does not know this kind of message or extension. Nothing was written.
     NotYetImplemented,

@@ -2,11 +2,13 @@
 use Rattle.std.proofs.Common.{
   ◌≡◌,
   ◌↔◌,
-  ◌⊎◌,
   inl,
   inr,
   List,
   [],
+  Option,
+  Some,
+  if◌then◌else◌,
   ◌∷◌,
   ◌++◌,
   Bool,
@@ -22,16 +24,15 @@ use Rattle.std.proofs.Common.{
   ap,
   subst,
 }
-use Rattle.std.specs.List.{list_all}
 use Rattle.tls_words.specs.Words.{run}
 use Rattle.tls_words.proofs.PatternLemmas.{both_and, and_both}
-use Rattle.tls_words.proofs.LetterLemmas.{is_in, in_contains, contains_in}
+use Rattle.tls_words.proofs.LetterLemmas.{is_yes, decided, is_in, in_contains, contains_in}
 use Rattle.tls_words.proofs.MachineLemmas.{run_on}
-use Rattle.tls_flow.specs.Letters.{Word, letters_of}
+use Rattle.tls_flow.specs.Letters.{letter, Word, letters_of}
 use Rattle.tls_flow.specs.Grammar.{is_noise}
 use Rattle.tls_flow.specs.Table.{step, outcome_at, is_waiting, awaited_in}
 use Rattle.tls_flow.specs.Steps.{silence, follow}
-use Rattle.tls_flow.specs.Conversations.{HasHandshake, MayBecomeHandshake, IsUnderWay, IsAwaited}
+use Rattle.tls_flow.specs.Conversations.{IsAwaited}
 use Rattle.tls_flow.specs.declared.event.Event.{Event}
 use Rattle.tls_flow.specs.declared.flow.Flow.{Flow}
 use Rattle.tls_flow.specs.declared.letter.Letter.{Letter}
@@ -40,52 +41,85 @@ use Rattle.tls_flow.specs.declared.state.State.TheVariants as state
 use Rattle.tls_flow.specs.declared.state.Outcome.{Outcome}
 use Rattle.tls_flow.specs.declared.state.Outcome.TheVariants as outcome
 use Rattle.tls_flow.specs.declared.table.TheConstants.{ROWS}
-use Rattle.tls_flow.proofs.NumberLemmas.{state_number, step_at, step_is, awaited_at, awaited_is}
-use Rattle.tls_flow.proofs.LetterLemmas.{same_letter, letters, passes}
-use Rattle.tls_flow.proofs.ConversationLemmas.{
+use Rattle.tls_flow.specs.declared.table.Row.{Row}
+use Rattle.tls_flow.specs.contracts.letter.Kind.{the_type as kinds}
+use Rattle.tls_flow.specs.contracts.letter.Direction.{the_type as directions}
+use Rattle.tls_flow.proofs.NumberLemmas.{
+  state_number,
+  kind_number,
+  direction_number,
+  same_states,
+  same_kinds,
+  same_directions,
+  is_letter,
+  rows_at,
+  next_of,
+}
+use Rattle.tls_flow.proofs.LetterLemmas.{same_kind, same_direction, of_parts, same_letter}
+use Rattle.tls_flow.proofs.StepLemmas.{
   is_done,
   is_alive,
   waiting_is,
-  end_of,
-  waiting_where,
-  alive_to,
-  alive_from,
-  done_from,
+  not_true,
+  is_some,
+  has_letter,
+  awaits,
+  letter_awaited,
 }
+use Rattle.tls_flow.proofs.ConversationLemmas.{end_of, waiting_where, alive_to, alive_from, done_from}
 use Rattle.tls_flow.proofs.FlowLemmas.{state_of}
+use denote.Enum.Bare.{Bare, sameb}
+use denote.Enum.Declared.{Declared}
+use lib.Dec.{eqb}
 
-abbrev same_bool : Bool → Bool → Bool
-same_bool true b = b
-same_bool false b = not b
+-- Of a list by rows: whether it has a letter is whether a row of the state has it.
+decided_is : (D : Declared) (bare : Bare D.parts) (a b : D.D) (t : Bool) (e : sameb D a b ≡ t)
+    → is_yes (decided D bare a b t e) ≡ t
+decided_is D bare a b true e = refl
+decided_is D bare a b false e = refl
 
-both_same : (a b : Bool) → same_bool a b ≡ true → a ≡ b
-both_same true b h = sym h
-both_same false true h = cc
-both_same false false h = refl
+both_parts : (a b : Letter) (d : Dec (a.kind ≡ b.kind)) (e : Dec (a.direction ≡ b.direction))
+    → is_yes (of_parts a b d e) ≡ (is_yes d && is_yes e)
+both_parts a b (yes p) (yes q) = refl
+both_parts a b (no p) q = refl
+both_parts a b (yes p) (no q) = refl
 
--- Whether a state waits for a letter, as a test of the step.
-abbrev awaits : State → Letter → Bool
-awaits q l = is_waiting (outcome_at q) && (not (is_noise l) && is_alive (outcome_at (step q l)))
+same_is : (r : Row) (l : Letter)
+    → is_yes (same_letter (letter r.kind r.direction) l)
+    ≡ is_letter (kind_number l.kind) (direction_number l.direction) r
+same_is r l =
+    both_parts (letter r.kind r.direction) l (same_kind r.kind l.kind) (same_direction r.direction l.direction)
+    ∙ ap (λ t. t && is_yes (same_direction r.direction l.direction))
+    (decided_is kinds tt r.kind l.kind (eqb (kind_number r.kind) (kind_number l.kind)) (same_kinds r.kind l.kind))
+    ∙ ap (λ t. eqb (kind_number r.kind) (kind_number l.kind) && t)
+    (decided_is directions tt r.direction l.direction (eqb (direction_number r.direction) (direction_number l.direction))
+    (same_directions r.direction l.direction))
 
--- The same by numbers.
-abbrev awaits_at : State → Letter → Bool
-awaits_at q l = is_waiting (outcome_at q) && (not (is_noise l) && is_alive (outcome_at (step_at q l)))
+some_first : (t : Bool) (s : State) (n : Option State) → (t || is_some n) ≡ is_some (if t then Some s else n)
+some_first true s n = refl
+some_first false s n = refl
 
-abbrev await_test : State → List Letter → Letter → Bool
-await_test q xs l = same_bool (is_in same_letter xs l) (awaits_at q l)
+in_first : (t : Bool) (r : Row) (rows : List Row) (xs : List Letter) (l : Letter)
+    → is_in same_letter xs l ≡ has_letter rows l
+    → is_in same_letter (if t then letter r.kind r.direction ∷ xs else xs) l
+    ≡ has_letter (if t then r ∷ rows else rows) l
+in_first true r rows xs l h =
+    ap (λ t. t || is_in same_letter xs l) (same_is r l)
+    ∙ ap (λ t. is_letter (kind_number l.kind) (direction_number l.direction) r || t) h
+    ∙ some_first (is_letter (kind_number l.kind) (direction_number l.direction) r) r.next (next_of rows l)
+in_first false r rows xs l h = h
 
-awaits_pass : (q : State) → list_all (await_test q (awaited_at ROWS (state_number q))) letters ≡ true
-awaits_pass = elim [ state.Start ↦ refl | _ ↦ refl ]
+in_awaited : (rows : List Row) (q : State) (l : Letter)
+    → is_in same_letter (awaited_in rows q) l ≡ has_letter (rows_at rows (state_number q)) l
+in_awaited [] q l = refl
+in_awaited (r ∷ rows) q l =
+    ap (λ t. is_in same_letter (if t then letter r.kind r.direction ∷ awaited_in rows q else awaited_in rows q) l)
+    (same_states r.state q)
+    ∙ in_first (eqb (state_number r.state) (state_number q)) r (rows_at rows (state_number q)) (awaited_in rows q) l
+    (in_awaited rows q l)
 
 awaits_is : (q : State) (l : Letter) → is_in same_letter (awaited_in ROWS q) l ≡ awaits q l
-awaits_is q l =
-    ap (λ xs. is_in same_letter xs l) (awaited_is ROWS q)
-    ∙ both_same _ _ (passes (await_test q (awaited_at ROWS (state_number q))) l (awaits_pass q))
-    ∙ ap (λ r. is_waiting (outcome_at q) && (not (is_noise l) && is_alive (outcome_at r))) (sym (step_is q l))
-
-not_true : (t : Bool) → not t ≡ true → t ≡ false
-not_true true h = cc
-not_true false h = refl
+awaits_is q l = in_awaited ROWS q l ∙ letter_awaited q l
 
 false_not : (t : Bool) → t ≡ false → not t ≡ true
 false_not true h = cc

@@ -19,16 +19,11 @@ use Rattle.std.proofs.Common.{
   [],
   ◌∷◌,
   ◌++◌,
-  map,
-  Option,
   None,
   Some,
   Bool,
   true,
   false,
-  not,
-  ◌||◌,
-  ◌&&◌,
   arith,
   refl,
   sym,
@@ -38,29 +33,17 @@ use Rattle.std.proofs.Common.{
 }
 use Rattle.tls_words.specs.Words.{run}
 use Rattle.tls_words.proofs.MachineLemmas.{run_on}
-use Rattle.tls_flow.specs.Letters.{letter, Word, letters_of}
+use Rattle.tls_flow.specs.Letters.{letters_of}
 use Rattle.tls_flow.specs.Table.{step, outcome_at, is_failed, is_waiting}
 use Rattle.tls_flow.specs.Steps.{silence, follow, follow_by, stop_at, counted, moved}
-use Rattle.tls_flow.specs.Conversations.{IsUnderWay, HasHandshake, IsOutcome, StopsAt, IsStop}
+use Rattle.tls_flow.specs.Conversations.{IsUnderWay, HasHandshake, IsOutcome, IsStop}
 use Rattle.tls_flow.specs.declared.event.Event.{Event}
 use Rattle.tls_flow.specs.declared.flow.Flow.{Flow}
-use Rattle.tls_flow.specs.declared.flow.Stop.{Stop}
-use Rattle.tls_flow.specs.declared.state.State.{State}
 use Rattle.tls_flow.specs.declared.state.State.TheVariants as state
 use Rattle.tls_flow.specs.declared.state.Outcome.{Outcome}
 use Rattle.tls_flow.specs.declared.state.Outcome.TheVariants as outcome
-use Rattle.tls_flow.proofs.ConversationLemmas.{
-  is_done,
-  waiting_is,
-  end_stays,
-  run_stays,
-  true_or_false,
-  end_of,
-  done_from,
-  done_to,
-  waiting_where,
-  told_whole,
-}
+use Rattle.tls_flow.proofs.StepLemmas.{true_or_false, is_done, waiting_is, end_stays, run_stays}
+use Rattle.tls_flow.proofs.ConversationLemmas.{end_of, done_from, done_to, waiting_where, told_whole}
 
 -- One event, by whether the flow waits.
 followed : (t : Bool) (f : Flow) (e : Event) → is_waiting (outcome_at f.state) ≡ t

@@ -1,21 +1,53 @@
 -- What each state still waits for, by a word that leads to it.
-use Rattle.std.proofs.Common.{◌≡◌, [], ◌∷◌, Bool, true, false, cond, refl, ◌∙◌, ap}
+use Rattle.std.proofs.Common.{
+  ◌≡◌,
+  inl,
+  inr,
+  [],
+  ◌∷◌,
+  Bool,
+  true,
+  false,
+  not,
+  ◌&&◌,
+  ◌||◌,
+  cond,
+  if◌then◌else◌,
+  refl,
+  sym,
+  ◌∙◌,
+  ap,
+}
 use Rattle.std.specs.List.{list_all}
 use Rattle.tls_words.specs.Words.{Pattern, none, all, chain, Pattern-discrete}
-use Rattle.tls_words.proofs.PatternLemmas.{behind, behind_all}
+use Rattle.tls_words.proofs.PatternLemmas.{both_and, has_empty, has_word, behind, behind_all, begins_by, none_behind}
 use Rattle.tls_words.proofs.LetterLemmas.{is_yes, yes_is}
 use Rattle.tls_flow.specs.Letters.{letter, Word}
 use Rattle.tls_flow.specs.Grammar.{full, resumed, tls13, is_noise}
-use Rattle.tls_flow.specs.Table.{step}
+use Rattle.tls_flow.specs.Table.{step, outcome_at, is_waiting, unended_rule}
 use Rattle.tls_flow.specs.declared.letter.Letter.{Letter}
+use Rattle.tls_flow.specs.declared.letter.Kind.{Kind}
 use Rattle.tls_flow.specs.declared.letter.Kind.TheVariants as kind
 use Rattle.tls_flow.specs.declared.letter.Direction.TheVariants.{ToServer, FromServer}
 use Rattle.tls_flow.specs.declared.state.State.{State}
 use Rattle.tls_flow.specs.declared.state.State.TheVariants as state
 use Rattle.tls_flow.specs.declared.state.Outcome.{Outcome}
 use Rattle.tls_flow.specs.declared.state.Outcome.TheVariants as outcome
-use Rattle.tls_flow.proofs.NumberLemmas.{step_at, step_is}
-use Rattle.tls_flow.proofs.LetterLemmas.{same_letter, letters, passes}
+use Rattle.tls_flow.specs.declared.table.Row.{Row}
+use Rattle.tls_flow.specs.declared.table.TheConstants.{ROWS}
+use Rattle.tls_flow.proofs.NumberLemmas.{AllStatesPass, state_passes, rows_of}
+use Rattle.tls_flow.proofs.LetterLemmas.{same_letter}
+use Rattle.tls_flow.proofs.StepLemmas.{
+  true_or_false,
+  is_alive,
+  has_letter,
+  GoesByRow,
+  GoesByRule,
+  goes,
+  row_speaks,
+  rule_waiting,
+  end_stays,
+}
 
 -- A word that leads to a state, and to one that waits for nothing a word that no handshake begins with.
 abbrev after_hello : Word → Word
@@ -91,58 +123,154 @@ pattern_of _ = none
 abbrev pub waits : Pattern Letter → State → Pattern Letter
 waits p q = behind_all same_letter (chain p all) (road q)
 
--- What a letter does to what is waited for, as a test, which all letters pass at all states.
 abbrev same_pattern : (p q : Pattern Letter) → Dec (p ≡ q)
 same_pattern = Pattern-discrete same_letter
 
-abbrev waits_next : Pattern Letter → Letter → Pattern Letter
-waits_next x l = cond (is_noise l) x (behind same_letter x l)
+-- A row leads to what is waited for behind its letter, as a test, which all rows pass for each form.
+abbrev row_test : Pattern Letter → Row → Bool
+row_test p r = is_yes (same_pattern (waits p r.next) (behind same_letter (waits p r.state) (letter r.kind r.direction)))
 
-abbrev next_test : Pattern Letter → State → Pattern Letter → Letter → Bool
-next_test p q x l = is_yes (same_pattern (waits p (step_at q l)) (waits_next x l))
+abbrev RowsPass : Outcome → Type 0
+RowsPass o = list_all (row_test (pattern_of o)) ROWS ≡ true
 
-abbrev tests_at : Pattern Letter → State → Bool
-tests_at p q = list_all (next_test p q (waits p q)) letters
+tls13_rows : (retried early : Bool) → RowsPass (outcome.Tls13 retried early)
+tls13_rows true true = refl
+tls13_rows true false = refl
+tls13_rows false true = refl
+tls13_rows false false = refl
 
-full_passes : (q : State) → tests_at full q ≡ true
-full_passes = elim [ state.Start ↦ refl | _ ↦ refl ]
+rows_pass : (o : Outcome) → RowsPass o
+rows_pass = elim [ outcome.Tls13 retried early ↦ tls13_rows retried early | outcome.Full ↦ refl | _ ↦ refl ]
 
-resumed_passes : (q : State) → tests_at resumed q ≡ true
-resumed_passes = elim [ state.Start ↦ refl | _ ↦ refl ]
+-- Two tests that say the same.
+abbrev same_bool : Bool → Bool → Bool
+same_bool true b = b
+same_bool false b = not b
 
-plain_passes : (q : State) → tests_at (tls13 false false) q ≡ true
-plain_passes = elim [ state.Start ↦ refl | _ ↦ refl ]
+both_same : (a b : Bool) → same_bool a b ≡ true → a ≡ b
+both_same true b h = sym h
+both_same false true h = cc
+both_same false false h = refl
 
-early_passes : (q : State) → tests_at (tls13 false true) q ≡ true
-early_passes = elim [ state.Start ↦ refl | _ ↦ refl ]
+-- The same handshake is done.
+abbrev pub is_it : Outcome → Outcome → Bool
+is_it outcome.Full outcome.Full = true
+is_it outcome.Resumed outcome.Resumed = true
+is_it (outcome.Tls13 a b) (outcome.Tls13 c d) = same_bool a c && same_bool b d
+is_it _ _ = false
 
-retried_passes : (q : State) → tests_at (tls13 true false) q ≡ true
-retried_passes = elim [ state.Start ↦ refl | _ ↦ refl ]
+-- What a form waits for at a state, as a test of each. Where the state waits, each word begins with a letter of its rows;
+-- at an end it is every word or none. The empty word is there exactly where that handshake is done, and some word only
+-- where one is done or can still come.
+abbrev is_flat : Pattern Letter → Bool
+is_flat none = true
+is_flat all = true
+is_flat _ = false
 
-both_pass : (q : State) → tests_at (tls13 true true) q ≡ true
-both_pass = elim [ state.Start ↦ refl | _ ↦ refl ]
+abbrev begins_well : State → Pattern Letter → Bool
+begins_well q x = if is_waiting (outcome_at q) then begins_by (has_letter (rows_of q)) x else is_flat x
 
-none_passes : (q : State) → tests_at none q ≡ true
-none_passes = elim [ state.Start ↦ refl | _ ↦ refl ]
+abbrev pattern_test : Outcome → State → Pattern Letter → Bool
+pattern_test o q x =
+    begins_well q x && (same_bool (has_empty x) (is_it o (outcome_at q)) && (not (has_word x) || is_alive (outcome_at q)))
 
-tls13_passes : (retried early : Bool) (q : State) → tests_at (tls13 retried early) q ≡ true
-tls13_passes false false = plain_passes
-tls13_passes false true = early_passes
-tls13_passes true false = retried_passes
-tls13_passes true true = both_pass
+abbrev state_test : Outcome → State → Bool
+state_test o q = pattern_test o q (waits (pattern_of o) q)
 
-form_passes : (o : Outcome) (q : State) → tests_at (pattern_of o) q ≡ true
-form_passes = elim [
-  | outcome.Full ↦ full_passes
-  | outcome.Resumed ↦ resumed_passes
-  | outcome.Tls13 retried early ↦ tls13_passes retried early
-  | _ ↦ none_passes
-]
+tls13_states : (retried early : Bool) → AllStatesPass (state_test (outcome.Tls13 retried early))
+tls13_states true true = refl
+tls13_states true false = refl
+tls13_states false true = refl
+tls13_states false false = refl
 
-pub follows : (o : Outcome) (q : State) (l : Letter)
-    → waits (pattern_of o) (step q l) ≡ cond (is_noise l) (waits (pattern_of o) q)
-    (behind same_letter (waits (pattern_of o) q) l)
-follows o q l =
-    ap (waits (pattern_of o)) (step_is q l)
-    ∙ yes_is (same_pattern (waits (pattern_of o) (step_at q l)) (waits_next (waits (pattern_of o) q) l))
-    (passes (next_test (pattern_of o) q (waits (pattern_of o) q)) l (form_passes o q))
+states_pass : (o : Outcome) → AllStatesPass (state_test o)
+states_pass = elim [ outcome.Tls13 retried early ↦ tls13_states retried early | outcome.Full ↦ refl | _ ↦ refl ]
+
+-- Behind a failure nothing can come.
+tls13_fails : (retried early : Bool)
+    → behind_all same_letter (chain (tls13 retried early) all) (letter kind.Other ToServer ∷ []) ≡ none
+tls13_fails true true = refl
+tls13_fails true false = refl
+tls13_fails false true = refl
+tls13_fails false false = refl
+
+form_fails : (o : Outcome)
+    → behind_all same_letter (chain (pattern_of o) all) (letter kind.Other ToServer ∷ []) ≡ none
+form_fails = elim [ outcome.Tls13 retried early ↦ tls13_fails retried early | outcome.Full ↦ refl | _ ↦ refl ]
+
+fails_for_good : (o : Outcome) (q : State) (k : Kind) → waits (pattern_of o) (unended_rule q k false) ≡ none
+fails_for_good o q = elim [ kind.Fatal ↦ form_fails o | kind.Unknown ↦ form_fails o | _ ↦ form_fails o ]
+
+module _ (o : Outcome) (q : State) where
+  parts : (begins_well q (waits (pattern_of o) q) ≡ true)
+      × ((same_bool (has_empty (waits (pattern_of o) q)) (is_it o (outcome_at q))
+      && (not (has_word (waits (pattern_of o) q)) || is_alive (outcome_at q))) ≡ true)
+  parts = both_and _ _ (state_passes (state_test o) (states_pass o) q)
+
+  begins_at : begins_well q (waits (pattern_of o) q) ≡ true
+  begins_at = parts.0
+
+  pub front_at : has_empty (waits (pattern_of o) q) ≡ is_it o (outcome_at q)
+  front_at = both_same _ _ (both_and (same_bool (has_empty (waits (pattern_of o) q)) (is_it o (outcome_at q)))
+      (not (has_word (waits (pattern_of o) q)) || is_alive (outcome_at q)) parts.1).0
+
+  pub alive_at : (not (has_word (waits (pattern_of o) q)) || is_alive (outcome_at q)) ≡ true
+  alive_at = (both_and (same_bool (has_empty (waits (pattern_of o) q)) (is_it o (outcome_at q)))
+      (not (has_word (waits (pattern_of o) q)) || is_alive (outcome_at q)) parts.1).1
+
+-- A step by a row, by the rule, and from an end.
+module _ (o : Outcome) (q : State) (l : Letter) where
+  abbrev Follows : State → Type 0
+  Follows s =
+      waits (pattern_of o) s
+      ≡ cond (is_noise l) (waits (pattern_of o) q) (behind same_letter (waits (pattern_of o) q) l)
+
+  by_row : GoesByRow q l → Follows (step q l)
+  by_row r =
+      ap (waits (pattern_of o)) r.1
+      ∙ yes_is (same_pattern (waits (pattern_of o) r.0) (behind same_letter (waits (pattern_of o) q) l))
+      (r.3 (row_test (pattern_of o)) (rows_pass o))
+      ∙ ap (λ t. cond t (waits (pattern_of o) q) (behind same_letter (waits (pattern_of o) q) l))
+      (sym (row_speaks q l r))
+
+  begins_waiting : (t : Bool) (x : Pattern Letter) → t ≡ true
+      → (if t then begins_by (has_letter (rows_of q)) x else is_flat x) ≡ true
+      → begins_by (has_letter (rows_of q)) x ≡ true
+  begins_waiting true x h e = e
+  begins_waiting false x h e = cc
+
+  flat_ended : (t : Bool) (x : Pattern Letter) → t ≡ false
+      → (if t then begins_by (has_letter (rows_of q)) x else is_flat x) ≡ true → is_flat x ≡ true
+  flat_ended true x h e = cc
+  flat_ended false x h e = e
+
+  by_noise : (n : Bool) → behind same_letter (waits (pattern_of o) q) l ≡ none
+      → waits (pattern_of o) (unended_rule q l.kind n)
+      ≡ cond n (waits (pattern_of o) q) (behind same_letter (waits (pattern_of o) q) l)
+  by_noise true e = refl
+  by_noise false e = fails_for_good o q l.kind ∙ sym e
+
+  by_rule : is_waiting (outcome_at q) ≡ true → GoesByRule q l → Follows (step q l)
+  by_rule h r =
+      ap (waits (pattern_of o)) (r.0 ∙ rule_waiting q l h)
+      ∙ by_noise (is_noise l) (none_behind same_letter (has_letter (rows_of q)) l r.1 (waits (pattern_of o) q)
+      (begins_waiting (is_waiting (outcome_at q)) (waits (pattern_of o) q) h (begins_at o q)))
+
+  flat_behind : (x : Pattern Letter) → is_flat x ≡ true → x ≡ behind same_letter x l
+  flat_behind = elim [ none ↦ λ h. refl | all ↦ λ h. refl | _ ↦ λ h. cc ]
+
+  flat_stays : (n : Bool) (x : Pattern Letter) → is_flat x ≡ true → x ≡ cond n x (behind same_letter x l)
+  flat_stays true x h = refl
+  flat_stays false x h = flat_behind x h
+
+  from_end : is_waiting (outcome_at q) ≡ false → Follows (step q l)
+  from_end h =
+      ap (waits (pattern_of o)) (end_stays q l h)
+      ∙ flat_stays (is_noise l) (waits (pattern_of o) q)
+      (flat_ended (is_waiting (outcome_at q)) (waits (pattern_of o) q) h (begins_at o q))
+
+  pub follows : Follows (step q l)
+  follows = elim (true_or_false (is_waiting (outcome_at q))) [
+    | inl h ↦ elim (goes q l) [ inl r ↦ by_row r | inr r ↦ by_rule h r ]
+    | inr h ↦ from_end h
+  ]

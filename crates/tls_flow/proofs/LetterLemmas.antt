@@ -1,5 +1,5 @@
 -- Letters are the same or not, which computes; and all of them.
-use Rattle.std.proofs.Common.{◌≡◌, List, [], ◌∷◌, ◌++◌, map, Bool, true, false, refl, ap, subst}
+use Rattle.std.proofs.Common.{◌≡◌, List, [], ◌∷◌, ◌++◌, map, Bool, true, refl, ap, subst}
 use Rattle.std.specs.List.{list_all}
 use Rattle.tls_words.proofs.LetterLemmas.{decided, is_in, passes_in}
 use Rattle.tls_flow.specs.Letters.{letter}
@@ -13,17 +13,17 @@ use Rattle.tls_flow.specs.contracts.letter.Direction.{the_type as directions_typ
 use Rattle.tls_flow.proofs.NumberLemmas.{kind_number, direction_number, same_kinds, same_directions}
 use lib.Dec.{eqb}
 
-abbrev same_kind : (a b : Kind) → Dec (a ≡ b)
+abbrev pub same_kind : (a b : Kind) → Dec (a ≡ b)
 same_kind a b = decided kinds_type tt a b (eqb (kind_number a) (kind_number b)) (same_kinds a b)
 
-abbrev same_direction : (a b : Direction) → Dec (a ≡ b)
+abbrev pub same_direction : (a b : Direction) → Dec (a ≡ b)
 same_direction a b =
     decided directions_type tt a b (eqb (direction_number a) (direction_number b)) (same_directions a b)
 
 pub letter_is : (a b : Letter) → a.kind ≡ b.kind → a.direction ≡ b.direction → a ≡ b
 letter_is a b p q = subst (λ x. a ≡ letter x b.direction) p (ap (λ y. letter a.kind y) q)
 
-abbrev of_parts : (a b : Letter) → Dec (a.kind ≡ b.kind) → Dec (a.direction ≡ b.direction) → Dec (a ≡ b)
+abbrev pub of_parts : (a b : Letter) → Dec (a.kind ≡ b.kind) → Dec (a.direction ≡ b.direction) → Dec (a ≡ b)
 of_parts a b (yes p) (yes q) = yes (letter_is a b p q)
 of_parts a b (no p) q = no (λ e. p (ap (λ l. l.kind) e))
 of_parts a b p (no q) = no (λ e. q (ap (λ l. l.direction) e))

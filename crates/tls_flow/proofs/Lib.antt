@@ -1,5 +1,6 @@
 pub mod NumberLemmas
 pub mod LetterLemmas
+pub mod StepLemmas
 pub mod RowLemmas
 pub mod FollowLemmas
 pub mod ConversationLemmas

@@ -1,7 +1,25 @@
 -- States, kinds and directions by their numbers: numbers are compared at once, where tags are counted up first.
-use Rattle.std.proofs.Common.{◌≡◌, ℕ, List, [], ◌∷◌, Option, Some, None, Bool, ◌&&◌, if◌then◌else◌, refl, ◌∙◌, ap}
-use Rattle.tls_flow.specs.Letters.{letter}
-use Rattle.tls_flow.specs.Table.{awaited_in, next_after, row_or, rule, step}
+use Rattle.std.proofs.Common.{
+  ◌≡◌,
+  ℕ,
+  List,
+  [],
+  ◌∷◌,
+  Option,
+  Some,
+  None,
+  Bool,
+  true,
+  false,
+  ◌&&◌,
+  if◌then◌else◌,
+  refl,
+  ◌∙◌,
+  ap,
+}
+use Rattle.std.specs.List.{list_all}
+use Rattle.tls_words.proofs.LetterLemmas.{decided, is_in, passes_in}
+use Rattle.tls_flow.specs.Table.{next_after, row_or, rule, step}
 use Rattle.tls_flow.specs.declared.letter.Letter.{Letter}
 use Rattle.tls_flow.specs.declared.letter.Kind.{Kind}
 use Rattle.tls_flow.specs.declared.letter.Kind.TheVariants as kind
@@ -14,7 +32,7 @@ use Rattle.tls_flow.specs.declared.table.TheConstants.{ROWS}
 use Rattle.tls_flow.specs.contracts.state.State.{the_type as states}
 use Rattle.tls_flow.specs.contracts.letter.Kind.{the_type as kinds}
 use Rattle.tls_flow.specs.contracts.letter.Direction.{the_type as directions}
-use denote.Enum.Bare.{sameb}
+use denote.Enum.Bare.{sameb, same_true}
 use denote.Enum.Declared.{tag_of}
 use lib.Dec.{eqb}
 
@@ -101,14 +119,48 @@ pub same_directions : (a b : Direction) → sameb directions a b ≡ eqb (direct
 same_directions a b =
     ap (λ n. eqb n (tag_of directions b)) (direction_tag a) ∙ ap (eqb (direction_number a)) (direction_tag b)
 
--- The step.
-abbrev is_letter : ℕ → ℕ → Row → Bool
+pub same_number : (a b : State) → eqb (state_number a) (state_number b) ≡ true → a ≡ b
+same_number a b t = same_true states tt a b (same_states a b ∙ t)
+
+-- All states, and a test that all of them pass.
+abbrev same_state : (a b : State) → Dec (a ≡ b)
+same_state a b = decided states tt a b (eqb (state_number a) (state_number b)) (same_states a b)
+
+abbrev all_states : List State
+all_states =
+    state.Start ∷ state.Hello ∷ state.Verify ∷ state.VerifiedHello ∷ state.ChangedHello ∷ state.EarlyHello ∷ state.Retry ∷
+    state.EarlyRetry ∷ state.SecondHello ∷ state.EarlySecondHello ∷ state.ServerHello ∷ state.Certificate ∷
+    state.CertificateStatus ∷ state.CertifiedKeys ∷ state.Keys ∷ state.Request ∷ state.RequestDone ∷
+    state.ClientCertificate ∷ state.ClientKeys ∷ state.Done ∷ state.ClientDone ∷ state.ClientChange ∷ state.Ticket ∷
+    state.ResumedTicket ∷ state.ServerChange ∷ state.Full ∷ state.Resumed ∷ state.Tls13 ∷ state.EarlyTls13 ∷
+    state.RetriedTls13 ∷ state.EarlyRetriedTls13 ∷ state.BrokenOff ∷ state.Unknown ∷ state.NoHandshake ∷ []
+
+state_in : (q : State) → is_in same_state all_states q ≡ true
+state_in = elim [ state.Start ↦ refl | _ ↦ refl ]
+
+abbrev pub AllStatesPass : (State → Bool) → Type 0
+AllStatesPass f = list_all f all_states ≡ true
+
+pub state_passes : (f : State → Bool) → AllStatesPass f → (q : State) → f q ≡ true
+state_passes f t q = passes_in same_state f all_states q t (state_in q)
+
+-- The rows of a state, and where the first of them that has a letter leads.
+abbrev pub is_letter : ℕ → ℕ → Row → Bool
 is_letter k d r = eqb (kind_number r.kind) k && eqb (direction_number r.direction) d
 
-abbrev next_at : List Row → ℕ → ℕ → ℕ → Option State
-next_at [] q k d = None
-next_at (r ∷ rows) q k d =
-    if eqb (state_number r.state) q && is_letter k d r then Some r.next else next_at rows q k d
+abbrev pub rows_at : List Row → ℕ → List Row
+rows_at [] q = []
+rows_at (r ∷ rows) q = if eqb (state_number r.state) q then r ∷ rows_at rows q else rows_at rows q
+
+abbrev next_by : List Row → ℕ → ℕ → Option State
+next_by [] k d = None
+next_by (r ∷ rows) k d = if is_letter k d r then Some r.next else next_by rows k d
+
+abbrev pub rows_of : State → List Row
+rows_of q = rows_at ROWS (state_number q)
+
+abbrev pub next_of : List Row → Letter → Option State
+next_of rows l = next_by rows (kind_number l.kind) (direction_number l.direction)
 
 same_row : (r : Row) (q : State) (k : Kind) (d : Direction)
     → (sameb states r.state q && (sameb kinds r.kind k && sameb directions r.direction d))
@@ -120,31 +172,25 @@ same_row r q k d =
     ∙ ap (λ t. eqb (state_number r.state) (state_number q) && (eqb (kind_number r.kind) (kind_number k) && t))
     (same_directions r.direction d)
 
-next_is : (rows : List Row) (q : State) (k : Kind) (d : Direction)
-    → next_after rows q k d ≡ next_at rows (state_number q) (kind_number k) (direction_number d)
-next_is [] q k d = refl
-next_is (r ∷ rows) q k d =
+row_first : (t : Bool) (r : Row) (rows : List Row) (k d : ℕ) (n : Option State) → n ≡ next_by rows k d
+    → (if t && is_letter k d r then Some r.next else n) ≡ next_by (if t then r ∷ rows else rows) k d
+row_first true r rows k d n h = ap (λ o. if is_letter k d r then Some r.next else o) h
+row_first false r rows k d n h = h
+
+next_among : (rows : List Row) (q : State) (k : Kind) (d : Direction)
+    → next_after rows q k d ≡ next_by (rows_at rows (state_number q)) (kind_number k) (direction_number d)
+next_among [] q k d = refl
+next_among (r ∷ rows) q k d =
     ap (λ t. if t then Some r.next else next_after rows q k d) (same_row r q k d)
-    ∙ ap (λ o. if eqb (state_number r.state) (state_number q) && is_letter (kind_number k) (direction_number d) r
-    then Some r.next else o) (next_is rows q k d)
+    ∙ row_first (eqb (state_number r.state) (state_number q)) r (rows_at rows (state_number q)) (kind_number k)
+    (direction_number d) (next_after rows q k d) (next_among rows q k d)
 
-abbrev pub step_at : State → Letter → State
-step_at q l =
-    row_or (next_at ROWS (state_number q) (kind_number l.kind) (direction_number l.direction))
-    (rule q l.kind l.direction)
+pub next_is : (q : State) (l : Letter) → next_after ROWS q l.kind l.direction ≡ next_of (rows_of q) l
+next_is q l = next_among ROWS q l.kind l.direction
 
-pub step_is : (q : State) (l : Letter) → step q l ≡ step_at q l
-step_is q l = ap (λ o. row_or o (rule q l.kind l.direction)) (next_is ROWS q l.kind l.direction)
+-- The step by the rows of the state.
+abbrev pub step_by : List Row → State → Letter → State
+step_by rows q l = row_or (next_of rows l) (rule q l.kind l.direction)
 
--- What a state waits for.
-abbrev pub awaited_at : List Row → ℕ → List Letter
-awaited_at [] q = []
-awaited_at (r ∷ rows) q =
-    if eqb (state_number r.state) q then letter r.kind r.direction ∷ awaited_at rows q else awaited_at rows q
-
-pub awaited_is : (rows : List Row) (q : State) → awaited_in rows q ≡ awaited_at rows (state_number q)
-awaited_is [] q = refl
-awaited_is (r ∷ rows) q =
-    ap (λ t. if t then letter r.kind r.direction ∷ awaited_in rows q else awaited_in rows q) (same_states r.state q)
-    ∙ ap (λ ls. if eqb (state_number r.state) (state_number q) then letter r.kind r.direction ∷ ls else ls)
-    (awaited_is rows q)
+pub step_is : (q : State) (l : Letter) → step q l ≡ step_by (rows_of q) q l
+step_is q l = ap (λ o. row_or o (rule q l.kind l.direction)) (next_is q l)

@@ -1,14 +1,14 @@
 -- The rows of the table.
-use Rattle.std.proofs.Common.{◌≡◌, ℕ, List, Bool, true, ◌&&◌, slice_index_or, refl, sym, ◌∙◌, ap}
+use Rattle.std.proofs.Common.{◌≡◌, List, Bool, true, ◌&&◌, slice_index_or, refl, sym, ◌∙◌, ap}
+use Rattle.std.specs.List.{list_all}
 use Rattle.tls_words.proofs.PatternLemmas.{and_both}
 use Rattle.tls_words.proofs.TableLemmas.{one_place}
 use Rattle.tls_flow.specs.Letters.{letter}
 use Rattle.tls_flow.specs.Table.{IsOneRowEach, step}
 use Rattle.tls_flow.specs.declared.letter.Kind.{Kind}
-use Rattle.tls_flow.specs.declared.letter.Kind.TheVariants as kind
 use Rattle.tls_flow.specs.declared.letter.Direction.{Direction}
-use Rattle.tls_flow.specs.declared.letter.Direction.TheVariants.{ToServer, FromServer}
 use Rattle.tls_flow.specs.declared.state.State.{State}
+use Rattle.tls_flow.specs.declared.letter.Letter.{Letter}
 use Rattle.tls_flow.specs.declared.state.State.TheVariants as state
 use Rattle.tls_flow.specs.declared.table.Row.{Row}
 use Rattle.tls_flow.specs.declared.table.TheConstants.{ROWS, STEPS}
@@ -18,6 +18,7 @@ use Rattle.tls_flow.specs.contracts.letter.Direction.{the_type as directions}
 use denote.Enum.Bare.{true_same}
 use denote.Enum.Declared.{tag_of}
 use lib.Dec.{eqb}
+use Rattle.tls_flow.proofs.LetterLemmas.{letters, passes}
 use Rattle.tls_flow.proofs.NumberLemmas.{
   state_number,
   kind_number,
@@ -28,7 +29,9 @@ use Rattle.tls_flow.proofs.NumberLemmas.{
   same_states,
   same_kinds,
   same_directions,
-  step_at,
+  same_number,
+  rows_of,
+  step_by,
   step_is,
 }
 
@@ -54,33 +57,25 @@ IsLookedUp q k d =
     → slice_index_or (slice_index_or (slice_index_or STEPS (tag_of states q) a) (tag_of kinds k) b)
     (tag_of directions d) s ≡ step q (letter k d)
 
-abbrev at_numbers : ℕ → ℕ → ℕ → List (List State) → List State → State → State
-at_numbers q k d a b s = slice_index_or (slice_index_or (slice_index_or STEPS q a) k b) d s
+abbrev entry : List (List State) → List State → State → Letter → State
+entry row b s l = slice_index_or (slice_index_or row (kind_number l.kind) b) (direction_number l.direction) s
 
-looked_up_at : (q : State) (k : Kind) (d : Direction) (a : List (List State)) (b : List State) (s : State)
-    → at_numbers (state_number q) (kind_number k) (direction_number d) a b s ≡ step_at q (letter k d)
-looked_up_at = elim [
-  | state.Start ↦ elim [
-    | kind.HelloRequest ↦ elim [
-      | ToServer ↦ λ a b s. refl
-      | _ ↦ λ a b s.
-          refl
-    ]
-    | _ ↦ elim [ ToServer ↦ λ a b s. refl | _ ↦ λ a b s. refl ]
-  ]
-  | _ ↦ elim [
-    | kind.HelloRequest ↦ elim [
-      | ToServer ↦ λ a b s. refl
-      | _ ↦ λ a b s.
-          refl
-    ]
-    | _ ↦ elim [ ToServer ↦ λ a b s. refl | _ ↦ λ a b s. refl ]
-  ]
-]
+abbrev entry_test : State → List Row → List (List State) → List State → State → Letter → Bool
+entry_test q rows row b s l = eqb (state_number (entry row b s l)) (state_number (step_by rows q l))
+
+entries_pass : (q : State) (a : List (List State)) (b : List State) (s : State)
+    → list_all (entry_test q (rows_of q) (slice_index_or STEPS (state_number q) a) b s) letters ≡ true
+entries_pass = elim [ state.Start ↦ λ a b s. refl | _ ↦ λ a b s. refl ]
 
 pub looked_up : (q : State) (k : Kind) (d : Direction) → IsLookedUp q k d
 looked_up q k d a b s =
-    ap (λ n. at_numbers n (tag_of kinds k) (tag_of directions d) a b s) (state_tag q)
-    ∙ ap (λ n. at_numbers (state_number q) n (tag_of directions d) a b s) (kind_tag k)
-    ∙ ap (λ n. at_numbers (state_number q) (kind_number k) n a b s) (direction_tag d)
-    ∙ looked_up_at q k d a b s ∙ sym (step_is q (letter k d))
+    ap (λ n. slice_index_or (slice_index_or (slice_index_or STEPS n a) (tag_of kinds k) b) (tag_of directions d) s)
+    (state_tag q)
+    ∙ ap (λ n. slice_index_or (slice_index_or (slice_index_or STEPS (state_number q) a) n b) (tag_of directions d) s)
+    (kind_tag k)
+    ∙ ap (λ n. slice_index_or (slice_index_or (slice_index_or STEPS (state_number q) a) (kind_number k) b) n s)
+    (direction_tag d)
+    ∙ same_number (entry (slice_index_or STEPS (state_number q) a) b s (letter k d)) (step_by (rows_of q) q (letter k d))
+    (passes (entry_test q (rows_of q) (slice_index_or STEPS (state_number q) a) b s) (letter k d)
+    (entries_pass q a b s))
+    ∙ sym (step_is q (letter k d))

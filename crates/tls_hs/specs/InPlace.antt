@@ -1,10 +1,11 @@
 -- Handshake messages in place: what they say is what those with lists of their own say.
-use Rattle.std.specs.Prelude.{ℕ, List, Result, Ok, length}
+use Rattle.std.specs.Prelude.{ℕ, List, Result, Ok, Err, length}
 use Rattle.std.specs.Option.{option_map}
 use Rattle.tls_fields.specs.Bytes.{Bytes}
 use Rattle.tls_fields.specs.Layout.{Layout, number, counted}
 use Rattle.tls_fields.specs.Meaning.{Refusal}
 use Rattle.tls_fields.specs.Reading.{reading, ◌and_then◌}
+use Rattle.tls_fields.specs.Answers.{Returned}
 use Rattle.tls_fields.specs.Items.{items_in, value_of}
 use Rattle.tls_fields.specs.Framed.{Framed, framed}
 use Rattle.tls_hs.specs.Hello.{ClientHello}
@@ -15,6 +16,7 @@ use Rattle.tls_hs.specs.Message as message
 use Rattle.tls_hs.specs.Message.{Message}
 use Rattle.tls_hs.specs.declared.client_hello_view.ClientHelloView.{ClientHelloView}
 use Rattle.tls_hs.specs.declared.certificate_view.CertificateRequestView.{CertificateRequestView}
+use Rattle.tls_hs.specs.declared.handshake.TlsMessageHandshake.{TlsMessageHandshake}
 use Rattle.tls_hs.specs.declared.handshake_view.HandshakeView.{HandshakeView}
 use Rattle.tls_hs.specs.declared.handshake_view.HandshakeView.TheVariants as in_place
 use Rattle.tls_hs.specs.declared.handshake_view.RawHandshake.{RawHandshake}
@@ -42,6 +44,11 @@ view_handshake_in_place (in_place.Certificate c) = handshakes.Certificate (items
 view_handshake_in_place (in_place.CertificateRequest r) =
     handshakes.CertificateRequest (view_certificate_request_in_place r)
 view_handshake_in_place (in_place.Other m) = view_handshake m
+
+-- What a call returned, as a message that has no list.
+abbrev pub as_other : Returned TlsMessageHandshake → Returned HandshakeView
+as_other (Ok x) = Ok (x.0, in_place.Other x.1)
+as_other (Err e) = Err e
 
 abbrev pub view_raw_handshake : RawHandshake → Framed
 view_raw_handshake h = record { kind = h.msg_type.0; content = h.body.now }

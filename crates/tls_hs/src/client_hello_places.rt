@@ -13,9 +13,9 @@ ghost use Rattle.tls_hs.specs.InPlace.{view_client_hello_in_place};
 ghost use Rattle.tls_hs.specs.Places.{HelloStands, Stands, StandsAt};
 
 use crate::client_hello_view::ClientHelloView;
-use crate::hello_fields::session_id;
+use crate::hello_fields::{extension_block, session_id};
 use tls_base::{TlsCipherSuiteID, TlsCompressionID, TlsVersion};
-use tls_fields::{ErrorKind, IResult, Items, Place, block, maybe2, number1, number2, refused};
+use tls_fields::{ErrorKind, IResult, Items, Place, block, number1, number2, refused};
 
 /// Where the parts of a ClientHello's body stand in it.
 #[derive(Clone, Copy, Debug, PartialEq)]
@@ -122,7 +122,7 @@ fn extensions_at<'a>(
     ensures gives { Gives (λ x. option_map (λ b. b.now) x.0) (maybe (counted 2)) i.now result }
     ensures stands { EndsWith whole.now i.now → IfOk result (λ x. StandsAt whole.now x.1.1 x.1.0) }
 {
-    let (rest, ext) = maybe2(i)?;
+    let (rest, ext) = extension_block(i);
     Ok((rest, (ext, held_before(whole, ext, rest))))
 }
 

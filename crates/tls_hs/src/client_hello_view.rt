@@ -5,11 +5,9 @@ ghost use Rattle.tls_fields.specs.Layout.{number};
 ghost use Rattle.tls_hs.specs.Hello.{cipher_suites as cipher_suites_layout, compression_methods, client_hello};
 ghost use Rattle.tls_hs.specs.InPlace.{view_client_hello_in_place};
 
-use crate::hello_fields::session_id;
+use crate::hello_fields::{extension_block, session_id};
 use tls_base::{TlsCipherSuiteID, TlsCompressionID, TlsVersion};
-use tls_fields::{
-    ErrorKind, IResult, Items, block, maybe2, number1, number2, numbers_in_place, refused,
-};
+use tls_fields::{ErrorKind, IResult, Items, block, number1, number2, numbers_in_place, refused};
 
 /// The body of a ClientHello (RFC 5246, section 7.4.1.2), as [`crate::TlsClientHelloContents`], but with its lists in place.
 #[derive(Clone, Copy, Debug, PartialEq)]
@@ -71,7 +69,7 @@ impl<'a> ClientHelloView<'a> {
         let (i, session_id) = session_id(i)?;
         let (i, ciphers) = cipher_suites_in_place(i)?;
         let (i, comp) = compressions_in_place(i)?;
-        let (i, ext) = maybe2(i)?;
+        let (i, ext) = extension_block(i);
         let hello = ClientHelloView {
             version,
             random,

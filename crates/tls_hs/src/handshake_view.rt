@@ -1,26 +1,25 @@
 //! Handshake messages in place (RFC 5246, section 7.4): raw, with the body as it stands, and with the body read.
-ghost use Rattle.std.specs.Prelude.{length};
+ghost use Rattle.std.specs.Prelude.{◌≡◌, length};
 ghost use Rattle.tls_fields.specs.Answers.{Gives};
 ghost use Rattle.tls_fields.specs.Framed.{Framed};
-ghost use Rattle.tls_hs.specs.Handshake.{handshake_body, body_from_certificate, body_from_finished};
+ghost use Rattle.tls_hs.specs.Handshake.{handshake_body, body_from_certificate};
 ghost use Rattle.tls_hs.specs.Message as message;
 ghost use Rattle.tls_hs.specs.Message.{Message};
-ghost use Rattle.tls_hs.specs.InPlace.{view_handshake_in_place, view_raw_handshake, raw_handshake};
+ghost use Rattle.tls_hs.specs.InPlace.{view_handshake_in_place, view_raw_handshake, raw_handshake, as_other};
 
 use crate::bodies::{
-    parse_tls_handshake_msg_certificatestatus, parse_tls_handshake_msg_certificateverify,
-    parse_tls_handshake_msg_clientkeyexchange, parse_tls_handshake_msg_finished,
+    parse_tls_handshake_msg_certificateverify, parse_tls_handshake_msg_clientkeyexchange,
     parse_tls_handshake_msg_hello_request, parse_tls_handshake_msg_hello_retry_request,
-    parse_tls_handshake_msg_key_update, parse_tls_handshake_msg_newsessionticket,
-    parse_tls_handshake_msg_next_protocol, parse_tls_handshake_msg_server_hello,
+    parse_tls_handshake_msg_newsessionticket, parse_tls_handshake_msg_server_hello,
     parse_tls_handshake_msg_serverdone, parse_tls_handshake_msg_serverkeyexchange,
 };
+use crate::body_by_type::body_from_finished;
 use crate::certificate::RawCertificate;
 use crate::certificate_view::{CertificateRequestView, certificates};
 use crate::client_hello_view::ClientHelloView;
 use crate::handshake::TlsMessageHandshake;
 use tls_base::TlsHandshakeType;
-use tls_fields::{ErrorKind, IResult, InPlace, Items, block, counted3, number3, refused};
+use tls_fields::{IResult, InPlace, Items, block, counted3, number3};
 
 /// A handshake message (RFC 5246, section 7.4), as [`crate::TlsMessageHandshake`], but with its lists in place.
 #[derive(Debug, PartialEq, Drop)]
@@ -94,33 +93,22 @@ impl<'a> RawHandshake<'a> {
     }
 }
 
-/// Reads a body that has no list.
-macro_rules! other {
-    ($read:expr) => {{
-        let (i, message) = $read?;
-        Ok((i, HandshakeView::Other(message)))
-    }};
-}
-
-/// Reads the body of a message of the type `msg_type`, of `len` bytes, where the type is Finished (20) or above.
-///
-/// `Error` of kind `Switch` where no body has this type; else what the body's own call refuses.
-#[tactic(auto, using(tls_fields::proofs::OneAnswerLemmas::read_allowed), unfolding(crate::specs::Handshake::body_from_finished))]
-fn from_finished(i: &[u8], msg_type: TlsHandshakeType, len: usize) -> IResult<&[u8], HandshakeView>
-    ensures { Gives view_handshake_in_place (body_from_finished msg_type.0 len) i.now result }
+/// What a body that has no list is read as.
+#[inline(always)]
+fn other<'a>(
+    read: IResult<&'a [u8], TlsMessageHandshake<'a>>,
+) -> IResult<&'a [u8], HandshakeView<'a>>
+    ensures { result ≡ as_other read.entry }
 {
-    match msg_type {
-        TlsHandshakeType::Finished => other!(parse_tls_handshake_msg_finished(i, len)),
-        TlsHandshakeType::CertificateStatus => {
-            other!(parse_tls_handshake_msg_certificatestatus(i))
-        }
-        TlsHandshakeType::KeyUpdate => other!(parse_tls_handshake_msg_key_update(i)),
-        TlsHandshakeType::NextProtocol => other!(parse_tls_handshake_msg_next_protocol(i)),
-        _ => refused(i, ErrorKind::Switch),
+    match read {
+        Ok((i, message)) => Ok((i, HandshakeView::Other(message))),
+        Err(e) => Err(e),
     }
 }
 
-/// Reads the same where the type is Certificate (11) or above.
+/// Reads the body of a message of the type `msg_type`, of `len` bytes, where the type is Certificate (11) or above.
+///
+/// `Error` of kind `Switch` where no body has this type; else what the body's own call refuses.
 #[tactic(auto, using(tls_fields::proofs::OneAnswerLemmas::read_allowed), unfolding(crate::specs::Handshake::body_from_certificate, crate::specs::Handshake::certificate_body, crate::specs::Handshake::certificate_request_body))]
 fn from_certificate(
     i: &[u8],
@@ -135,20 +123,20 @@ fn from_certificate(
             Ok((i, HandshakeView::Certificate(chain)))
         }
         TlsHandshakeType::ServerKeyExchange => {
-            other!(parse_tls_handshake_msg_serverkeyexchange(i, len))
+            other(parse_tls_handshake_msg_serverkeyexchange(i, len))
         }
         TlsHandshakeType::CertificateRequest => {
             let (i, request) = CertificateRequestView::parse(i)?;
             Ok((i, HandshakeView::CertificateRequest(request)))
         }
-        TlsHandshakeType::ServerDone => other!(parse_tls_handshake_msg_serverdone(i, len)),
+        TlsHandshakeType::ServerDone => other(parse_tls_handshake_msg_serverdone(i, len)),
         TlsHandshakeType::CertificateVerify => {
-            other!(parse_tls_handshake_msg_certificateverify(i, len))
+            other(parse_tls_handshake_msg_certificateverify(i, len))
         }
         TlsHandshakeType::ClientKeyExchange => {
-            other!(parse_tls_handshake_msg_clientkeyexchange(i, len))
+            other(parse_tls_handshake_msg_clientkeyexchange(i, len))
         }
-        _ => from_finished(i, msg_type, len),
+        _ => other(body_from_finished(i, msg_type, len)),
     }
 }
 
@@ -161,20 +149,20 @@ fn body_in_place(i: &[u8], msg_type: TlsHandshakeType, len: usize) -> IResult<&[
     ensures { Gives view_handshake_in_place (handshake_body msg_type.0 len) i.now result }
 {
     match msg_type {
-        TlsHandshakeType::HelloRequest => other!(parse_tls_handshake_msg_hello_request(i)),
+        TlsHandshakeType::HelloRequest => other(parse_tls_handshake_msg_hello_request(i)),
         TlsHandshakeType::ClientHello => {
             let (i, hello) = ClientHelloView::parse(i)?;
             Ok((i, HandshakeView::ClientHello(hello)))
         }
-        TlsHandshakeType::ServerHello => other!(parse_tls_handshake_msg_server_hello(i)),
+        TlsHandshakeType::ServerHello => other(parse_tls_handshake_msg_server_hello(i)),
         TlsHandshakeType::NewSessionTicket => {
-            other!(parse_tls_handshake_msg_newsessionticket(i, len))
+            other(parse_tls_handshake_msg_newsessionticket(i, len))
         }
         TlsHandshakeType::EndOfEarlyData => {
             Ok((i, HandshakeView::Other(TlsMessageHandshake::EndOfEarlyData)))
         }
         TlsHandshakeType::HelloRetryRequest => {
-            other!(parse_tls_handshake_msg_hello_retry_request(i))
+            other(parse_tls_handshake_msg_hello_retry_request(i))
         }
         _ => from_certificate(i, msg_type, len),
     }

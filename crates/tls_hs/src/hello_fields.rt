@@ -1,14 +1,17 @@
 //! Fields of hellos (RFC 5246, section 7.4.1), each read alone, and what is told of them.
-ghost use Rattle.std.specs.Prelude.{◌≡◌, map, IfOk};
+ghost use Rattle.std.specs.Prelude.{◌≡◌, map, IfOk, Ok};
 ghost use Rattle.std.specs.Option.{option_map};
 ghost use Rattle.tls_fields.specs.Answers.{Gives, GivesOrMemory};
+ghost use Rattle.tls_fields.specs.Layout.{counted, maybe};
 ghost use Rattle.tls_base.specs.CipherTable.{suite_of_id};
 ghost use Rattle.tls_hs.specs.Hello.{session_id as session_id_layout, cipher_suites as cipher_suites_layout};
 ghost use Rattle.tls_hs.specs.Hello.{compression_methods, random_time as time_of, random_bytes as bytes_of};
 
 use std::alloc::Global;
 use tls_base::{CipherTable, TlsCipherSuite, TlsCipherSuiteID, TlsCompressionID};
-use tls_fields::{ErrorKind, IResult, OutOfMemory, block, number1, number2, numbers, refused};
+use tls_fields::{
+    ErrorKind, IResult, OutOfMemory, block, counted2, number1, number2, numbers, refused,
+};
 
 /// Reads a session id (RFC 5246, section 7.4.1.2): 1 byte of length, at most 32, and so many bytes; one of no bytes is `None`.
 ///
@@ -63,6 +66,17 @@ pub fn compressions(alloc: Global, i: &[u8]) -> IResult<&[u8], Vec<TlsCompressio
         return refused(i, ErrorKind::LengthValue);
     }
     numbers::<TlsCompressionID>(alloc, rest, k)
+}
+
+/// Reads the extensions at the end of a hello (RFC 5246, section 7.4.1.2): 2 bytes of length, and so many bytes; `None`, and
+/// nothing is taken, where they aren't all there. It never refuses.
+pub fn extension_block(i: &[u8]) -> (&[u8], Option<&[u8]>)
+    ensures { Gives (λ v. option_map (λ x. x.now) v) (maybe (counted 2)) i.now (Ok result) }
+{
+    match counted2(i) {
+        Ok((rest, bytes)) => (rest, Some(bytes)),
+        Err(_) => (i, None),
+    }
 }
 
 /// The suite that `table` has for each of `ciphers`, in their order; `None` where it has none.

@@ -6,11 +6,10 @@ ghost use Rattle.tls_hs.specs.Message.{application_data, heartbeat};
 
 use crate::body_by_type::handshake_body;
 use crate::handshake::TlsMessageHandshake;
+use crate::message_view::heartbeat as heartbeat_in_place;
 use std::alloc::Global;
 use tls_base::{TlsHandshakeType, TlsHeartbeatMessageType, TlsMessageAlert};
-use tls_fields::{
-    ErrorKind, IResult, OutOfMemory, block, number1, number2, number3, refused, rest,
-};
+use tls_fields::{ErrorKind, IResult, OutOfMemory, block, number1, number3, refused, rest};
 
 /// Application data (RFC 5246, section 10).
 #[derive(Clone, Debug, PartialEq, Drop)]
@@ -124,7 +123,6 @@ pub fn parse_tls_message_applicationdata(i: &[u8]) -> IResult<&[u8], TlsMessage>
 /// - `Incomplete` of the count of missing bytes.
 /// - `Error` of kind `Verify` where `tls_plaintext_len` is below 3, once the type and the length are there.
 /// - `OutOfMemory` where memory for the list runs out.
-#[tactic(auto, using(tls_fields::proofs::OneAnswerLemmas::read_allowed), unfolding(crate::specs::Message::heartbeat))]
 pub fn parse_tls_message_heartbeat(
     alloc: Global,
     i: &[u8],
@@ -132,17 +130,7 @@ pub fn parse_tls_message_heartbeat(
 ) -> IResult<&[u8], Vec<TlsMessage>>
     ensures { GivesOrMemory (λ v. map view_message v.items) (heartbeat tls_plaintext_len) i.now result }
 {
-    let (i, heartbeat_type) = TlsHeartbeatMessageType::parse(i)?;
-    let (i, payload_len) = number2(i)?;
-    if tls_plaintext_len < 3 {
-        return refused(i, ErrorKind::Verify);
-    }
-    let (i, payload) = block(i, payload_len as usize)?;
-    let message = TlsMessageHeartbeat {
-        heartbeat_type,
-        payload_len,
-        payload,
-    };
+    let (i, message) = heartbeat_in_place(i, tls_plaintext_len)?;
     let mut messages = Vec::new(alloc);
     messages.push(TlsMessage::Heartbeat(message))?;
     Ok((i, messages))

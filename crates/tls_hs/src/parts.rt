@@ -3,6 +3,6 @@
 pub use crate::certificate::certificate;
 pub use crate::client_hello_view::{cipher_suites_in_place, compressions_in_place};
 pub use crate::hello_fields::{
-    cipher_suites, compressions, random_bytes, random_time, session_id, suites,
+    cipher_suites, compressions, extension_block, random_bytes, random_time, session_id, suites,
 };
 pub use crate::server_hello::server_hello_any;

@@ -11,9 +11,9 @@ ghost use Rattle.tls_hs.specs.ServerHello.{view_server_hello_draft18};
 ghost use Rattle.tls_hs.specs.ServerHello.{server_hello_draft18 as server_hello_draft18_layout};
 ghost use Rattle.tls_hs.specs.ServerHello.{view_hello_retry_request, hello_retry_request as hello_retry_request_layout};
 
-use crate::hello_fields::session_id;
+use crate::hello_fields::{extension_block, session_id};
 use tls_base::{CipherTable, TlsCipherSuite, TlsCipherSuiteID, TlsCompressionID, TlsVersion};
-use tls_fields::{ErrorKind, IResult, block, maybe2, refused};
+use tls_fields::{ErrorKind, IResult, block, refused};
 
 /// The body of a ServerHello (RFC 5246, section 7.4.1.3).
 #[derive(Clone, Debug, PartialEq, Drop)]
@@ -109,7 +109,11 @@ fn server_hello_fields(i: &[u8], extensible: bool) -> IResult<&[u8], TlsServerHe
     let (i, session_id) = session_id(i)?;
     let (i, cipher) = TlsCipherSuiteID::parse(i)?;
     let (i, compression) = TlsCompressionID::parse(i)?;
-    let (i, ext) = if extensible { maybe2(i)? } else { (i, None) };
+    let (i, ext) = if extensible {
+        extension_block(i)
+    } else {
+        (i, None)
+    };
     let hello = TlsServerHelloContents {
         version,
         random,
@@ -173,7 +177,7 @@ pub(crate) fn server_hello_draft18(i: &[u8]) -> IResult<&[u8], TlsServerHelloV13
     let (i, version) = TlsVersion::parse(i)?;
     let (i, random) = block(i, 32)?;
     let (i, cipher) = TlsCipherSuiteID::parse(i)?;
-    let (i, ext) = maybe2(i)?;
+    let (i, ext) = extension_block(i);
     let hello = TlsServerHelloV13Draft18Contents {
         version,
         random,
@@ -193,7 +197,7 @@ pub(crate) fn hello_retry_request(i: &[u8]) -> IResult<&[u8], TlsHelloRetryReque
 {
     let (i, version) = TlsVersion::parse(i)?;
     let (i, cipher) = TlsCipherSuiteID::parse(i)?;
-    let (i, ext) = maybe2(i)?;
+    let (i, ext) = extension_block(i);
     let request = TlsHelloRetryRequestContents {
         version,
         cipher,

@@ -31,6 +31,7 @@ use Rattle.tls_fields.proofs.ItemsLemmas.{items_decoded}
 use Rattle.tls_base.specs.Alert as base_alert
 use Rattle.tls_hs.specs.Message as tls_message
 use Rattle.tls_parser.specs.DtlsHandshake as dtls_handshake
+use Rattle.tls_parser.specs.DtlsRecord as dtls_record
 use Rattle.tls_parser.specs.DtlsHandshake.{Body, body}
 use Rattle.tls_parser.specs.DtlsRecord.{
   Message,
@@ -50,7 +51,7 @@ use Rattle.tls_parser.specs.DtlsInPlace.{
   raw_handshake,
   handshake_of,
   is_part,
-  with_body,
+  handshake_with,
   with_read_body,
   Handshake,
   Whole,
@@ -61,24 +62,11 @@ use Rattle.tls_parser.specs.InPlace.{first_judged}
 use Rattle.tls_parser.proofs.ContentLemmas.{dtls_plaintext_is_raw_then_content}
 use Rattle.tls_parser.proofs.InPlaceLemmas.{list_told}
 
--- what is made of a message, and of a raw one
-abbrev finished : dtls_handshake.Handshake × Bytes → Answer Message
-finished x = Ok (
-  with_body (record {
-    msg_type = x.0.msg_type;
-    length = x.0.length;
-    message_seq =
-        x.0.message_seq;
-    fragment_offset = x.0.fragment_offset;
-    fragment_length = x.0.fragment_length;
-    body =
-        [];
-  }) x.0.body,
-  x.1,
-)
-
-abbrev decoded_then : RawHandshake × Bytes → Answer Message
-decoded_then x = handshake_of x.0 and_then λ y. Ok (y, x.1)
+-- a raw message with its body read
+abbrev pub with_body_read : RawHandshake × Bytes → Answer dtls_handshake.Handshake
+with_body_read x =
+    value_of (reading (body x.0.msg_type x.0.length (is_part x.0)) x.0.body) and_then λ y. Ok
+    (handshake_with x.0 y, x.1)
 
 -- the last parts of both
 abbrev raw_of : ℕ → ℕ → ℕ → ℕ → ℕ → Bytes → RawHandshake
@@ -97,18 +85,7 @@ part length offset n = nat_lt 0 offset || nat_lt n length
 
 module _ (kind length seq offset n : ℕ) where
   abbrev read_last : Body × Bytes → Answer dtls_handshake.Handshake
-  read_last x = Ok (
-    record {
-      msg_type = kind;
-      length = length;
-      message_seq = seq;
-      fragment_offset =
-          offset;
-      fragment_length = n;
-      body = x.0;
-    },
-    x.1,
-  )
+  read_last x = Ok (handshake_with (raw_of kind length seq offset n []) x.0, x.1)
 
   abbrev raw_last : Bytes × Bytes → Answer RawHandshake
   raw_last x = Ok (raw_of kind length seq offset n x.0, x.1)
@@ -116,32 +93,51 @@ module _ (kind length seq offset n : ℕ) where
   abbrev in_window : Bytes × Bytes → Answer Body
   in_window w = reading (body kind length (part length offset n)) w.0 and_then λ x. Ok (x.0, w.1)
 
-  by_body : (bytes r : Bytes) (a : Answer Body) → (((a and_then λ x. Ok (x.0, r)) and_then read_last) and_then finished)
-      ≡ (with_read_body (raw_of kind length seq offset n bytes) (value_of a) and_then λ y. Ok (y, r))
+  by_body : (bytes r : Bytes) (a : Answer Body) → ((a and_then λ x. Ok (x.0, r)) and_then read_last)
+      ≡ (value_of a and_then λ y. Ok (handshake_with (raw_of kind length seq offset n bytes) y, r))
   by_body bytes r (Ok x) = refl
   by_body bytes r (Err e) = refl
 
-  by_window : (a : Answer Bytes) → (((a and_then in_window) and_then read_last) and_then finished)
-      ≡ ((a and_then raw_last) and_then decoded_then)
+  by_window : (a : Answer Bytes) → ((a and_then in_window) and_then read_last) ≡ ((a and_then raw_last) and_then with_body_read)
   by_window (Ok w) = by_body w.0 w.1 (reading (body kind length (part length offset n)) w.0)
   by_window (Err e) = refl
 
 -- a number in front of both
 step : (a : Answer ℕ) (f : ℕ × Bytes → Answer dtls_handshake.Handshake) (g : ℕ × Bytes → Answer RawHandshake)
-    → ((x : ℕ × Bytes) → (f x and_then finished) ≡ (g x and_then decoded_then))
-    → ((a and_then f) and_then finished) ≡ ((a and_then g) and_then decoded_then)
+    → ((x : ℕ × Bytes) → f x ≡ (g x and_then with_body_read)) → (a and_then f) ≡ ((a and_then g) and_then with_body_read)
 step (Ok x) f g h = h x
 step (Err e) f g h = refl
 
-handshake_decodes : ReadsThenDecodes handshake raw_handshake handshake_of
-unfolding handshake dtls_handshake.handshake raw_handshake
-handshake_decodes b =
+-- a handshake message is read raw, and then its body alone
+pub handshake_is_raw_then_body : (b : Bytes)
+    → reading dtls_handshake.handshake b ≡ (reading raw_handshake b and_then with_body_read)
+unfolding dtls_handshake.handshake raw_handshake
+handshake_is_raw_then_body b =
     step (reading (number 1) b) _ _ (λ kind.
     step (reading (number 3) kind.1) _ _ (λ length.
     step (reading (number 2) length.1) _ _ (λ seq.
     step (reading (number 3) seq.1) _ _ (λ offset.
     step (reading (number 3) offset.1) _ _ (λ n.
     by_window kind.0 length.0 seq.0 offset.0 n.0 (split_at n.0 n.1))))))
+
+-- and so is the message that it is
+abbrev as_message : dtls_handshake.Handshake × Bytes → Answer Message
+as_message x = Ok (dtls_record.Handshake x.0, x.1)
+
+message_body : (h : RawHandshake) (r : Bytes) (b : Result Body Refusal)
+    → ((b and_then λ y. Ok (handshake_with h y, r)) and_then as_message) ≡ (with_read_body h b and_then λ y. Ok (y, r))
+message_body h r (Ok b) = refl
+message_body h r (Err e) = refl
+
+message_decodes : (a : Answer RawHandshake)
+    → ((a and_then with_body_read) and_then as_message) ≡ (a and_then λ x. handshake_of x.0 and_then λ y. Ok (y, x.1))
+message_decodes (Ok x) = message_body x.0 x.1 (value_of (reading (body x.0.msg_type x.0.length (is_part x.0)) x.0.body))
+message_decodes (Err e) = refl
+
+pub handshake_decodes : ReadsThenDecodes handshake raw_handshake handshake_of
+unfolding handshake
+handshake_decodes b =
+    ap (λ a. a and_then as_message) (handshake_is_raw_then_body b) ∙ message_decodes (reading raw_handshake b)
 
 whole : (xs : List Message) → xs ≡ decode_while message_of (map Whole xs)
 whole [] = refl

@@ -72,16 +72,21 @@ server_done_body length = mapped ServerDone (block length)
 unfoldable pub client_key_exchange_body : ℕ → Layout Body
 client_key_exchange_body length = mapped (λ b. ClientKeyExchange (session.Unknown b)) (block length)
 
+-- select (HandshakeType) of a body that holds no list.
+unfoldable pub listless_body : ℕ → ℕ → Layout Body
+listless_body kind length =
+    choose (kind == 2) server_hello_body (
+    choose (kind == 3) hello_verify_request_body (
+    choose (kind == 14) (server_done_body length) (
+    choose (kind == 16) (client_key_exchange_body length) (
+    refuse Switch))))
+
 -- select (HandshakeType) of a whole body of that length, in bytes.
 unfoldable pub whole_body : ℕ → ℕ → Layout Body
 whole_body kind length =
     choose (kind == 1) client_hello_body (
-    choose (kind == 2) server_hello_body (
-    choose (kind == 3) hello_verify_request_body (
     choose (kind == 11) certificate_body (
-    choose (kind == 14) (server_done_body length) (
-    choose (kind == 16) (client_key_exchange_body length) (
-    refuse Switch))))))
+    listless_body kind length))
 
 -- The same, or part of such a body, which is a fragment of whatever type.
 unfoldable pub body : ℕ → ℕ → Bool → Layout Body

@@ -82,16 +82,19 @@ raw_handshake = do
 abbrev pub is_part : RawHandshake → Bool
 is_part h = nat_lt 0 h.fragment_offset || nat_lt h.fragment_length h.length
 
--- The message with that body.
-abbrev pub with_body : RawHandshake → Body → Message
-with_body h b = dtls_record.Handshake (record {
+-- The handshake message with that body, and the message that it is.
+abbrev pub handshake_with : RawHandshake → Body → dtls_handshake.Handshake
+handshake_with h b = record {
   msg_type = h.msg_type;
   length = h.length;
   message_seq = h.message_seq;
   fragment_offset = h.fragment_offset;
   fragment_length = h.fragment_length;
   body = b;
-})
+}
+
+abbrev pub with_body : RawHandshake → Body → Message
+with_body h b = dtls_record.Handshake (handshake_with h b)
 
 abbrev pub view_message_in_place : DTLSHandshakeView → Message
 view_message_in_place v = with_body (view_raw_handshake v.raw) (view_body_in_place v.body)

@@ -1,14 +1,16 @@
 //! Handshake messages of DTLS, and fragments of them.
-ghost use Rattle.tls_fields.specs.Answers.{GivesOrMemory};
+ghost use Rattle.tls_fields.specs.Answers.{Gives, GivesOrMemory};
 ghost use Rattle.tls_parser.specs.DtlsHandshake.{view_body, whole_body as whole_body_layout, body as body_layout};
+ghost use Rattle.tls_parser.specs.DtlsHandshake.{listless_body as listless_body_layout};
 ghost use Rattle.tls_parser.specs.DtlsHandshake.{view_handshake, handshake as handshake_layout};
 
+use crate::dtls::handshake_view::DTLSRawHandshake;
 use crate::dtls::hello::{
     DTLSClientHello, DTLSHelloVerifyRequest, client_hello, hello_verify_request,
 };
 use std::alloc::Global;
 use tls_base::TlsHandshakeType;
-use tls_fields::{ErrorKind, IResult, block, number2, number3, refused, rest};
+use tls_fields::{ErrorKind, IResult, InPlace, block, refused, rest};
 use tls_hs::parts::{certificate, server_hello_any};
 use tls_hs::{
     TlsCertificateContents, TlsCertificateRequestContents, TlsCertificateStatusContents,
@@ -74,10 +76,44 @@ pub enum DTLSMessageHandshakeBody<'a> {
     Fragment(&'a [u8]),
 }
 
+/// A body that holds no list, of the type `msg_type` and of `length` bytes, from the front of `i`.
+///
+/// `Error` of kind `Switch` where no such body has this type; else what the body refuses.
+#[tactic(auto, using(tls_fields::proofs::OneAnswerLemmas::read_allowed), unfolding(crate::specs::DtlsHandshake::listless_body, crate::specs::DtlsHandshake::server_hello_body, crate::specs::DtlsHandshake::hello_verify_request_body, crate::specs::DtlsHandshake::server_done_body, crate::specs::DtlsHandshake::client_key_exchange_body))]
+#[inline(always)]
+pub(crate) fn listless_body(
+    i: &[u8],
+    msg_type: TlsHandshakeType,
+    length: usize,
+) -> IResult<&[u8], DTLSMessageHandshakeBody>
+    ensures { Gives view_body (listless_body_layout msg_type.0 length) i.now result }
+{
+    match msg_type {
+        TlsHandshakeType::ServerHello => {
+            let (i, hello) = server_hello_any(i)?;
+            Ok((i, DTLSMessageHandshakeBody::ServerHello(hello)))
+        }
+        TlsHandshakeType::HelloVerifyRequest => {
+            let (i, request) = hello_verify_request(i)?;
+            Ok((i, DTLSMessageHandshakeBody::HelloVerifyRequest(request)))
+        }
+        TlsHandshakeType::ServerDone => {
+            let (i, bytes) = block(i, length)?;
+            Ok((i, DTLSMessageHandshakeBody::ServerDone(bytes)))
+        }
+        TlsHandshakeType::ClientKeyExchange => {
+            let (i, bytes) = block(i, length)?;
+            let content = TlsClientKeyExchangeContents::Unknown(bytes);
+            Ok((i, DTLSMessageHandshakeBody::ClientKeyExchange(content)))
+        }
+        _ => refused(i, ErrorKind::Switch),
+    }
+}
+
 /// A whole body of the type `msg_type`, of `length` bytes, from the front of `i`.
 ///
 /// `Error` of kind `Switch` where no body has this type; else what the body refuses.
-#[tactic(auto, using(tls_fields::proofs::OneAnswerLemmas::read_allowed), unfolding(crate::specs::DtlsHandshake::whole_body, crate::specs::DtlsHandshake::client_hello_body, crate::specs::DtlsHandshake::server_hello_body, crate::specs::DtlsHandshake::hello_verify_request_body, crate::specs::DtlsHandshake::certificate_body, crate::specs::DtlsHandshake::server_done_body, crate::specs::DtlsHandshake::client_key_exchange_body))]
+#[tactic(auto, using(tls_fields::proofs::OneAnswerLemmas::read_allowed), unfolding(crate::specs::DtlsHandshake::whole_body, crate::specs::DtlsHandshake::client_hello_body, crate::specs::DtlsHandshake::certificate_body))]
 #[inline(always)]
 fn whole_body(
     alloc: Global,
@@ -92,28 +128,11 @@ fn whole_body(
             let (i, hello) = client_hello(alloc, i)?;
             Ok((i, DTLSMessageHandshakeBody::ClientHello(hello)))
         }
-        TlsHandshakeType::ServerHello => {
-            let (i, hello) = server_hello_any(i)?;
-            Ok((i, DTLSMessageHandshakeBody::ServerHello(hello)))
-        }
-        TlsHandshakeType::HelloVerifyRequest => {
-            let (i, request) = hello_verify_request(i)?;
-            Ok((i, DTLSMessageHandshakeBody::HelloVerifyRequest(request)))
-        }
         TlsHandshakeType::Certificate => {
             let (i, certificate) = certificate(alloc, i)?;
             Ok((i, DTLSMessageHandshakeBody::Certificate(certificate)))
         }
-        TlsHandshakeType::ServerDone => {
-            let (i, bytes) = block(i, length)?;
-            Ok((i, DTLSMessageHandshakeBody::ServerDone(bytes)))
-        }
-        TlsHandshakeType::ClientKeyExchange => {
-            let (i, bytes) = block(i, length)?;
-            let content = TlsClientKeyExchangeContents::Unknown(bytes);
-            Ok((i, DTLSMessageHandshakeBody::ClientKeyExchange(content)))
-        }
-        _ => refused(i, ErrorKind::Switch),
+        _ => listless_body(i, msg_type, length),
     }
 }
 
@@ -137,24 +156,19 @@ fn body(
 }
 
 /// Reads a handshake message, as [`crate::parse_dtls_message_handshake`] does.
-#[tactic(auto, using(tls_fields::proofs::OneAnswerLemmas::read_allowed), unfolding(crate::specs::DtlsHandshake::handshake))]
+#[tactic(auto, using(tls_fields::proofs::OneAnswerLemmas::read_allowed, crate::proofs::DtlsInPlaceLemmas::handshake_is_raw_then_body))]
 pub(crate) fn handshake(alloc: Global, i: &[u8]) -> IResult<&[u8], DTLSMessageHandshake>
     ensures { GivesOrMemory view_handshake handshake_layout i.now result }
 {
-    let (i, msg_type) = TlsHandshakeType::parse(i)?;
-    let (i, length) = number3(i)?;
-    let (i, message_seq) = number2(i)?;
-    let (i, fragment_offset) = number3(i)?;
-    let (i, fragment_length) = number3(i)?;
-    let (i, window) = block(i, fragment_length as usize)?;
-    let is_fragment = fragment_offset > 0 || fragment_length < length;
-    let (_, body) = body(alloc, window, msg_type, length as usize, is_fragment)?;
+    let (i, raw) = DTLSRawHandshake::read(i)?;
+    let length = raw.length as usize;
+    let (_, body) = body(alloc, raw.body, raw.msg_type, length, raw.is_fragment())?;
     let message = DTLSMessageHandshake {
-        msg_type,
-        length,
-        message_seq,
-        fragment_offset,
-        fragment_length,
+        msg_type: raw.msg_type,
+        length: raw.length,
+        message_seq: raw.message_seq,
+        fragment_offset: raw.fragment_offset,
+        fragment_length: raw.fragment_length,
         body,
     };
     Ok((i, message))

@@ -6,13 +6,11 @@ ghost use Rattle.tls_parser.specs.DtlsRecord as dtls_record;
 ghost use Rattle.tls_parser.specs.DtlsRecord.{Message};
 ghost use Rattle.tls_parser.specs.DtlsInPlace.{RawHandshake, is_part, raw_handshake, view_body_in_place, view_message_in_place, view_raw_handshake};
 
-use crate::dtls::handshake::DTLSMessageHandshakeBody;
-use crate::dtls::hello::hello_verify_request;
+use crate::dtls::handshake::{DTLSMessageHandshakeBody, listless_body};
 use crate::dtls::hello_view::DTLSClientHelloView;
 use tls_base::TlsHandshakeType;
-use tls_fields::{ErrorKind, IResult, InPlace, Items, block, number2, number3, refused, rest};
-use tls_hs::parts::server_hello_any;
-use tls_hs::{RawCertificate, TlsClientKeyExchangeContents, certificates};
+use tls_fields::{IResult, InPlace, Items, block, number2, number3, rest};
+use tls_hs::{RawCertificate, certificates};
 
 /// The body of a handshake message of DTLS, or a part of it, as [`DTLSMessageHandshakeBody`], but with its lists in place.
 #[derive(Debug, PartialEq, Drop)]
@@ -75,7 +73,7 @@ impl<'a> InPlace<'a> for DTLSRawHandshake<'a> {
 /// Reads a whole body of the type `msg_type`, of `length` bytes, from the front of `i`.
 ///
 /// `Error` of kind `Switch` where no body has this type; else what the body refuses.
-#[tactic(auto, using(tls_fields::proofs::OneAnswerLemmas::read_allowed), unfolding(crate::specs::DtlsHandshake::whole_body, crate::specs::DtlsHandshake::client_hello_body, crate::specs::DtlsHandshake::server_hello_body, crate::specs::DtlsHandshake::hello_verify_request_body, crate::specs::DtlsHandshake::certificate_body, crate::specs::DtlsHandshake::server_done_body, crate::specs::DtlsHandshake::client_key_exchange_body))]
+#[tactic(auto, using(tls_fields::proofs::OneAnswerLemmas::read_allowed), unfolding(crate::specs::DtlsHandshake::whole_body, crate::specs::DtlsHandshake::client_hello_body, crate::specs::DtlsHandshake::certificate_body))]
 fn whole_body(i: &[u8], msg_type: TlsHandshakeType, length: usize) -> IResult<&[u8], DTLSBodyView>
     ensures { Gives view_body_in_place (whole_body_layout msg_type.0 length) i.now result }
 {
@@ -84,32 +82,14 @@ fn whole_body(i: &[u8], msg_type: TlsHandshakeType, length: usize) -> IResult<&[
             let (i, hello) = DTLSClientHelloView::parse(i)?;
             Ok((i, DTLSBodyView::ClientHello(hello)))
         }
-        TlsHandshakeType::ServerHello => {
-            let (i, hello) = server_hello_any(i)?;
-            let body = DTLSMessageHandshakeBody::ServerHello(hello);
-            Ok((i, DTLSBodyView::Other(body)))
-        }
-        TlsHandshakeType::HelloVerifyRequest => {
-            let (i, request) = hello_verify_request(i)?;
-            let body = DTLSMessageHandshakeBody::HelloVerifyRequest(request);
-            Ok((i, DTLSBodyView::Other(body)))
-        }
         TlsHandshakeType::Certificate => {
             let (i, chain) = certificates(i)?;
             Ok((i, DTLSBodyView::Certificate(chain)))
         }
-        TlsHandshakeType::ServerDone => {
-            let (i, bytes) = block(i, length)?;
-            let body = DTLSMessageHandshakeBody::ServerDone(bytes);
+        _ => {
+            let (i, body) = listless_body(i, msg_type, length)?;
             Ok((i, DTLSBodyView::Other(body)))
         }
-        TlsHandshakeType::ClientKeyExchange => {
-            let (i, bytes) = block(i, length)?;
-            let content = TlsClientKeyExchangeContents::Unknown(bytes);
-            let body = DTLSMessageHandshakeBody::ClientKeyExchange(content);
-            Ok((i, DTLSBodyView::Other(body)))
-        }
-        _ => refused(i, ErrorKind::Switch),
     }
 }
 
@@ -178,25 +158,11 @@ impl<'a> InPlace<'a> for DTLSHandshakeView<'a> {
 
     ghost layout = { dtls_record.handshake };
 
-    #[tactic(auto, using(tls_fields::proofs::OneAnswerLemmas::read_allowed), unfolding(crate::specs::DtlsRecord::handshake, crate::specs::DtlsHandshake::handshake))]
+    #[tactic(auto, using(tls_fields::proofs::OneAnswerLemmas::read_allowed, crate::proofs::DtlsInPlaceLemmas::handshake_decodes))]
     #[inline(always)]
     fn read(i: &'a [u8]) -> IResult<&'a [u8], Self> {
-        let (i, msg_type) = TlsHandshakeType::parse(i)?;
-        let (i, length) = number3(i)?;
-        let (i, message_seq) = number2(i)?;
-        let (i, fragment_offset) = number3(i)?;
-        let (i, fragment_length) = number3(i)?;
-        let (i, window) = block(i, fragment_length as usize)?;
-        let is_fragment = fragment_offset > 0 || fragment_length < length;
-        let (_, body) = body(window, msg_type, length as usize, is_fragment)?;
-        let raw = DTLSRawHandshake {
-            msg_type,
-            length,
-            message_seq,
-            fragment_offset,
-            fragment_length,
-            body: window,
-        };
+        let (i, raw) = DTLSRawHandshake::read(i)?;
+        let (_, body) = raw.parse_body()?;
         Ok((i, DTLSHandshakeView { raw, body }))
     }
 }

@@ -1,0 +1,8 @@
+-- What a call returned, with another rest.
+use Rattle.std.specs.Prelude.{ℕ, List, Ok, Err}
+use Rattle.std.specs.Borrow.{Bor}
+use Rattle.tls_fields.specs.Answers.{Returned}
+
+abbrev pub with_rest : {X : Type 0} → Bor (List ℕ) → Returned X → Returned X
+with_rest rest (Ok x) = Ok (rest, x.1)
+with_rest rest (Err e) = Err e
