@@ -147,15 +147,15 @@ def wanted_of_uses(lines):
             plain([line.get("server_name"), line.get("last_alert"), line.get("stop", {}).get("sender")])
             for line in lines if line["outcome"] == "broken_off"
         ),
-        "which suites": counted(line["cipher"] for line in named(lines) if "cipher" in line),
-        "which programs": counted(only(line, "ja4", "ja3") for line in lines),
+        "cipher suites": counted(line["cipher"] for line in named(lines) if "cipher" in line),
+        "client programs": counted(only(line, "ja4", "ja3") for line in lines),
         "resumed": counted(only(line, "version", "resumed") for line in lines),
-        "would still take": sorted(
-            str(line["id.orig_p"]) for line in lines
-            if "TLSv10" in line.get("client_supported_versions", [line.get("client_version")])
-        ),
+        "would still accept": sorted({
+            line["id.orig_h"] for line in lines if "TLSv10" in line.get("client_supported_versions", [line.get("client_version")])
+        }),
         "asked for a certificate": sorted(
-            plain([line["id.orig_p"], line.get("client_cert_count")]) for line in lines if "client_cert_requested" in line
+            plain([line["id.orig_h"], line["id.resp_h"], line.get("client_cert_count")])
+            for line in lines if "client_cert_requested" in line
         ),
         "in a retry": counted(line["server_key_share_group"] for line in lines if "retried" in line),
         "which messages": sorted(f"{row[2]}\t{row[4]}" for row in said if row[1] == "54368"),
