@@ -114,7 +114,10 @@ def _zsh_spec(option):
     if not option.value:
         names = f"'({option.short} {option.long})'{{{option.short},{option.long}}}" if option.short else option.long
         return f"    {names}'[{said}]' \\"
-    action = f"({' '.join(option.choices)})" if option.choices else "_tlslog_fields" if option.is_list else "_files" if option.is_file else " "
+    if option.choices:
+        action = f"({' '.join(option.choices)})"
+    else:
+        action = "_tlslog_fields" if option.is_list else "_files" if option.is_file else " "
     name = "fields" if option.is_list else option.value.lower()
     return f"    '{option.long}=[{said}]:{name}:{action}' \\"
 
@@ -144,7 +147,9 @@ def completions_of(text, fields, message_fields):
     options = options_of(text)
     names = {"FIELDS": " ".join(fields), "MESSAGE_FIELDS": " ".join(message_fields)}
     cases = "\n".join(
-        f"        {option.long})\n            {_bash_case(option)}\n            return\n            ;;" for option in options if option.value
+        f"        {option.long})\n            {_bash_case(option)}\n            return\n            ;;"
+        for option in options
+        if option.value
     )
     words = " ".join(name for option in options for name in (option.short, option.long) if name)
     return {

@@ -1,8 +1,8 @@
 #!/bin/sh
 # tlslog [ARGUMENT..], as packages install it. The program stands in libexec beside this command's folder, or where TLSLOG_PROGRAM says.
 #
-# Ctrl-C goes to every program of a pipeline. Where the capture comes by a pipe it is left to the one that writes: it ends, so the pipe does,
-# and the lines of the connections that are open then still come.
+# Ctrl-C goes to every program of a pipeline. Where the capture comes by a pipe it is left to the one that writes: that ends, so the pipe
+# does, and the lines of the connections that are open then still come.
 
 # Whether no capture is named, so that standard input is read.
 reads_input() {
