@@ -4,7 +4,7 @@ import re
 import subprocess
 
 # The parts of the C library.
-C_LIBRARY = {"libc.so.6", "ld-linux-x86-64.so.2"}
+C_LIBRARY = {"libc.so.6", "libm.so.6", "ld-linux-x86-64.so.2"}
 
 
 def _said(*words):
