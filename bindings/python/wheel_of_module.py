@@ -2,29 +2,55 @@
 
 import base64
 import hashlib
+import os
+import re
 import sysconfig
+import time
 import zipfile
 from pathlib import Path
 
 HERE = Path(__file__).resolve().parent
-NAME, VERSION = "wispuddera", "0.1.0"
+NAME = "wispuddera"
+LIBRARY = HERE / NAME / "libwispuddera.so"
+VERSION = re.search(r'^version = "(.*)"$', (HERE / "pyproject.toml").read_text(), re.MULTILINE)[1]
 INFO = f"{NAME}-{VERSION}.dist-info"
+METADATA = f"""Metadata-Version: 2.1
+Name: {NAME}
+Version: {VERSION}
+Summary: TLS and DTLS read in place, by a proved library
+License: MIT
+Requires-Python: >=3.9
+"""
+# The first time that a zip file can tell.
+FIRST = 315532800
 
 
 def build_wheel(wheel_directory, config_settings=None, metadata_directory=None):
-    library = HERE / NAME / "libwispuddera.so"
-    if not library.exists():
-        raise SystemExit(f"{library} isn't there: bindings/build makes it")
-    tag = f"py3-none-{sysconfig.get_platform().replace('-', '_').replace('.', '_')}"
-    files = {f"{NAME}/{file.name}": file.read_bytes() for file in sorted((HERE / NAME).iterdir()) if file.is_file()}
-    files[f"{INFO}/METADATA"] = f"Metadata-Version: 2.1\nName: {NAME}\nVersion: {VERSION}\nRequires-Python: >=3.9\n".encode()
-    files[f"{INFO}/WHEEL"] = f"Wheel-Version: 1.0\nGenerator: {NAME}\nRoot-Is-Purelib: false\nTag: {tag}\n".encode()
+    if not LIBRARY.exists():
+        raise SystemExit(f"{LIBRARY} isn't there: bindings/build makes it")
+    platform = re.sub(r"[-.]", "_", sysconfig.get_platform())
+    return write_wheel(wheel_directory, LIBRARY, platform, int(os.environ.get("SOURCE_DATE_EPOCH", FIRST)))
+
+
+def write_wheel(folder, library, platform, epoch):
+    """Writes the wheel with this library, for systems that are named so, its files of this time. It is the same where these are."""
+    sources = [file for file in sorted((HERE / NAME).iterdir()) if file.suffix in {".py", ".typed"}]
+    files = {f"{NAME}/{file.name}": file.read_bytes() for file in sources}
+    files[f"{NAME}/{LIBRARY.name}"] = library.read_bytes()
+    files[f"{INFO}/METADATA"] = METADATA.encode()
+    tags = "".join(f"Tag: py3-none-{one}\n" for one in platform.split("."))
+    files[f"{INFO}/WHEEL"] = f"Wheel-Version: 1.0\nGenerator: {NAME}\nRoot-Is-Purelib: false\n{tags}".encode()
+    license_file = HERE.parents[1] / "LICENSE"
+    if license_file.is_file():
+        files[f"{INFO}/LICENSE"] = license_file.read_bytes()
     record = [f"{name},sha256={_hash(text)},{len(text)}\n" for name, text in files.items()]
     files[f"{INFO}/RECORD"] = "".join([*record, f"{INFO}/RECORD,,\n"]).encode()
-    wheel = f"{NAME}-{VERSION}-{tag}.whl"
-    with zipfile.ZipFile(Path(wheel_directory) / wheel, "w", zipfile.ZIP_DEFLATED) as made:
+    wheel = f"{NAME}-{VERSION}-py3-none-{platform}.whl"
+    with zipfile.ZipFile(Path(folder) / wheel, "w", zipfile.ZIP_DEFLATED) as made:
         for name, text in files.items():
-            made.writestr(name, text)
+            entry = zipfile.ZipInfo(name, time.gmtime(max(epoch, FIRST))[:6])
+            entry.external_attr = 0o100644 << 16
+            made.writestr(entry, text, zipfile.ZIP_DEFLATED)
     return wheel
 
 
