@@ -6,10 +6,13 @@ use crate::hellos::{answer_cell, chain_cell, offer_cell, other_names_cell};
 use crate::names::{kind_name, outcome_name, sender_name};
 use crate::prints::print_cell;
 use crate::suites::Suites;
-use crate::text::{escaped, group, name_or_number, some_mark, version};
+use crate::text::{
+    escaped, name_or_number, some_escaped, some_group, some_mark, some_text, some_version,
+};
 use connections::{Connection, Protocol, Side};
 use std::alloc::{AllocError, Global};
 use std::num::nearest_u64_to_f64;
+use tls_base::TlsAlertDescription;
 use tls_facts::Facts;
 use tls_flow::Stop;
 use tls_json::alert_name;
@@ -32,18 +35,20 @@ pub fn end_cell(
     alloc: Global,
     connection: &Connection<Heard>,
     time: u64,
-    field: End,
+    field: &End,
 ) -> Result<Option<Cell>, AllocError> {
-    let duration = connection.last_time.saturating_sub(connection.first_time);
-    Ok(Some(match field {
-        End::Time => seconds(time),
-        End::Originator => Cell::Text(connection.originator.address.to_string(alloc)?),
-        End::OriginatorPort => Cell::Number(u64::from(connection.originator.port)),
-        End::Responder => Cell::Text(connection.responder.address.to_string(alloc)?),
-        End::ResponderPort => Cell::Number(u64::from(connection.responder.port)),
-        End::Protocol => Cell::Name(proto_name(connection.protocol)),
-        End::Duration => seconds(duration),
-    }))
+    match field {
+        End::Time => Ok(Some(seconds(time))),
+        End::Originator => some_text(connection.originator.address.to_string(alloc)),
+        End::OriginatorPort => Ok(Some(Cell::Number(u64::from(connection.originator.port)))),
+        End::Responder => some_text(connection.responder.address.to_string(alloc)),
+        End::ResponderPort => Ok(Some(Cell::Number(u64::from(connection.responder.port)))),
+        End::Protocol => Ok(Some(Cell::Name(proto_name(connection.protocol)))),
+        End::Duration => {
+            let duration = connection.last_time.saturating_sub(connection.first_time);
+            Ok(Some(seconds(duration)))
+        }
+    }
 }
 
 fn stop_cell(stop: Option<Stop>) -> Option<Cell> {
@@ -67,9 +72,15 @@ pub fn gap_name(connection: &Connection<Heard>) -> Option<&'static str> {
     }
 }
 
-/// What is there, as text.
-fn some_text(text: Result<String, AllocError>) -> Result<Option<Cell>, AllocError> {
-    Ok(Some(Cell::Text(text?)))
+/// An alert by its name, where there was one.
+fn some_alert(
+    alloc: Global,
+    alert: Option<TlsAlertDescription>,
+) -> Result<Option<Cell>, AllocError> {
+    match alert {
+        Some(alert) => some_text(name_or_number(alloc, alert_name(alert), u16::from(alert.0))),
+        None => Ok(None),
+    }
 }
 
 /// What was chosen, asked for and said, by name.
@@ -77,34 +88,16 @@ fn named_cell(
     alloc: Global,
     suites: &Suites,
     facts: &Facts,
-    field: Named,
+    field: &Named,
 ) -> Result<Option<Cell>, AllocError> {
     match field {
-        Named::Version => match facts.version() {
-            Some(chosen) => some_text(version(alloc, chosen)),
-            None => Ok(None),
-        },
-        Named::Cipher => match facts.cipher() {
-            Some(suite) => some_text(suites.text(alloc, suite)),
-            None => Ok(None),
-        },
-        Named::Curve => match facts.curve() {
-            Some(curve) => some_text(group(alloc, curve)),
-            None => Ok(None),
-        },
-        Named::ServerName => match facts.server_name() {
-            Some(name) => some_text(escaped(alloc, name)),
-            None => Ok(None),
-        },
+        Named::Version => some_version(alloc, facts.version()),
+        Named::Cipher => suites.some_text(alloc, facts.cipher()),
+        Named::Curve => some_group(alloc, facts.curve()),
+        Named::ServerName => some_escaped(alloc, facts.server_name()),
         Named::OtherServerNames => other_names_cell(alloc, facts),
-        Named::NextProtocol => match facts.next_protocol() {
-            Some(protocol) => some_text(escaped(alloc, protocol)),
-            None => Ok(None),
-        },
-        Named::LastAlert => match facts.last_alert {
-            Some(alert) => some_text(name_or_number(alloc, alert_name(alert), u16::from(alert.0))),
-            None => Ok(None),
-        },
+        Named::NextProtocol => some_escaped(alloc, facts.next_protocol()),
+        Named::LastAlert => some_alert(alloc, facts.last_alert),
     }
 }
 
@@ -116,25 +109,30 @@ fn history_cell(alloc: Global, letters: &[u8]) -> Result<Option<Cell>, AllocErro
     some_text(escaped(alloc, letters))
 }
 
+/// A name of ours, where there is one.
+pub fn some_name(name: Option<&'static str>) -> Option<Cell> {
+    match name {
+        Some(name) => Some(Cell::Name(name)),
+        None => None,
+    }
+}
+
 /// What a connection came to.
 fn course_cell(
     alloc: Global,
     connection: &Connection<Heard>,
-    field: Course,
+    field: &Course,
 ) -> Result<Option<Cell>, AllocError> {
     let heard = &connection.listener;
-    Ok(match field {
-        Course::Resumed => Some(Cell::Mark(heard.is_resumed())),
-        Course::Established => Some(Cell::Mark(heard.is_established())),
-        Course::Outcome => Some(Cell::Name(outcome_name(heard.outcome()))),
-        Course::Stop => stop_cell(heard.stop()),
-        Course::Gap => match gap_name(connection) {
-            Some(name) => Some(Cell::Name(name)),
-            None => None,
-        },
-        Course::Retried => some_mark(heard.facts().is_retried),
-        Course::History => return history_cell(alloc, heard.history()),
-    })
+    match field {
+        Course::Resumed => Ok(Some(Cell::Mark(heard.is_resumed()))),
+        Course::Established => Ok(Some(Cell::Mark(heard.is_established()))),
+        Course::Outcome => Ok(Some(Cell::Name(outcome_name(heard.outcome())))),
+        Course::Stop => Ok(stop_cell(heard.stop())),
+        Course::Gap => Ok(some_name(gap_name(connection))),
+        Course::Retried => Ok(some_mark(heard.facts().is_retried)),
+        Course::History => history_cell(alloc, heard.history()),
+    }
 }
 
 /// A count, where there is something to count.
@@ -146,7 +144,7 @@ fn some_count(count: u64) -> Option<Cell> {
 }
 
 /// What a side sent.
-fn sent_cell(connection: &Connection<Heard>, side: Side, field: Sent) -> Option<Cell> {
+fn sent_cell(connection: &Connection<Heard>, side: Side, field: &Sent) -> Option<Cell> {
     let sent = connection.sent(side);
     let stream = connection.stream(side);
     match field {
@@ -166,7 +164,7 @@ fn cell_of(
     alloc: Global,
     suites: &Suites,
     connection: &Connection<Heard>,
-    field: Field,
+    field: &Field,
 ) -> Result<Option<Cell>, AllocError> {
     let facts = connection.listener.facts();
     match field {
@@ -177,7 +175,7 @@ fn cell_of(
         Field::Answer(field) => answer_cell(alloc, facts, field),
         Field::Chain(field) => chain_cell(alloc, facts, field),
         Field::Print(field) => print_cell(alloc, facts, connection.protocol, field),
-        Field::Sent(side, field) => Ok(sent_cell(connection, side, field)),
+        Field::Sent(side, field) => Ok(sent_cell(connection, *side, field)),
     }
 }
 
@@ -191,7 +189,8 @@ pub fn row_of(
     let mut cells = Vec::with_capacity(alloc, places.len())?;
     for place in places {
         if let Some((name, field)) = FIELDS.get(*place) {
-            cells.push((*name, cell_of(alloc, suites, connection, *field)?))?;
+            let cell = cell_of(alloc, suites, connection, field)?;
+            cells.push((*name, cell))?;
         }
     }
     Ok(Row { cells })

@@ -77,7 +77,7 @@ fn datagram_of<'a>(
 }
 
 /// What a packet brings to a connection.
-#[derive(Clone, Copy, Debug)]
+#[derive(Clone, Copy)]
 pub enum Arrival<'a> {
     /// A segment of TCP.
     Segment(Segment<'a>),

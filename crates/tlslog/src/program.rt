@@ -10,6 +10,7 @@ use crate::line::{gap_name, row_of};
 use crate::log::Log;
 use crate::output::{LineError, Output};
 use crate::progress::{STANDARD_INPUT, Watched};
+use crate::speech::Spoken;
 use crate::spoken::message_row;
 use crate::style::{Lines, Style};
 use connections::Connection;
@@ -42,11 +43,11 @@ fn print_line<W: Write>(
         return Ok(());
     };
     let row = row_of(alloc, &style.suites, places.as_slice(), connection)?;
-    let line = style.text(alloc, row)?;
+    let line = style.text(alloc, &row)?;
     out.write_line(line)
 }
 
-/// The same, and lets the connection go. It has one exit, since letting a connection go is much to prove.
+/// The same, and lets the connection go: by `drop`, since what a connection holds is much to let go at the ends of a body.
 fn print_one<W: Write>(
     alloc: Global,
     style: &Style,
@@ -56,7 +57,26 @@ fn print_one<W: Write>(
 ) -> Result<(), LineError>
     ensures { Tells out.old.has_failed out.new.has_failed result }
 {
-    print_line(alloc, style, counts, &connection, out)
+    let told = print_line(alloc, style, counts, &connection, out);
+    drop(connection);
+    told
+}
+
+/// Prints a message that was whole at this time.
+fn print_message<W: Write>(
+    alloc: Global,
+    style: &Style,
+    places: &[usize],
+    connection: &Connection<Heard>,
+    time: u64,
+    spoken: Spoken,
+    out: &mut Output<W>,
+) -> Result<(), LineError>
+    ensures { Tells out.old.has_failed out.new.has_failed result }
+{
+    let row = message_row(alloc, places, connection, time, spoken)?;
+    let line = style.text(alloc, &row)?;
+    out.write_line(line)
 }
 
 /// Prints the messages of a connection that were whole at this time, if messages have lines.
@@ -73,9 +93,15 @@ fn print_messages<W: Write>(
         return Ok(());
     };
     'messages: for spoken in connection.listener.take_messages() {
-        let row = message_row(alloc, places.as_slice(), connection, time, spoken)?;
-        let line = style.text(alloc, row)?;
-        out.write_line(line)?;
+        print_message(
+            alloc,
+            style,
+            places.as_slice(),
+            connection,
+            time,
+            spoken,
+            out,
+        )?;
     }
     Ok(())
 }
@@ -107,7 +133,9 @@ fn print_last<W: Write>(
     ensures { Tells out.old.has_failed out.new.has_failed result }
 {
     let mut connection = connection;
-    print_both(alloc, style, counts, &mut connection, time, out)
+    let told = print_both(alloc, style, counts, &mut connection, time, out);
+    drop(connection);
+    told
 }
 
 /// Logs one packet.
@@ -226,7 +254,7 @@ fn log_whole<R: Runtime + AllocGlobal, I: Read, W: Write>(
         Ok(()) => Exit::Clean,
         Err(failure) => tell(rt, name, failure, logger.log.counts.packets),
     };
-    if exit == Exit::Failed {
+    if matches!(exit, Exit::Failed) {
         return exit;
     }
     match print_left(logger.alloc, logger.style, &mut logger.log, &mut logger.out) {
@@ -265,11 +293,13 @@ pub fn log_input<R: Runtime + AllocGlobal + RandomSource, I: Read, W: Write>(
         out,
     };
     let exit = log_whole(rt, name, &mut logger, reader);
+    let exit = match logger.log.counts.tell(rt, name) {
+        Ok(()) => exit,
+        Err(_) => Exit::Failed,
+    };
     let Logger { log, out, .. } = logger;
-    match log.counts.tell(rt, name) {
-        Ok(()) => (exit, out),
-        Err(_) => (Exit::Failed, out),
-    }
+    drop(log);
+    (exit, out)
 }
 
 /// Logs the capture in a file, of which the progress is told where someone looks.

@@ -1,13 +1,38 @@
 //! The messages that both sides say in the clear, one after the other.
-use crate::cell::Cell;
 use connections::Protocol;
 use dtls_stream::{DEFAULT_LIMITS, Messages, read_datagram};
+use serde::Serialize;
 use std::alloc::{AllocError, Global};
 use std::mem;
 use tls_base::{TlsHandshakeType, TlsMessageAlert};
 use tls_conversations::{Conversation, Said};
 use tls_flow::Direction;
 use tls_json::{AlertMessage, ChangeCipherSpec, Chosen, HeartbeatMessage, Message, message_name};
+
+/// What stands in a message, by its fields.
+#[derive(Drop, Serialize)]
+#[serde(untagged)]
+pub enum Body {
+    /// A handshake message.
+    Handshake(Message),
+    /// An alert.
+    Alert(AlertMessage),
+    /// A ChangeCipherSpec.
+    Change(ChangeCipherSpec),
+    /// A heartbeat.
+    Heartbeat(HeartbeatMessage),
+}
+
+/// A message.
+#[derive(Drop)]
+pub struct Word {
+    /// The type of its record (RFC 8446, section 5.1).
+    pub content_type: u8,
+    /// Its name, where it has one.
+    pub name: Option<&'static str>,
+    /// Its fields; `None` where it has no whole header.
+    pub body: Option<Box<Body>>,
+}
 
 /// A message, and where it stands.
 #[derive(Drop)]
@@ -16,58 +41,46 @@ pub struct Spoken {
     pub direction: Direction,
     /// How many messages of its side stand in front of it.
     pub place: u64,
-    /// The type of its record (RFC 8446, section 5.1).
-    pub content_type: u8,
-    /// Its name, where it has one.
-    pub name: Option<&'static str>,
-    /// Its fields; `None` where it has no whole header.
-    pub message: Option<Cell>,
+    /// The message.
+    pub word: Word,
 }
 
-/// What a side says, without its place.
-#[derive(Drop)]
-struct Word {
-    content_type: u8,
-    name: Option<&'static str>,
-    message: Option<Cell>,
-}
-
-/// What both sides' bytes are read by.
-#[derive(Drop)]
-enum Ears {
-    /// TLS.
-    Stream(Conversation),
-    /// DTLS: the client's messages, and the server's.
-    Datagrams(Messages, Messages),
-}
-
-/// The messages of both sides, as they come.
-#[derive(Drop)]
-pub struct Speech {
-    alloc: Global,
-    ears: Ears,
-    // That of the last ServerHello: key exchanges behind it are read by it.
-    chosen: Option<Chosen>,
-    client_count: u64,
-    server_count: u64,
-    told: Vec<Spoken>,
+impl Word {
+    fn new(
+        alloc: Global,
+        content_type: u8,
+        name: Option<&'static str>,
+        body: Body,
+    ) -> Result<Word, AllocError> {
+        Ok(Word {
+            content_type,
+            name,
+            body: Some(Box::new(alloc, body)?),
+        })
+    }
 }
 
 /// A ChangeCipherSpec (RFC 5246, section 7.1).
-fn change() -> Word {
-    Word {
-        content_type: 20,
-        name: Some("change_cipher_spec"),
-        message: Some(Cell::Change(ChangeCipherSpec::ONLY)),
-    }
+fn change_word(alloc: Global) -> Result<Word, AllocError> {
+    let name = Some("change_cipher_spec");
+    Word::new(alloc, 20, name, Body::Change(ChangeCipherSpec::ONLY))
 }
 
-fn alert_word(alert: &TlsMessageAlert) -> Word {
-    Word {
-        content_type: 21,
-        name: Some("alert"),
-        message: Some(Cell::Alert(AlertMessage::new(alert.severity, alert.code))),
-    }
+fn alert_word(alloc: Global, alert: &TlsMessageAlert) -> Result<Word, AllocError> {
+    let alert = AlertMessage::new(alert.severity, alert.code);
+    Word::new(alloc, 21, Some("alert"), Body::Alert(alert))
+}
+
+/// A heartbeat (RFC 6520, section 4), by the fragment of its record.
+fn heartbeat_word(alloc: Global, fragment: &[u8]) -> Result<Word, AllocError> {
+    let heartbeat = HeartbeatMessage::new(alloc, fragment)?;
+    Word::new(alloc, 24, Some("heartbeat"), Body::Heartbeat(heartbeat))
+}
+
+/// The name of a handshake message of TLS, its header first.
+fn handshake_name(message: &[u8]) -> Option<&'static str> {
+    let kind = message.first()?;
+    message_name(TlsHandshakeType(*kind))
 }
 
 /// A handshake message of TLS, its header first; it may be a ServerHello that chooses.
@@ -79,50 +92,14 @@ fn handshake_word(
     if let Some(choice) = Chosen::new(message) {
         *chosen = Some(choice);
     }
-    let name = match message.first() {
-        Some(kind) => message_name(TlsHandshakeType(*kind)),
-        None => None,
-    };
-    let message = match Message::new(alloc, *chosen, message)? {
-        Some(message) => Some(Cell::Message(message)),
-        None => None,
-    };
-    Ok(Word {
-        content_type: 22,
-        name,
-        message,
-    })
-}
-
-/// A heartbeat (RFC 6520, section 4), by the fragment of its record.
-fn heartbeat_word(alloc: Global, fragment: &[u8]) -> Result<Word, AllocError> {
-    Ok(Word {
-        content_type: 24,
-        name: Some("heartbeat"),
-        message: Some(Cell::Heartbeat(HeartbeatMessage::new(alloc, fragment)?)),
-    })
-}
-
-/// What a side of TLS says; nothing where that is no message in the clear.
-fn word_of(
-    alloc: Global,
-    chosen: &mut Option<Chosen>,
-    said: &Said<'_>,
-) -> Result<Option<Word>, AllocError> {
-    let Said::Event(event) = said else {
-        return Ok(None);
-    };
-    match event {
-        tls_conversations::Event::Handshake(message) => {
-            Ok(Some(handshake_word(alloc, chosen, message)?))
-        }
-        tls_conversations::Event::ChangeCipherSpec => Ok(Some(change())),
-        tls_conversations::Event::Alert(alert) => Ok(Some(alert_word(alert))),
-        tls_conversations::Event::Heartbeat(fragment) => {
-            Ok(Some(heartbeat_word(alloc, fragment)?))
-        }
-        tls_conversations::Event::ApplicationData(_) => Ok(None),
-        tls_conversations::Event::Encrypted(_) => Ok(None),
+    let name = handshake_name(message);
+    match Message::new(alloc, *chosen, message)? {
+        Some(read) => Word::new(alloc, 22, name, Body::Handshake(read)),
+        None => Ok(Word {
+            content_type: 22,
+            name,
+            body: None,
+        }),
     }
 }
 
@@ -136,125 +113,23 @@ fn handshake_word_of_datagrams(
     if let Some(choice) = Chosen::of_datagrams(message.msg_type, body) {
         *chosen = Some(choice);
     }
+    let name = message_name(message.msg_type);
     let number = message.message_seq;
     let read = Message::of_datagrams(alloc, *chosen, message.msg_type, number, body)?;
-    Ok(Word {
-        content_type: 22,
-        name: message_name(message.msg_type),
-        message: Some(Cell::Message(read)),
-    })
+    Word::new(alloc, 22, name, Body::Handshake(read))
 }
 
-/// What a side of DTLS says; nothing where that is no message in the clear.
-fn word_in_datagram(
-    alloc: Global,
-    chosen: &mut Option<Chosen>,
-    event: &dtls_stream::Event<'_>,
-) -> Result<Option<Word>, AllocError> {
-    match event {
-        dtls_stream::Event::Handshake(message) => {
-            Ok(Some(handshake_word_of_datagrams(alloc, chosen, message)?))
-        }
-        dtls_stream::Event::ChangeCipherSpec => Ok(Some(change())),
-        dtls_stream::Event::Alert(alert) => Ok(Some(alert_word(alert))),
-        dtls_stream::Event::Encrypted(_) => Ok(None),
-        dtls_stream::Event::Refused(_, _) | dtls_stream::Event::Fault(_) => Ok(None),
-    }
+/// The messages that were heard and are kept.
+#[derive(Drop)]
+struct Kept {
+    // That of the last ServerHello: key exchanges behind it are read by it.
+    chosen: Option<Chosen>,
+    client_count: u64,
+    server_count: u64,
+    spoken: Vec<Spoken>,
 }
 
-/// All that a side of TLS says next.
-fn words_of(
-    alloc: Global,
-    chosen: &mut Option<Chosen>,
-    conversation: &mut Conversation,
-    direction: Direction,
-    bytes: &[u8],
-) -> Result<Vec<Word>, AllocError> {
-    let mut words = Vec::new(alloc);
-    conversation
-        .feed(direction, bytes)
-        .map_err(|_e| AllocError)?;
-    for _ in 0..u64::MAX {
-        match conversation.front(direction) {
-            Some(said) => {
-                if let Some(word) = word_of(alloc, chosen, &said)? {
-                    words.push(word)?;
-                }
-            }
-            None => break,
-        }
-        conversation.take_front(direction);
-    }
-    Ok(words)
-}
-
-/// All that a datagram of one side says.
-fn words_in_datagram(
-    alloc: Global,
-    chosen: &mut Option<Chosen>,
-    messages: &mut Messages,
-    datagram: &[u8],
-) -> Result<Vec<Word>, AllocError> {
-    let (mut events, mut words) = (Vec::new(alloc), Vec::new(alloc));
-    read_datagram(alloc, messages, datagram, &mut events).map_err(|_e| AllocError)?;
-    for event in &events {
-        if let Some(word) = word_in_datagram(alloc, chosen, event)? {
-            words.push(word)?;
-        }
-    }
-    Ok(words)
-}
-
-impl Speech {
-    /// That of a connection of which nothing came.
-    pub fn new(alloc: Global, protocol: Protocol) -> Speech {
-        let ears = match protocol {
-            Protocol::Tcp => Ears::Stream(Conversation::new(alloc)),
-            Protocol::Udp => Ears::Datagrams(
-                Messages::new(alloc, DEFAULT_LIMITS),
-                Messages::new(alloc, DEFAULT_LIMITS),
-            ),
-        };
-        Speech {
-            alloc,
-            ears,
-            chosen: None,
-            client_count: 0,
-            server_count: 0,
-            told: Vec::new(alloc),
-        }
-    }
-
-    /// Hears the bytes that a side says next, and keeps the messages that are whole then.
-    pub fn hear(&mut self, direction: Direction, bytes: &[u8]) -> Result<(), AllocError> {
-        let words = match (&mut self.ears, direction) {
-            (Ears::Stream(conversation), _) => words_of(
-                self.alloc,
-                &mut self.chosen,
-                conversation,
-                direction,
-                bytes,
-            )?,
-            (Ears::Datagrams(client, _), Direction::ToServer) => {
-                words_in_datagram(self.alloc, &mut self.chosen, client, bytes)?
-            }
-            (Ears::Datagrams(_, server), Direction::FromServer) => {
-                words_in_datagram(self.alloc, &mut self.chosen, server, bytes)?
-            }
-        };
-        for word in words {
-            let place = self.next_place(direction);
-            self.told.push(Spoken {
-                direction,
-                place,
-                content_type: word.content_type,
-                name: word.name,
-                message: word.message,
-            })?;
-        }
-        Ok(())
-    }
-
+impl Kept {
     /// The place of a side's next message.
     fn next_place(&mut self, direction: Direction) -> u64 {
         match direction {
@@ -271,8 +146,165 @@ impl Speech {
         }
     }
 
+    /// Keeps a side's next message.
+    fn keep(
+        &mut self,
+        direction: Direction,
+        word: Result<Word, AllocError>,
+    ) -> Result<(), AllocError> {
+        let word = word?;
+        let place = self.next_place(direction);
+        self.spoken.push(Spoken {
+            direction,
+            place,
+            word,
+        })?;
+        Ok(())
+    }
+
+    /// Keeps what a side of TLS says, where that is a message in the clear.
+    fn hear_event(
+        &mut self,
+        alloc: Global,
+        direction: Direction,
+        event: &tls_conversations::Event<'_>,
+    ) -> Result<(), AllocError> {
+        match event {
+            tls_conversations::Event::Handshake(message) => {
+                let word = handshake_word(alloc, &mut self.chosen, message);
+                self.keep(direction, word)
+            }
+            tls_conversations::Event::ChangeCipherSpec => {
+                self.keep(direction, change_word(alloc))
+            }
+            tls_conversations::Event::Alert(alert) => {
+                self.keep(direction, alert_word(alloc, alert))
+            }
+            tls_conversations::Event::Heartbeat(fragment) => {
+                self.keep(direction, heartbeat_word(alloc, fragment))
+            }
+            tls_conversations::Event::ApplicationData(_) => Ok(()),
+            tls_conversations::Event::Encrypted(_) => Ok(()),
+        }
+    }
+
+    /// The same of what a side of DTLS says.
+    fn hear_datagrams_event(
+        &mut self,
+        alloc: Global,
+        direction: Direction,
+        event: &dtls_stream::Event<'_>,
+    ) -> Result<(), AllocError> {
+        match event {
+            dtls_stream::Event::Handshake(message) => {
+                let word = handshake_word_of_datagrams(alloc, &mut self.chosen, message);
+                self.keep(direction, word)
+            }
+            dtls_stream::Event::ChangeCipherSpec => self.keep(direction, change_word(alloc)),
+            dtls_stream::Event::Alert(alert) => self.keep(direction, alert_word(alloc, alert)),
+            dtls_stream::Event::Encrypted(_) => Ok(()),
+            dtls_stream::Event::Refused(_, _) | dtls_stream::Event::Fault(_) => Ok(()),
+        }
+    }
+
+    /// Keeps all that a side of TLS says by these bytes.
+    fn hear_bytes(
+        &mut self,
+        alloc: Global,
+        conversation: &mut Conversation,
+        direction: Direction,
+        bytes: &[u8],
+    ) -> Result<(), AllocError> {
+        if conversation.feed(direction, bytes).is_err() {
+            return Err(AllocError);
+        }
+        for _ in 0..u64::MAX {
+            match conversation.front(direction) {
+                Some(Said::Event(event)) => self.hear_event(alloc, direction, &event)?,
+                Some(_) => {}
+                None => break,
+            }
+            conversation.take_front(direction);
+        }
+        Ok(())
+    }
+
+    /// Keeps all that a datagram of one side says.
+    fn hear_datagram(
+        &mut self,
+        alloc: Global,
+        messages: &mut Messages,
+        direction: Direction,
+        datagram: &[u8],
+    ) -> Result<(), AllocError> {
+        let mut events = Vec::new(alloc);
+        if read_datagram(alloc, messages, datagram, &mut events).is_err() {
+            return Err(AllocError);
+        }
+        for event in &events {
+            self.hear_datagrams_event(alloc, direction, event)?;
+        }
+        Ok(())
+    }
+}
+
+/// What both sides' bytes are read by.
+#[derive(Drop)]
+enum Ears {
+    /// TLS.
+    Stream(Conversation),
+    /// DTLS: the client's messages, and the server's.
+    Datagrams(Messages, Messages),
+}
+
+/// The messages of both sides, as they come.
+#[derive(Drop)]
+pub struct Speech {
+    alloc: Global,
+    ears: Ears,
+    kept: Kept,
+}
+
+impl Speech {
+    /// That of a connection of which nothing came.
+    pub fn new(alloc: Global, protocol: Protocol) -> Speech {
+        let ears = match protocol {
+            Protocol::Tcp => Ears::Stream(Conversation::new(alloc)),
+            Protocol::Udp => Ears::Datagrams(
+                Messages::new(alloc, DEFAULT_LIMITS),
+                Messages::new(alloc, DEFAULT_LIMITS),
+            ),
+        };
+        Speech {
+            alloc,
+            ears,
+            kept: Kept {
+                chosen: None,
+                client_count: 0,
+                server_count: 0,
+                spoken: Vec::new(alloc),
+            },
+        }
+    }
+
+    /// Hears the bytes that a side says next, and keeps the messages that are whole then.
+    pub fn hear(&mut self, direction: Direction, bytes: &[u8]) -> Result<(), AllocError> {
+        let (alloc, kept) = (self.alloc, &mut self.kept);
+        match (&mut self.ears, direction) {
+            (Ears::Stream(conversation), _) => {
+                kept.hear_bytes(alloc, conversation, direction, bytes)
+            }
+            (Ears::Datagrams(client, _), Direction::ToServer) => {
+                kept.hear_datagram(alloc, client, direction, bytes)
+            }
+            (Ears::Datagrams(_, server), Direction::FromServer) => {
+                kept.hear_datagram(alloc, server, direction, bytes)
+            }
+        }
+    }
+
     /// Takes out the messages that are kept.
     pub fn take(&mut self) -> Vec<Spoken> {
-        mem::replace(&mut self.told, Vec::new(self.alloc))
+        mem::replace(&mut self.kept.spoken, Vec::new(self.alloc))
     }
 }

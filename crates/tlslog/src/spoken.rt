@@ -2,11 +2,32 @@
 use crate::cell::{Cell, Row};
 use crate::columns::{PARTS, Part};
 use crate::heard::Heard;
-use crate::line::end_cell;
+use crate::line::{end_cell, some_name};
 use crate::names::sender_name;
 use crate::speech::Spoken;
 use connections::Connection;
 use std::alloc::{AllocError, Global};
+
+/// What one field says of a message that was whole at this time. Its fields are taken out, since they stand in one field alone.
+fn part_cell(
+    alloc: Global,
+    connection: &Connection<Heard>,
+    time: u64,
+    spoken: &mut Spoken,
+    part: &Part,
+) -> Result<Option<Cell>, AllocError> {
+    match part {
+        Part::End(field) => end_cell(alloc, connection, time, field),
+        Part::Side => Ok(Some(Cell::Name(sender_name(spoken.direction)))),
+        Part::Place => Ok(Some(Cell::Number(spoken.place))),
+        Part::ContentType => Ok(Some(Cell::Number(u64::from(spoken.word.content_type)))),
+        Part::Name => Ok(some_name(spoken.word.name)),
+        Part::Message => match spoken.word.body.take() {
+            Some(body) => Ok(Some(Cell::Message(body))),
+            None => Ok(None),
+        },
+    }
+}
 
 /// The line of a message that was whole at this time, with the fields at these places of [`PARTS`].
 pub fn message_row(
@@ -16,24 +37,13 @@ pub fn message_row(
     time: u64,
     spoken: Spoken,
 ) -> Result<Row, AllocError> {
-    let mut message = spoken.message;
+    let mut spoken = spoken;
     let mut cells = Vec::with_capacity(alloc, places.len())?;
     for place in places {
-        let Some((name, part)) = PARTS.get(*place) else {
-            continue;
-        };
-        let cell = match part {
-            Part::End(field) => end_cell(alloc, connection, time, *field)?,
-            Part::Side => Some(Cell::Name(sender_name(spoken.direction))),
-            Part::Place => Some(Cell::Number(spoken.place)),
-            Part::ContentType => Some(Cell::Number(u64::from(spoken.content_type))),
-            Part::Name => match spoken.name {
-                Some(name) => Some(Cell::Name(name)),
-                None => None,
-            },
-            Part::Message => message.take(),
-        };
-        cells.push((*name, cell))?;
+        if let Some((name, part)) = PARTS.get(*place) {
+            let cell = part_cell(alloc, connection, time, &mut spoken, part)?;
+            cells.push((*name, cell))?;
+        }
     }
     Ok(Row { cells })
 }
