@@ -1,7 +1,6 @@
 //! The arguments of the command line.
-use crate::style::{Format, Lines, Style, StyleError};
-use crate::suites::Suites;
 use clap::{Arg, ArgAction, ArgMatches, Command};
+use log_lines::{Format, Lines, Style, StyleError, Suites};
 use std::alloc::{AllocError, Global};
 use std::fs;
 use std::rt::Runtime;

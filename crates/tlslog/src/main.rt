@@ -6,24 +6,11 @@
 #![tactic(auto)]
 
 mod arguments;
-mod cell;
-mod columns;
-mod counts;
 mod failure;
-mod heard;
-mod hellos;
-mod line;
-mod log;
-mod names;
+mod listener;
 mod output;
-mod prints;
 mod program;
 mod progress;
-mod speech;
-mod spoken;
-mod style;
-mod suites;
-mod text;
 
 ghost use Rattle.std.specs.Prelude.{◌≡◌, false, true};
 ghost use Rattle.tlslog.specs.Run.{HasWritten};
@@ -32,9 +19,9 @@ use crate::arguments::{Refusal, matches, style_of};
 use crate::failure::Exit;
 use crate::output::Output;
 use crate::program::{log_file, log_standard_input};
-use crate::style::Style;
 use clap::ArgMatches;
 use clap::error::ErrorKind;
+use log_lines::Style;
 use std::alloc::Global;
 use std::io::{self, Write};
 use std::process::ExitCode;

@@ -1,15 +1,15 @@
 //! The line of a connection.
 use crate::cell::{Cell, Row, StopCell};
 use crate::columns::{Course, End, FIELDS, Field, Named, Sent};
-use crate::heard::Heard;
 use crate::hellos::{answer_cell, chain_cell, offer_cell, other_names_cell};
 use crate::names::{kind_name, outcome_name, sender_name};
 use crate::prints::print_cell;
 use crate::suites::Suites;
+use crate::summary::Summary;
 use crate::text::{
     escaped, name_or_number, some_escaped, some_group, some_mark, some_text, some_version,
 };
-use connections::{Connection, Protocol, Side};
+use connections::{Protocol, Side};
 use std::alloc::{AllocError, Global};
 use std::num::nearest_u64_to_f64;
 use tls_base::TlsAlertDescription;
@@ -33,19 +33,19 @@ fn proto_name(protocol: Protocol) -> &'static str {
 /// Who talks, over what, and when: a connection's first packet, or a message that came at this time.
 pub fn end_cell(
     alloc: Global,
-    connection: &Connection<Heard>,
+    summary: &Summary<'_>,
     time: u64,
     field: &End,
 ) -> Result<Option<Cell>, AllocError> {
     match field {
         End::Time => Ok(Some(seconds(time))),
-        End::Originator => some_text(connection.originator.address.to_string(alloc)),
-        End::OriginatorPort => Ok(Some(Cell::Number(u64::from(connection.originator.port)))),
-        End::Responder => some_text(connection.responder.address.to_string(alloc)),
-        End::ResponderPort => Ok(Some(Cell::Number(u64::from(connection.responder.port)))),
-        End::Protocol => Ok(Some(Cell::Name(proto_name(connection.protocol)))),
+        End::Originator => some_text(summary.originator.end.address.to_string(alloc)),
+        End::OriginatorPort => Ok(Some(Cell::Number(u64::from(summary.originator.end.port)))),
+        End::Responder => some_text(summary.responder.end.address.to_string(alloc)),
+        End::ResponderPort => Ok(Some(Cell::Number(u64::from(summary.responder.end.port)))),
+        End::Protocol => Ok(Some(Cell::Name(proto_name(summary.protocol)))),
         End::Duration => {
-            let duration = connection.last_time.saturating_sub(connection.first_time);
+            let duration = summary.last_time.saturating_sub(summary.first_time);
             Ok(Some(seconds(duration)))
         }
     }
@@ -58,18 +58,6 @@ fn stop_cell(stop: Option<Stop>) -> Option<Cell> {
         sender: sender_name(stop.event.letter.direction),
         messages_before: stop.place,
     }))
-}
-
-/// Which sides have lost bytes.
-pub fn gap_name(connection: &Connection<Heard>) -> Option<&'static str> {
-    let by_originator = connection.stream(Side::Originator).has_gap();
-    let by_responder = connection.stream(Side::Responder).has_gap();
-    match (by_originator, by_responder) {
-        (true, true) => Some("both"),
-        (true, false) => Some("orig"),
-        (false, true) => Some("resp"),
-        (false, false) => None,
-    }
 }
 
 /// An alert by its name, where there was one.
@@ -120,18 +108,17 @@ pub fn some_name(name: Option<&'static str>) -> Option<Cell> {
 /// What a connection came to.
 fn course_cell(
     alloc: Global,
-    connection: &Connection<Heard>,
+    summary: &Summary<'_>,
     field: &Course,
 ) -> Result<Option<Cell>, AllocError> {
-    let heard = &connection.listener;
     match field {
-        Course::Resumed => Ok(Some(Cell::Mark(heard.is_resumed()))),
-        Course::Established => Ok(Some(Cell::Mark(heard.is_established()))),
-        Course::Outcome => Ok(Some(Cell::Name(outcome_name(heard.outcome())))),
-        Course::Stop => Ok(stop_cell(heard.stop())),
-        Course::Gap => Ok(some_name(gap_name(connection))),
-        Course::Retried => Ok(some_mark(heard.facts().is_retried)),
-        Course::History => history_cell(alloc, heard.history()),
+        Course::Resumed => Ok(Some(Cell::Mark(summary.is_resumed))),
+        Course::Established => Ok(Some(Cell::Mark(summary.is_established))),
+        Course::Outcome => Ok(Some(Cell::Name(outcome_name(summary.outcome)))),
+        Course::Stop => Ok(stop_cell(summary.stop)),
+        Course::Gap => Ok(some_name(summary.gap())),
+        Course::Retried => Ok(some_mark(summary.facts.is_retried)),
+        Course::History => history_cell(alloc, summary.history),
     }
 }
 
@@ -144,18 +131,17 @@ fn some_count(count: u64) -> Option<Cell> {
 }
 
 /// What a side sent.
-fn sent_cell(connection: &Connection<Heard>, side: Side, field: &Sent) -> Option<Cell> {
-    let sent = connection.sent(side);
-    let stream = connection.stream(side);
+fn sent_cell(summary: &Summary<'_>, side: Side, field: &Sent) -> Option<Cell> {
+    let party = summary.party(side);
     match field {
-        Sent::Packets => Some(Cell::Number(sent.packets)),
-        Sent::Bytes => Some(Cell::Number(match connection.protocol {
-            Protocol::Tcp => stream.length(),
-            Protocol::Udp => sent.bytes,
+        Sent::Packets => Some(Cell::Number(party.sent.packets)),
+        Sent::Bytes => Some(Cell::Number(match summary.protocol {
+            Protocol::Tcp => party.stream.length(),
+            Protocol::Udp => party.sent.bytes,
         })),
-        Sent::Records => Some(Cell::Number(connection.listener.records(side))),
-        Sent::Repeated => some_count(stream.repeated()),
-        Sent::Disagreeing => some_count(stream.disagreeing()),
+        Sent::Records => Some(Cell::Number(party.records)),
+        Sent::Repeated => some_count(party.stream.repeated()),
+        Sent::Disagreeing => some_count(party.stream.disagreeing()),
     }
 }
 
@@ -163,19 +149,19 @@ fn sent_cell(connection: &Connection<Heard>, side: Side, field: &Sent) -> Option
 fn cell_of(
     alloc: Global,
     suites: &Suites,
-    connection: &Connection<Heard>,
+    summary: &Summary<'_>,
     field: &Field,
 ) -> Result<Option<Cell>, AllocError> {
-    let facts = connection.listener.facts();
+    let facts = summary.facts;
     match field {
-        Field::End(field) => end_cell(alloc, connection, connection.first_time, field),
+        Field::End(field) => end_cell(alloc, summary, summary.first_time, field),
         Field::Named(field) => named_cell(alloc, suites, facts, field),
-        Field::Course(field) => course_cell(alloc, connection, field),
+        Field::Course(field) => course_cell(alloc, summary, field),
         Field::Offer(field) => offer_cell(alloc, suites, facts, field),
         Field::Answer(field) => answer_cell(alloc, facts, field),
         Field::Chain(field) => chain_cell(alloc, facts, field),
-        Field::Print(field) => print_cell(alloc, facts, connection.protocol, field),
-        Field::Sent(side, field) => Ok(sent_cell(connection, *side, field)),
+        Field::Print(field) => print_cell(alloc, facts, summary.protocol, field),
+        Field::Sent(side, field) => Ok(sent_cell(summary, *side, field)),
     }
 }
 
@@ -184,12 +170,12 @@ pub fn row_of(
     alloc: Global,
     suites: &Suites,
     places: &[usize],
-    connection: &Connection<Heard>,
+    summary: &Summary<'_>,
 ) -> Result<Row, AllocError> {
     let mut cells = Vec::with_capacity(alloc, places.len())?;
     for place in places {
         if let Some((name, field)) = FIELDS.get(*place) {
-            let cell = cell_of(alloc, suites, connection, field)?;
+            let cell = cell_of(alloc, suites, summary, field)?;
             cells.push((*name, cell))?;
         }
     }
