@@ -1,5 +1,3 @@
 pub mod Exit
-pub mod Heard
-pub mod Log
 pub mod Output
 pub mod Run

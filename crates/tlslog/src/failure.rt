@@ -7,7 +7,7 @@ use packets::{CaptureError, VisitError};
 use std::alloc::AllocError;
 
 /// How a run ends; each has its own exit status.
-#[derive(Clone, Copy, Debug, PartialEq, Eq)]
+#[derive(Clone, Copy)]
 pub enum Exit {
     /// All was read and printed.
     Clean,
@@ -45,7 +45,7 @@ impl Exit {
 }
 
 /// Why the run over a capture ends before the capture's end.
-#[derive(Clone, Copy, Debug, PartialEq, Eq)]
+#[derive(Clone, Copy)]
 pub enum Failure {
     /// What is read is no capture, or is broken off.
     Capture(&'static str),

@@ -6,24 +6,11 @@
 #![tactic(auto)]
 
 mod arguments;
-mod cell;
-mod columns;
-mod counts;
 mod failure;
-mod heard;
-mod hellos;
-mod line;
-mod log;
-mod names;
+mod listener;
 mod output;
-mod prints;
 mod program;
 mod progress;
-mod speech;
-mod spoken;
-mod style;
-mod suites;
-mod text;
 
 ghost use Rattle.std.specs.Prelude.{◌≡◌, false, true};
 ghost use Rattle.tlslog.specs.Run.{HasWritten};
@@ -32,9 +19,9 @@ use crate::arguments::{Refusal, matches, style_of};
 use crate::failure::Exit;
 use crate::output::Output;
 use crate::program::{log_file, log_standard_input};
-use crate::style::Style;
 use clap::ArgMatches;
 use clap::error::ErrorKind;
+use log_lines::Style;
 use std::alloc::Global;
 use std::io::{self, Write};
 use std::process::ExitCode;
@@ -79,44 +66,46 @@ fn log_all<R: Runtime + AllocGlobal + RandomSource, W: Write>(
 
 /// Tells why the arguments are refused, and which status that is.
 fn refuse<R: Runtime + AllocGlobal>(rt: &R, refusal: Refusal<'_>) -> u8 {
-    let told = match refusal {
-        Refusal::UnknownField(name) => eprintln!(rt; "tlslog: there is no field {name}"),
-        Refusal::DoubledField(name) => eprintln!(rt; "tlslog: the field {name} is named twice"),
-        Refusal::NoList(path) => eprintln!(rt; "tlslog: {path}: this is no list of cipher suites"),
-        Refusal::Reading(path) => {
-            let _told = eprintln!(rt; "tlslog: {path}: reading failed");
-            return 3;
-        }
-        Refusal::OutOfMemory => {
-            let _told = eprintln!(rt; "tlslog: memory ran out");
-            return 3;
-        }
+    let (status, front, name, behind) = match refusal {
+        Refusal::UnknownField(name) => (2, "there is no field ", name, ""),
+        Refusal::DoubledField(name) => (2, "the field ", name, " is named twice"),
+        Refusal::NoList(path) => (2, "", path, ": this is no list of cipher suites"),
+        Refusal::Reading(path) => (3, "", path, ": reading failed"),
+        Refusal::OutOfMemory => (3, "", "memory ran out", ""),
     };
-    match told {
-        Ok(()) => 2,
+    match eprintln!(rt; "tlslog: {front}{name}{behind}") {
+        Ok(()) => status,
         Err(_) => 3,
+    }
+}
+
+/// Tells what is wrong with the command line, or helps, and which status that is.
+fn tell_error<R: Runtime + AllocGlobal>(rt: &R, error: &clap::Error) -> u8 {
+    let is_told = error.print(rt).is_ok();
+    match error.kind() {
+        ErrorKind::DisplayHelp if is_told => 0,
+        ErrorKind::DisplayHelp | ErrorKind::OutOfMemory => 3,
+        _ if is_told => 2,
+        _ => 3,
+    }
+}
+
+/// The run that the arguments ask for.
+fn run_by<R: Runtime + AllocGlobal + RandomSource>(rt: &R, matches: &ArgMatches<'_>) -> u8 {
+    match style_of(rt, matches) {
+        Ok(style) => {
+            let (exit, _out) = log_all(rt, &style, matches, Output::new(io::writer(rt)));
+            u8::from(exit)
+        }
+        Err(refusal) => refuse(rt, refusal),
     }
 }
 
 /// The whole run.
 fn run<R: Runtime + AllocGlobal + RandomSource>(rt: &R, words: &[String]) -> u8 {
     match matches(rt.alloc(), words) {
-        Ok(matches) => match style_of(rt, &matches) {
-            Ok(style) => {
-                let (exit, _out) = log_all(rt, &style, &matches, Output::new(io::writer(rt)));
-                u8::from(exit)
-            }
-            Err(refusal) => refuse(rt, refusal),
-        },
-        Err(error) => {
-            let is_told = error.print(rt).is_ok();
-            match error.kind() {
-                ErrorKind::DisplayHelp if is_told => 0,
-                ErrorKind::DisplayHelp | ErrorKind::OutOfMemory => 3,
-                _ if is_told => 2,
-                _ => 3,
-            }
-        }
+        Ok(matches) => run_by(rt, &matches),
+        Err(error) => tell_error(rt, &error),
     }
 }
 

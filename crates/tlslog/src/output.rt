@@ -8,7 +8,7 @@ use std::io::Write;
 use tls_fields::write_whole;
 
 /// Why a line isn't written.
-#[derive(Clone, Copy, Debug, PartialEq, Eq)]
+#[derive(Clone, Copy)]
 pub enum LineError {
     /// Memory ran out.
     OutOfMemory,

@@ -3,16 +3,13 @@ ghost use Rattle.std.specs.Prelude.{◌≡◌, ◌≢◌, false};
 ghost use Rattle.tlslog.specs.Output.{Tells};
 ghost use Rattle.tlslog.specs.Run.{EndsBy, Exits, ExitsBy, HasWritten, StaysSound};
 
-use crate::counts::{Counts, add_one};
 use crate::failure::{Exit, Failure};
-use crate::heard::Heard;
-use crate::line::{gap_name, row_of};
-use crate::log::Log;
+use crate::listener::{Listener, Messages, summary, take_messages};
 use crate::output::{LineError, Output};
 use crate::progress::{STANDARD_INPUT, Watched};
-use crate::spoken::message_row;
-use crate::style::{Lines, Style};
 use connections::Connection;
+use log_connections::{Counts, Log, add_one};
+use log_lines::{Lines, Spoken, Style, Summary, message_row, row_of};
 use packets::{Packet, PacketVisitor, visit_packets};
 use std::alloc::Global;
 use std::fs;
@@ -21,12 +18,27 @@ use std::io::{Read, Write};
 use std::random::RandomSource;
 use std::rt::Runtime;
 
+/// Prints the line of a connection.
+fn print_row<W: Write>(
+    alloc: Global,
+    style: &Style,
+    places: &[usize],
+    summary: &Summary<'_>,
+    out: &mut Output<W>,
+) -> Result<(), LineError>
+    ensures { Tells out.old.has_failed out.new.has_failed result }
+{
+    let row = row_of(alloc, &style.suites, places, summary)?;
+    let line = style.text(alloc, &row)?;
+    out.write_line(line)
+}
+
 /// Counts a connection that is over, and prints its line, if it is TLS or DTLS and connections have lines.
 fn print_line<W: Write>(
     alloc: Global,
     style: &Style,
     counts: &mut Counts,
-    connection: &Connection<Heard>,
+    connection: &Connection<Listener>,
     out: &mut Output<W>,
 ) -> Result<(), LineError>
     ensures { Tells out.old.has_failed out.new.has_failed result }
@@ -35,35 +47,53 @@ fn print_line<W: Write>(
         add_one(&mut counts.other_connections);
         return Ok(());
     }
-    if gap_name(connection).is_some() {
+    let summary = summary(connection);
+    if summary.gap().is_some() {
         add_one(&mut counts.gaps);
     }
-    let Lines::Connections(places) = &style.lines else {
-        return Ok(());
-    };
-    let row = row_of(alloc, &style.suites, places.as_slice(), connection)?;
-    let line = style.text(alloc, row)?;
-    out.write_line(line)
+    match &style.lines {
+        Lines::Connections(places) => print_row(alloc, style, places.as_slice(), &summary, out),
+        Lines::Messages(_) => Ok(()),
+    }
 }
 
-/// The same, and lets the connection go. It has one exit, since letting a connection go is much to prove.
+/// The same, and lets the connection go: by `drop`, since what a connection holds is much to let go at the ends of a body.
 fn print_one<W: Write>(
     alloc: Global,
     style: &Style,
     counts: &mut Counts,
-    connection: Connection<Heard>,
+    connection: Connection<Listener>,
     out: &mut Output<W>,
 ) -> Result<(), LineError>
     ensures { Tells out.old.has_failed out.new.has_failed result }
 {
-    print_line(alloc, style, counts, &connection, out)
+    let told = print_line(alloc, style, counts, &connection, out);
+    drop(connection);
+    told
+}
+
+/// Prints a message that was whole at this time.
+fn print_message<W: Write>(
+    alloc: Global,
+    style: &Style,
+    places: &[usize],
+    summary: &Summary<'_>,
+    time: u64,
+    spoken: Spoken,
+    out: &mut Output<W>,
+) -> Result<(), LineError>
+    ensures { Tells out.old.has_failed out.new.has_failed result }
+{
+    let row = message_row(alloc, places, summary, time, spoken)?;
+    let line = style.text(alloc, &row)?;
+    out.write_line(line)
 }
 
 /// Prints the messages of a connection that were whole at this time, if messages have lines.
 fn print_messages<W: Write>(
     alloc: Global,
     style: &Style,
-    connection: &mut Connection<Heard>,
+    connection: &mut Connection<Listener>,
     time: u64,
     out: &mut Output<W>,
 ) -> Result<(), LineError>
@@ -72,10 +102,10 @@ fn print_messages<W: Write>(
     let Lines::Messages(places) = &style.lines else {
         return Ok(());
     };
-    'messages: for spoken in connection.listener.take_messages() {
-        let row = message_row(alloc, places.as_slice(), connection, time, spoken)?;
-        let line = style.text(alloc, row)?;
-        out.write_line(line)?;
+    let all = take_messages(alloc, &mut connection.listener);
+    let summary = summary(connection);
+    'messages: for spoken in all {
+        print_message(alloc, style, places.as_slice(), &summary, time, spoken, out)?;
     }
     Ok(())
 }
@@ -85,7 +115,7 @@ fn print_both<W: Write>(
     alloc: Global,
     style: &Style,
     counts: &mut Counts,
-    connection: &mut Connection<Heard>,
+    connection: &mut Connection<Listener>,
     time: u64,
     out: &mut Output<W>,
 ) -> Result<(), LineError>
@@ -100,21 +130,23 @@ fn print_last<W: Write>(
     alloc: Global,
     style: &Style,
     counts: &mut Counts,
-    connection: Connection<Heard>,
+    connection: Connection<Listener>,
     time: u64,
     out: &mut Output<W>,
 ) -> Result<(), LineError>
     ensures { Tells out.old.has_failed out.new.has_failed result }
 {
     let mut connection = connection;
-    print_both(alloc, style, counts, &mut connection, time, out)
+    let told = print_both(alloc, style, counts, &mut connection, time, out);
+    drop(connection);
+    told
 }
 
 /// Logs one packet.
 fn log_packet<W: Write>(
     alloc: Global,
     style: &Style,
-    log: &mut Log,
+    log: &mut Log<Messages>,
     packet: Packet<'_>,
     out: &mut Output<W>,
 ) -> Result<(), LineError>
@@ -150,7 +182,7 @@ fn log_packet<W: Write>(
 struct Logger<'a, W> {
     alloc: Global,
     style: &'a Style,
-    log: Log,
+    log: Log<Messages>,
     out: Output<W>,
 }
 
@@ -182,7 +214,7 @@ fn log_packets<I: Read, W: Write>(logger: &mut Logger<'_, W>, reader: &mut I) ->
 fn print_left<W: Write>(
     alloc: Global,
     style: &Style,
-    log: &mut Log,
+    log: &mut Log<Messages>,
     out: &mut Output<W>,
 ) -> Result<(), LineError>
     ensures { Tells out.old.has_failed out.new.has_failed result }
@@ -226,7 +258,7 @@ fn log_whole<R: Runtime + AllocGlobal, I: Read, W: Write>(
         Ok(()) => Exit::Clean,
         Err(failure) => tell(rt, name, failure, logger.log.counts.packets),
     };
-    if exit == Exit::Failed {
+    if matches!(exit, Exit::Failed) {
         return exit;
     }
     match print_left(logger.alloc, logger.style, &mut logger.log, &mut logger.out) {
@@ -265,11 +297,13 @@ pub fn log_input<R: Runtime + AllocGlobal + RandomSource, I: Read, W: Write>(
         out,
     };
     let exit = log_whole(rt, name, &mut logger, reader);
+    let exit = match logger.log.counts.tell(rt, name) {
+        Ok(()) => exit,
+        Err(_) => Exit::Failed,
+    };
     let Logger { log, out, .. } = logger;
-    match log.counts.tell(rt, name) {
-        Ok(()) => (exit, out),
-        Err(_) => (Exit::Failed, out),
-    }
+    drop(log);
+    (exit, out)
 }
 
 /// Logs the capture in a file, of which the progress is told where someone looks.

@@ -2,7 +2,7 @@
 use std::io;
 
 /// What was read of a capture, and what of it was left out, each by its reason.
-#[derive(Clone, Copy, Debug, PartialEq, Eq)]
+#[derive(Drop)]
 pub struct Counts {
     /// Packets.
     pub packets: u64,

@@ -1,6 +1,6 @@
 //! What stands in a line.
+use crate::speech::Body;
 use serde::{Described, Serialize, Serializer};
-use tls_json::{AlertMessage, ChangeCipherSpec, HeartbeatMessage, Message};
 
 /// The event that ended a handshake without success.
 #[derive(Drop, Serialize)]
@@ -33,14 +33,8 @@ pub enum Cell {
     Numbers(Vec<u64>),
     /// The event that ended a handshake.
     Stop(StopCell),
-    /// A handshake message, by its fields.
-    Message(Message),
-    /// An alert, by its fields.
-    Alert(AlertMessage),
-    /// A ChangeCipherSpec, by its fields.
-    Change(ChangeCipherSpec),
-    /// A heartbeat, by its fields.
-    Heartbeat(HeartbeatMessage),
+    /// A message, by its fields.
+    Message(Box<Body>),
 }
 
 /// Names of fields, each with what it says; `None` where the field is missing.

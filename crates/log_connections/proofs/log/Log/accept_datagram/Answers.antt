@@ -1,8 +1,8 @@
-use Rattle.tlslog.proofs.LogLemmas.{datagram_heard, datagram_lent, where_ok}
-use Rattle.tlslog.proofs.log.Log.accept_datagram.Goals as goal
+use Rattle.log_connections.proofs.LogLemmas.{datagram_heard, datagram_lent, where_ok}
+use Rattle.log_connections.proofs.log.Log.accept_datagram.Goals as goal
 
 pub returns-in-Some : goal.returns-in-Some
-returns-in-Some c =
+returns-in-Some g c =
     rw c.between.ensures
     (where_ok c.hear_from.result _ _
     (datagram_heard c.args.datagram.now c.args.self.now.connections c.accept_datagram.new.self c.in-Some.exchange.now
@@ -10,6 +10,6 @@ returns-in-Some c =
     (rw c.between.ensures at c.in-Some.ensures.value)) c.hear_from.ensures)
 
 pub returns-in-None : goal.returns-in-None
-returns-in-None c =
+returns-in-None g c =
     absurd (datagram_lent c.args.datagram.now c.args.self.now.connections c.accept_datagram.new.self
     c.in_ok-accept_datagram.ensures.put (rw c.between.ensures at c.in-None.ensures.value))

@@ -2,11 +2,12 @@
 use crate::cell::{Cell, Row};
 use crate::columns::{Column, FIELDS, PARTS};
 use crate::suites::Suites;
+use crate::text::add_text;
 use csv::WriterBuilder;
 use std::alloc::{AllocError, Global};
 
 /// How a line is written.
-#[derive(Clone, Copy, Debug, PartialEq, Eq)]
+#[derive(Drop)]
 pub enum Format {
     /// An object of JSON.
     Json,
@@ -35,7 +36,7 @@ pub struct Style {
 }
 
 /// Why no such lines can be printed.
-#[derive(Clone, Copy, Debug, PartialEq, Eq)]
+#[derive(Drop)]
 pub enum StyleError<'a> {
     /// There is no field of that name.
     UnknownField(&'a str),
@@ -51,19 +52,25 @@ impl From<AllocError> for StyleError<'_> {
     }
 }
 
+/// All places in a table of so many fields.
+fn all_places(alloc: Global, count: usize) -> Result<Vec<usize>, AllocError> {
+    let mut all = Vec::with_capacity(alloc, count)?;
+    for place in 0..count {
+        all.push(place)?;
+    }
+    Ok(all)
+}
+
 /// The places of the fields of these names, in the names' order; all of the table where none are named.
 fn chosen<'a, T>(
     alloc: Global,
     table: &[Column<T>],
     names: Option<&'a str>,
 ) -> Result<Vec<usize>, StyleError<'a>> {
-    let mut all: Vec<usize> = Vec::new(alloc);
     let Some(names) = names else {
-        for place in 0..table.len() {
-            all.push(place).map_err(|_e| StyleError::OutOfMemory)?;
-        }
-        return Ok(all);
+        return Ok(all_places(alloc, table.len())?);
     };
+    let mut all: Vec<usize> = Vec::new(alloc);
     for name in names.split(',') {
         let Some(place) = table.iter().position(|column| column.0 == name) else {
             return Err(StyleError::UnknownField(name));
@@ -71,7 +78,9 @@ fn chosen<'a, T>(
         if all.contains(&place) {
             return Err(StyleError::DoubledField(name));
         }
-        all.push(place).map_err(|_e| StyleError::OutOfMemory)?;
+        if all.push(place).is_err() {
+            return Err(StyleError::OutOfMemory);
+        }
     }
     Ok(all)
 }
@@ -91,12 +100,21 @@ impl Lines {
     }
 }
 
-/// A cell as comma-separated values have it: text as it stands, and else JSON.
-fn field_text(alloc: Global, cell: Cell) -> Result<String, AllocError> {
+/// What failed for memory alone.
+fn in_memory<T, E: Drop>(made: Result<T, E>) -> Result<T, AllocError> {
+    match made {
+        Ok(value) => Ok(value),
+        Err(_) => Err(AllocError),
+    }
+}
+
+/// A cell as comma-separated values have it: nothing, text as it stands, or else JSON.
+fn field_text(alloc: Global, cell: &Option<Cell>) -> Result<String, AllocError> {
     match cell {
-        Cell::Name(name) => String::from_str(alloc, name),
-        Cell::Text(text) => Ok(text),
-        other => serde_json::to_string(alloc, &other).map_err(|_e| AllocError),
+        None => Ok(String::new(alloc)),
+        Some(Cell::Name(name)) => String::from_str(alloc, name),
+        Some(Cell::Text(text)) => String::from_str(alloc, text.as_str()),
+        Some(other) => in_memory(serde_json::to_string(alloc, other)),
     }
 }
 
@@ -104,13 +122,11 @@ fn field_text(alloc: Global, cell: Cell) -> Result<String, AllocError> {
 fn record(alloc: Global, fields: &[String]) -> Result<String, AllocError> {
     let mut writer = WriterBuilder::new().from_writer(Vec::new(alloc));
     for field in fields {
-        writer
-            .write_field(field.as_bytes())
-            .map_err(|_e| AllocError)?;
+        in_memory(writer.write_field(field.as_bytes()))?;
     }
-    writer.end_record().map_err(|_e| AllocError)?;
-    let bytes = writer.into_inner().map_err(|_e| AllocError)?;
-    let mut text = String::from_utf8(bytes).map_err(|_e| AllocError)?;
+    in_memory(writer.end_record())?;
+    let bytes = in_memory(writer.into_inner())?;
+    let mut text = in_memory(String::from_utf8(bytes))?;
     text.pop();
     Ok(text)
 }
@@ -123,7 +139,7 @@ fn names_of<T>(
     let mut names = Vec::new(alloc);
     for place in places {
         if let Some(column) = table.get(*place) {
-            names.push(String::from_str(alloc, column.0)?)?;
+            add_text(&mut names, String::from_str(alloc, column.0))?;
         }
     }
     Ok(names)
@@ -132,7 +148,7 @@ fn names_of<T>(
 impl Style {
     /// The line in front of all, if there is one.
     pub fn header(&self, alloc: Global) -> Result<Option<String>, AllocError> {
-        if self.format == Format::Json {
+        if matches!(self.format, Format::Json) {
             return Ok(None);
         }
         let names = match &self.lines {
@@ -143,16 +159,13 @@ impl Style {
     }
 
     /// A line, without its line break.
-    pub fn text(&self, alloc: Global, row: Row) -> Result<String, AllocError> {
-        if self.format == Format::Json {
-            return serde_json::to_string(alloc, &row).map_err(|_e| AllocError);
+    pub fn text(&self, alloc: Global, row: &Row) -> Result<String, AllocError> {
+        if matches!(self.format, Format::Json) {
+            return in_memory(serde_json::to_string(alloc, row));
         }
         let mut fields = Vec::new(alloc);
-        for (_name, cell) in row.cells {
-            fields.push(match cell {
-                Some(cell) => field_text(alloc, cell)?,
-                None => String::new(alloc),
-            })?;
+        for (_name, cell) in &row.cells {
+            add_text(&mut fields, field_text(alloc, cell))?;
         }
         record(alloc, fields.as_slice())
     }

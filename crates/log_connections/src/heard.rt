@@ -1,8 +1,7 @@
 //! What is heard of a connection, by what carries it.
 ghost use Rattle.std.specs.Prelude.{◌≡◌, OnOk};
-ghost use Rattle.tlslog.specs.Heard.{HearsDatagram, HearsStream};
+ghost use Rattle.log_connections.specs.Heard.{HearsDatagram, HearsStream};
 
-use crate::speech::{Speech, Spoken};
 use connections::{Listener, Protocol, Side, Stream};
 use std::alloc::{AllocError, Global};
 use tls_facts::Facts;
@@ -11,6 +10,15 @@ use tls_talks::{DatagramRecords, DatagramTalk, Records, Talk};
 
 /// How many bytes tell whether a side speaks TLS: the header of a record (RFC 8446, section 5.1).
 const HEADER_LEN: usize = 5;
+
+/// Who keeps the messages of a connection that is TLS or DTLS, where these are to be had one by one.
+pub trait Keeper: Drop {
+    /// That of a connection of which nothing came.
+    fn begin(alloc: Global, protocol: Protocol) -> Self;
+
+    /// Hears what a side says next: over TCP bytes of its stream, over UDP a datagram.
+    fn hear(&mut self, direction: Direction, bytes: &[u8]) -> Result<(), AllocError>;
+}
 
 /// What both sides of a connection said.
 #[derive(Drop)]
@@ -23,12 +31,12 @@ enum Said {
 
 /// What goes with a connection: what its sides said.
 #[derive(Drop)]
-pub struct Heard {
+pub struct Heard<K> {
     alloc: Global,
     protocol: Protocol,
     said: Said,
-    // The messages, where they are kept.
-    speech: Option<Speech>,
+    // Who keeps the messages, where they are kept.
+    keeper: Option<K>,
     // Over TCP, the records of each side, encrypted ones too.
     from_originator: Records,
     from_responder: Records,
@@ -37,8 +45,8 @@ pub struct Heard {
     by_responder: DatagramRecords,
 }
 
-impl Listener for Heard {
-    fn begin(alloc: Global, protocol: Protocol) -> Heard {
+impl<K: Keeper> Listener for Heard<K> {
+    fn begin(alloc: Global, protocol: Protocol) -> Heard<K> {
         let said = match protocol {
             Protocol::Tcp => Said::Stream(Talk::new(alloc)),
             Protocol::Udp => Said::Datagrams(DatagramTalk::new(alloc)),
@@ -47,7 +55,7 @@ impl Listener for Heard {
             alloc,
             protocol,
             said,
-            speech: None,
+            keeper: None,
             from_originator: Records::new(),
             from_responder: Records::new(),
             by_originator: DatagramRecords::new(),
@@ -56,7 +64,7 @@ impl Listener for Heard {
     }
 }
 
-impl Heard {
+impl<K: Keeper> Heard<K> {
     /// Whether it is TLS or DTLS.
     pub fn is_spoken(&self) -> bool {
         match &self.said {
@@ -113,21 +121,18 @@ impl Heard {
         }
     }
 
-    /// Keeps the messages that come from here on, until they are taken.
-    pub fn keep_messages(&mut self)
+    /// Keeps the messages that come from here on.
+    pub(crate) fn keep_messages(&mut self)
         ensures { self.new.said ≡ self.old.said }
     {
-        if self.speech.is_none() {
-            self.speech = Some(Speech::new(self.alloc, self.protocol));
+        if self.keeper.is_none() {
+            self.keeper = Some(K::begin(self.alloc, self.protocol));
         }
     }
 
-    /// Takes out the messages that are kept.
-    pub fn take_messages(&mut self) -> Vec<Spoken> {
-        match &mut self.speech {
-            Some(speech) => speech.take(),
-            None => Vec::new(self.alloc),
-        }
+    /// Who keeps the messages, where they are kept.
+    pub fn keeper(&mut self) -> Option<&mut K> {
+        self.keeper.as_mut()
     }
 
     /// How many records a side said: over TCP up to the first bytes that are missing, over UDP those of all its datagrams.
@@ -150,7 +155,7 @@ impl Heard {
     }
 
     /// Counts the records in the bytes that a side says next.
-    pub fn count_records(&mut self, direction: Direction, bytes: &[u8])
+    pub(crate) fn count_records(&mut self, direction: Direction, bytes: &[u8])
         ensures { self.new.said ≡ self.old.said }
     {
         match direction {
@@ -160,7 +165,7 @@ impl Heard {
     }
 
     /// Hears what a side's stream says next; its first bytes once they tell whether it speaks TLS.
-    pub fn hear_stream(
+    pub(crate) fn hear_stream(
         &mut self,
         stream: &mut Stream,
         direction: Direction,
@@ -177,9 +182,9 @@ impl Heard {
         let was_over = talk.is_over(direction);
         talk.hear(self.alloc, direction, bytes)?;
         let is_over = talk.is_over(direction);
-        if let Some(speech) = &mut self.speech {
+        if let Some(keeper) = &mut self.keeper {
             if talk.is_tls() && !was_over {
-                speech.hear(direction, bytes)?;
+                keeper.hear(direction, bytes)?;
             }
         }
         self.count_records(direction, bytes);
@@ -192,7 +197,11 @@ impl Heard {
     }
 
     /// Hears a side's datagram.
-    pub fn hear_datagram(&mut self, direction: Direction, payload: &[u8]) -> Result<(), AllocError>
+    pub(crate) fn hear_datagram(
+        &mut self,
+        direction: Direction,
+        payload: &[u8],
+    ) -> Result<(), AllocError>
         ensures { OnOk result (HearsDatagram direction payload.now self.old.said self.new.said) }
     {
         match direction {
@@ -204,9 +213,9 @@ impl Heard {
         };
         let was_over = talk.is_over(direction);
         talk.hear(self.alloc, direction, payload)?;
-        if let Some(speech) = &mut self.speech {
+        if let Some(keeper) = &mut self.keeper {
             if talk.is_dtls() && !was_over {
-                speech.hear(direction, payload)?;
+                keeper.hear(direction, payload)?;
             }
         }
         Ok(())

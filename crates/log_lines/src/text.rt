@@ -57,6 +57,44 @@ pub fn scheme(alloc: Global, scheme: u16) -> Result<String, AllocError> {
     Ok(shown)
 }
 
+/// What is there, as text.
+pub fn some_text(text: Result<String, AllocError>) -> Result<Option<Cell>, AllocError> {
+    Ok(Some(Cell::Text(text?)))
+}
+
+/// A version, where there is one.
+pub fn some_version(alloc: Global, chosen: Option<TlsVersion>) -> Result<Option<Cell>, AllocError> {
+    match chosen {
+        Some(chosen) => some_text(version(alloc, chosen)),
+        None => Ok(None),
+    }
+}
+
+/// A group, where there is one.
+pub fn some_group(alloc: Global, chosen: Option<NamedGroup>) -> Result<Option<Cell>, AllocError> {
+    match chosen {
+        Some(chosen) => some_text(group(alloc, chosen)),
+        None => Ok(None),
+    }
+}
+
+/// What a peer sent, where there is something.
+pub fn some_escaped(alloc: Global, bytes: Option<&[u8]>) -> Result<Option<Cell>, AllocError> {
+    match bytes {
+        Some(bytes) => some_text(escaped(alloc, bytes)),
+        None => Ok(None),
+    }
+}
+
+/// Adds a text to a list.
+pub fn add_text(
+    texts: &mut Vec<String>,
+    text: Result<String, AllocError>,
+) -> Result<(), AllocError> {
+    texts.push(text?)?;
+    Ok(())
+}
+
 /// A list of texts; nothing where it is empty.
 pub fn some_texts(texts: Vec<String>) -> Option<Cell> {
     if texts.is_empty() {

@@ -3,8 +3,8 @@ use crate::cell::Cell;
 use crate::columns::{Answer, Chain, Offer};
 use crate::suites::Suites;
 use crate::text::{
-    escaped, extension, group, hexadecimal, other_name, scheme, some_codes, some_mark, some_texts,
-    version,
+    add_text, escaped, extension, group, hexadecimal, other_name, scheme, some_codes, some_group,
+    some_mark, some_text, some_texts, some_version, version,
 };
 use std::alloc::{AllocError, Global};
 use tls_base::{NamedGroup, TlsVersion};
@@ -15,7 +15,7 @@ use tls_fields::{Counted1, Items};
 fn versions(alloc: Global, list: Items<'_, TlsVersion>) -> Result<Option<Cell>, AllocError> {
     let mut all = Vec::new(alloc);
     for one in list {
-        all.push(version(alloc, one)?)?;
+        add_text(&mut all, version(alloc, one))?;
     }
     Ok(some_texts(all))
 }
@@ -23,7 +23,7 @@ fn versions(alloc: Global, list: Items<'_, TlsVersion>) -> Result<Option<Cell>, 
 fn types(alloc: Global, list: Items<'_, ExtensionType>) -> Result<Option<Cell>, AllocError> {
     let mut all = Vec::new(alloc);
     for one in list {
-        all.push(extension(alloc, one)?)?;
+        add_text(&mut all, extension(alloc, one))?;
     }
     Ok(some_texts(all))
 }
@@ -31,7 +31,7 @@ fn types(alloc: Global, list: Items<'_, ExtensionType>) -> Result<Option<Cell>, 
 fn groups(alloc: Global, list: Items<'_, NamedGroup>) -> Result<Option<Cell>, AllocError> {
     let mut all = Vec::new(alloc);
     for one in list {
-        all.push(group(alloc, one)?)?;
+        add_text(&mut all, group(alloc, one))?;
     }
     Ok(some_texts(all))
 }
@@ -39,7 +39,7 @@ fn groups(alloc: Global, list: Items<'_, NamedGroup>) -> Result<Option<Cell>, Al
 fn schemes(alloc: Global, list: Items<'_, u16>) -> Result<Option<Cell>, AllocError> {
     let mut all = Vec::new(alloc);
     for one in list {
-        all.push(scheme(alloc, one)?)?;
+        add_text(&mut all, scheme(alloc, one))?;
     }
     Ok(some_texts(all))
 }
@@ -47,7 +47,7 @@ fn schemes(alloc: Global, list: Items<'_, u16>) -> Result<Option<Cell>, AllocErr
 fn protocols(alloc: Global, list: Items<'_, Counted1>) -> Result<Option<Cell>, AllocError> {
     let mut all = Vec::new(alloc);
     for one in list {
-        all.push(escaped(alloc, one)?)?;
+        add_text(&mut all, escaped(alloc, one))?;
     }
     Ok(some_texts(all))
 }
@@ -58,21 +58,14 @@ fn share_groups<'a>(
 ) -> Result<Option<Cell>, AllocError> {
     let mut all = Vec::new(alloc);
     for one in list {
-        all.push(group(alloc, one.group)?)?;
+        add_text(&mut all, group(alloc, one.group))?;
     }
     Ok(some_texts(all))
 }
 
-fn some_version(alloc: Global, chosen: Option<TlsVersion>) -> Result<Option<Cell>, AllocError> {
-    match chosen {
-        Some(chosen) => Ok(Some(Cell::Text(version(alloc, chosen)?))),
-        None => Ok(None),
-    }
-}
-
 fn some_bytes(alloc: Global, bytes: Option<&[u8]>) -> Result<Option<Cell>, AllocError> {
     match bytes {
-        Some(bytes) => Ok(Some(Cell::Text(hexadecimal(alloc, bytes)?))),
+        Some(bytes) => some_text(hexadecimal(alloc, bytes)),
         None => Ok(None),
     }
 }
@@ -81,7 +74,7 @@ fn some_bytes(alloc: Global, bytes: Option<&[u8]>) -> Result<Option<Cell>, Alloc
 pub fn other_names_cell(alloc: Global, facts: &Facts) -> Result<Option<Cell>, AllocError> {
     let mut all = Vec::new(alloc);
     for (kind, name) in &facts.other_server_names(alloc)? {
-        all.push(other_name(alloc, kind.0, name)?)?;
+        add_text(&mut all, other_name(alloc, kind.0, name))?;
     }
     Ok(some_texts(all))
 }
@@ -91,7 +84,7 @@ pub fn offer_cell(
     alloc: Global,
     suites: &Suites,
     facts: &Facts,
-    field: Offer,
+    field: &Offer,
 ) -> Result<Option<Cell>, AllocError> {
     match field {
         Offer::Version => some_version(alloc, facts.client_version()),
@@ -115,6 +108,14 @@ pub fn offer_cell(
     }
 }
 
+/// The code of the compression method that the server chose.
+fn compression(facts: &Facts) -> Option<Cell> {
+    match facts.server_compression() {
+        Some(method) => Some(Cell::Number(u64::from(method.0))),
+        None => None,
+    }
+}
+
 /// How many signed certificate timestamps the ServerHello has.
 fn timestamps(facts: &Facts) -> Option<Cell> {
     let mut count = 0u64;
@@ -131,73 +132,67 @@ fn timestamps(facts: &Facts) -> Option<Cell> {
 pub fn answer_cell(
     alloc: Global,
     facts: &Facts,
-    field: Answer,
+    field: &Answer,
 ) -> Result<Option<Cell>, AllocError> {
     match field {
         Answer::Version => some_version(alloc, facts.server_version()),
         Answer::SessionId => some_bytes(alloc, facts.server_session_id()),
-        Answer::Compression => match facts.server_compression() {
-            Some(method) => Ok(Some(Cell::Number(u64::from(method.0)))),
-            None => Ok(None),
-        },
+        Answer::Compression => Ok(compression(facts)),
         Answer::ExtensionTypes => types(alloc, facts.server_extension_types()),
-        Answer::KeyShareGroup => match facts.server_key_share() {
-            Some(share) => Ok(Some(Cell::Text(group(alloc, share)?))),
-            None => Ok(None),
-        },
+        Answer::KeyShareGroup => some_group(alloc, facts.server_key_share()),
         Answer::Timestamps => Ok(timestamps(facts)),
         Answer::Ticket => Ok(some_mark(facts.has_ticket)),
         Answer::Status => Ok(some_mark(facts.has_status)),
     }
 }
 
-/// What is asked of a chain of certificates.
-#[derive(Clone, Copy, Debug, PartialEq, Eq)]
-enum Asked {
-    Count,
-    Lengths,
-    Prints,
+/// How many certificates a chain has; nothing where there was none.
+fn count_cell(chain: &Option<Vec<CertificateFacts>>) -> Option<Cell> {
+    match chain {
+        Some(chain) => Some(Cell::Number(chain.len() as u64)),
+        None => None,
+    }
 }
 
-/// A chain of certificates; nothing where there was none. The lengths and fingerprints of an empty one are missing too.
-fn certificates(
-    alloc: Global,
-    chain: &Option<Vec<CertificateFacts>>,
-    asked: Asked,
-) -> Result<Option<Cell>, AllocError> {
-    let Some(chain) = chain else {
-        return Ok(None);
-    };
-    if asked == Asked::Count {
-        return Ok(Some(Cell::Number(chain.len() as u64)));
+/// The certificates of a chain; none where there was no chain.
+fn certificates(chain: &Option<Vec<CertificateFacts>>) -> &[CertificateFacts] {
+    match chain {
+        Some(chain) => chain.as_slice(),
+        None => &[],
     }
+}
+
+/// The lengths of the certificates of a chain.
+fn lengths_cell(alloc: Global, chain: &[CertificateFacts]) -> Result<Option<Cell>, AllocError> {
     if chain.is_empty() {
         return Ok(None);
     }
-    let (mut lengths, mut prints) = (Vec::new(alloc), Vec::new(alloc));
+    let mut all = Vec::with_capacity(alloc, chain.len())?;
     for one in chain {
-        if asked == Asked::Lengths {
-            lengths.push(one.length as u64)?;
-        } else {
-            prints.push(hexadecimal(alloc, one.sha256.as_slice())?)?;
-        }
+        all.push(one.length as u64)?;
     }
-    Ok(Some(match asked {
-        Asked::Prints => Cell::Texts(prints),
-        Asked::Count | Asked::Lengths => Cell::Numbers(lengths),
-    }))
+    Ok(Some(Cell::Numbers(all)))
 }
 
-/// The certificates that are read.
-pub fn chain_cell(alloc: Global, facts: &Facts, field: Chain) -> Result<Option<Cell>, AllocError> {
+/// The fingerprints of the certificates of a chain.
+fn prints_cell(alloc: Global, chain: &[CertificateFacts]) -> Result<Option<Cell>, AllocError> {
+    let mut all = Vec::new(alloc);
+    for one in chain {
+        add_text(&mut all, hexadecimal(alloc, one.sha256.as_slice()))?;
+    }
+    Ok(some_texts(all))
+}
+
+/// The certificates that are read. The lengths and fingerprints of an empty chain are missing.
+pub fn chain_cell(alloc: Global, facts: &Facts, field: &Chain) -> Result<Option<Cell>, AllocError> {
     let (server, client) = (&facts.server_certificates, &facts.client_certificates);
     match field {
-        Chain::ServerCount => certificates(alloc, server, Asked::Count),
-        Chain::ServerLengths => certificates(alloc, server, Asked::Lengths),
-        Chain::ServerPrints => certificates(alloc, server, Asked::Prints),
+        Chain::ServerCount => Ok(count_cell(server)),
+        Chain::ServerLengths => lengths_cell(alloc, certificates(server)),
+        Chain::ServerPrints => prints_cell(alloc, certificates(server)),
         Chain::Requested => Ok(some_mark(facts.requests_certificate)),
-        Chain::ClientCount => certificates(alloc, client, Asked::Count),
-        Chain::ClientLengths => certificates(alloc, client, Asked::Lengths),
-        Chain::ClientPrints => certificates(alloc, client, Asked::Prints),
+        Chain::ClientCount => Ok(count_cell(client)),
+        Chain::ClientLengths => lengths_cell(alloc, certificates(client)),
+        Chain::ClientPrints => prints_cell(alloc, certificates(client)),
     }
 }

@@ -1,11 +1,11 @@
 //! What a capture's packets add to the log.
 ghost use Rattle.std.specs.Prelude.{◌≡◌, IfOk, OnOk, is_some};
 ghost use Rattle.connections.specs.Connection.{side_of};
-ghost use Rattle.tlslog.specs.Heard.{HearsStream};
-ghost use Rattle.tlslog.specs.Log.{HearsFrom, HearsSide, Logs, LogsDatagram, direction_of as direction};
+ghost use Rattle.log_connections.specs.Heard.{HearsStream};
+ghost use Rattle.log_connections.specs.Log.{HearsFrom, HearsSide, Logs, LogsDatagram, direction_of as direction};
 
 use crate::counts::{Counts, add_one};
-use crate::heard::Heard;
+use crate::heard::{Heard, Keeper};
 use capture::{Address, Content, TcpSegment, UdpDatagram, parse_packet};
 use connections::{Connection, Connections, Datagram, End, Ends, Segment, Side, Stream};
 use packets::Packet;
@@ -16,9 +16,9 @@ use tls_flow::Direction;
 
 /// The log of one capture: its open connections.
 #[derive(Drop)]
-pub struct Log {
-    connections: Connections<Heard>,
-    // Whether the messages of connections are kept until they are taken.
+pub struct Log<K> {
+    connections: Connections<Heard<K>>,
+    // Whether the messages of connections are kept.
     keeps_messages: bool,
     /// What was read, and what was left out.
     pub counts: Counts,
@@ -77,7 +77,7 @@ fn datagram_of<'a>(
 }
 
 /// What a packet brings to a connection.
-#[derive(Clone, Copy, Debug)]
+#[derive(Clone, Copy)]
 pub enum Arrival<'a> {
     /// A segment of TCP.
     Segment(Segment<'a>),
@@ -114,8 +114,8 @@ fn direction_of(side: Side) -> Direction
 }
 
 /// Lets the listener hear what a side's stream says next, and count what the segment adds to one that it hears no further.
-fn hear_side(
-    heard: &mut Heard,
+fn hear_side<K: Keeper>(
+    heard: &mut Heard<K>,
     stream: &mut Stream,
     direction: Direction,
     segment: &Segment<'_>,
@@ -128,8 +128,8 @@ fn hear_side(
 }
 
 /// The same of the segment's sender, which keeps the messages that it hears where they are to be taken.
-fn hear(
-    connection: &mut Connection<Heard>,
+fn hear<K: Keeper>(
+    connection: &mut Connection<Heard<K>>,
     segment: &Segment<'_>,
     keeps_messages: bool,
 ) -> Result<(), AllocError>
@@ -153,8 +153,8 @@ fn hear(
 }
 
 /// Lets the listener hear a datagram, and keep the messages that it hears where they are to be taken.
-fn hear_from(
-    exchange: &mut Connection<Heard>,
+fn hear_from<K: Keeper>(
+    exchange: &mut Connection<Heard<K>>,
     datagram: &Datagram<'_>,
     keeps_messages: bool,
 ) -> Result<(), AllocError>
@@ -168,10 +168,14 @@ fn hear_from(
     heard.hear_datagram(direction, datagram.payload)
 }
 
-impl Log {
+impl<K: Keeper> Log<K> {
     /// That of a capture of which nothing was read, with keys for the hashes of its table. It keeps the messages of connections where they
     /// are to be taken.
-    pub fn new(alloc: Global, keys: RandomState, keeps_messages: bool) -> Result<Log, AllocError> {
+    pub fn new(
+        alloc: Global,
+        keys: RandomState,
+        keeps_messages: bool,
+    ) -> Result<Log<K>, AllocError> {
         Ok(Log {
             connections: Connections::new(alloc, keys)?,
             keeps_messages,
@@ -208,7 +212,7 @@ impl Log {
     }
 
     /// Takes out a connection that is over before the arrival. To be called until there is none.
-    pub fn take_over(&mut self, arrival: &Arrival<'_>) -> Option<Connection<Heard>> {
+    pub fn take_over(&mut self, arrival: &Arrival<'_>) -> Option<Connection<Heard<K>>> {
         if let Some(connection) = self.connections.take_idle(arrival.time()) {
             return Some(connection);
         }
@@ -222,7 +226,7 @@ impl Log {
     pub fn accept(
         &mut self,
         arrival: &Arrival<'_>,
-    ) -> Result<Option<Connection<Heard>>, AllocError> {
+    ) -> Result<Option<Connection<Heard<K>>>, AllocError> {
         match arrival {
             Arrival::Segment(segment) => self.accept_segment(segment),
             Arrival::Datagram(datagram) => {
@@ -254,7 +258,7 @@ impl Log {
     fn accept_segment(
         &mut self,
         segment: &Segment<'_>,
-    ) -> Result<Option<Connection<Heard>>, AllocError> {
+    ) -> Result<Option<Connection<Heard<K>>>, AllocError> {
         match self.hear_segment(segment)? {
             Some(true) => self.connections.take_closed(segment),
             Some(false) => Ok(None),
@@ -278,12 +282,12 @@ impl Log {
     }
 
     /// The open connection that an arrival belongs to.
-    pub fn connection(&mut self, arrival: &Arrival<'_>) -> Option<&mut Connection<Heard>> {
+    pub fn connection(&mut self, arrival: &Arrival<'_>) -> Option<&mut Connection<Heard<K>>> {
         self.connections.get_mut(&arrival.between())
     }
 
     /// Takes out a connection that is left. To be called at the capture's end, until there is none.
-    pub fn take_left(&mut self) -> Option<Connection<Heard>> {
+    pub fn take_left(&mut self) -> Option<Connection<Heard<K>>> {
         self.connections.take_left()
     }
 }

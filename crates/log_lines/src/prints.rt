@@ -1,6 +1,7 @@
 //! Fingerprints of hellos, as fields.
 use crate::cell::Cell;
 use crate::columns::Print;
+use crate::text::some_text;
 use connections::Protocol;
 use std::alloc::{AllocError, Global};
 use tls_facts::Facts;
@@ -46,16 +47,40 @@ fn transport(protocol: Protocol) -> Transport {
     }
 }
 
-fn server_cell(alloc: Global, facts: &Facts, is_text: bool) -> Result<Option<Cell>, AllocError> {
+/// JA3 or its text; nothing where there was no ClientHello.
+fn ja3_cell(alloc: Global, facts: &Facts, is_text: bool) -> Result<Option<Cell>, AllocError> {
+    let Some(client) = client_parts(facts) else {
+        return Ok(None);
+    };
+    some_text(if is_text {
+        client.ja3_text(alloc)
+    } else {
+        client.ja3(alloc)
+    })
+}
+
+/// JA3S or its text; nothing where there was no ServerHello.
+fn ja3s_cell(alloc: Global, facts: &Facts, is_text: bool) -> Result<Option<Cell>, AllocError> {
     let Some(server) = server_parts(facts) else {
         return Ok(None);
     };
-    let text = if is_text {
-        server.ja3s_text(alloc)?
+    some_text(if is_text {
+        server.ja3s_text(alloc)
     } else {
-        server.ja3s(alloc)?
-    };
-    Ok(Some(Cell::Text(text)))
+        server.ja3s(alloc)
+    })
+}
+
+/// JA4; nothing where there was no ClientHello.
+fn ja4_cell(
+    alloc: Global,
+    facts: &Facts,
+    transport: Transport,
+) -> Result<Option<Cell>, AllocError> {
+    match client_parts(facts) {
+        Some(client) => some_text(client.ja4(alloc, transport)),
+        None => Ok(None),
+    }
 }
 
 /// A fingerprint; nothing where there was no such hello.
@@ -63,15 +88,13 @@ pub fn print_cell(
     alloc: Global,
     facts: &Facts,
     protocol: Protocol,
-    field: Print,
+    field: &Print,
 ) -> Result<Option<Cell>, AllocError> {
-    let text = match (field, client_parts(facts)) {
-        (Print::Ja3s, _) => return server_cell(alloc, facts, false),
-        (Print::Ja3sText, _) => return server_cell(alloc, facts, true),
-        (_, None) => return Ok(None),
-        (Print::Ja3, Some(client)) => client.ja3(alloc)?,
-        (Print::Ja3Text, Some(client)) => client.ja3_text(alloc)?,
-        (Print::Ja4, Some(client)) => client.ja4(alloc, transport(protocol))?,
-    };
-    Ok(Some(Cell::Text(text)))
+    match field {
+        Print::Ja3 => ja3_cell(alloc, facts, false),
+        Print::Ja3Text => ja3_cell(alloc, facts, true),
+        Print::Ja3s => ja3s_cell(alloc, facts, false),
+        Print::Ja3sText => ja3s_cell(alloc, facts, true),
+        Print::Ja4 => ja4_cell(alloc, facts, transport(protocol)),
+    }
 }

@@ -1,6 +1,6 @@
 //! Names of cipher suites.
 use crate::cell::Cell;
-use crate::text::{name_or_number, some_texts};
+use crate::text::{add_text, name_or_number, some_text, some_texts};
 use std::alloc::{AllocError, Global};
 use std::collections::BTreeMap;
 use tls_base::TlsCipherSuiteID;
@@ -37,16 +37,26 @@ impl Suites {
     pub fn read(alloc: Global, list: &str) -> Result<Option<Suites>, AllocError> {
         let mut suites = Suites::new(alloc);
         for line in list.lines() {
-            if line.is_empty() || line.starts_with('#') {
-                continue;
-            }
-            let Some((number, name)) = named(line) else {
+            if !suites.add(alloc, line)? {
                 return Ok(None);
-            };
-            let name = String::from_str(alloc, name)?;
-            suites.names.insert(number, name).map_err(|_e| AllocError)?;
+            }
         }
         Ok(Some(suites))
+    }
+
+    /// Adds what a line says; `false` where it has another form.
+    fn add(&mut self, alloc: Global, line: &str) -> Result<bool, AllocError> {
+        if line.is_empty() || line.starts_with('#') {
+            return Ok(true);
+        }
+        let Some((number, name)) = named(line) else {
+            return Ok(false);
+        };
+        let name = String::from_str(alloc, name)?;
+        match self.names.insert(number, name) {
+            Ok(_) => Ok(true),
+            Err(_) => Err(AllocError),
+        }
     }
 
     /// A suite by its name, or else its number.
@@ -54,6 +64,18 @@ impl Suites {
         match self.names.get(&suite.0) {
             Some(name) => name_or_number(alloc, Some(name.as_str()), suite.0),
             None => name_or_number(alloc, None, suite.0),
+        }
+    }
+
+    /// A suite, where there is one.
+    pub fn some_text(
+        &self,
+        alloc: Global,
+        suite: Option<TlsCipherSuiteID>,
+    ) -> Result<Option<Cell>, AllocError> {
+        match suite {
+            Some(suite) => some_text(self.text(alloc, suite)),
+            None => Ok(None),
         }
     }
 
@@ -65,7 +87,7 @@ impl Suites {
     ) -> Result<Option<Cell>, AllocError> {
         let mut all = Vec::new(alloc);
         for suite in suites {
-            all.push(self.text(alloc, suite)?)?;
+            add_text(&mut all, self.text(alloc, suite))?;
         }
         Ok(some_texts(all))
     }

@@ -2,7 +2,6 @@
 use connections::Side;
 
 /// Who talks, over what, and when.
-#[derive(Clone, Copy, Debug, PartialEq, Eq)]
 pub enum End {
     Time,
     Originator,
@@ -14,7 +13,6 @@ pub enum End {
 }
 
 /// What was chosen, asked for and said, by name.
-#[derive(Clone, Copy, Debug, PartialEq, Eq)]
 pub enum Named {
     Version,
     Cipher,
@@ -26,7 +24,6 @@ pub enum Named {
 }
 
 /// What a connection came to.
-#[derive(Clone, Copy, Debug, PartialEq, Eq)]
 pub enum Course {
     Resumed,
     Established,
@@ -38,7 +35,6 @@ pub enum Course {
 }
 
 /// What the client offers, by its last ClientHello.
-#[derive(Clone, Copy, Debug, PartialEq, Eq)]
 pub enum Offer {
     Version,
     Versions,
@@ -61,7 +57,6 @@ pub enum Offer {
 }
 
 /// What the server answers, by its ServerHello.
-#[derive(Clone, Copy, Debug, PartialEq, Eq)]
 pub enum Answer {
     Version,
     SessionId,
@@ -74,7 +69,6 @@ pub enum Answer {
 }
 
 /// The certificates that are read.
-#[derive(Clone, Copy, Debug, PartialEq, Eq)]
 pub enum Chain {
     ServerCount,
     ServerLengths,
@@ -86,7 +80,6 @@ pub enum Chain {
 }
 
 /// Fingerprints of hellos.
-#[derive(Clone, Copy, Debug, PartialEq, Eq)]
 pub enum Print {
     Ja3,
     Ja3Text,
@@ -96,7 +89,6 @@ pub enum Print {
 }
 
 /// What a side sent, counted.
-#[derive(Clone, Copy, Debug, PartialEq, Eq)]
 pub enum Sent {
     Packets,
     Bytes,
@@ -106,7 +98,6 @@ pub enum Sent {
 }
 
 /// A field of a connection's line.
-#[derive(Clone, Copy, Debug, PartialEq, Eq)]
 pub enum Field {
     End(End),
     Named(Named),
@@ -119,7 +110,6 @@ pub enum Field {
 }
 
 /// A field of a message's line.
-#[derive(Clone, Copy, Debug, PartialEq, Eq)]
 pub enum Part {
     End(End),
     Side,

@@ -8,8 +8,8 @@ use Rattle.tls_flow.specs.declared.letter.Direction.{Direction}
 use Rattle.tls_talks.specs.Datagrams.{IsKnown, heard}
 use Rattle.tls_talks.specs.Datagrams as datagrams
 use Rattle.tls_talks.specs.Talks.{IsHeardOn}
-use Rattle.tlslog.specs.declared.heard.Said.{Said}
-use Rattle.tlslog.specs.declared.heard.Said.TheVariants as said
+use Rattle.log_connections.specs.declared.heard.Said.{Said}
+use Rattle.log_connections.specs.declared.heard.Said.TheVariants as said
 
 -- What comes next of a stream was taken off it, and it is read on or no further.
 abbrev pub IsTakenOff : Reading → Reading → Type 0

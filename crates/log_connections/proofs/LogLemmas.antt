@@ -1,0 +1,95 @@
+-- What the connection of a packet comes to.
+use Rattle.std.proofs.Common.{◌≡◌, sym, ap, ◌∙◌, subst, Option, Some, None, List, ◌∷◌, Bool, true, false, Result, Ok, Err}
+use Rattle.std.specs.Prelude.{OnOk}
+use Rattle.std.specs.Option.{unwrap_or}
+use Rattle.std.specs.Map.{set_value}
+use Rattle.connections.proofs.TableLemmas.{are_ends-refl}
+use Rattle.connections.specs.Connection.{side_of}
+use Rattle.connections.specs.Datagram.{ends_of_datagram}
+use Rattle.connections.specs.Ends.{are_ends}
+use Rattle.connections.specs.Segment.{ends_of}
+use Rattle.connections.specs.Table.{IsPut, Puts, Table, TakesDatagram, TakesSegment, at, others}
+use Rattle.connections.specs.declared.connection.Connection.{Connection}
+use Rattle.connections.specs.declared.datagram.Datagram.{Datagram}
+use Rattle.connections.specs.declared.ends.Ends.{Ends}
+use Rattle.connections.specs.declared.segment.Segment.{Segment}
+use Rattle.log_connections.specs.Log.{HearsFrom, HearsSegment, HearsSide, LogsDatagram}
+use Rattle.log_connections.specs.declared.heard.Heard.{Heard}
+
+module _ {X : Type 0} (e : Ends) where
+  -- What stands first under these ends is found, and another value is put there.
+  at_first : (x : X) (xs : List (Ends × X)) → at e ((e, x) ∷ xs) ≡ Some x
+  at_first x xs = rw (are_ends-refl e)
+
+  set_first : (x w : X) (xs : List (Ends × X)) → set_value (are_ends e) ((e, x) ∷ xs) w ≡ (e, w) ∷ xs
+  set_first x w xs = rw (are_ends-refl e)
+
+module _ {K : Type 0} (e : Ends) (Takes : Option (Connection (Heard K)) → Connection (Heard K) → Type 0)
+    (xs ys : List (Ends × Connection (Heard K))) (put : IsPut e Takes xs ys) where
+  -- The connection that is lent is the one that was put.
+  lent : (c : Connection (Heard K)) → Some c ≡ at e ys → c ≡ put.its
+  lent c found = ap (λ o. unwrap_or o c)
+      (found ∙ ap (at e) put.stands ∙ at_first e put.its (others e xs))
+
+  -- One is lent.
+  pub some_lent : at e ys ≡ None → ⊥
+  some_lent none =
+      let both : ◌≡◌ {A = Option (Connection (Heard K))} None (Some put.its) =
+      sym none ∙ ap (at e) put.stands ∙ at_first e put.its (others e xs) in
+      cc
+
+  -- What is written to it stands in its place.
+  written_first : (d : Connection (Heard K)) → set_value (are_ends e) ys d ≡ (e, d) ∷ others e xs
+  written_first d = ap (λ l. set_value (are_ends e) l d) put.stands ∙ set_first e put.its d (others e xs)
+
+-- What follows from an answer's value holds where there is one.
+pub where_ok : {A E : Type 0} (r : Result A E) (P Q : Type 0) → (P → Q) → OnOk r P → OnOk r Q
+where_ok (Ok a) P Q f h = f h
+where_ok (Err e) P Q f h = tt
+
+module _ {K : Type 0} where
+  put_where_true : (b : Bool) (s : Segment) (old mid : Table (Heard K)) → b ≡ true → Puts b s old mid
+      → IsPut (ends_of s) (TakesSegment s) old.live mid.live
+  put_where_true true s old mid is put = put
+  put_where_true false s old mid is put = cc
+
+  pub segment_heard : (b : Bool) (s : Segment) (old mid : Table (Heard K)) (c d : Connection (Heard K)) → b ≡ true
+      → Puts b s old mid → mid.closed ≡ old.closed → Some c ≡ at (ends_of s) mid.live
+      → HearsSide (side_of c s.source) c d
+      → HearsSegment s old (record mid { live = set_value (are_ends (ends_of s)) mid.live d })
+  segment_heard b s old mid c d is puts closed found hears =
+      let put = put_where_true b s old mid is puts in record {
+        put = put.its;
+        its = d;
+        takes = put.takes;
+        hears =
+            subst (λ z. HearsSide (side_of z s.source) z d)
+            (lent (ends_of s) (TakesSegment s) old.live mid.live put c found) hears;
+        stands = written_first (ends_of s) (TakesSegment s) old.live mid.live put d;
+        closed = closed;
+      }
+
+  pub segment_lent : (b : Bool) (s : Segment) (old mid : Table (Heard K)) → b ≡ true → Puts b s old mid
+      → None ≡ at (ends_of s) mid.live → ⊥
+  segment_lent b s old mid is puts none =
+      some_lent (ends_of s) (TakesSegment s) old.live mid.live (put_where_true b s old mid is puts) (sym none)
+
+  pub datagram_heard : (g : Datagram) (old mid : Table (Heard K)) (c d : Connection (Heard K))
+      → IsPut (ends_of_datagram g) (TakesDatagram g) old.live mid.live → mid.closed ≡ old.closed
+      → Some c ≡ at (ends_of_datagram g) mid.live → HearsFrom g c d
+      → LogsDatagram g old (record mid { live = set_value (are_ends (ends_of_datagram g)) mid.live d })
+  datagram_heard g old mid c d put closed found hears = record {
+    put = put.its;
+    its = d;
+    takes = put.takes;
+    hears =
+        subst (λ z. HearsFrom g z d)
+        (lent (ends_of_datagram g) (TakesDatagram g) old.live mid.live put c found) hears;
+    stands = written_first (ends_of_datagram g) (TakesDatagram g) old.live mid.live put d;
+    closed = closed;
+  }
+
+  pub datagram_lent : (g : Datagram) (old mid : Table (Heard K))
+      → IsPut (ends_of_datagram g) (TakesDatagram g) old.live mid.live → None ≡ at (ends_of_datagram g) mid.live → ⊥
+  datagram_lent g old mid put none =
+      some_lent (ends_of_datagram g) (TakesDatagram g) old.live mid.live put (sym none)

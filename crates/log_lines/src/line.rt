@@ -1,0 +1,183 @@
+//! The line of a connection.
+use crate::cell::{Cell, Row, StopCell};
+use crate::columns::{Course, End, FIELDS, Field, Named, Sent};
+use crate::hellos::{answer_cell, chain_cell, offer_cell, other_names_cell};
+use crate::names::{kind_name, outcome_name, sender_name};
+use crate::prints::print_cell;
+use crate::suites::Suites;
+use crate::summary::Summary;
+use crate::text::{
+    escaped, name_or_number, some_escaped, some_group, some_mark, some_text, some_version,
+};
+use connections::{Protocol, Side};
+use std::alloc::{AllocError, Global};
+use std::num::nearest_u64_to_f64;
+use tls_base::TlsAlertDescription;
+use tls_facts::Facts;
+use tls_flow::Stop;
+use tls_json::alert_name;
+
+/// Nanoseconds as seconds, to the microsecond.
+fn seconds(nanoseconds: u64) -> Cell {
+    Cell::Seconds(nearest_u64_to_f64(nanoseconds / 1000) / 1_000_000.0)
+}
+
+/// What carries a connection, as Zeek writes it.
+fn proto_name(protocol: Protocol) -> &'static str {
+    match protocol {
+        Protocol::Tcp => "tcp",
+        Protocol::Udp => "udp",
+    }
+}
+
+/// Who talks, over what, and when: a connection's first packet, or a message that came at this time.
+pub fn end_cell(
+    alloc: Global,
+    summary: &Summary<'_>,
+    time: u64,
+    field: &End,
+) -> Result<Option<Cell>, AllocError> {
+    match field {
+        End::Time => Ok(Some(seconds(time))),
+        End::Originator => some_text(summary.originator.end.address.to_string(alloc)),
+        End::OriginatorPort => Ok(Some(Cell::Number(u64::from(summary.originator.end.port)))),
+        End::Responder => some_text(summary.responder.end.address.to_string(alloc)),
+        End::ResponderPort => Ok(Some(Cell::Number(u64::from(summary.responder.end.port)))),
+        End::Protocol => Ok(Some(Cell::Name(proto_name(summary.protocol)))),
+        End::Duration => {
+            let duration = summary.last_time.saturating_sub(summary.first_time);
+            Ok(Some(seconds(duration)))
+        }
+    }
+}
+
+fn stop_cell(stop: Option<Stop>) -> Option<Cell> {
+    let stop = stop?;
+    Some(Cell::Stop(StopCell {
+        message: kind_name(stop.event.letter.kind),
+        sender: sender_name(stop.event.letter.direction),
+        messages_before: stop.place,
+    }))
+}
+
+/// An alert by its name, where there was one.
+fn some_alert(
+    alloc: Global,
+    alert: Option<TlsAlertDescription>,
+) -> Result<Option<Cell>, AllocError> {
+    match alert {
+        Some(alert) => some_text(name_or_number(alloc, alert_name(alert), u16::from(alert.0))),
+        None => Ok(None),
+    }
+}
+
+/// What was chosen, asked for and said, by name.
+fn named_cell(
+    alloc: Global,
+    suites: &Suites,
+    facts: &Facts,
+    field: &Named,
+) -> Result<Option<Cell>, AllocError> {
+    match field {
+        Named::Version => some_version(alloc, facts.version()),
+        Named::Cipher => suites.some_text(alloc, facts.cipher()),
+        Named::Curve => some_group(alloc, facts.curve()),
+        Named::ServerName => some_escaped(alloc, facts.server_name()),
+        Named::OtherServerNames => other_names_cell(alloc, facts),
+        Named::NextProtocol => some_escaped(alloc, facts.next_protocol()),
+        Named::LastAlert => some_alert(alloc, facts.last_alert),
+    }
+}
+
+/// The letters of a connection's events; nothing where none was heard.
+fn history_cell(alloc: Global, letters: &[u8]) -> Result<Option<Cell>, AllocError> {
+    if letters.is_empty() {
+        return Ok(None);
+    }
+    some_text(escaped(alloc, letters))
+}
+
+/// A name of ours, where there is one.
+pub fn some_name(name: Option<&'static str>) -> Option<Cell> {
+    match name {
+        Some(name) => Some(Cell::Name(name)),
+        None => None,
+    }
+}
+
+/// What a connection came to.
+fn course_cell(
+    alloc: Global,
+    summary: &Summary<'_>,
+    field: &Course,
+) -> Result<Option<Cell>, AllocError> {
+    match field {
+        Course::Resumed => Ok(Some(Cell::Mark(summary.is_resumed))),
+        Course::Established => Ok(Some(Cell::Mark(summary.is_established))),
+        Course::Outcome => Ok(Some(Cell::Name(outcome_name(summary.outcome)))),
+        Course::Stop => Ok(stop_cell(summary.stop)),
+        Course::Gap => Ok(some_name(summary.gap())),
+        Course::Retried => Ok(some_mark(summary.facts.is_retried)),
+        Course::History => history_cell(alloc, summary.history),
+    }
+}
+
+/// A count, where there is something to count.
+fn some_count(count: u64) -> Option<Cell> {
+    if count == 0 {
+        return None;
+    }
+    Some(Cell::Number(count))
+}
+
+/// What a side sent.
+fn sent_cell(summary: &Summary<'_>, side: Side, field: &Sent) -> Option<Cell> {
+    let party = summary.party(side);
+    match field {
+        Sent::Packets => Some(Cell::Number(party.sent.packets)),
+        Sent::Bytes => Some(Cell::Number(match summary.protocol {
+            Protocol::Tcp => party.stream.length(),
+            Protocol::Udp => party.sent.bytes,
+        })),
+        Sent::Records => Some(Cell::Number(party.records)),
+        Sent::Repeated => some_count(party.stream.repeated()),
+        Sent::Disagreeing => some_count(party.stream.disagreeing()),
+    }
+}
+
+/// What one field says of a connection; nothing where it is missing.
+fn cell_of(
+    alloc: Global,
+    suites: &Suites,
+    summary: &Summary<'_>,
+    field: &Field,
+) -> Result<Option<Cell>, AllocError> {
+    let facts = summary.facts;
+    match field {
+        Field::End(field) => end_cell(alloc, summary, summary.first_time, field),
+        Field::Named(field) => named_cell(alloc, suites, facts, field),
+        Field::Course(field) => course_cell(alloc, summary, field),
+        Field::Offer(field) => offer_cell(alloc, suites, facts, field),
+        Field::Answer(field) => answer_cell(alloc, facts, field),
+        Field::Chain(field) => chain_cell(alloc, facts, field),
+        Field::Print(field) => print_cell(alloc, facts, summary.protocol, field),
+        Field::Sent(side, field) => Ok(sent_cell(summary, *side, field)),
+    }
+}
+
+/// The line of a connection, with the fields at these places of [`FIELDS`].
+pub fn row_of(
+    alloc: Global,
+    suites: &Suites,
+    places: &[usize],
+    summary: &Summary<'_>,
+) -> Result<Row, AllocError> {
+    let mut cells = Vec::with_capacity(alloc, places.len())?;
+    for place in places {
+        if let Some((name, field)) = FIELDS.get(*place) {
+            let cell = cell_of(alloc, suites, summary, field)?;
+            cells.push((*name, cell))?;
+        }
+    }
+    Ok(Row { cells })
+}

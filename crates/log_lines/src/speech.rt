@@ -1,0 +1,310 @@
+//! The messages that both sides say in the clear, one after the other.
+use connections::Protocol;
+use dtls_stream::{DEFAULT_LIMITS, Messages, read_datagram};
+use serde::Serialize;
+use std::alloc::{AllocError, Global};
+use std::mem;
+use tls_base::{TlsHandshakeType, TlsMessageAlert};
+use tls_conversations::{Conversation, Said};
+use tls_flow::Direction;
+use tls_json::{AlertMessage, ChangeCipherSpec, Chosen, HeartbeatMessage, Message, message_name};
+
+/// What stands in a message, by its fields.
+#[derive(Drop, Serialize)]
+#[serde(untagged)]
+pub enum Body {
+    /// A handshake message.
+    Handshake(Message),
+    /// An alert.
+    Alert(AlertMessage),
+    /// A ChangeCipherSpec.
+    Change(ChangeCipherSpec),
+    /// A heartbeat.
+    Heartbeat(HeartbeatMessage),
+}
+
+/// A message.
+#[derive(Drop)]
+pub struct Word {
+    /// The type of its record (RFC 8446, section 5.1).
+    pub content_type: u8,
+    /// Its name, where it has one.
+    pub name: Option<&'static str>,
+    /// Its fields; `None` where it has no whole header.
+    pub body: Option<Box<Body>>,
+}
+
+/// A message, and where it stands.
+#[derive(Drop)]
+pub struct Spoken {
+    /// The direction that it goes in.
+    pub direction: Direction,
+    /// How many messages of its side stand in front of it.
+    pub place: u64,
+    /// The message.
+    pub word: Word,
+}
+
+impl Word {
+    fn new(
+        alloc: Global,
+        content_type: u8,
+        name: Option<&'static str>,
+        body: Body,
+    ) -> Result<Word, AllocError> {
+        Ok(Word {
+            content_type,
+            name,
+            body: Some(Box::new(alloc, body)?),
+        })
+    }
+}
+
+/// A ChangeCipherSpec (RFC 5246, section 7.1).
+fn change_word(alloc: Global) -> Result<Word, AllocError> {
+    let name = Some("change_cipher_spec");
+    Word::new(alloc, 20, name, Body::Change(ChangeCipherSpec::ONLY))
+}
+
+fn alert_word(alloc: Global, alert: &TlsMessageAlert) -> Result<Word, AllocError> {
+    let alert = AlertMessage::new(alert.severity, alert.code);
+    Word::new(alloc, 21, Some("alert"), Body::Alert(alert))
+}
+
+/// A heartbeat (RFC 6520, section 4), by the fragment of its record.
+fn heartbeat_word(alloc: Global, fragment: &[u8]) -> Result<Word, AllocError> {
+    let heartbeat = HeartbeatMessage::new(alloc, fragment)?;
+    Word::new(alloc, 24, Some("heartbeat"), Body::Heartbeat(heartbeat))
+}
+
+/// The name of a handshake message of TLS, its header first.
+fn handshake_name(message: &[u8]) -> Option<&'static str> {
+    let kind = message.first()?;
+    message_name(TlsHandshakeType(*kind))
+}
+
+/// A handshake message of TLS, its header first; it may be a ServerHello that chooses.
+fn handshake_word(
+    alloc: Global,
+    chosen: &mut Option<Chosen>,
+    message: &[u8],
+) -> Result<Word, AllocError> {
+    if let Some(choice) = Chosen::new(message) {
+        *chosen = Some(choice);
+    }
+    let name = handshake_name(message);
+    match Message::new(alloc, *chosen, message)? {
+        Some(read) => Word::new(alloc, 22, name, Body::Handshake(read)),
+        None => Ok(Word {
+            content_type: 22,
+            name,
+            body: None,
+        }),
+    }
+}
+
+/// A handshake message of DTLS; it may be a ServerHello that chooses.
+fn handshake_word_of_datagrams(
+    alloc: Global,
+    chosen: &mut Option<Chosen>,
+    message: &dtls_stream::Message,
+) -> Result<Word, AllocError> {
+    let body = message.body.as_slice();
+    if let Some(choice) = Chosen::of_datagrams(message.msg_type, body) {
+        *chosen = Some(choice);
+    }
+    let name = message_name(message.msg_type);
+    let number = message.message_seq;
+    let read = Message::of_datagrams(alloc, *chosen, message.msg_type, number, body)?;
+    Word::new(alloc, 22, name, Body::Handshake(read))
+}
+
+/// The messages that were heard and are kept.
+#[derive(Drop)]
+struct Kept {
+    // That of the last ServerHello: key exchanges behind it are read by it.
+    chosen: Option<Chosen>,
+    client_count: u64,
+    server_count: u64,
+    spoken: Vec<Spoken>,
+}
+
+impl Kept {
+    /// The place of a side's next message.
+    fn next_place(&mut self, direction: Direction) -> u64 {
+        match direction {
+            Direction::ToServer => {
+                let place = self.client_count;
+                self.client_count = place.saturating_add(1);
+                place
+            }
+            Direction::FromServer => {
+                let place = self.server_count;
+                self.server_count = place.saturating_add(1);
+                place
+            }
+        }
+    }
+
+    /// Keeps a side's next message.
+    fn keep(
+        &mut self,
+        direction: Direction,
+        word: Result<Word, AllocError>,
+    ) -> Result<(), AllocError> {
+        let word = word?;
+        let place = self.next_place(direction);
+        self.spoken.push(Spoken {
+            direction,
+            place,
+            word,
+        })?;
+        Ok(())
+    }
+
+    /// Keeps what a side of TLS says, where that is a message in the clear.
+    fn hear_event(
+        &mut self,
+        alloc: Global,
+        direction: Direction,
+        event: &tls_conversations::Event<'_>,
+    ) -> Result<(), AllocError> {
+        match event {
+            tls_conversations::Event::Handshake(message) => {
+                let word = handshake_word(alloc, &mut self.chosen, message);
+                self.keep(direction, word)
+            }
+            tls_conversations::Event::ChangeCipherSpec => {
+                self.keep(direction, change_word(alloc))
+            }
+            tls_conversations::Event::Alert(alert) => {
+                self.keep(direction, alert_word(alloc, alert))
+            }
+            tls_conversations::Event::Heartbeat(fragment) => {
+                self.keep(direction, heartbeat_word(alloc, fragment))
+            }
+            tls_conversations::Event::ApplicationData(_) => Ok(()),
+            tls_conversations::Event::Encrypted(_) => Ok(()),
+        }
+    }
+
+    /// The same of what a side of DTLS says.
+    fn hear_datagrams_event(
+        &mut self,
+        alloc: Global,
+        direction: Direction,
+        event: &dtls_stream::Event<'_>,
+    ) -> Result<(), AllocError> {
+        match event {
+            dtls_stream::Event::Handshake(message) => {
+                let word = handshake_word_of_datagrams(alloc, &mut self.chosen, message);
+                self.keep(direction, word)
+            }
+            dtls_stream::Event::ChangeCipherSpec => self.keep(direction, change_word(alloc)),
+            dtls_stream::Event::Alert(alert) => self.keep(direction, alert_word(alloc, alert)),
+            dtls_stream::Event::Encrypted(_) => Ok(()),
+            dtls_stream::Event::Refused(_, _) | dtls_stream::Event::Fault(_) => Ok(()),
+        }
+    }
+
+    /// Keeps all that a side of TLS says by these bytes.
+    fn hear_bytes(
+        &mut self,
+        alloc: Global,
+        conversation: &mut Conversation,
+        direction: Direction,
+        bytes: &[u8],
+    ) -> Result<(), AllocError> {
+        if conversation.feed(direction, bytes).is_err() {
+            return Err(AllocError);
+        }
+        for _ in 0..u64::MAX {
+            match conversation.front(direction) {
+                Some(Said::Event(event)) => self.hear_event(alloc, direction, &event)?,
+                Some(_) => {}
+                None => break,
+            }
+            conversation.take_front(direction);
+        }
+        Ok(())
+    }
+
+    /// Keeps all that a datagram of one side says.
+    fn hear_datagram(
+        &mut self,
+        alloc: Global,
+        messages: &mut Messages,
+        direction: Direction,
+        datagram: &[u8],
+    ) -> Result<(), AllocError> {
+        let mut events = Vec::new(alloc);
+        if read_datagram(alloc, messages, datagram, &mut events).is_err() {
+            return Err(AllocError);
+        }
+        for event in &events {
+            self.hear_datagrams_event(alloc, direction, event)?;
+        }
+        Ok(())
+    }
+}
+
+/// What both sides' bytes are read by.
+#[derive(Drop)]
+enum Ears {
+    /// TLS.
+    Stream(Conversation),
+    /// DTLS: the client's messages, and the server's.
+    Datagrams(Messages, Messages),
+}
+
+/// The messages of both sides, as they come.
+#[derive(Drop)]
+pub struct Speech {
+    alloc: Global,
+    ears: Ears,
+    kept: Kept,
+}
+
+impl Speech {
+    /// That of a connection of which nothing came.
+    pub fn new(alloc: Global, protocol: Protocol) -> Speech {
+        let ears = match protocol {
+            Protocol::Tcp => Ears::Stream(Conversation::new(alloc)),
+            Protocol::Udp => Ears::Datagrams(
+                Messages::new(alloc, DEFAULT_LIMITS),
+                Messages::new(alloc, DEFAULT_LIMITS),
+            ),
+        };
+        Speech {
+            alloc,
+            ears,
+            kept: Kept {
+                chosen: None,
+                client_count: 0,
+                server_count: 0,
+                spoken: Vec::new(alloc),
+            },
+        }
+    }
+
+    /// Hears the bytes that a side says next, and keeps the messages that are whole then.
+    pub fn hear(&mut self, direction: Direction, bytes: &[u8]) -> Result<(), AllocError> {
+        let (alloc, kept) = (self.alloc, &mut self.kept);
+        match (&mut self.ears, direction) {
+            (Ears::Stream(conversation), _) => {
+                kept.hear_bytes(alloc, conversation, direction, bytes)
+            }
+            (Ears::Datagrams(client, _), Direction::ToServer) => {
+                kept.hear_datagram(alloc, client, direction, bytes)
+            }
+            (Ears::Datagrams(_, server), Direction::FromServer) => {
+                kept.hear_datagram(alloc, server, direction, bytes)
+            }
+        }
+    }
+
+    /// Takes out the messages that are kept.
+    pub fn take(&mut self) -> Vec<Spoken> {
+        mem::replace(&mut self.kept.spoken, Vec::new(self.alloc))
+    }
+}

@@ -1,0 +1,48 @@
+//! The line of a message.
+use crate::cell::{Cell, Row};
+use crate::columns::{PARTS, Part};
+use crate::line::{end_cell, some_name};
+use crate::names::sender_name;
+use crate::speech::Spoken;
+use crate::summary::Summary;
+use std::alloc::{AllocError, Global};
+
+/// What one field says of a message that was whole at this time. Its fields are taken out, since they stand in one field alone.
+fn part_cell(
+    alloc: Global,
+    summary: &Summary<'_>,
+    time: u64,
+    spoken: &mut Spoken,
+    part: &Part,
+) -> Result<Option<Cell>, AllocError> {
+    match part {
+        Part::End(field) => end_cell(alloc, summary, time, field),
+        Part::Side => Ok(Some(Cell::Name(sender_name(spoken.direction)))),
+        Part::Place => Ok(Some(Cell::Number(spoken.place))),
+        Part::ContentType => Ok(Some(Cell::Number(u64::from(spoken.word.content_type)))),
+        Part::Name => Ok(some_name(spoken.word.name)),
+        Part::Message => match spoken.word.body.take() {
+            Some(body) => Ok(Some(Cell::Message(body))),
+            None => Ok(None),
+        },
+    }
+}
+
+/// The line of a message that was whole at this time, with the fields at these places of [`PARTS`].
+pub fn message_row(
+    alloc: Global,
+    places: &[usize],
+    summary: &Summary<'_>,
+    time: u64,
+    spoken: Spoken,
+) -> Result<Row, AllocError> {
+    let mut spoken = spoken;
+    let mut cells = Vec::with_capacity(alloc, places.len())?;
+    for place in places {
+        if let Some((name, part)) = PARTS.get(*place) {
+            let cell = part_cell(alloc, summary, time, &mut spoken, part)?;
+            cells.push((*name, cell))?;
+        }
+    }
+    Ok(Row { cells })
+}

@@ -1,0 +1,65 @@
+//! What is told of a connection.
+use connections::{End, Protocol, Side, Stream, Traffic};
+use tls_facts::Facts;
+use tls_flow::{Outcome, Stop};
+
+/// One side of a connection.
+#[derive(Clone, Copy)]
+pub struct Party<'a> {
+    /// Its address and port.
+    pub end: End,
+    /// What it says over TCP.
+    pub stream: &'a Stream,
+    /// What it sent.
+    pub sent: Traffic,
+    /// How many records it said.
+    pub records: u64,
+}
+
+/// A connection, as it is told.
+#[derive(Clone, Copy)]
+pub struct Summary<'a> {
+    /// What carries it.
+    pub protocol: Protocol,
+    /// When its first packet was captured, in nanoseconds since 1970-01-01 00:00 UTC.
+    pub first_time: u64,
+    /// The same of its last.
+    pub last_time: u64,
+    /// Who asked for it.
+    pub originator: Party<'a>,
+    /// Who answered.
+    pub responder: Party<'a>,
+    /// What both sides' messages say.
+    pub facts: &'a Facts,
+    /// A letter for each event, as Zeek's ssl_history has it.
+    pub history: &'a [u8],
+    /// How the handshake stands.
+    pub outcome: Outcome,
+    /// The event that ended the handshake without success, if one did.
+    pub stop: Option<Stop>,
+    /// Whether the part of the handshake that can be read came to its end.
+    pub is_established: bool,
+    /// Whether a session was taken up.
+    pub is_resumed: bool,
+}
+
+impl<'a> Summary<'a> {
+    /// That side of it.
+    pub fn party(&self, side: Side) -> &Party<'a> {
+        match side {
+            Side::Originator => &self.originator,
+            Side::Responder => &self.responder,
+        }
+    }
+
+    /// Which sides have lost bytes, if any has.
+    pub fn gap(&self) -> Option<&'static str> {
+        let (originator, responder) = (self.originator.stream, self.responder.stream);
+        match (originator.has_gap(), responder.has_gap()) {
+            (true, true) => Some("both"),
+            (true, false) => Some("orig"),
+            (false, true) => Some("resp"),
+            (false, false) => None,
+        }
+    }
+}
