@@ -3,7 +3,7 @@ use tls_base::TlsCipherSuiteID;
 use tls_facts::{has_hint, names_curve};
 
 /// What a key is made of.
-#[derive(Clone, Copy, Debug, PartialEq, Eq)]
+#[derive(Clone, Copy)]
 pub enum Public {
     /// A key that both sides know before, and nothing else (RFC 4279, section 2).
     Nothing,
@@ -16,7 +16,7 @@ pub enum Public {
 }
 
 /// The key exchange of a suite.
-#[derive(Clone, Copy, Debug, PartialEq, Eq)]
+#[derive(Clone, Copy)]
 pub struct KeyExchange {
     /// Whether a key is used that both sides know before (RFC 4279, sections 2 to 4; RFC 5489, section 2).
     pub has_identity: bool,

@@ -1,243 +1,239 @@
 //! Key exchanges and signatures, whose fields depend on what the server chose.
+ghost use Rattle.std.specs.Prelude.{OnOk, IfOk, codes};
+ghost use Rattle.tls_json.specs.Outline.{Shows, Adds, AddsNames, HasNames, IfPair, OnSomeLeft};
+ghost use Rattle.tls_json.specs.Tables.{coefficients_fields, explicit_prime_fields, named_curve_fields, curve_fields, dh_fields, ecdh_fields, signature_fields, names_if, params_names, server_key_exchange_names, client_value_fields, client_key_exchange_names};
+
 use crate::chosen::Chosen;
 use crate::exchange::{KeyExchange, Public};
-use crate::text::{hexadecimal, name, number};
-use serde::Serialize;
+use crate::json::Value;
+use crate::table::Table;
+use crate::text::escaped;
 use std::alloc::{AllocError, Global};
 use tls_base::{
-    ECParameters, ECParametersContent, ExplicitPrimeContent, TlsVersion, parse_dh_params,
-    parse_digitally_signed, parse_digitally_signed_old, parse_ecdh_params,
+    ECParameters, ECParametersContent, ExplicitPrimeContent, ServerDHParams, ServerECDHParams,
+    TlsVersion, parse_dh_params, parse_digitally_signed, parse_digitally_signed_old,
+    parse_ecdh_params,
 };
 use tls_fields::{counted1, counted2};
 
 /// What was read, behind what is left; `None` where not all of it is there.
-type Read<'a, T> = Result<Option<(&'a [u8], T)>, AllocError>;
+type Read<'a> = Result<Option<(&'a [u8], Value)>, AllocError>;
 
-/// A signature (RFC 5246, section 4.7), which names its algorithm from TLS 1.2 on.
-#[derive(Debug, Drop, Serialize)]
-pub struct Signature {
-    #[serde(skip_serializing_if = "Option::is_none")]
-    algorithm: Option<String>,
-    signature: String,
-}
-
-/// The coefficients of a curve (RFC 4492, section 5.4).
-#[derive(Debug, Drop, Serialize)]
-struct Coefficients {
-    a: String,
-    b: String,
-}
-
-/// A curve by its number (RFC 8422, section 5.4) or by its parameters (RFC 4492, section 5.4).
-#[derive(Debug, Drop, Serialize)]
-#[serde(untagged)]
-enum Curve {
-    Named {
-        curve_type: u8,
-        namedcurve: String,
-    },
-    ExplicitPrime {
-        curve_type: u8,
-        prime_p: String,
-        curve: Coefficients,
-        base: String,
-        order: String,
-        cofactor: String,
-    },
-}
-
-/// What a server sends of its public values (RFC 5246, section 7.4.3; RFC 8422, section 5.4).
-#[derive(Debug, Drop, Serialize)]
-#[serde(untagged)]
-enum Parameters {
-    Dh {
-        dh_p: String,
-        dh_g: String,
-        #[serde(rename = "dh_Ys")]
-        dh_ys: String,
-    },
-    Ecdh {
-        curve_params: Curve,
-        public: String,
-    },
-}
-
-/// A server's key exchange (RFC 5246, section 7.4.3; RFC 8422, section 5.4; RFC 4279, sections 2 to 4; RFC 5489, section 2).
-#[derive(Debug, Drop, Serialize)]
-pub struct ServerKeyExchange {
-    #[serde(skip_serializing_if = "Option::is_none")]
-    psk_identity_hint: Option<String>,
-    #[serde(skip_serializing_if = "Option::is_none")]
-    params: Option<Parameters>,
-    #[serde(skip_serializing_if = "Option::is_none")]
-    signed_params: Option<Signature>,
-}
-
-/// A client's key exchange (RFC 5246, section 7.4.7; RFC 8422, section 5.7; RFC 4279, sections 2 to 4; RFC 5489, section 2).
-#[derive(Debug, Drop, Serialize)]
-pub struct ClientKeyExchange {
-    #[serde(skip_serializing_if = "Option::is_none")]
-    psk_identity: Option<String>,
-    #[serde(skip_serializing_if = "Option::is_none")]
-    pre_master_secret: Option<String>,
-    #[serde(rename = "dh_Yc")]
-    #[serde(skip_serializing_if = "Option::is_none")]
-    dh_yc: Option<String>,
-    #[serde(rename = "ecdh_Yc")]
-    #[serde(skip_serializing_if = "Option::is_none")]
-    ecdh_yc: Option<String>,
-}
+/// What is left behind fields that were added to a table; `None` where not all of them are there.
+type Added<'a> = Result<Option<&'a [u8]>, AllocError>;
 
 /// The identity of a key that both sides know, or a server's hint at it, where the suite has one. It is text (RFC 4279, section 5.1).
-fn identity<'a>(alloc: Global, exchange: KeyExchange, i: &'a [u8]) -> Read<'a, Option<String>> {
+fn add_identity<'a>(
+    alloc: Global,
+    table: &mut Table,
+    name: &'static str,
+    exchange: KeyExchange,
+    i: &'a [u8],
+) -> Added<'a>
+    ensures { IfOk result (λ i. OnSomeLeft i (AddsNames (names_if exchange.has_identity name.now) table.old table.new)) }
+{
     if !exchange.has_identity {
-        return Ok(Some((i, None)));
+        return Ok(Some(i));
     }
     let Ok((i, identity)) = counted2(i) else {
         return Ok(None);
     };
-    Ok(Some((i, Some(name(alloc, identity)?))))
+    table.add(name, escaped(alloc, identity)?)?;
+    Ok(Some(i))
 }
 
+/// The coefficients of a curve (RFC 4492, section 5.4).
+fn coefficients(alloc: Global, a: &[u8], b: &[u8]) -> Result<Value, AllocError>
+    ensures { IfOk result (Shows (coefficients_fields a.now b.now)) }
+{
+    let mut table = Table::new(alloc);
+    table.bytes("a", a)?;
+    table.bytes("b", b)?;
+    Ok(table.finish())
+}
+
+/// A curve by its parameters (RFC 4492, section 5.4).
 fn explicit_prime(
     alloc: Global,
     curve_type: u8,
     content: &ExplicitPrimeContent<'_>,
-) -> Result<Curve, AllocError> {
-    Ok(Curve::ExplicitPrime {
-        curve_type,
-        prime_p: hexadecimal(alloc, content.prime_p)?,
-        curve: Coefficients {
-            a: hexadecimal(alloc, content.curve.a)?,
-            b: hexadecimal(alloc, content.curve.b)?,
-        },
-        base: hexadecimal(alloc, content.base.point)?,
-        order: hexadecimal(alloc, content.order)?,
-        cofactor: hexadecimal(alloc, content.cofactor)?,
-    })
+) -> Result<Value, AllocError>
+    ensures { IfOk result (Shows (explicit_prime_fields curve_type content.now)) }
+{
+    let mut table = Table::new(alloc);
+    table.decimal("curve_type", u64::from(curve_type))?;
+    table.bytes("prime_p", content.prime_p)?;
+    table.add(
+        "curve",
+        coefficients(alloc, content.curve.a, content.curve.b)?,
+    )?;
+    table.bytes("base", content.base.point)?;
+    table.bytes("order", content.order)?;
+    table.bytes("cofactor", content.cofactor)?;
+    Ok(table.finish())
 }
 
-fn curve_of(alloc: Global, parameters: &ECParameters<'_>) -> Result<Curve, AllocError> {
+/// A curve by its number (RFC 8422, section 5.4).
+fn named_curve(alloc: Global, curve_type: u8, namedcurve: u16) -> Result<Value, AllocError>
+    ensures { IfOk result (Shows (named_curve_fields curve_type namedcurve)) }
+{
+    let mut table = Table::new(alloc);
+    table.decimal("curve_type", u64::from(curve_type))?;
+    table.hexadecimal("namedcurve", namedcurve)?;
+    Ok(table.finish())
+}
+
+fn curve_of(alloc: Global, parameters: &ECParameters<'_>) -> Result<Value, AllocError>
+    ensures { IfOk result (Shows (curve_fields parameters.now)) }
+{
     let curve_type = parameters.curve_type.0;
     match &parameters.params_content {
-        ECParametersContent::NamedGroup(group) => Ok(Curve::Named {
-            curve_type,
-            namedcurve: number(alloc, group.0)?,
-        }),
+        ECParametersContent::NamedGroup(group) => named_curve(alloc, curve_type, group.0),
         ECParametersContent::ExplicitPrime(content) => explicit_prime(alloc, curve_type, content),
     }
 }
 
+/// A server's public values of Diffie-Hellman (RFC 5246, section 7.4.3).
+fn dh_params(alloc: Global, values: &ServerDHParams<'_>) -> Result<Value, AllocError>
+    ensures { IfOk result (Shows (dh_fields values.now)) }
+{
+    let mut table = Table::new(alloc);
+    table.bytes("dh_p", values.dh_p)?;
+    table.bytes("dh_g", values.dh_g)?;
+    table.bytes("dh_Ys", values.dh_ys)?;
+    Ok(table.finish())
+}
+
+/// The same over elliptic curves (RFC 8422, section 5.4).
+fn ecdh_params(alloc: Global, values: &ServerECDHParams<'_>) -> Result<Value, AllocError>
+    ensures { IfOk result (Shows (ecdh_fields values.now)) }
+{
+    let mut table = Table::new(alloc);
+    table.add("curve_params", curve_of(alloc, &values.curve_params)?)?;
+    table.bytes("public", values.public.point)?;
+    Ok(table.finish())
+}
+
 /// A server's public values, where the suite has some.
-fn public_values<'a>(
-    alloc: Global,
-    exchange: KeyExchange,
-    i: &'a [u8],
-) -> Read<'a, Option<Parameters>> {
-    match exchange.public {
-        Public::Nothing | Public::Rsa => Ok(Some((i, None))),
+fn add_public_values<'a>(alloc: Global, table: &mut Table, public: Public, i: &'a [u8]) -> Added<'a>
+    ensures { IfOk result (λ i. OnSomeLeft i (AddsNames (params_names public) table.old table.new)) }
+{
+    match public {
+        Public::Nothing | Public::Rsa => Ok(Some(i)),
         Public::Dh => {
             let Ok((i, values)) = parse_dh_params(i) else {
                 return Ok(None);
             };
-            let parameters = Parameters::Dh {
-                dh_p: hexadecimal(alloc, values.dh_p)?,
-                dh_g: hexadecimal(alloc, values.dh_g)?,
-                dh_ys: hexadecimal(alloc, values.dh_ys)?,
-            };
-            Ok(Some((i, Some(parameters))))
+            table.add("params", dh_params(alloc, &values)?)?;
+            Ok(Some(i))
         }
         Public::Ecdh => {
             let Ok((i, values)) = parse_ecdh_params(i) else {
                 return Ok(None);
             };
-            let parameters = Parameters::Ecdh {
-                curve_params: curve_of(alloc, &values.curve_params)?,
-                public: hexadecimal(alloc, values.public.point)?,
-            };
-            Ok(Some((i, Some(parameters))))
+            table.add("params", ecdh_params(alloc, &values)?)?;
+            Ok(Some(i))
         }
     }
 }
 
-impl Signature {
-    /// A signature of that version; `None` also of versions other than SSL 3.0, TLS 1.0 to 1.2, and DTLS 1.0 and 1.2.
-    pub fn new<'a>(alloc: Global, version: TlsVersion, i: &'a [u8]) -> Read<'a, Signature> {
-        let answer = match version {
-            TlsVersion::Ssl30 | TlsVersion::Tls10 | TlsVersion::Tls11 | TlsVersion::DTls10 => {
-                parse_digitally_signed_old(i)
-            }
-            TlsVersion::Tls12 | TlsVersion::DTls12 => parse_digitally_signed(i),
-            _ => return Ok(None),
-        };
-        let Ok((i, signed)) = answer else {
-            return Ok(None);
-        };
-        let algorithm = match signed.alg {
-            Some(pair) => Some(number(alloc, u16::from_be_bytes([pair.hash.0, pair.sign.0]))?),
-            None => None,
-        };
-        let signature = hexadecimal(alloc, signed.bytes)?;
-        Ok(Some((
-            i,
-            Signature {
-                algorithm,
-                signature,
-            },
-        )))
-    }
-
-    /// The same, where there is one.
-    fn new_if<'a>(
-        alloc: Global,
-        is_there: bool,
-        version: TlsVersion,
-        i: &'a [u8],
-    ) -> Read<'a, Option<Signature>> {
-        if !is_there {
-            return Ok(Some((i, None)));
-        }
-        match Signature::new(alloc, version, i)? {
-            Some((i, signature)) => Ok(Some((i, Some(signature)))),
-            None => Ok(None),
-        }
-    }
+/// A signature (RFC 5246, section 4.7), which names its algorithm from TLS 1.2 on.
+fn signature_of(
+    alloc: Global,
+    algorithm: Option<u16>,
+    signature: &[u8],
+) -> Result<Value, AllocError>
+    ensures { IfOk result (Shows (signature_fields algorithm signature.now)) }
+{
+    let mut table = Table::new(alloc);
+    table.some_hexadecimal("algorithm", algorithm)?;
+    table.bytes("signature", signature)?;
+    Ok(table.finish())
 }
 
-impl ServerKeyExchange {
-    /// That in a body. By RSA alone a server has none, but for suites of export, whose values aren't read.
-    pub fn new<'a>(alloc: Global, chosen: Chosen, body: &'a [u8]) -> Read<'a, ServerKeyExchange> {
-        let Some(exchange) = KeyExchange::of(chosen.cipher) else {
-            return Ok(None);
-        };
-        if exchange.public == Public::Rsa && !exchange.has_identity {
-            return Ok(None);
+/// A signature of that version; `None` also of versions other than SSL 3.0, TLS 1.0 to 1.2, and DTLS 1.0 and 1.2.
+pub fn signature<'a>(alloc: Global, version: TlsVersion, i: &'a [u8]) -> Read<'a> {
+    let answer = match version {
+        TlsVersion::Ssl30 | TlsVersion::Tls10 | TlsVersion::Tls11 | TlsVersion::DTls10 => {
+            parse_digitally_signed_old(i)
         }
-        let Some((i, psk_identity_hint)) = identity(alloc, exchange, body)? else {
-            return Ok(None);
-        };
-        let Some((i, params)) = public_values(alloc, exchange, i)? else {
-            return Ok(None);
-        };
-        let signed = Signature::new_if(alloc, exchange.is_signed, chosen.version, i)?;
-        let Some((i, signed_params)) = signed else {
-            return Ok(None);
-        };
-        let read = ServerKeyExchange {
-            psk_identity_hint,
-            params,
-            signed_params,
-        };
-        Ok(Some((i, read)))
+        TlsVersion::Tls12 | TlsVersion::DTls12 => parse_digitally_signed(i),
+        _ => return Ok(None),
+    };
+    let Ok((i, signed)) = answer else {
+        return Ok(None);
+    };
+    let algorithm = match signed.alg {
+        Some(pair) => Some(u16::from_be_bytes([pair.hash.0, pair.sign.0])),
+        None => None,
+    };
+    Ok(Some((i, signature_of(alloc, algorithm, signed.bytes)?)))
+}
+
+/// The signature of a server's public values, where the suite has one.
+fn add_signature<'a>(
+    alloc: Global,
+    table: &mut Table,
+    is_signed: bool,
+    version: TlsVersion,
+    i: &'a [u8],
+) -> Added<'a>
+    ensures { IfOk result (λ i. OnSomeLeft i (AddsNames (names_if is_signed (codes "signed_params")) table.old table.new)) }
+{
+    if !is_signed {
+        return Ok(Some(i));
     }
+    let Some((i, signed_params)) = signature(alloc, version, i)? else {
+        return Ok(None);
+    };
+    table.add("signed_params", signed_params)?;
+    Ok(Some(i))
+}
+
+/// A server's key exchange by its fields.
+fn server_fields<'a>(
+    alloc: Global,
+    exchange: KeyExchange,
+    version: TlsVersion,
+    body: &'a [u8],
+) -> Read<'a>
+    ensures { IfOk result (IfPair (HasNames (server_key_exchange_names exchange))) }
+{
+    let mut table = Table::new(alloc);
+    let Some(i) = add_identity(alloc, &mut table, "psk_identity_hint", exchange, body)? else {
+        return Ok(None);
+    };
+    let Some(i) = add_public_values(alloc, &mut table, exchange.public, i)? else {
+        return Ok(None);
+    };
+    let Some(i) = add_signature(alloc, &mut table, exchange.is_signed, version, i)? else {
+        return Ok(None);
+    };
+    Ok(Some((i, table.finish())))
+}
+
+/// A server's key exchange (RFC 5246, section 7.4.3; RFC 8422, section 5.4; RFC 4279, sections 2 to 4; RFC 5489, section 2). By RSA alone
+/// a server has none, but for suites of export, whose values aren't read.
+pub fn server_key_exchange<'a>(alloc: Global, chosen: Chosen, body: &'a [u8]) -> Read<'a> {
+    let Some(exchange) = KeyExchange::of(chosen.cipher) else {
+        return Ok(None);
+    };
+    if matches!(exchange.public, Public::Rsa) && !exchange.has_identity {
+        return Ok(None);
+    }
+    server_fields(alloc, exchange, chosen.version, body)
 }
 
 /// A client's public value or encrypted secret, where the suite has one. In SSL 3.0 the secret has no length (RFC 6101, section 5.6.7.1), and
 /// isn't divided.
-fn client_value<'a>(chosen: Chosen, public: Public, i: &'a [u8]) -> Option<(&'a [u8], &'a [u8])> {
+fn client_value<'a>(
+    version: TlsVersion,
+    public: Public,
+    i: &'a [u8],
+) -> Option<(&'a [u8], &'a [u8])> {
     let answer = match public {
         Public::Nothing => return Some((i, &[])),
-        Public::Rsa if chosen.version == TlsVersion::Ssl30 => return None,
+        Public::Rsa if version == TlsVersion::Ssl30 => return None,
         Public::Rsa | Public::Dh => counted2(i),
         Public::Ecdh => counted1(i),
     };
@@ -247,30 +243,43 @@ fn client_value<'a>(chosen: Chosen, public: Public, i: &'a [u8]) -> Option<(&'a 
     }
 }
 
-impl ClientKeyExchange {
-    /// That in a body. A client whose public value is that of its certificate has an empty one (RFC 5246, section 7.4.7.2), which isn't read.
-    pub fn new<'a>(alloc: Global, chosen: Chosen, body: &'a [u8]) -> Read<'a, ClientKeyExchange> {
-        let Some(exchange) = KeyExchange::of(chosen.cipher) else {
-            return Ok(None);
-        };
-        let Some((i, psk_identity)) = identity(alloc, exchange, body)? else {
-            return Ok(None);
-        };
-        let Some((i, bytes)) = client_value(chosen, exchange.public, i) else {
-            return Ok(None);
-        };
-        let mut read = ClientKeyExchange {
-            psk_identity,
-            pre_master_secret: None,
-            dh_yc: None,
-            ecdh_yc: None,
-        };
-        match exchange.public {
-            Public::Nothing => {}
-            Public::Rsa => read.pre_master_secret = Some(hexadecimal(alloc, bytes)?),
-            Public::Dh => read.dh_yc = Some(hexadecimal(alloc, bytes)?),
-            Public::Ecdh => read.ecdh_yc = Some(hexadecimal(alloc, bytes)?),
-        }
-        Ok(Some((i, read)))
+/// Adds a client's public value or secret, by the name that it has.
+fn add_client_value(table: &mut Table, public: Public, content: &[u8]) -> Result<(), AllocError>
+    ensures { OnOk result (Adds (client_value_fields public content.now) table.old table.new) }
+{
+    match public {
+        Public::Nothing => Ok(()),
+        Public::Rsa => table.bytes("pre_master_secret", content),
+        Public::Dh => table.bytes("dh_Yc", content),
+        Public::Ecdh => table.bytes("ecdh_Yc", content),
+    }
+}
+
+/// A client's key exchange by its fields.
+fn client_fields<'a>(
+    alloc: Global,
+    exchange: KeyExchange,
+    version: TlsVersion,
+    body: &'a [u8],
+) -> Read<'a>
+    ensures { IfOk result (IfPair (HasNames (client_key_exchange_names exchange))) }
+{
+    let mut table = Table::new(alloc);
+    let Some(i) = add_identity(alloc, &mut table, "psk_identity", exchange, body)? else {
+        return Ok(None);
+    };
+    let Some((i, content)) = client_value(version, exchange.public, i) else {
+        return Ok(None);
+    };
+    add_client_value(&mut table, exchange.public, content)?;
+    Ok(Some((i, table.finish())))
+}
+
+/// A client's key exchange (RFC 5246, section 7.4.7; RFC 8422, section 5.7; RFC 4279, sections 2 to 4; RFC 5489, section 2). A client whose
+/// public value is that of its certificate has an empty one (RFC 5246, section 7.4.7.2), which isn't read.
+pub fn client_key_exchange<'a>(alloc: Global, chosen: Chosen, body: &'a [u8]) -> Read<'a> {
+    match KeyExchange::of(chosen.cipher) {
+        Some(exchange) => client_fields(alloc, exchange, chosen.version, body),
+        None => Ok(None),
     }
 }

@@ -1,24 +1,31 @@
 //! Contents of extensions that the library hands over undivided, or has no name for.
+ghost use Rattle.std.specs.Prelude.{IfOk};
+ghost use Rattle.tls_json.specs.Outline.{Shows, ReadsAs};
+ghost use Rattle.tls_json.specs.Extensions.{identity_fields, suite_fields, encrypted_hello_fields};
+ghost use Rattle.tls_json.specs.Extensions as names_of;
+
 use crate::content::Answer;
-use crate::data::{Data, HpkeSymmetricCipherSuite, PskIdentity};
-use crate::text::{blobs, hexadecimal, number, numbers};
+use crate::json::Value;
+use crate::table::{Table, single};
+use crate::text::{blob, numbers};
 use std::alloc::{AllocError, Global};
 use tls_fields::{Counted1, IResult, Items, counted1, counted2, number1, number2, number4};
 
 /// The form of an encrypted_client_hello that isn't itself encrypted (RFC 9849, section 5).
 const OUTER: u8 = 0;
 
-/// The 2-byte numbers of a list; `None` where half of one is left.
-fn whole_numbers<'a>(bytes: &'a [u8]) -> Option<Items<'a, u16>> {
-    let list: Items<u16> = Items::new(bytes);
-    if list.rest().is_empty() {
-        return Some(list);
-    }
-    None
+/// A key that a client knows before (RFC 8446, section 4.2.11).
+fn identity_of(alloc: Global, identity: &[u8], age: u32) -> Result<Value, AllocError>
+    ensures { IfOk result (Shows (identity_fields identity.now age)) }
+{
+    let mut table = Table::new(alloc);
+    table.bytes("identity", identity)?;
+    table.decimal("obfuscated_ticket_age", u64::from(age))?;
+    Ok(table.finish())
 }
 
 /// The identities in the bytes of their list (RFC 8446, section 4.2.11); `None` where not all of it is read.
-fn identities(alloc: Global, list: &[u8]) -> Result<Option<Vec<PskIdentity>>, AllocError> {
+fn identities(alloc: Global, list: &[u8]) -> Result<Option<Value>, AllocError> {
     let mut all = Vec::new(alloc);
     let mut left = list;
     for _ in 0..list.len() {
@@ -28,89 +35,117 @@ fn identities(alloc: Global, list: &[u8]) -> Result<Option<Vec<PskIdentity>>, Al
         let Ok((i, identity)) = counted2(left) else {
             return Ok(None);
         };
-        let Ok((i, obfuscated_ticket_age)) = number4(i) else {
+        let Ok((i, age)) = number4(i) else {
             return Ok(None);
         };
-        all.push(PskIdentity {
-            identity: hexadecimal(alloc, identity)?,
-            obfuscated_ticket_age,
-        })?;
+        all.push(identity_of(alloc, identity, age)?)?;
         left = i;
     }
-    Ok(Some(all))
+    Ok(Some(Value::List(all)))
+}
+
+/// What shows that a client knows them (RFC 8446, section 4.2.11).
+fn binders(alloc: Global, list: Items<'_, Counted1>) -> Result<Value, AllocError> {
+    let mut all = Vec::new(alloc);
+    for binder in list {
+        all.push(blob(alloc, binder)?)?;
+    }
+    Ok(Value::List(all))
 }
 
 /// The keys that a client knows before, and what shows that it does (RFC 8446, section 4.2.11).
-pub fn known_keys(alloc: Global, content: &[u8]) -> Answer {
+pub fn known_keys(alloc: Global, content: &[u8]) -> Answer
+    ensures { IfOk result (ReadsAs names_of.offered_psks) }
+{
     let Ok((i, list)) = counted2(content) else {
         return Ok(None);
     };
     let Ok(([], shown)) = counted2(i) else {
         return Ok(None);
     };
-    let binders: Items<Counted1> = Items::new(shown);
-    if !binders.rest().is_empty() {
+    let list_of_binders: Items<Counted1> = Items::new(shown);
+    if !list_of_binders.rest().is_empty() {
         return Ok(None);
     }
     let Some(identities) = identities(alloc, list)? else {
         return Ok(None);
     };
-    Ok(Some(Data::OfferedPsks {
-        identities,
-        binders: blobs(alloc, binders)?,
-    }))
+    let mut table = Table::new(alloc);
+    table.add("identities", identities)?;
+    table.add("binders", binders(alloc, list_of_binders)?)?;
+    Ok(Some(table.finish()))
 }
 
 /// Which of them a server takes up (RFC 8446, section 4.2.11).
-pub fn selected_key(content: &[u8]) -> Option<Data> {
-    match content {
-        [upper, lower] => Some(Data::SelectedIdentity {
-            selected_identity: u16::from_be_bytes([*upper, *lower]),
-        }),
-        _ => None,
-    }
+pub fn selected_key(alloc: Global, content: &[u8]) -> Answer
+    ensures { IfOk result (ReadsAs names_of.selected_identity) }
+{
+    let [upper, lower] = content else {
+        return Ok(None);
+    };
+    let identity = u16::from_be_bytes([*upper, *lower]);
+    Ok(Some(single(
+        alloc,
+        "selected_identity",
+        Value::Number(u64::from(identity)),
+    )?))
 }
 
 /// The algorithms by which a certificate may be compressed (RFC 8879, section 3).
-pub fn compressions(alloc: Global, content: &[u8]) -> Answer {
+pub fn compressions(alloc: Global, content: &[u8]) -> Answer
+    ensures { IfOk result (ReadsAs names_of.compress_certificate) }
+{
     let Ok(([], list)) = counted1(content) else {
         return Ok(None);
     };
-    let Some(list) = whole_numbers(list) else {
+    if list.len() % 2 != 0 {
         return Ok(None);
-    };
+    }
+    let list: Items<u16> = Items::new(list);
     let mut algorithms = Vec::new(alloc);
     for algorithm in list {
-        algorithms.push(algorithm)?;
+        algorithms.push(Value::Number(u64::from(algorithm)))?;
     }
-    Ok(Some(Data::Compressions { algorithms }))
+    Ok(Some(single(alloc, "algorithms", Value::List(algorithms))?))
 }
 
 /// How media behind the handshake may be protected (RFC 5764, section 4.1.1).
-pub fn srtp_profiles(alloc: Global, content: &[u8]) -> Answer {
+pub fn srtp_profiles(alloc: Global, content: &[u8]) -> Answer
+    ensures { IfOk result (ReadsAs names_of.use_srtp) }
+{
     let Ok((i, list)) = counted2(content) else {
         return Ok(None);
     };
     let Ok(([], srtp_mki)) = counted1(i) else {
         return Ok(None);
     };
-    let Some(list) = whole_numbers(list) else {
+    if list.len() % 2 != 0 {
         return Ok(None);
-    };
-    Ok(Some(Data::SrtpProfiles {
-        profiles: numbers(alloc, list)?,
-        srtp_mki: hexadecimal(alloc, srtp_mki)?,
-    }))
+    }
+    let mut table = Table::new(alloc);
+    table.add("SRTPProtectionProfiles", numbers(alloc, list)?)?;
+    table.bytes("srtp_mki", srtp_mki)?;
+    Ok(Some(table.finish()))
 }
 
 /// The id that a side wants in the records that it gets (RFC 9146, section 3).
-pub fn connection_id(alloc: Global, content: &[u8]) -> Answer {
-    match counted1(content) {
-        Ok(([], cid)) => Ok(Some(Data::ConnectionId {
-            cid: hexadecimal(alloc, cid)?,
-        })),
-        _ => Ok(None),
-    }
+pub fn connection_id(alloc: Global, content: &[u8]) -> Answer
+    ensures { IfOk result (ReadsAs names_of.connection_id) }
+{
+    let Ok(([], cid)) = counted1(content) else {
+        return Ok(None);
+    };
+    Ok(Some(single(alloc, "cid", blob(alloc, cid)?)?))
+}
+
+/// How a hello is encrypted (RFC 9849, section 4).
+fn suite_of(alloc: Global, kdf_id: u16, aead_id: u16) -> Result<Value, AllocError>
+    ensures { IfOk result (Shows (suite_fields kdf_id aead_id)) }
+{
+    let mut table = Table::new(alloc);
+    table.hexadecimal("kdf_id", kdf_id)?;
+    table.hexadecimal("aead_id", aead_id)?;
+    Ok(table.finish())
 }
 
 /// The parts of an encrypted_client_hello behind its type.
@@ -139,22 +174,31 @@ fn parts_of_outer<'a>(i: &'a [u8]) -> IResult<&'a [u8], Outer<'a>> {
     Ok((i, parts))
 }
 
+/// A client's encrypted_client_hello, as it stands in the hello that isn't encrypted (RFC 9849, section 5).
+fn outer_fields(alloc: Global, parts: &Outer<'_>) -> Result<Value, AllocError>
+    ensures { IfOk result (Shows (encrypted_hello_fields parts.now)) }
+{
+    let mut table = Table::new(alloc);
+    table.decimal("type", u64::from(OUTER))?;
+    table.add(
+        "cipher_suite",
+        suite_of(alloc, parts.kdf_id, parts.aead_id)?,
+    )?;
+    table.decimal("config_id", u64::from(parts.config_id))?;
+    table.bytes("enc", parts.enc)?;
+    table.bytes("payload", parts.payload)?;
+    Ok(table.finish())
+}
+
 /// An encrypted hello in the one that isn't (RFC 9849, section 5).
-pub fn encrypted_hello(alloc: Global, content: &[u8]) -> Answer {
+pub fn encrypted_hello(alloc: Global, content: &[u8]) -> Answer
+    ensures { IfOk result (ReadsAs names_of.encrypted_client_hello) }
+{
     let [OUTER, i @ ..] = content else {
         return Ok(None);
     };
     let Ok(([], parts)) = parts_of_outer(i) else {
         return Ok(None);
     };
-    Ok(Some(Data::EncryptedClientHello {
-        kind: OUTER,
-        cipher_suite: HpkeSymmetricCipherSuite {
-            kdf_id: number(alloc, parts.kdf_id)?,
-            aead_id: number(alloc, parts.aead_id)?,
-        },
-        config_id: parts.config_id,
-        enc: hexadecimal(alloc, parts.enc)?,
-        payload: hexadecimal(alloc, parts.payload)?,
-    }))
+    Ok(Some(outer_fields(alloc, &parts)?))
 }
