@@ -1,5 +1,5 @@
 -- How long lists and objects are.
-use Rattle.std.proofs.Common.{◌≡◌, ℕ, suc, List, [], ◌∷◌, length, map, refl, ap}
+use Rattle.std.proofs.Common.{◌≡◌, ℕ, suc, List, [], ◌∷◌, length, refl, ap}
 use Rattle.std.specs.Borrow.{Bor}
 use Rattle.serde_json.specs.Events.{items_len, members_len}
 use Rattle.tls_json.specs.Views.{items_view, members_view}

@@ -1,6 +1,8 @@
 -- What the clauses say of a value: all of it but what stands in lists.
-use Rattle.std.specs.Prelude.{◌≡◌, ◌++◌, ◌/◌, ◌%◌, ℕ, List, [], ◌∷◌, map, codes, Option, Some, None, ⊤}
+use Rattle.std.specs.Prelude.{◌≡◌, ◌++◌, ◌/◌, ◌%◌, ℕ, List, [], ◌∷◌, map, codes, Option, Some, None, Result, IfOk, Vec, ⊤}
 use Rattle.std.specs.Borrow.{Bor}
+use Rattle.std.specs.declared.alloc.AllocError.{AllocError}
+use Rattle.std.specs.declared.alloc.Global.{Global}
 use Rattle.hex.specs.Hex.{encode_lower}
 use Rattle.serde_json.specs.Data.{
   Data,
@@ -37,11 +39,6 @@ abbrev mutual
 abbrev pub Shows : Data → Value → Type 0
 Shows d v = outline (view v) ≡ d
 
--- Where there is a value, it shows d.
-abbrev pub IfShown : Data → Option Value → Type 0
-IfShown d None = ⊤
-IfShown d (Some v) = Shows d v
-
 -- Names of fields, each with what it stands for.
 abbrev pub Entries : Type 0
 Entries = List (List ℕ × Data)
@@ -51,13 +48,6 @@ entries = map (λ m. (m.0.now, outline (view m.1)))
 
 abbrev pub entry_names : Entries → List (List ℕ)
 entry_names = map (λ e. e.0)
-
--- What a call added to a table.
-abbrev pub Adds : Entries → Table → Table → Type 0
-Adds es old new = entries new.fields.items ≡ entries old.fields.items ++ es
-
-abbrev pub AddsNames : List (List ℕ) → Table → Table → Type 0
-AddsNames ns old new = entry_names (entries new.fields.items) ≡ entry_names (entries old.fields.items) ++ ns
 
 abbrev pub members : Entries → Members
 members [] = no_members
@@ -120,17 +110,31 @@ names (object ms) = member_names ms
 abbrev pub HasNames : List (List ℕ) → Value → Type 0
 HasNames ns v = names (outline (view v)) ≡ ns
 
--- Where a value was read, its fields have these names.
-abbrev pub ReadsAs : List (List ℕ) → Option Value → Type 0
-ReadsAs ns None = ⊤
-ReadsAs ns (Some v) = HasNames ns v
+abbrev pub Made : Type 0
+Made = Result Value AllocError
 
--- What a reader said that gives a value behind what is left: where it was read, p holds of it.
-abbrev pub IfPair : (Value → Type 0) → Option (Bor (List ℕ) × Value) → Type 0
-IfPair p None = ⊤
-IfPair p (Some x) = p x.1
+-- Where there was memory for it, the fields have these names.
+abbrev pub ReadsAs : List (List ℕ) → Made → Type 0
+ReadsAs ns r = IfOk r (HasNames ns)
 
--- Where all fields were there, p holds.
-abbrev pub OnSomeLeft : Option (Bor (List ℕ)) → Type 0 → Type 0
-OnSomeLeft None p = ⊤
-OnSomeLeft (Some i) p = p
+-- What a table holds, where there was memory for it.
+abbrev pub HasEntries : Entries → Vec (Bor (List ℕ) × Value) Global → Type 0
+HasEntries es fields = entries fields.items ≡ es
+
+abbrev pub IsNamed : List (List ℕ) → Vec (Bor (List ℕ) × Value) Global → Type 0
+IsNamed ns fields = entry_names (entries fields.items) ≡ ns
+
+abbrev pub HasFields : Entries → Table → Type 0
+HasFields es t = IfOk t.fields (HasEntries es)
+
+abbrev pub HasFieldNames : List (List ℕ) → Table → Type 0
+HasFieldNames ns t = IfOk t.fields (IsNamed ns)
+
+-- Where all of it is there, p holds of what was read, or of the table with more fields.
+abbrev pub IfRead : (Value → Type 0) → Option (Bor (List ℕ) × Made) → Type 0
+IfRead p None = ⊤
+IfRead p (Some x) = IfOk x.1 p
+
+abbrev pub IfMore : (Table → Type 0) → Option (Bor (List ℕ) × Table) → Type 0
+IfMore p None = ⊤
+IfMore p (Some x) = p x.1

@@ -17,14 +17,12 @@ use Rattle.tls_hs.specs.declared.server_hello.TlsServerHelloV13Draft18Contents.{
 use Rattle.tls_hs.specs.declared.server_hello.TlsHelloRetryRequestContents.{TlsHelloRetryRequestContents}
 use Rattle.tls_hs.specs.declared.certificate_view.CertificateRequestView.{CertificateRequestView}
 use Rattle.tls_hs.specs.declared.certificate.TlsCertificateStatusContents.{TlsCertificateStatusContents}
-use Rattle.tls_hs.specs.declared.session.TlsNextProtocolContent.{TlsNextProtocolContent}
 use Rattle.tls_hs.specs.declared.message.TlsMessageHeartbeat.{TlsMessageHeartbeat}
 use Rattle.tls_json.specs.declared.exchange.KeyExchange.{KeyExchange}
 use Rattle.tls_json.specs.declared.exchange.Public.{Public}
 use Rattle.tls_json.specs.declared.exchange.Public.TheVariants.{Nothing, Rsa, Dh, Ecdh}
 use Rattle.tls_json.specs.Outline.{
   Entries,
-  entry_names,
   object_of,
   decimal,
   hexadecimal,
@@ -42,10 +40,10 @@ abbrev pub message_fields : ℕ → Option (Bor (List ℕ)) → ℕ → Option �
 message_fields msg_type name n message_seq body rest = object_of (
     decimal (codes "msg_type") msg_type
     ∷ some_name (codes "name") name
-    ++ decimal (codes "length") n
-    ∷ some_decimal (codes "message_seq") message_seq
-    ++ (codes "body", body)
-    ∷ some_bytes (codes "rest") rest)
+    ++ decimal (codes "length") n ∷ []
+    ++ some_decimal (codes "message_seq") message_seq
+    ++ (codes "body", body) ∷ []
+    ++ some_bytes (codes "rest") rest)
 
 -- Extension extensions<0..2^16-1> (RFC 8446, section 4.2), and what they leave of their block.
 abbrev pub extensions_fields : Option (Bor (List ℕ)) → Entries
@@ -72,9 +70,9 @@ client_hello_fields hello cookie = object_of (
     ∷ bytes (codes "random") hello.random.now
     ∷ bytes (codes "session_id") (id_bytes hello.session_id)
     ∷ bytes_if (codes "cookie") cookie
-    ++ list (codes "cipher_suites")
-    ∷ list (codes "compression_methods")
-    ∷ extensions_fields hello.ext)
+    ++ list (codes "cipher_suites") ∷ []
+    ++ list (codes "compression_methods") ∷ []
+    ++ extensions_fields hello.ext)
 
 -- A ServerHello (RFC 5246, section 7.4.1.3).
 abbrev pub server_hello_fields : TlsServerHelloContents → Data
@@ -115,8 +113,8 @@ abbrev pub request_fields : CertificateRequestView → Data
 request_fields request = object_of (
     list (codes "certificate_types")
     ∷ list_if (codes "supported_signature_algorithms") request.sig_hash_algs
-    ++ list (codes "certificate_authorities")
-    ∷ some_bytes (codes "rest") (left_in (counted 2) request.unparsed_ca.bytes.now))
+    ++ list (codes "certificate_authorities") ∷ []
+    ++ some_bytes (codes "rest") (left_in (counted 2) request.unparsed_ca.bytes.now))
 
 -- A NewSessionTicket (RFC 5077, section 3.3).
 abbrev pub ticket_fields : ℕ → List ℕ → Data
@@ -200,11 +198,12 @@ signature_fields algorithm signature = object_of (
     ∷ [])
 
 -- An alert (RFC 8446, section 6).
+abbrev pub alert_entries : ℕ → ℕ → Option (Bor (List ℕ)) → Entries
+alert_entries level description name =
+    decimal (codes "level") level ∷ decimal (codes "description") description ∷ some_name (codes "name") name
+
 abbrev pub alert_fields : ℕ → ℕ → Option (Bor (List ℕ)) → Data
-alert_fields level description name = object_of (
-    decimal (codes "level") level
-    ∷ decimal (codes "description") description
-    ∷ some_name (codes "name") name)
+alert_fields level description name = object_of (alert_entries level description name)
 
 -- A ChangeCipherSpec (RFC 5246, section 7.1).
 abbrev pub change_fields : ℕ → Data
@@ -239,13 +238,13 @@ server_key_exchange_names exchange =
     ++ names_if exchange.is_signed (codes "signed_params")
 
 -- A client's public value, or its encrypted secret (RFC 5246, section 7.4.7; RFC 8422, section 5.7).
-abbrev pub client_value_fields : Public → List ℕ → Entries
-client_value_fields Nothing b = []
-client_value_fields Rsa b = bytes (codes "pre_master_secret") b ∷ []
-client_value_fields Dh b = bytes (codes "dh_Yc") b ∷ []
-client_value_fields Ecdh b = bytes (codes "ecdh_Yc") b ∷ []
+abbrev pub client_value_names : Public → List (List ℕ)
+client_value_names Nothing = []
+client_value_names Rsa = codes "pre_master_secret" ∷ []
+client_value_names Dh = codes "dh_Yc" ∷ []
+client_value_names Ecdh = codes "ecdh_Yc" ∷ []
 
 -- A client's key exchange (RFC 5246, section 7.4.7; RFC 8422, section 5.7; RFC 4279, sections 2 to 4; RFC 5489, section 2).
 abbrev pub client_key_exchange_names : KeyExchange → List (List ℕ)
 client_key_exchange_names exchange =
-    names_if exchange.has_identity (codes "psk_identity") ++ entry_names (client_value_fields exchange.public [])
+    names_if exchange.has_identity (codes "psk_identity") ++ client_value_names exchange.public

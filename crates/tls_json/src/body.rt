@@ -1,9 +1,9 @@
 //! The bodies of handshake messages.
-ghost use Rattle.std.specs.Prelude.{OnOk, IfOk, ◌≡◌, codes};
+ghost use Rattle.std.specs.Prelude.{IfOk, IfSome, ◌≡◌, ◌++◌, codes};
 ghost use Rattle.serde_json.specs.Data.{array, no_items};
 ghost use Rattle.tls_fields.specs.Items.{left_in};
 ghost use Rattle.tls_fields.specs.Layout.{counted};
-ghost use Rattle.tls_json.specs.Outline.{Shows, IfShown, Adds, HasNames, list};
+ghost use Rattle.tls_json.specs.Outline.{Shows, Entries, list, HasNames, HasFields};
 ghost use Rattle.tls_json.specs.Tables.{chain_fields, list_if, request_fields, ticket_fields, status_fields, next_protocol_names, verify_request_fields, finished_fields, key_update_fields};
 
 use crate::chosen::Chosen;
@@ -11,7 +11,7 @@ use crate::datagrams::whole_message;
 use crate::hello::{client_hello, hello_retry_request, server_hello, server_hello_of_draft};
 use crate::json::Value;
 use crate::key_exchange::{client_key_exchange, server_key_exchange, signature};
-use crate::table::{Table, single};
+use crate::table::{Table, Values, single};
 use crate::text::{blob, blobs, codes, escaped, numbers};
 use std::alloc::{AllocError, Global};
 use tls_base::{TlsHandshakeType, TlsVersion};
@@ -23,13 +23,13 @@ use tls_hs::{
 use tls_parser::{DTLSBodyView, DTLSClientHelloView, DTLSMessageHandshakeBody};
 
 /// A body by its fields; `None` where they are those of its bytes alone.
-type Answer = Result<Option<Value>, AllocError>;
+type Answer = Option<Result<Value, AllocError>>;
 
 /// A body, and the bytes behind its last field.
 #[derive(Drop)]
 pub struct Content<'a> {
     /// Its fields, or its bytes.
-    pub body: Value,
+    pub body: Result<Value, AllocError>,
     /// None where the body isn't read.
     pub rest: &'a [u8],
 }
@@ -38,11 +38,11 @@ fn certificates<'a>(alloc: Global, list: &'a [u8]) -> Result<Value, AllocError>
     ensures { IfOk result (Shows (array no_items)) }
 {
     let walk: Items<RawCertificate> = Items::new(list);
-    let mut all = Vec::new(alloc);
+    let mut all = Values::new(alloc);
     for certificate in walk {
-        all.push(blob(alloc, certificate.bytes)?)?;
+        all = all.add(blob(alloc, certificate.bytes));
     }
-    Ok(Value::List(all))
+    all.finish()
 }
 
 /// What a list of certificates leaves behind the last that is whole.
@@ -57,26 +57,23 @@ fn rest_of_chain<'a>(list: &'a [u8]) -> &'a [u8]
 fn chain(alloc: Global, list: &[u8]) -> Result<Value, AllocError>
     ensures { IfOk result (Shows (chain_fields list.now)) }
 {
-    let mut table = Table::new(alloc);
-    table.add("certificate_list", certificates(alloc, list)?)?;
-    table.some_bytes("rest", rest_of_chain(list))?;
-    Ok(table.finish())
+    Table::new(alloc)
+        .add("certificate_list", certificates(alloc, list))
+        .some_bytes("rest", rest_of_chain(list))
+        .finish()
 }
 
-/// Adds signature algorithms, where there are some.
-fn add_algorithms(
-    alloc: Global,
-    table: &mut Table,
-    algorithms: Option<Items<'_, u16>>,
-) -> Result<(), AllocError>
-    ensures { OnOk result (Adds (list_if (codes "supported_signature_algorithms") algorithms.entry) table.old table.new) }
+/// With signature algorithms, where there are some.
+fn with_algorithms(alloc: Global, table: Table, algorithms: Option<Items<'_, u16>>) -> Table
+    ensures { (es : Entries) → HasFields es table
+        → HasFields (es ++ list_if (codes "supported_signature_algorithms") algorithms.entry) result }
 {
     match algorithms {
         Some(list) => table.add(
             "supported_signature_algorithms",
-            numbers(alloc, list.bytes())?,
+            numbers(alloc, list.bytes()),
         ),
-        None => Ok(()),
+        None => table,
     }
 }
 
@@ -84,24 +81,20 @@ fn add_algorithms(
 fn request(alloc: Global, request: &CertificateRequestView<'_>) -> Result<Value, AllocError>
     ensures { IfOk result (Shows (request_fields request.now)) }
 {
-    let mut table = Table::new(alloc);
-    table.add("certificate_types", codes(alloc, request.cert_types)?)?;
-    add_algorithms(alloc, &mut table, request.sig_hash_algs)?;
-    table.add(
-        "certificate_authorities",
-        blobs(alloc, request.unparsed_ca)?,
-    )?;
-    table.some_bytes("rest", request.unparsed_ca.rest())?;
-    Ok(table.finish())
+    let table = Table::new(alloc).add("certificate_types", codes(alloc, request.cert_types));
+    with_algorithms(alloc, table, request.sig_hash_algs)
+        .add("certificate_authorities", blobs(alloc, request.unparsed_ca))
+        .some_bytes("rest", request.unparsed_ca.rest())
+        .finish()
 }
 
 /// `None` where half a signature algorithm is left, for which there is no field.
 fn whole_request(alloc: Global, wish: &CertificateRequestView<'_>) -> Answer
-    ensures { IfOk result (IfShown (request_fields wish.now)) }
+    ensures { IfSome result (λ r. IfOk r (Shows (request_fields wish.now))) }
 {
     match wish.sig_hash_algs {
-        Some(list) if !list.rest().is_empty() => Ok(None),
-        _ => Ok(Some(request(alloc, wish)?)),
+        Some(list) if !list.rest().is_empty() => None,
+        _ => Some(request(alloc, wish)),
     }
 }
 
@@ -109,80 +102,81 @@ fn whole_request(alloc: Global, wish: &CertificateRequestView<'_>) -> Answer
 fn ticket(alloc: Global, lifetime_hint: u32, ticket: &[u8]) -> Result<Value, AllocError>
     ensures { IfOk result (Shows (ticket_fields lifetime_hint ticket.now)) }
 {
-    let mut table = Table::new(alloc);
-    table.decimal("ticket_lifetime_hint", u64::from(lifetime_hint))?;
-    table.bytes("ticket", ticket)?;
-    Ok(table.finish())
+    Table::new(alloc)
+        .decimal("ticket_lifetime_hint", u64::from(lifetime_hint))
+        .bytes("ticket", ticket)
+        .finish()
 }
 
 /// The status of a certificate (RFC 6066, section 8).
 fn status(alloc: Global, status: &TlsCertificateStatusContents<'_>) -> Result<Value, AllocError>
     ensures { IfOk result (Shows (status_fields status.now)) }
 {
-    let mut table = Table::new(alloc);
-    table.decimal("status_type", u64::from(status.status_type))?;
-    table.bytes("response", status.blob)?;
-    Ok(table.finish())
+    Table::new(alloc)
+        .decimal("status_type", u64::from(status.status_type))
+        .bytes("response", status.blob)
+        .finish()
 }
 
 /// The protocol that a client chose (draft-agl-tls-nextprotoneg-04, section 3).
 fn next_protocol(alloc: Global, next: &TlsNextProtocolContent<'_>) -> Result<Value, AllocError>
     ensures { IfOk result (HasNames next_protocol_names) }
 {
-    let mut table = Table::new(alloc);
-    table.add("selected_protocol", escaped(alloc, next.selected_protocol)?)?;
-    table.bytes("padding", next.padding)?;
-    Ok(table.finish())
+    Table::new(alloc)
+        .add("selected_protocol", escaped(alloc, next.selected_protocol))
+        .bytes("padding", next.padding)
+        .finish()
 }
 
 /// A server's wish for another ClientHello with a cookie (RFC 6347, section 4.2.1).
 fn verify_request(alloc: Global, version: TlsVersion, cookie: &[u8]) -> Result<Value, AllocError>
     ensures { IfOk result (Shows (verify_request_fields version.0 cookie.now)) }
 {
-    let mut table = Table::new(alloc);
-    table.hexadecimal("server_version", version.0)?;
-    table.bytes("cookie", cookie)?;
-    Ok(table.finish())
+    Table::new(alloc)
+        .hexadecimal("server_version", version.0)
+        .bytes("cookie", cookie)
+        .finish()
 }
 
 /// The end of a handshake (RFC 5246, section 7.4.9).
 fn finished(alloc: Global, verify_data: &[u8]) -> Result<Value, AllocError>
     ensures { IfOk result (Shows (finished_fields verify_data.now)) }
 {
-    single(alloc, "verify_data", blob(alloc, verify_data)?)
+    single(alloc, "verify_data", blob(alloc, verify_data))
 }
 
 /// New keys are in use (RFC 8446, section 4.6.3).
 fn key_update(alloc: Global, request_update: u8) -> Result<Value, AllocError>
     ensures { IfOk result (Shows (key_update_fields request_update)) }
 {
-    single(
-        alloc,
-        "request_update",
-        Value::Number(u64::from(request_update)),
-    )
+    Table::new(alloc)
+        .decimal("request_update", u64::from(request_update))
+        .finish()
 }
 
 /// A message without lists.
 fn other(alloc: Global, message: &TlsMessageHandshake<'_>) -> Answer {
-    let body = match message {
-        TlsMessageHandshake::ServerHello(hello) => server_hello(alloc, hello)?,
-        TlsMessageHandshake::ServerHelloV13Draft18(hello) => server_hello_of_draft(alloc, hello)?,
-        TlsMessageHandshake::HelloRetryRequest(request) => hello_retry_request(alloc, request)?,
-        TlsMessageHandshake::CertificateStatus(contents) => status(alloc, contents)?,
-        TlsMessageHandshake::NextProtocol(next) => next_protocol(alloc, next)?,
-        TlsMessageHandshake::Finished(verify_data) => finished(alloc, verify_data)?,
-        TlsMessageHandshake::KeyUpdate(request_update) => key_update(alloc, *request_update)?,
-        _ => return Ok(None),
-    };
-    Ok(Some(body))
+    match message {
+        TlsMessageHandshake::ServerHello(hello) => Some(server_hello(alloc, hello)),
+        TlsMessageHandshake::ServerHelloV13Draft18(hello) => {
+            Some(server_hello_of_draft(alloc, hello))
+        }
+        TlsMessageHandshake::HelloRetryRequest(request) => {
+            Some(hello_retry_request(alloc, request))
+        }
+        TlsMessageHandshake::CertificateStatus(contents) => Some(status(alloc, contents)),
+        TlsMessageHandshake::NextProtocol(next) => Some(next_protocol(alloc, next)),
+        TlsMessageHandshake::Finished(verify_data) => Some(finished(alloc, verify_data)),
+        TlsMessageHandshake::KeyUpdate(request_update) => Some(key_update(alloc, *request_update)),
+        _ => None,
+    }
 }
 
 /// What was read of a message of TLS.
 fn body_of(alloc: Global, read: HandshakeView<'_>) -> Answer {
     match read {
-        HandshakeView::ClientHello(hello) => Ok(Some(client_hello(alloc, &hello, None)?)),
-        HandshakeView::Certificate(list) => Ok(Some(chain(alloc, list.bytes())?)),
+        HandshakeView::ClientHello(hello) => Some(client_hello(alloc, &hello, None)),
+        HandshakeView::Certificate(list) => Some(chain(alloc, list.bytes())),
         HandshakeView::CertificateRequest(wish) => whole_request(alloc, &wish),
         HandshakeView::Other(message) => other(alloc, &message),
     }
@@ -206,53 +200,47 @@ fn client_hello_of_datagrams(
 
 /// What was read of a message whose body is another in DTLS than in TLS.
 fn body_in_datagrams(alloc: Global, read: DTLSBodyView<'_>) -> Answer {
-    let body = match read {
-        DTLSBodyView::ClientHello(hello) => client_hello_of_datagrams(alloc, &hello)?,
-        DTLSBodyView::Other(DTLSMessageHandshakeBody::ServerHello(hello)) => server_hello(
-            alloc, &hello,
-        )?,
-        DTLSBodyView::Other(DTLSMessageHandshakeBody::HelloVerifyRequest(verify)) => {
-            verify_request(alloc, verify.server_version, verify.cookie)?
+    match read {
+        DTLSBodyView::ClientHello(hello) => Some(client_hello_of_datagrams(alloc, &hello)),
+        DTLSBodyView::Other(DTLSMessageHandshakeBody::ServerHello(hello)) => {
+            Some(server_hello(alloc, &hello))
         }
-        _ => return Ok(None),
-    };
-    Ok(Some(body))
+        DTLSBodyView::Other(DTLSMessageHandshakeBody::HelloVerifyRequest(verify)) => Some(
+            verify_request(alloc, verify.server_version, verify.cookie),
+        ),
+        _ => None,
+    }
 }
 
 impl<'a> Content<'a> {
     /// A body and the bytes behind it, or the bytes of one that isn't read.
-    fn of_body(
-        alloc: Global,
-        body: Option<Value>,
-        rest: &'a [u8],
-        bytes: &[u8],
-    ) -> Result<Content<'a>, AllocError> {
+    fn of_body(alloc: Global, body: Answer, rest: &'a [u8], bytes: &[u8]) -> Content<'a> {
         match body {
-            Some(body) => Ok(Content { body, rest }),
+            Some(body) => Content { body, rest },
             None => Content::of_bytes(alloc, bytes),
         }
     }
 
     /// A body that isn't read.
-    fn of_bytes(alloc: Global, bytes: &[u8]) -> Result<Content<'a>, AllocError> {
-        Ok(Content {
-            body: blob(alloc, bytes)?,
+    fn of_bytes(alloc: Global, bytes: &[u8]) -> Content<'a> {
+        Content {
+            body: blob(alloc, bytes),
             rest: &[],
-        })
+        }
     }
 
     /// A ticket. The library leaves its length in front of it, so it is read here.
-    fn of_ticket(alloc: Global, bytes: &'a [u8]) -> Result<Content<'a>, AllocError> {
+    fn of_ticket(alloc: Global, bytes: &'a [u8]) -> Content<'a> {
         let Ok((i, lifetime_hint)) = number4(bytes) else {
             return Content::of_bytes(alloc, bytes);
         };
         let Ok((rest, there)) = counted2(i) else {
             return Content::of_bytes(alloc, bytes);
         };
-        Ok(Content {
-            body: ticket(alloc, lifetime_hint, there)?,
+        Content {
+            body: ticket(alloc, lifetime_hint, there),
             rest,
-        })
+        }
     }
 
     /// That of a message whose fields depend on what the server chose.
@@ -261,14 +249,14 @@ impl<'a> Content<'a> {
         chosen: Chosen,
         msg_type: TlsHandshakeType,
         bytes: &'a [u8],
-    ) -> Result<Content<'a>, AllocError> {
+    ) -> Content<'a> {
         let read = match msg_type {
-            TlsHandshakeType::ServerKeyExchange => server_key_exchange(alloc, chosen, bytes)?,
-            TlsHandshakeType::ClientKeyExchange => client_key_exchange(alloc, chosen, bytes)?,
-            _ => signature(alloc, chosen.version, bytes)?,
+            TlsHandshakeType::ServerKeyExchange => server_key_exchange(alloc, chosen, bytes),
+            TlsHandshakeType::ClientKeyExchange => client_key_exchange(alloc, chosen, bytes),
+            _ => signature(alloc, chosen.version, bytes),
         };
         match read {
-            Some((rest, body)) => Ok(Content { body, rest }),
+            Some((rest, body)) => Content { body, rest },
             None => Content::of_bytes(alloc, bytes),
         }
     }
@@ -279,7 +267,7 @@ impl<'a> Content<'a> {
         chosen: Option<Chosen>,
         msg_type: TlsHandshakeType,
         body: &'a [u8],
-    ) -> Result<Content<'a>, AllocError> {
+    ) -> Content<'a> {
         match msg_type {
             TlsHandshakeType::NewSessionTicket => Content::of_ticket(alloc, body),
             TlsHandshakeType::ServerKeyExchange
@@ -293,14 +281,10 @@ impl<'a> Content<'a> {
     }
 
     /// That of a message which needs no other to be read.
-    fn of_itself(
-        alloc: Global,
-        msg_type: TlsHandshakeType,
-        body: &'a [u8],
-    ) -> Result<Content<'a>, AllocError> {
+    fn of_itself(alloc: Global, msg_type: TlsHandshakeType, body: &'a [u8]) -> Content<'a> {
         let message = RawHandshake { msg_type, body };
         match message.parse_body() {
-            Ok((rest, read)) => Content::of_body(alloc, body_of(alloc, read)?, rest, body),
+            Ok((rest, read)) => Content::of_body(alloc, body_of(alloc, read), rest, body),
             Err(_) => Content::of_bytes(alloc, body),
         }
     }
@@ -311,7 +295,7 @@ impl<'a> Content<'a> {
         chosen: Option<Chosen>,
         msg_type: TlsHandshakeType,
         body: &'a [u8],
-    ) -> Result<Content<'a>, AllocError> {
+    ) -> Content<'a> {
         match msg_type {
             TlsHandshakeType::ClientHello
             | TlsHandshakeType::ServerHello
@@ -327,14 +311,12 @@ impl<'a> Content<'a> {
         alloc: Global,
         msg_type: TlsHandshakeType,
         body: &'a [u8],
-    ) -> Result<Content<'a>, AllocError> {
+    ) -> Content<'a> {
         let Some(message) = whole_message(msg_type, body) else {
             return Content::of_bytes(alloc, body);
         };
         match message.parse_body() {
-            Ok((rest, read)) => {
-                Content::of_body(alloc, body_in_datagrams(alloc, read)?, rest, body)
-            }
+            Ok((rest, read)) => Content::of_body(alloc, body_in_datagrams(alloc, read), rest, body),
             Err(_) => Content::of_bytes(alloc, body),
         }
     }

@@ -1,13 +1,13 @@
 //! How the content of an extension is read, by its type.
-ghost use Rattle.std.specs.Prelude.{IfOk, ◌∷◌, []};
+ghost use Rattle.std.specs.Prelude.{IfOk, IfSome, ◌∷◌, []};
 ghost use Rattle.tls_json.specs.Outline.{Shows, HasNames, ReadsAs};
 ghost use Rattle.tls_json.specs.Extensions.{filter_fields, share_fields};
 ghost use Rattle.tls_json.specs.Extensions as names_of;
 
 use crate::json::Value;
 use crate::offers;
-use crate::table::{Table, single};
-use crate::text::{blob, blobs, codes, escaped, number, numbers};
+use crate::table::{Table, Values, single};
+use crate::text::{blob, blobs, code_text, codes, escaped, numbers};
 use std::alloc::{AllocError, Global};
 use tls_base::{NamedGroup, TlsExtensionType, TlsVersion};
 use tls_ext::{
@@ -34,7 +34,7 @@ pub enum Sender {
 }
 
 /// A content by its fields; `None` where not all of it is read.
-pub type Answer = Result<Option<Value>, AllocError>;
+pub type Answer = Option<Result<Value, AllocError>>;
 
 /// A list of which all is read, up to the end of its extension.
 fn whole<'a, T: InPlace<'a>>(answer: IResult<&'a [u8], Items<'a, T>>) -> Option<Items<'a, T>> {
@@ -64,206 +64,184 @@ fn whole_list<'a, T: InPlace<'a>>(answer: IResult<&'a [u8], &'a [u8]>) -> Option
 fn server_name(alloc: Global, name_type: u8, host_name: &[u8]) -> Result<Value, AllocError>
     ensures { IfOk result (HasNames names_of.server_name) }
 {
-    let mut table = Table::new(alloc);
-    table.decimal("name_type", u64::from(name_type))?;
-    table.add("host_name", escaped(alloc, host_name)?)?;
-    Ok(table.finish())
+    Table::new(alloc)
+        .decimal("name_type", u64::from(name_type))
+        .add("host_name", escaped(alloc, host_name))
+        .finish()
 }
 
 /// server_name (RFC 6066, section 3).
 fn server_name_list(alloc: Global, content: &[u8]) -> Answer
-    ensures { IfOk result (ReadsAs names_of.server_name_list) }
+    ensures { IfSome result (ReadsAs names_of.server_name_list) }
 {
-    let Some(list) = whole(server_names(content)) else {
-        return Ok(None);
-    };
-    let mut names = Vec::new(alloc);
+    let list = whole(server_names(content))?;
+    let mut names = Values::new(alloc);
     for (name_type, host_name) in list {
-        names.push(server_name(alloc, name_type.0, host_name)?)?;
+        names = names.add(server_name(alloc, name_type.0, host_name));
     }
-    Ok(Some(single(alloc, "server_name_list", Value::List(names))?))
+    Some(single(alloc, "server_name_list", names.finish()))
 }
 
 /// A client's status_request (RFC 6066, section 8).
 fn status_request(alloc: Global, content: &[u8]) -> Answer
-    ensures { IfOk result (ReadsAs names_of.status_request) }
+    ensures { IfSome result (ReadsAs names_of.status_request) }
 {
     let [status_type, request @ ..] = content else {
-        return Ok(None);
+        return None;
     };
-    let mut table = Table::new(alloc);
-    table.decimal("status_type", u64::from(*status_type))?;
-    table.bytes("request", request)?;
-    Ok(Some(table.finish()))
+    Some(
+        Table::new(alloc)
+            .decimal("status_type", u64::from(*status_type))
+            .bytes("request", request)
+            .finish(),
+    )
 }
 
 /// supported_groups (RFC 8446, section 4.2.7).
 fn named_group_list(alloc: Global, content: &[u8]) -> Answer
-    ensures { IfOk result (ReadsAs names_of.supported_groups) }
+    ensures { IfSome result (ReadsAs names_of.supported_groups) }
 {
-    let Some(list) = whole(supported_groups(content)) else {
-        return Ok(None);
-    };
-    Ok(Some(single(alloc, "named_group_list", numbers(alloc, list.bytes())?)?))
+    let list = whole(supported_groups(content))?;
+    Some(single(alloc, "named_group_list", numbers(alloc, list.bytes())))
 }
 
 /// ec_point_formats (RFC 8422, section 5.1.2).
 fn point_format_list(alloc: Global, content: &[u8]) -> Answer
-    ensures { IfOk result (ReadsAs names_of.ec_point_formats) }
+    ensures { IfSome result (ReadsAs names_of.ec_point_formats) }
 {
-    let Some(formats) = whole_bytes(ec_point_formats(content)) else {
-        return Ok(None);
-    };
-    Ok(Some(single(alloc, "ec_point_format_list", codes(alloc, formats)?)?))
+    let formats = whole_bytes(ec_point_formats(content))?;
+    Some(single(alloc, "ec_point_format_list", codes(alloc, formats)))
 }
 
 /// signature_algorithms and signature_algorithms_cert (RFC 8446, section 4.2.3).
 fn schemes(alloc: Global, content: &[u8]) -> Answer
-    ensures { IfOk result (ReadsAs names_of.signature_algorithms) }
+    ensures { IfSome result (ReadsAs names_of.signature_algorithms) }
 {
-    let Some(list) = whole(signature_algorithms(content)) else {
-        return Ok(None);
-    };
-    Ok(Some(single(
+    let list = whole(signature_algorithms(content))?;
+    Some(single(
         alloc,
         "supported_signature_algorithms",
-        numbers(alloc, list.bytes())?,
-    )?))
+        numbers(alloc, list.bytes()),
+    ))
 }
 
 /// application_layer_protocol_negotiation (RFC 7301, section 3.1).
 fn protocol_name_list(alloc: Global, content: &[u8]) -> Answer
-    ensures { IfOk result (ReadsAs names_of.protocol_names) }
+    ensures { IfSome result (ReadsAs names_of.protocol_names) }
 {
-    let Some(list) = whole::<Counted1>(protocol_names(content)) else {
-        return Ok(None);
-    };
-    let mut names = Vec::new(alloc);
+    let list = whole::<Counted1>(protocol_names(content))?;
+    let mut names = Values::new(alloc);
     for protocol in list {
-        names.push(escaped(alloc, protocol)?)?;
+        names = names.add(escaped(alloc, protocol));
     }
-    Ok(Some(single(alloc, "protocol_name_list", Value::List(names))?))
+    Some(single(alloc, "protocol_name_list", names.finish()))
 }
 
 /// signed_certificate_timestamp (RFC 6962, section 3.3).
 fn timestamps(alloc: Global, content: &[u8]) -> Answer
-    ensures { IfOk result (ReadsAs names_of.timestamps) }
+    ensures { IfSome result (ReadsAs names_of.timestamps) }
 {
-    let Some(list) = whole_list::<Counted2>(counted2(content)) else {
-        return Ok(None);
-    };
-    Ok(Some(single(alloc, "sct_list", blobs(alloc, list)?)?))
+    let list = whole_list::<Counted2>(counted2(content))?;
+    Some(single(alloc, "sct_list", blobs(alloc, list)))
 }
 
 /// certificate_authorities (RFC 8446, section 4.2.4).
 fn authorities(alloc: Global, content: &[u8]) -> Answer
-    ensures { IfOk result (ReadsAs names_of.certificate_authorities) }
+    ensures { IfSome result (ReadsAs names_of.certificate_authorities) }
 {
-    let Some(list) = whole_list::<Counted2>(counted2(content)) else {
-        return Ok(None);
-    };
-    Ok(Some(single(alloc, "authorities", blobs(alloc, list)?)?))
+    let list = whole_list::<Counted2>(counted2(content))?;
+    Some(single(alloc, "authorities", blobs(alloc, list)))
 }
 
 /// A client's supported_versions (RFC 8446, section 4.2.1).
 fn offered_versions(alloc: Global, content: &[u8]) -> Answer
-    ensures { IfOk result (ReadsAs names_of.offered_versions) }
+    ensures { IfSome result (ReadsAs names_of.offered_versions) }
 {
-    let Some(list) = whole_list::<TlsVersion>(counted1(content)) else {
-        return Ok(None);
-    };
-    Ok(Some(single(alloc, "versions", numbers(alloc, list.bytes())?)?))
+    let list = whole_list::<TlsVersion>(counted1(content))?;
+    Some(single(alloc, "versions", numbers(alloc, list.bytes())))
 }
 
 /// A content that is a number of 2 bytes which stands for a thing.
 fn single_code(alloc: Global, name: &'static str, content: &[u8]) -> Answer
-    ensures { IfOk result (ReadsAs (name.now ∷ [])) }
+    ensures { IfSome result (ReadsAs (name.now ∷ [])) }
 {
     let [upper, lower] = content else {
-        return Ok(None);
+        return None;
     };
-    let code = number(alloc, u16::from_be_bytes([*upper, *lower]))?;
-    Ok(Some(single(alloc, name, Value::Text(code))?))
+    let code = u16::from_be_bytes([*upper, *lower]);
+    Some(single(alloc, name, code_text(alloc, code)))
 }
 
 /// cookie (RFC 8446, section 4.2.2).
 fn cookie(alloc: Global, content: &[u8]) -> Answer
-    ensures { IfOk result (ReadsAs names_of.cookie) }
+    ensures { IfSome result (ReadsAs names_of.cookie) }
 {
-    let Some(cookie) = whole_bytes(counted2(content)) else {
-        return Ok(None);
-    };
-    Ok(Some(single(alloc, "cookie", blob(alloc, cookie)?)?))
+    let cookie = whole_bytes(counted2(content))?;
+    Some(single(alloc, "cookie", blob(alloc, cookie)))
 }
 
 /// psk_key_exchange_modes (RFC 8446, section 4.2.9).
 fn key_exchange_modes(alloc: Global, content: &[u8]) -> Answer
-    ensures { IfOk result (ReadsAs names_of.psk_key_exchange_modes) }
+    ensures { IfSome result (ReadsAs names_of.psk_key_exchange_modes) }
 {
-    let Some(modes) = whole_bytes(psk_key_exchange_modes(content)) else {
-        return Ok(None);
-    };
-    Ok(Some(single(alloc, "ke_modes", codes(alloc, modes)?)?))
+    let modes = whole_bytes(psk_key_exchange_modes(content))?;
+    Some(single(alloc, "ke_modes", codes(alloc, modes)))
 }
 
 /// A filter on certificates (RFC 8446, section 4.2.5).
 fn filter_of(alloc: Global, filter: &OidFilter<'_>) -> Result<Value, AllocError>
     ensures { IfOk result (Shows (filter_fields filter.now)) }
 {
-    let mut table = Table::new(alloc);
-    table.bytes("certificate_extension_oid", filter.cert_ext_oid)?;
-    table.bytes("certificate_extension_values", filter.cert_ext_val)?;
-    Ok(table.finish())
+    Table::new(alloc)
+        .bytes("certificate_extension_oid", filter.cert_ext_oid)
+        .bytes("certificate_extension_values", filter.cert_ext_val)
+        .finish()
 }
 
 /// oid_filters (RFC 8446, section 4.2.5).
 fn filters(alloc: Global, content: &[u8]) -> Answer
-    ensures { IfOk result (ReadsAs names_of.oid_filters) }
+    ensures { IfSome result (ReadsAs names_of.oid_filters) }
 {
-    let Some(list) = whole::<OidFilter>(oid_filters(content)) else {
-        return Ok(None);
-    };
-    let mut all = Vec::new(alloc);
+    let list = whole::<OidFilter>(oid_filters(content))?;
+    let mut all = Values::new(alloc);
     for filter in list {
-        all.push(filter_of(alloc, &filter)?)?;
+        all = all.add(filter_of(alloc, &filter));
     }
-    Ok(Some(single(alloc, "filters", Value::List(all))?))
+    Some(single(alloc, "filters", all.finish()))
 }
 
 /// A key share (RFC 8446, section 4.2.8).
 fn share_of(alloc: Global, group: NamedGroup, key_exchange: &[u8]) -> Result<Value, AllocError>
     ensures { IfOk result (Shows (share_fields group.0 key_exchange.now)) }
 {
-    let mut table = Table::new(alloc);
-    table.hexadecimal("group", group.0)?;
-    table.bytes("key_exchange", key_exchange)?;
-    Ok(table.finish())
+    Table::new(alloc)
+        .hexadecimal("group", group.0)
+        .bytes("key_exchange", key_exchange)
+        .finish()
 }
 
 /// A client's key_share (RFC 8446, section 4.2.8).
 fn client_shares(alloc: Global, content: &[u8]) -> Answer
-    ensures { IfOk result (ReadsAs names_of.client_shares) }
+    ensures { IfSome result (ReadsAs names_of.client_shares) }
 {
-    let Some(list) = whole(key_shares(content)) else {
-        return Ok(None);
-    };
-    let mut all = Vec::new(alloc);
+    let list = whole(key_shares(content))?;
+    let mut all = Values::new(alloc);
     for share in list {
-        all.push(share_of(alloc, share.group, share.kx)?)?;
+        all = all.add(share_of(alloc, share.group, share.kx));
     }
-    Ok(Some(single(alloc, "client_shares", Value::List(all))?))
+    Some(single(alloc, "client_shares", all.finish()))
 }
 
 /// A server's key share.
 fn server_share(alloc: Global, content: &[u8]) -> Answer
-    ensures { IfOk result (ReadsAs names_of.server_share) }
+    ensures { IfSome result (ReadsAs names_of.server_share) }
 {
     match KeyShareEntry::read(content) {
         Ok(([], share)) => {
-            let share = share_of(alloc, share.group, share.kx)?;
-            Ok(Some(single(alloc, "server_share", share)?))
+            let share = share_of(alloc, share.group, share.kx);
+            Some(single(alloc, "server_share", share))
         }
-        _ => Ok(None),
+        _ => None,
     }
 }
 
@@ -277,20 +255,18 @@ fn server_key_share(alloc: Global, content: &[u8]) -> Answer {
 
 /// renegotiation_info (RFC 5746, section 3.2).
 fn renegotiation(alloc: Global, content: &[u8]) -> Answer
-    ensures { IfOk result (ReadsAs names_of.renegotiation_info) }
+    ensures { IfSome result (ReadsAs names_of.renegotiation_info) }
 {
-    let Some(bytes) = whole_bytes(counted1(content)) else {
-        return Ok(None);
-    };
-    Ok(Some(single(alloc, "renegotiated_connection", blob(alloc, bytes)?)?))
+    let bytes = whole_bytes(counted1(content))?;
+    Some(single(alloc, "renegotiated_connection", blob(alloc, bytes)))
 }
 
 /// encrypted_server_name (draft-ietf-tls-esni-02, section 5).
 fn encrypted_server_name(alloc: Global, content: &[u8]) -> Answer
-    ensures { IfOk result (ReadsAs names_of.encrypted_server_name) }
+    ensures { IfSome result (ReadsAs names_of.encrypted_server_name) }
 {
     let Ok(([], read)) = parse_tls_extension_encrypted_server_name(content) else {
-        return Ok(None);
+        return None;
     };
     let TlsExtension::EncryptedServerName {
         ciphersuite,
@@ -300,21 +276,23 @@ fn encrypted_server_name(alloc: Global, content: &[u8]) -> Answer
         encrypted_sni,
     } = read
     else {
-        return Ok(None);
+        return None;
     };
-    let mut table = Table::new(alloc);
-    table.hexadecimal("suite", ciphersuite.0)?;
-    table.add("key_share", share_of(alloc, group, key_share)?)?;
-    table.bytes("record_digest", record_digest)?;
-    table.bytes("encrypted_sni", encrypted_sni)?;
-    Ok(Some(table.finish()))
+    Some(
+        Table::new(alloc)
+            .hexadecimal("suite", ciphersuite.0)
+            .add("key_share", share_of(alloc, group, key_share))
+            .bytes("record_digest", record_digest)
+            .bytes("encrypted_sni", encrypted_sni)
+            .finish(),
+    )
 }
 
 /// heartbeat (RFC 6520, section 2).
 fn heartbeat_mode(alloc: Global, mode: u8) -> Result<Value, AllocError>
     ensures { IfOk result (HasNames names_of.heartbeat) }
 {
-    single(alloc, "mode", Value::Number(u64::from(mode)))
+    single(alloc, "mode", Ok(Value::Number(u64::from(mode))))
 }
 
 /// early_data of a ticket (RFC 8446, section 4.2.10).
@@ -324,7 +302,7 @@ fn early_data(alloc: Global, max_size: u32) -> Result<Value, AllocError>
     single(
         alloc,
         "max_early_data_size",
-        Value::Number(u64::from(max_size)),
+        Ok(Value::Number(u64::from(max_size))),
     )
 }
 
@@ -332,18 +310,18 @@ fn early_data(alloc: Global, max_size: u32) -> Result<Value, AllocError>
 fn of_number(alloc: Global, kind: TlsExtensionType, content: &[u8]) -> Answer {
     match (kind, content) {
         (TlsExtensionType::MaxFragmentLength, [code]) => {
-            Ok(Some(Value::Number(u64::from(*code))))
+            Some(Ok(Value::Number(u64::from(*code))))
         }
-        (TlsExtensionType::Heartbeat, [mode]) => Ok(Some(heartbeat_mode(alloc, *mode)?)),
+        (TlsExtensionType::Heartbeat, [mode]) => Some(heartbeat_mode(alloc, *mode)),
         (TlsExtensionType::RecordSizeLimit, [upper, lower]) => {
             let limit = u16::from_be_bytes([*upper, *lower]);
-            Ok(Some(Value::Number(u64::from(limit))))
+            Some(Ok(Value::Number(u64::from(limit))))
         }
         (TlsExtensionType::EarlyData, [first, second, third, fourth]) => {
             let max_size = u32::from_be_bytes([*first, *second, *third, *fourth]);
-            Ok(Some(early_data(alloc, max_size)?))
+            Some(early_data(alloc, max_size))
         }
-        _ => Ok(None),
+        _ => None,
     }
 }
 
@@ -399,8 +377,8 @@ pub fn content_of(
     kind: TlsExtensionType,
     content: &[u8],
 ) -> Result<Value, AllocError> {
-    match read(alloc, sender, kind, content)? {
-        Some(data) => Ok(data),
+    match read(alloc, sender, kind, content) {
+        Some(data) => data,
         None => blob(alloc, content),
     }
 }

@@ -1,16 +1,15 @@
 //! Extensions.
-ghost use Rattle.std.specs.Prelude.{OnOk, IfOk, ◌≡◌};
-ghost use Rattle.serde_json.specs.Data.{array, no_items};
-ghost use Rattle.tls_json.specs.Views.{view};
+ghost use Rattle.std.specs.Prelude.{IfOk, ◌≡◌, ◌++◌};
+ghost use Rattle.serde_json.specs.Data.{Data, array, no_items};
 ghost use Rattle.tls_fields.specs.Items.{left_in};
 ghost use Rattle.tls_ext.specs.InPlace.{raw_extension};
-ghost use Rattle.tls_json.specs.Outline.{outline, Shows, Adds};
+ghost use Rattle.tls_json.specs.Outline.{Shows, Entries, HasFields};
 ghost use Rattle.tls_json.specs.Tables.{extensions_fields, extension_fields};
 
 use crate::content::{Sender, content_of};
 use crate::json::Value;
 use crate::names::extension_name;
-use crate::table::Table;
+use crate::table::{Table, Values};
 use std::alloc::{AllocError, Global};
 use tls_base::TlsExtensionType;
 use tls_ext::RawExtension;
@@ -21,15 +20,15 @@ fn fields(
     alloc: Global,
     extension_type: TlsExtensionType,
     name: Option<&'static str>,
-    extension_data: Value,
+    extension_data: Result<Value, AllocError>,
 ) -> Result<Value, AllocError>
-    ensures { IfOk result (Shows (extension_fields extension_type.0 name.entry (outline (view extension_data)))) }
+    ensures { (d : Data) → IfOk extension_data (Shows d) → IfOk result (Shows (extension_fields extension_type.0 name.entry d)) }
 {
-    let mut table = Table::new(alloc);
-    table.decimal("extension_type", u64::from(extension_type.0))?;
-    table.some_name("name", name)?;
-    table.add("extension_data", extension_data)?;
-    Ok(table.finish())
+    Table::new(alloc)
+        .decimal("extension_type", u64::from(extension_type.0))
+        .some_name("name", name)
+        .add("extension_data", extension_data)
+        .finish()
 }
 
 /// The extensions of a block, in their order.
@@ -37,13 +36,13 @@ fn list<'a>(alloc: Global, sender: Sender, block: &'a [u8]) -> Result<Value, All
     ensures { IfOk result (Shows (array no_items)) }
 {
     let walk: Items<RawExtension> = Items::new(block);
-    let mut all = Vec::new(alloc);
+    let mut all = Values::new(alloc);
     for one in walk {
-        let data = content_of(alloc, sender, one.extension_type, one.content)?;
         let name = extension_name(one.extension_type);
-        all.push(fields(alloc, one.extension_type, name, data)?)?;
+        let data = content_of(alloc, sender, one.extension_type, one.content);
+        all = all.add(fields(alloc, one.extension_type, name, data));
     }
-    Ok(Value::List(all))
+    all.finish()
 }
 
 /// What a block of extensions leaves behind the last that is whole.
@@ -54,19 +53,15 @@ fn rest<'a>(block: &'a [u8]) -> &'a [u8]
     walk.rest()
 }
 
-/// Adds the extensions of a hello's `ext`, which is its block of extensions, as it stands behind its length, where it has one; and the
+/// With the extensions of a hello's `ext`, which is its block of extensions, as it stands behind its length, where it has one; and the
 /// bytes of the block behind the last that is whole.
-pub fn add_extensions(
-    alloc: Global,
-    table: &mut Table,
-    sender: Sender,
-    ext: Option<&[u8]>,
-) -> Result<(), AllocError>
-    ensures { OnOk result (Adds (extensions_fields ext.entry) table.old table.new) }
+pub fn with_extensions(alloc: Global, table: Table, sender: Sender, ext: Option<&[u8]>) -> Table
+    ensures { (es : Entries) → HasFields es table → HasFields (es ++ extensions_fields ext.entry) result }
 {
-    let Some(block) = ext else {
-        return Ok(());
-    };
-    table.add("extensions", list(alloc, sender, block)?)?;
-    table.some_bytes("rest", rest(block))
+    match ext {
+        Some(block) => table
+            .add("extensions", list(alloc, sender, block))
+            .some_bytes("rest", rest(block)),
+        None => table,
+    }
 }

@@ -35,12 +35,12 @@ fn fields(
 ) -> Result<Value, AllocError>
     ensures { IfOk result (Shows (heartbeat_fields message.now padding.now)) }
 {
-    let mut table = Table::new(alloc);
-    table.decimal("type", u64::from(message.heartbeat_type.0))?;
-    table.decimal("payload_length", u64::from(message.payload_len))?;
-    table.bytes("payload", message.payload)?;
-    table.bytes("padding", padding)?;
-    Ok(table.finish())
+    Table::new(alloc)
+        .decimal("type", u64::from(message.heartbeat_type.0))
+        .decimal("payload_length", u64::from(message.payload_len))
+        .bytes("payload", message.payload)
+        .bytes("padding", padding)
+        .finish()
 }
 
 impl HeartbeatMessage {

@@ -4,7 +4,7 @@ ghost use Rattle.tls_json.specs.Outline.{Shows};
 ghost use Rattle.tls_json.specs.Tables.{id_bytes, client_hello_fields, server_hello_fields, draft_hello_fields, retry_fields};
 
 use crate::content::Sender;
-use crate::extension::add_extensions;
+use crate::extension::with_extensions;
 use crate::json::Value;
 use crate::table::Table;
 use crate::text::{codes, numbers};
@@ -32,29 +32,27 @@ pub fn client_hello(
 ) -> Result<Value, AllocError>
     ensures { IfOk result (Shows (client_hello_fields hello.now cookie.entry)) }
 {
-    let mut table = Table::new(alloc);
-    table.hexadecimal("client_version", hello.version.0)?;
-    table.bytes("random", hello.random)?;
-    table.bytes("session_id", id(hello.session_id))?;
-    table.bytes_if("cookie", cookie)?;
-    table.add("cipher_suites", numbers(alloc, hello.ciphers.bytes())?)?;
-    table.add("compression_methods", codes(alloc, hello.comp.bytes())?)?;
-    add_extensions(alloc, &mut table, Sender::Client, hello.ext)?;
-    Ok(table.finish())
+    let table = Table::new(alloc)
+        .hexadecimal("client_version", hello.version.0)
+        .bytes("random", hello.random)
+        .bytes("session_id", id(hello.session_id))
+        .bytes_if("cookie", cookie)
+        .add("cipher_suites", numbers(alloc, hello.ciphers.bytes()))
+        .add("compression_methods", codes(alloc, hello.comp.bytes()));
+    with_extensions(alloc, table, Sender::Client, hello.ext).finish()
 }
 
 /// A ServerHello of SSL 3.0 to TLS 1.3, and of DTLS (RFC 5246, section 7.4.1.3).
 pub fn server_hello(alloc: Global, hello: &TlsServerHelloContents<'_>) -> Result<Value, AllocError>
     ensures { IfOk result (Shows (server_hello_fields hello.now)) }
 {
-    let mut table = Table::new(alloc);
-    table.hexadecimal("server_version", hello.version.0)?;
-    table.bytes("random", hello.random)?;
-    table.bytes("session_id", id(hello.session_id))?;
-    table.hexadecimal("cipher_suite", hello.cipher.0)?;
-    table.decimal("compression_method", u64::from(hello.compression.0))?;
-    add_extensions(alloc, &mut table, Sender::Server, hello.ext)?;
-    Ok(table.finish())
+    let table = Table::new(alloc)
+        .hexadecimal("server_version", hello.version.0)
+        .bytes("random", hello.random)
+        .bytes("session_id", id(hello.session_id))
+        .hexadecimal("cipher_suite", hello.cipher.0)
+        .decimal("compression_method", u64::from(hello.compression.0));
+    with_extensions(alloc, table, Sender::Server, hello.ext).finish()
 }
 
 /// That of draft 18 of TLS 1.3, which has no id and no compression.
@@ -64,12 +62,11 @@ pub fn server_hello_of_draft(
 ) -> Result<Value, AllocError>
     ensures { IfOk result (Shows (draft_hello_fields hello.now)) }
 {
-    let mut table = Table::new(alloc);
-    table.hexadecimal("server_version", hello.version.0)?;
-    table.bytes("random", hello.random)?;
-    table.hexadecimal("cipher_suite", hello.cipher.0)?;
-    add_extensions(alloc, &mut table, Sender::Server, hello.ext)?;
-    Ok(table.finish())
+    let table = Table::new(alloc)
+        .hexadecimal("server_version", hello.version.0)
+        .bytes("random", hello.random)
+        .hexadecimal("cipher_suite", hello.cipher.0);
+    with_extensions(alloc, table, Sender::Server, hello.ext).finish()
 }
 
 /// A server's wish for another ClientHello in drafts of TLS 1.3 (draft-ietf-tls-tls13-19, section 4.1.4).
@@ -79,9 +76,8 @@ pub fn hello_retry_request(
 ) -> Result<Value, AllocError>
     ensures { IfOk result (Shows (retry_fields request.now)) }
 {
-    let mut table = Table::new(alloc);
-    table.hexadecimal("server_version", request.version.0)?;
-    table.hexadecimal("cipher_suite", request.cipher.0)?;
-    add_extensions(alloc, &mut table, Sender::Server, request.ext)?;
-    Ok(table.finish())
+    let table = Table::new(alloc)
+        .hexadecimal("server_version", request.version.0)
+        .hexadecimal("cipher_suite", request.cipher.0);
+    with_extensions(alloc, table, Sender::Server, request.ext).finish()
 }

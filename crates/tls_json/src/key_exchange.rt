@@ -1,13 +1,13 @@
 //! Key exchanges and signatures, whose fields depend on what the server chose.
-ghost use Rattle.std.specs.Prelude.{OnOk, IfOk, codes};
-ghost use Rattle.tls_json.specs.Outline.{Shows, Adds, AddsNames, HasNames, IfPair, OnSomeLeft};
-ghost use Rattle.tls_json.specs.Tables.{coefficients_fields, explicit_prime_fields, named_curve_fields, curve_fields, dh_fields, ecdh_fields, signature_fields, names_if, params_names, server_key_exchange_names, client_value_fields, client_key_exchange_names};
+ghost use Rattle.std.specs.Prelude.{IfOk, ◌++◌, List, ℕ, codes};
+ghost use Rattle.tls_json.specs.Outline.{Shows, HasNames, HasFieldNames, IfRead, IfMore};
+ghost use Rattle.tls_json.specs.Tables.{coefficients_fields, explicit_prime_fields, named_curve_fields, curve_fields, dh_fields, ecdh_fields, signature_fields, names_if, params_names, server_key_exchange_names, client_value_names, client_key_exchange_names};
 
 use crate::chosen::Chosen;
 use crate::exchange::{KeyExchange, Public};
 use crate::json::Value;
 use crate::table::Table;
-use crate::text::escaped;
+use crate::text::{blob, escaped};
 use std::alloc::{AllocError, Global};
 use tls_base::{
     ECParameters, ECParametersContent, ExplicitPrimeContent, ServerDHParams, ServerECDHParams,
@@ -17,39 +17,36 @@ use tls_base::{
 use tls_fields::{counted1, counted2};
 
 /// What was read, behind what is left; `None` where not all of it is there.
-type Read<'a> = Result<Option<(&'a [u8], Value)>, AllocError>;
+type Read<'a> = Option<(&'a [u8], Result<Value, AllocError>)>;
 
-/// What is left behind fields that were added to a table; `None` where not all of them are there.
-type Added<'a> = Result<Option<&'a [u8]>, AllocError>;
+/// A table with more fields, behind what is left; `None` where not all of them are there.
+type More<'a> = Option<(&'a [u8], Table)>;
 
-/// The identity of a key that both sides know, or a server's hint at it, where the suite has one. It is text (RFC 4279, section 5.1).
-fn add_identity<'a>(
+/// With the identity of a key that both sides know, or a server's hint at it, where the suite has one. It is text (RFC 4279, section 5.1).
+fn with_identity<'a>(
     alloc: Global,
-    table: &mut Table,
+    table: Table,
     name: &'static str,
     exchange: KeyExchange,
     i: &'a [u8],
-) -> Added<'a>
-    ensures { IfOk result (λ i. OnSomeLeft i (AddsNames (names_if exchange.has_identity name.now) table.old table.new)) }
+) -> More<'a>
+    ensures { (ns : List (List ℕ)) → HasFieldNames ns table
+        → IfMore (HasFieldNames (ns ++ names_if exchange.has_identity name.now)) result }
 {
     if !exchange.has_identity {
-        return Ok(Some(i));
+        return Some((i, table));
     }
     let Ok((i, identity)) = counted2(i) else {
-        return Ok(None);
+        return None;
     };
-    table.add(name, escaped(alloc, identity)?)?;
-    Ok(Some(i))
+    Some((i, table.add(name, escaped(alloc, identity))))
 }
 
 /// The coefficients of a curve (RFC 4492, section 5.4).
 fn coefficients(alloc: Global, a: &[u8], b: &[u8]) -> Result<Value, AllocError>
     ensures { IfOk result (Shows (coefficients_fields a.now b.now)) }
 {
-    let mut table = Table::new(alloc);
-    table.bytes("a", a)?;
-    table.bytes("b", b)?;
-    Ok(table.finish())
+    Table::new(alloc).bytes("a", a).bytes("b", b).finish()
 }
 
 /// A curve by its parameters (RFC 4492, section 5.4).
@@ -60,27 +57,27 @@ fn explicit_prime(
 ) -> Result<Value, AllocError>
     ensures { IfOk result (Shows (explicit_prime_fields curve_type content.now)) }
 {
-    let mut table = Table::new(alloc);
-    table.decimal("curve_type", u64::from(curve_type))?;
-    table.bytes("prime_p", content.prime_p)?;
-    table.add(
-        "curve",
-        coefficients(alloc, content.curve.a, content.curve.b)?,
-    )?;
-    table.bytes("base", content.base.point)?;
-    table.bytes("order", content.order)?;
-    table.bytes("cofactor", content.cofactor)?;
-    Ok(table.finish())
+    Table::new(alloc)
+        .decimal("curve_type", u64::from(curve_type))
+        .bytes("prime_p", content.prime_p)
+        .add(
+            "curve",
+            coefficients(alloc, content.curve.a, content.curve.b),
+        )
+        .bytes("base", content.base.point)
+        .bytes("order", content.order)
+        .bytes("cofactor", content.cofactor)
+        .finish()
 }
 
 /// A curve by its number (RFC 8422, section 5.4).
 fn named_curve(alloc: Global, curve_type: u8, namedcurve: u16) -> Result<Value, AllocError>
     ensures { IfOk result (Shows (named_curve_fields curve_type namedcurve)) }
 {
-    let mut table = Table::new(alloc);
-    table.decimal("curve_type", u64::from(curve_type))?;
-    table.hexadecimal("namedcurve", namedcurve)?;
-    Ok(table.finish())
+    Table::new(alloc)
+        .decimal("curve_type", u64::from(curve_type))
+        .hexadecimal("namedcurve", namedcurve)
+        .finish()
 }
 
 fn curve_of(alloc: Global, parameters: &ECParameters<'_>) -> Result<Value, AllocError>
@@ -97,42 +94,41 @@ fn curve_of(alloc: Global, parameters: &ECParameters<'_>) -> Result<Value, Alloc
 fn dh_params(alloc: Global, values: &ServerDHParams<'_>) -> Result<Value, AllocError>
     ensures { IfOk result (Shows (dh_fields values.now)) }
 {
-    let mut table = Table::new(alloc);
-    table.bytes("dh_p", values.dh_p)?;
-    table.bytes("dh_g", values.dh_g)?;
-    table.bytes("dh_Ys", values.dh_ys)?;
-    Ok(table.finish())
+    Table::new(alloc)
+        .bytes("dh_p", values.dh_p)
+        .bytes("dh_g", values.dh_g)
+        .bytes("dh_Ys", values.dh_ys)
+        .finish()
 }
 
 /// The same over elliptic curves (RFC 8422, section 5.4).
 fn ecdh_params(alloc: Global, values: &ServerECDHParams<'_>) -> Result<Value, AllocError>
     ensures { IfOk result (Shows (ecdh_fields values.now)) }
 {
-    let mut table = Table::new(alloc);
-    table.add("curve_params", curve_of(alloc, &values.curve_params)?)?;
-    table.bytes("public", values.public.point)?;
-    Ok(table.finish())
+    Table::new(alloc)
+        .add("curve_params", curve_of(alloc, &values.curve_params))
+        .bytes("public", values.public.point)
+        .finish()
 }
 
-/// A server's public values, where the suite has some.
-fn add_public_values<'a>(alloc: Global, table: &mut Table, public: Public, i: &'a [u8]) -> Added<'a>
-    ensures { IfOk result (λ i. OnSomeLeft i (AddsNames (params_names public) table.old table.new)) }
+/// With a server's public values, where the suite has some.
+fn with_public_values<'a>(alloc: Global, table: Table, public: Public, i: &'a [u8]) -> More<'a>
+    ensures { (ns : List (List ℕ)) → HasFieldNames ns table
+        → IfMore (HasFieldNames (ns ++ params_names public)) result }
 {
     match public {
-        Public::Nothing | Public::Rsa => Ok(Some(i)),
+        Public::Nothing | Public::Rsa => Some((i, table)),
         Public::Dh => {
             let Ok((i, values)) = parse_dh_params(i) else {
-                return Ok(None);
+                return None;
             };
-            table.add("params", dh_params(alloc, &values)?)?;
-            Ok(Some(i))
+            Some((i, table.add("params", dh_params(alloc, &values))))
         }
         Public::Ecdh => {
             let Ok((i, values)) = parse_ecdh_params(i) else {
-                return Ok(None);
+                return None;
             };
-            table.add("params", ecdh_params(alloc, &values)?)?;
-            Ok(Some(i))
+            Some((i, table.add("params", ecdh_params(alloc, &values))))
         }
     }
 }
@@ -145,10 +141,10 @@ fn signature_of(
 ) -> Result<Value, AllocError>
     ensures { IfOk result (Shows (signature_fields algorithm signature.now)) }
 {
-    let mut table = Table::new(alloc);
-    table.some_hexadecimal("algorithm", algorithm)?;
-    table.bytes("signature", signature)?;
-    Ok(table.finish())
+    Table::new(alloc)
+        .some_hexadecimal("algorithm", algorithm)
+        .bytes("signature", signature)
+        .finish()
 }
 
 /// A signature of that version; `None` also of versions other than SSL 3.0, TLS 1.0 to 1.2, and DTLS 1.0 and 1.2.
@@ -158,36 +154,34 @@ pub fn signature<'a>(alloc: Global, version: TlsVersion, i: &'a [u8]) -> Read<'a
             parse_digitally_signed_old(i)
         }
         TlsVersion::Tls12 | TlsVersion::DTls12 => parse_digitally_signed(i),
-        _ => return Ok(None),
+        _ => return None,
     };
     let Ok((i, signed)) = answer else {
-        return Ok(None);
+        return None;
     };
     let algorithm = match signed.alg {
         Some(pair) => Some(u16::from_be_bytes([pair.hash.0, pair.sign.0])),
         None => None,
     };
-    Ok(Some((i, signature_of(alloc, algorithm, signed.bytes)?)))
+    Some((i, signature_of(alloc, algorithm, signed.bytes)))
 }
 
-/// The signature of a server's public values, where the suite has one.
-fn add_signature<'a>(
+/// With the signature of a server's public values, where the suite has one.
+fn with_signature<'a>(
     alloc: Global,
-    table: &mut Table,
+    table: Table,
     is_signed: bool,
     version: TlsVersion,
     i: &'a [u8],
-) -> Added<'a>
-    ensures { IfOk result (λ i. OnSomeLeft i (AddsNames (names_if is_signed (codes "signed_params")) table.old table.new)) }
+) -> More<'a>
+    ensures { (ns : List (List ℕ)) → HasFieldNames ns table
+        → IfMore (HasFieldNames (ns ++ names_if is_signed (codes "signed_params"))) result }
 {
     if !is_signed {
-        return Ok(Some(i));
+        return Some((i, table));
     }
-    let Some((i, signed_params)) = signature(alloc, version, i)? else {
-        return Ok(None);
-    };
-    table.add("signed_params", signed_params)?;
-    Ok(Some(i))
+    let (i, signed_params) = signature(alloc, version, i)?;
+    Some((i, table.add("signed_params", signed_params)))
 }
 
 /// A server's key exchange by its fields.
@@ -197,29 +191,21 @@ fn server_fields<'a>(
     version: TlsVersion,
     body: &'a [u8],
 ) -> Read<'a>
-    ensures { IfOk result (IfPair (HasNames (server_key_exchange_names exchange))) }
+    ensures { IfRead (HasNames (server_key_exchange_names exchange)) result }
 {
-    let mut table = Table::new(alloc);
-    let Some(i) = add_identity(alloc, &mut table, "psk_identity_hint", exchange, body)? else {
-        return Ok(None);
-    };
-    let Some(i) = add_public_values(alloc, &mut table, exchange.public, i)? else {
-        return Ok(None);
-    };
-    let Some(i) = add_signature(alloc, &mut table, exchange.is_signed, version, i)? else {
-        return Ok(None);
-    };
-    Ok(Some((i, table.finish())))
+    let table = Table::new(alloc);
+    let (i, table) = with_identity(alloc, table, "psk_identity_hint", exchange, body)?;
+    let (i, table) = with_public_values(alloc, table, exchange.public, i)?;
+    let (i, table) = with_signature(alloc, table, exchange.is_signed, version, i)?;
+    Some((i, table.finish()))
 }
 
 /// A server's key exchange (RFC 5246, section 7.4.3; RFC 8422, section 5.4; RFC 4279, sections 2 to 4; RFC 5489, section 2). By RSA alone
 /// a server has none, but for suites of export, whose values aren't read.
 pub fn server_key_exchange<'a>(alloc: Global, chosen: Chosen, body: &'a [u8]) -> Read<'a> {
-    let Some(exchange) = KeyExchange::of(chosen.cipher) else {
-        return Ok(None);
-    };
+    let exchange = KeyExchange::of(chosen.cipher)?;
     if matches!(exchange.public, Public::Rsa) && !exchange.has_identity {
-        return Ok(None);
+        return None;
     }
     server_fields(alloc, exchange, chosen.version, body)
 }
@@ -243,15 +229,15 @@ fn client_value<'a>(
     }
 }
 
-/// Adds a client's public value or secret, by the name that it has.
-fn add_client_value(table: &mut Table, public: Public, content: &[u8]) -> Result<(), AllocError>
-    ensures { OnOk result (Adds (client_value_fields public content.now) table.old table.new) }
+/// With a client's public value or secret, by the name that it has.
+fn with_client_value(alloc: Global, table: Table, public: Public, content: &[u8]) -> Table
+    ensures { (ns : List (List ℕ)) → HasFieldNames ns table → HasFieldNames (ns ++ client_value_names public) result }
 {
     match public {
-        Public::Nothing => Ok(()),
-        Public::Rsa => table.bytes("pre_master_secret", content),
-        Public::Dh => table.bytes("dh_Yc", content),
-        Public::Ecdh => table.bytes("ecdh_Yc", content),
+        Public::Nothing => table,
+        Public::Rsa => table.add("pre_master_secret", blob(alloc, content)),
+        Public::Dh => table.add("dh_Yc", blob(alloc, content)),
+        Public::Ecdh => table.add("ecdh_Yc", blob(alloc, content)),
     }
 }
 
@@ -262,24 +248,20 @@ fn client_fields<'a>(
     version: TlsVersion,
     body: &'a [u8],
 ) -> Read<'a>
-    ensures { IfOk result (IfPair (HasNames (client_key_exchange_names exchange))) }
+    ensures { IfRead (HasNames (client_key_exchange_names exchange)) result }
 {
-    let mut table = Table::new(alloc);
-    let Some(i) = add_identity(alloc, &mut table, "psk_identity", exchange, body)? else {
-        return Ok(None);
-    };
-    let Some((i, content)) = client_value(version, exchange.public, i) else {
-        return Ok(None);
-    };
-    add_client_value(&mut table, exchange.public, content)?;
-    Ok(Some((i, table.finish())))
+    let table = Table::new(alloc);
+    let (i, table) = with_identity(alloc, table, "psk_identity", exchange, body)?;
+    let (i, content) = client_value(version, exchange.public, i)?;
+    Some((
+        i,
+        with_client_value(alloc, table, exchange.public, content).finish(),
+    ))
 }
 
 /// A client's key exchange (RFC 5246, section 7.4.7; RFC 8422, section 5.7; RFC 4279, sections 2 to 4; RFC 5489, section 2). A client whose
 /// public value is that of its certificate has an empty one (RFC 5246, section 7.4.7.2), which isn't read.
 pub fn client_key_exchange<'a>(alloc: Global, chosen: Chosen, body: &'a [u8]) -> Read<'a> {
-    match KeyExchange::of(chosen.cipher) {
-        Some(exchange) => client_fields(alloc, exchange, chosen.version, body),
-        None => Ok(None),
-    }
+    let exchange = KeyExchange::of(chosen.cipher)?;
+    client_fields(alloc, exchange, chosen.version, body)
 }

@@ -1,8 +1,9 @@
 //! Handshake messages.
 ghost use Rattle.std.specs.Prelude.{IfOk};
+ghost use Rattle.serde_json.specs.Data.{Data};
 ghost use Rattle.serde_json.specs.Events.{SendsValue};
 ghost use Rattle.tls_json.specs.Views.{view};
-ghost use Rattle.tls_json.specs.Outline.{outline, Shows};
+ghost use Rattle.tls_json.specs.Outline.{Shows};
 ghost use Rattle.tls_json.specs.Tables.{message_fields};
 
 use crate::body::Content;
@@ -42,17 +43,17 @@ fn fields(
     message_seq: Option<u64>,
     content: Content<'_>,
 ) -> Result<Value, AllocError>
-    ensures { IfOk result (Shows (message_fields msg_type.0 name.entry length message_seq (outline (view content.entry.body))
-        content.entry.rest.now)) }
+    ensures { (d : Data) → IfOk content.entry.body (Shows d)
+        → IfOk result (Shows (message_fields msg_type.0 name.entry length message_seq d content.entry.rest.now)) }
 {
-    let mut table = Table::new(alloc);
-    table.decimal("msg_type", u64::from(msg_type.0))?;
-    table.some_name("name", name)?;
-    table.decimal("length", length as u64)?;
-    table.some_decimal("message_seq", message_seq)?;
-    table.add("body", content.body)?;
-    table.some_bytes("rest", content.rest)?;
-    Ok(table.finish())
+    Table::new(alloc)
+        .decimal("msg_type", u64::from(msg_type.0))
+        .some_name("name", name)
+        .decimal("length", length as u64)
+        .some_decimal("message_seq", message_seq)
+        .add("body", content.body)
+        .some_bytes("rest", content.rest)
+        .finish()
 }
 
 impl Message {
@@ -68,7 +69,7 @@ impl Message {
         let Ok((_, raw)) = RawHandshake::read(message) else {
             return Ok(None);
         };
-        let content = Content::new(alloc, chosen, raw.msg_type, raw.body)?;
+        let content = Content::new(alloc, chosen, raw.msg_type, raw.body);
         let value = fields(
             alloc,
             raw.msg_type,
@@ -90,7 +91,7 @@ impl Message {
         message_seq: u16,
         body: &[u8],
     ) -> Result<Message, AllocError> {
-        let content = Content::of_datagrams(alloc, chosen, msg_type, body)?;
+        let content = Content::of_datagrams(alloc, chosen, msg_type, body);
         let number = Some(u64::from(message_seq));
         let value = fields(
             alloc,

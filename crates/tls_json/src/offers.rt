@@ -1,12 +1,12 @@
 //! Contents of extensions that the library hands over undivided, or has no name for.
-ghost use Rattle.std.specs.Prelude.{IfOk};
+ghost use Rattle.std.specs.Prelude.{IfOk, IfSome};
 ghost use Rattle.tls_json.specs.Outline.{Shows, ReadsAs};
 ghost use Rattle.tls_json.specs.Extensions.{identity_fields, suite_fields, encrypted_hello_fields};
 ghost use Rattle.tls_json.specs.Extensions as names_of;
 
 use crate::content::Answer;
 use crate::json::Value;
-use crate::table::{Table, single};
+use crate::table::{Table, Values, single};
 use crate::text::{blob, numbers};
 use std::alloc::{AllocError, Global};
 use tls_fields::{Counted1, IResult, Items, counted1, counted2, number1, number2, number4};
@@ -18,134 +18,136 @@ const OUTER: u8 = 0;
 fn identity_of(alloc: Global, identity: &[u8], age: u32) -> Result<Value, AllocError>
     ensures { IfOk result (Shows (identity_fields identity.now age)) }
 {
-    let mut table = Table::new(alloc);
-    table.bytes("identity", identity)?;
-    table.decimal("obfuscated_ticket_age", u64::from(age))?;
-    Ok(table.finish())
+    Table::new(alloc)
+        .bytes("identity", identity)
+        .decimal("obfuscated_ticket_age", u64::from(age))
+        .finish()
 }
 
 /// The identities in the bytes of their list (RFC 8446, section 4.2.11); `None` where not all of it is read.
-fn identities(alloc: Global, list: &[u8]) -> Result<Option<Value>, AllocError> {
-    let mut all = Vec::new(alloc);
+fn identities(alloc: Global, list: &[u8]) -> Answer {
+    let mut all = Values::new(alloc);
     let mut left = list;
     for _ in 0..list.len() {
         if left.is_empty() {
             break;
         }
         let Ok((i, identity)) = counted2(left) else {
-            return Ok(None);
+            return None;
         };
         let Ok((i, age)) = number4(i) else {
-            return Ok(None);
+            return None;
         };
-        all.push(identity_of(alloc, identity, age)?)?;
+        all = all.add(identity_of(alloc, identity, age));
         left = i;
     }
-    Ok(Some(Value::List(all)))
+    Some(all.finish())
 }
 
 /// What shows that a client knows them (RFC 8446, section 4.2.11).
 fn binders(alloc: Global, list: Items<'_, Counted1>) -> Result<Value, AllocError> {
-    let mut all = Vec::new(alloc);
+    let mut all = Values::new(alloc);
     for binder in list {
-        all.push(blob(alloc, binder)?)?;
+        all = all.add(blob(alloc, binder));
     }
-    Ok(Value::List(all))
+    all.finish()
 }
 
 /// The keys that a client knows before, and what shows that it does (RFC 8446, section 4.2.11).
 pub fn known_keys(alloc: Global, content: &[u8]) -> Answer
-    ensures { IfOk result (ReadsAs names_of.offered_psks) }
+    ensures { IfSome result (ReadsAs names_of.offered_psks) }
 {
     let Ok((i, list)) = counted2(content) else {
-        return Ok(None);
+        return None;
     };
     let Ok(([], shown)) = counted2(i) else {
-        return Ok(None);
+        return None;
     };
     let list_of_binders: Items<Counted1> = Items::new(shown);
     if !list_of_binders.rest().is_empty() {
-        return Ok(None);
+        return None;
     }
-    let Some(identities) = identities(alloc, list)? else {
-        return Ok(None);
-    };
-    let mut table = Table::new(alloc);
-    table.add("identities", identities)?;
-    table.add("binders", binders(alloc, list_of_binders)?)?;
-    Ok(Some(table.finish()))
+    let identities = identities(alloc, list)?;
+    Some(
+        Table::new(alloc)
+            .add("identities", identities)
+            .add("binders", binders(alloc, list_of_binders))
+            .finish(),
+    )
 }
 
 /// Which of them a server takes up (RFC 8446, section 4.2.11).
 pub fn selected_key(alloc: Global, content: &[u8]) -> Answer
-    ensures { IfOk result (ReadsAs names_of.selected_identity) }
+    ensures { IfSome result (ReadsAs names_of.selected_identity) }
 {
     let [upper, lower] = content else {
-        return Ok(None);
+        return None;
     };
     let identity = u16::from_be_bytes([*upper, *lower]);
-    Ok(Some(single(
+    Some(single(
         alloc,
         "selected_identity",
-        Value::Number(u64::from(identity)),
-    )?))
+        Ok(Value::Number(u64::from(identity))),
+    ))
 }
 
 /// The algorithms by which a certificate may be compressed (RFC 8879, section 3).
 pub fn compressions(alloc: Global, content: &[u8]) -> Answer
-    ensures { IfOk result (ReadsAs names_of.compress_certificate) }
+    ensures { IfSome result (ReadsAs names_of.compress_certificate) }
 {
     let Ok(([], list)) = counted1(content) else {
-        return Ok(None);
+        return None;
     };
     if list.len() % 2 != 0 {
-        return Ok(None);
+        return None;
     }
     let list: Items<u16> = Items::new(list);
-    let mut algorithms = Vec::new(alloc);
+    let mut algorithms = Values::new(alloc);
     for algorithm in list {
-        algorithms.push(Value::Number(u64::from(algorithm)))?;
+        algorithms = algorithms.add(Ok(Value::Number(u64::from(algorithm))));
     }
-    Ok(Some(single(alloc, "algorithms", Value::List(algorithms))?))
+    Some(single(alloc, "algorithms", algorithms.finish()))
 }
 
 /// How media behind the handshake may be protected (RFC 5764, section 4.1.1).
 pub fn srtp_profiles(alloc: Global, content: &[u8]) -> Answer
-    ensures { IfOk result (ReadsAs names_of.use_srtp) }
+    ensures { IfSome result (ReadsAs names_of.use_srtp) }
 {
     let Ok((i, list)) = counted2(content) else {
-        return Ok(None);
+        return None;
     };
     let Ok(([], srtp_mki)) = counted1(i) else {
-        return Ok(None);
+        return None;
     };
     if list.len() % 2 != 0 {
-        return Ok(None);
+        return None;
     }
-    let mut table = Table::new(alloc);
-    table.add("SRTPProtectionProfiles", numbers(alloc, list)?)?;
-    table.bytes("srtp_mki", srtp_mki)?;
-    Ok(Some(table.finish()))
+    Some(
+        Table::new(alloc)
+            .add("SRTPProtectionProfiles", numbers(alloc, list))
+            .bytes("srtp_mki", srtp_mki)
+            .finish(),
+    )
 }
 
 /// The id that a side wants in the records that it gets (RFC 9146, section 3).
 pub fn connection_id(alloc: Global, content: &[u8]) -> Answer
-    ensures { IfOk result (ReadsAs names_of.connection_id) }
+    ensures { IfSome result (ReadsAs names_of.connection_id) }
 {
     let Ok(([], cid)) = counted1(content) else {
-        return Ok(None);
+        return None;
     };
-    Ok(Some(single(alloc, "cid", blob(alloc, cid)?)?))
+    Some(single(alloc, "cid", blob(alloc, cid)))
 }
 
 /// How a hello is encrypted (RFC 9849, section 4).
 fn suite_of(alloc: Global, kdf_id: u16, aead_id: u16) -> Result<Value, AllocError>
     ensures { IfOk result (Shows (suite_fields kdf_id aead_id)) }
 {
-    let mut table = Table::new(alloc);
-    table.hexadecimal("kdf_id", kdf_id)?;
-    table.hexadecimal("aead_id", aead_id)?;
-    Ok(table.finish())
+    Table::new(alloc)
+        .hexadecimal("kdf_id", kdf_id)
+        .hexadecimal("aead_id", aead_id)
+        .finish()
 }
 
 /// The parts of an encrypted_client_hello behind its type.
@@ -178,27 +180,24 @@ fn parts_of_outer<'a>(i: &'a [u8]) -> IResult<&'a [u8], Outer<'a>> {
 fn outer_fields(alloc: Global, parts: &Outer<'_>) -> Result<Value, AllocError>
     ensures { IfOk result (Shows (encrypted_hello_fields parts.now)) }
 {
-    let mut table = Table::new(alloc);
-    table.decimal("type", u64::from(OUTER))?;
-    table.add(
-        "cipher_suite",
-        suite_of(alloc, parts.kdf_id, parts.aead_id)?,
-    )?;
-    table.decimal("config_id", u64::from(parts.config_id))?;
-    table.bytes("enc", parts.enc)?;
-    table.bytes("payload", parts.payload)?;
-    Ok(table.finish())
+    Table::new(alloc)
+        .decimal("type", u64::from(OUTER))
+        .add("cipher_suite", suite_of(alloc, parts.kdf_id, parts.aead_id))
+        .decimal("config_id", u64::from(parts.config_id))
+        .bytes("enc", parts.enc)
+        .bytes("payload", parts.payload)
+        .finish()
 }
 
 /// An encrypted hello in the one that isn't (RFC 9849, section 5).
 pub fn encrypted_hello(alloc: Global, content: &[u8]) -> Answer
-    ensures { IfOk result (ReadsAs names_of.encrypted_client_hello) }
+    ensures { IfSome result (ReadsAs names_of.encrypted_client_hello) }
 {
     let [OUTER, i @ ..] = content else {
-        return Ok(None);
+        return None;
     };
     let Ok(([], parts)) = parts_of_outer(i) else {
-        return Ok(None);
+        return None;
     };
-    Ok(Some(outer_fields(alloc, &parts)?))
+    Some(outer_fields(alloc, &parts))
 }
