@@ -5,7 +5,7 @@ ghost use Rattle.tls_json.specs.Tables.{change_fields};
 use serde::{Described, Serialize, Serializer};
 
 /// A ChangeCipherSpec (RFC 5246, section 7.1).
-#[derive(Clone, Copy, Debug, PartialEq, Eq)]
+#[derive(Clone, Copy)]
 pub struct ChangeCipherSpec {
     kind: u8,
 }

@@ -6,7 +6,7 @@ use tls_hs::{HandshakeView, RawHandshake, TlsMessageHandshake};
 use tls_parser::{DTLSBodyView, DTLSMessageHandshakeBody};
 
 /// The version and the suite of a ServerHello.
-#[derive(Clone, Copy, Debug, PartialEq, Eq)]
+#[derive(Clone, Copy)]
 pub struct Chosen {
     pub(crate) version: TlsVersion,
     pub(crate) cipher: TlsCipherSuiteID,
