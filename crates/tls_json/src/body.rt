@@ -198,18 +198,23 @@ fn client_hello_of_datagrams(
     client_hello(alloc, &as_of_tls, Some(hello.cookie))
 }
 
-/// What was read of a message whose body is another in DTLS than in TLS.
-fn body_in_datagrams(alloc: Global, read: DTLSBodyView<'_>) -> Answer {
+/// A body that is another in DTLS than in TLS.
+fn other_in_datagrams(alloc: Global, read: &DTLSBodyView<'_>) -> Answer {
     match read {
-        DTLSBodyView::ClientHello(hello) => Some(client_hello_of_datagrams(alloc, &hello)),
+        DTLSBodyView::ClientHello(hello) => Some(client_hello_of_datagrams(alloc, hello)),
         DTLSBodyView::Other(DTLSMessageHandshakeBody::ServerHello(hello)) => {
-            Some(server_hello(alloc, &hello))
+            Some(server_hello(alloc, hello))
         }
         DTLSBodyView::Other(DTLSMessageHandshakeBody::HelloVerifyRequest(verify)) => Some(
             verify_request(alloc, verify.server_version, verify.cookie),
         ),
         _ => None,
     }
+}
+
+/// What was read of a message whose body is another in DTLS than in TLS.
+fn body_in_datagrams(alloc: Global, read: DTLSBodyView<'_>) -> Answer {
+    other_in_datagrams(alloc, &read)
 }
 
 impl<'a> Content<'a> {

@@ -9,7 +9,7 @@ use crate::json::Value;
 use crate::table::{Table, Values, single};
 use crate::text::{blob, numbers};
 use std::alloc::{AllocError, Global};
-use tls_fields::{Counted1, IResult, Items, counted1, counted2, number1, number2, number4};
+use tls_fields::{Counted1, Items, counted1, counted2, number4};
 
 /// The form of an encrypted_client_hello that isn't itself encrypted (RFC 9849, section 5).
 const OUTER: u8 = 0;
@@ -160,22 +160,6 @@ struct Outer<'a> {
     payload: &'a [u8],
 }
 
-fn parts_of_outer<'a>(i: &'a [u8]) -> IResult<&'a [u8], Outer<'a>> {
-    let (i, kdf_id) = number2(i)?;
-    let (i, aead_id) = number2(i)?;
-    let (i, config_id) = number1(i)?;
-    let (i, enc) = counted2(i)?;
-    let (i, payload) = counted2(i)?;
-    let parts = Outer {
-        kdf_id,
-        aead_id,
-        config_id,
-        enc,
-        payload,
-    };
-    Ok((i, parts))
-}
-
 /// A client's encrypted_client_hello, as it stands in the hello that isn't encrypted (RFC 9849, section 5).
 fn outer_fields(alloc: Global, parts: &Outer<'_>) -> Result<Value, AllocError>
     ensures { IfOk result (Shows (encrypted_hello_fields parts.now)) }
@@ -193,11 +177,30 @@ fn outer_fields(alloc: Global, parts: &Outer<'_>) -> Result<Value, AllocError>
 pub fn encrypted_hello(alloc: Global, content: &[u8]) -> Answer
     ensures { IfSome result (ReadsAs names_of.encrypted_client_hello) }
 {
-    let [OUTER, i @ ..] = content else {
+    let [
+        OUTER,
+        kdf_upper,
+        kdf_lower,
+        aead_upper,
+        aead_lower,
+        config_id,
+        i @ ..,
+    ] = content
+    else {
         return None;
     };
-    let Ok(([], parts)) = parts_of_outer(i) else {
+    let Ok((i, enc)) = counted2(i) else {
         return None;
+    };
+    let Ok(([], payload)) = counted2(i) else {
+        return None;
+    };
+    let parts = Outer {
+        kdf_id: u16::from_be_bytes([*kdf_upper, *kdf_lower]),
+        aead_id: u16::from_be_bytes([*aead_upper, *aead_lower]),
+        config_id: *config_id,
+        enc,
+        payload,
     };
     Some(outer_fields(alloc, &parts))
 }
