@@ -1,15 +1,58 @@
 //! Alerts.
+ghost use Rattle.std.specs.Prelude.{OnOk, ◌≡◌, codes};
+ghost use Rattle.serde_json.specs.Events.{SendsValue, SendsMembers, members_len};
+ghost use Rattle.tls_json.specs.Outline.{members, some_name};
+ghost use Rattle.tls_json.specs.Tables.{alert_entries, alert_fields};
+
 use crate::names::alert_name;
-use serde::Serialize;
+use serde::{Described, Serialize, Serializer};
 use tls_base::{TlsAlertDescription, TlsAlertSeverity};
 
 /// An alert (RFC 8446, section 6): its level, its description, and the name of that where it has one.
-#[derive(Debug, Drop, Serialize)]
+#[derive(Drop)]
 pub struct AlertMessage {
     level: u8,
     description: u8,
-    #[serde(skip_serializing_if = "Option::is_none")]
     name: Option<&'static str>,
+}
+
+impl Described for AlertMessage {
+    ghost writes = { λ a. SendsValue (alert_fields a.level a.description a.name) };
+}
+
+/// How many fields it has.
+fn count(name: Option<&'static str>) -> usize
+    ensures { result ≡ members_len (members (alert_entries 0 0 name.entry)) }
+{
+    match name {
+        Some(_) => 3,
+        None => 2,
+    }
+}
+
+/// Writes the name, where there is one, and ends the object.
+fn end<S: Serializer>(name: Option<&'static str>, out: &mut S) -> Result<(), S::Error>
+    ensures { OnOk result (SendsMembers (members (some_name (codes "name") name.entry)) (S.written out.old) (S.written out.new)) }
+{
+    match name {
+        Some(name) => {
+            out.key("name")?;
+            out.str(name)?;
+            out.end_map()
+        }
+        None => out.end_map(),
+    }
+}
+
+impl Serialize for AlertMessage {
+    fn serialize<S: Serializer>(&self, out: &mut S) -> Result<(), S::Error> {
+        out.begin_map(Some(count(self.name)))?;
+        out.key("level")?;
+        out.u64(u64::from(self.level))?;
+        out.key("description")?;
+        out.u64(u64::from(self.description))?;
+        end(self.name, out)
+    }
 }
 
 impl AlertMessage {

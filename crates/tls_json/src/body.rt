@@ -1,245 +1,251 @@
 //! The bodies of handshake messages.
+ghost use Rattle.std.specs.Prelude.{IfOk, IfSome, ◌≡◌, ◌++◌, codes};
+ghost use Rattle.serde_json.specs.Data.{array, no_items};
+ghost use Rattle.tls_fields.specs.Items.{left_in};
+ghost use Rattle.tls_fields.specs.Layout.{counted};
+ghost use Rattle.tls_json.specs.Outline.{Shows, Entries, list, HasNames, HasFields};
+ghost use Rattle.tls_json.specs.Tables.{chain_fields, list_if, request_fields, ticket_fields, status_fields, next_protocol_names, verify_request_fields, finished_fields, key_update_fields};
+
 use crate::chosen::Chosen;
 use crate::datagrams::whole_message;
-use crate::hello::{ClientHello, HelloRetryRequest, ServerHello};
-use crate::key_exchange::{ClientKeyExchange, ServerKeyExchange, Signature};
-use crate::text::{blobs, codes, hexadecimal, name, number, numbers, some_hexadecimal};
-use serde::Serialize;
+use crate::hello::{client_hello, hello_retry_request, server_hello, server_hello_of_draft};
+use crate::json::Value;
+use crate::key_exchange::{client_key_exchange, server_key_exchange, signature};
+use crate::table::{Table, Values, single};
+use crate::text::{blob, blobs, codes, escaped, numbers};
 use std::alloc::{AllocError, Global};
-use tls_base::TlsHandshakeType;
+use tls_base::{TlsHandshakeType, TlsVersion};
 use tls_fields::{Items, counted2, number4};
 use tls_hs::{
-    CertificateRequestView, HandshakeView, RawCertificate, RawHandshake, TlsMessageHandshake,
+    CertificateRequestView, ClientHelloView, HandshakeView, RawCertificate, RawHandshake,
+    TlsCertificateStatusContents, TlsMessageHandshake, TlsNextProtocolContent,
 };
-use tls_parser::{DTLSBodyView, DTLSMessageHandshakeBody};
+use tls_parser::{DTLSBodyView, DTLSClientHelloView, DTLSMessageHandshakeBody};
+
+/// A body by its fields; `None` where they are those of its bytes alone.
+type Answer = Option<Result<Value, AllocError>>;
+
+/// A body, and the bytes behind its last field.
+#[derive(Drop)]
+pub struct Content<'a> {
+    /// Its fields, or its bytes.
+    pub body: Result<Value, AllocError>,
+    /// None where the body isn't read.
+    pub rest: &'a [u8],
+}
+
+fn certificates<'a>(alloc: Global, list: &'a [u8]) -> Result<Value, AllocError>
+    ensures { IfOk result (Shows (array no_items)) }
+{
+    let walk: Items<RawCertificate> = Items::new(list);
+    let mut all = Values::new(alloc);
+    for certificate in walk {
+        all = all.add(blob(alloc, certificate.bytes));
+    }
+    all.finish()
+}
+
+/// What a list of certificates leaves behind the last that is whole.
+fn rest_of_chain<'a>(list: &'a [u8]) -> &'a [u8]
+    ensures { result.now ≡ left_in (counted 3) list.now }
+{
+    let walk: Items<RawCertificate> = Items::new(list);
+    walk.rest()
+}
 
 /// A certificate chain (RFC 5246, section 7.4.2), and the bytes that it leaves of its list.
-#[derive(Debug, Drop, Serialize)]
-pub struct Certificates {
-    certificate_list: Vec<String>,
-    #[serde(skip_serializing_if = "Option::is_none")]
-    rest: Option<String>,
+fn chain(alloc: Global, list: &[u8]) -> Result<Value, AllocError>
+    ensures { IfOk result (Shows (chain_fields list.now)) }
+{
+    Table::new(alloc)
+        .add("certificate_list", certificates(alloc, list))
+        .some_bytes("rest", rest_of_chain(list))
+        .finish()
+}
+
+/// With signature algorithms, where there are some.
+fn with_algorithms(alloc: Global, table: Table, algorithms: Option<Items<'_, u16>>) -> Table
+    ensures { (es : Entries) → HasFields es table
+        → HasFields (es ++ list_if (codes "supported_signature_algorithms") algorithms.entry) result }
+{
+    match algorithms {
+        Some(list) => table.add(
+            "supported_signature_algorithms",
+            numbers(alloc, list.bytes()),
+        ),
+        None => table,
+    }
 }
 
 /// A server's wish for a certificate (RFC 5246, section 7.4.4), and the bytes that the authorities leave of their list.
-#[derive(Debug, Drop, Serialize)]
-pub struct CertificateRequest {
-    certificate_types: Vec<u8>,
-    #[serde(skip_serializing_if = "Option::is_none")]
-    supported_signature_algorithms: Option<Vec<String>>,
-    certificate_authorities: Vec<String>,
-    #[serde(skip_serializing_if = "Option::is_none")]
-    rest: Option<String>,
-}
-
-/// A ticket (RFC 5077, section 3.3).
-#[derive(Debug, Drop, Serialize)]
-pub struct NewSessionTicket {
-    ticket_lifetime_hint: u32,
-    ticket: String,
-}
-
-/// The status of a certificate (RFC 6066, section 8).
-#[derive(Debug, Drop, Serialize)]
-pub struct CertificateStatus {
-    status_type: u8,
-    response: String,
-}
-
-/// The protocol that a client chose (draft-agl-tls-nextprotoneg-04, section 3).
-#[derive(Debug, Drop, Serialize)]
-pub struct NextProtocol {
-    selected_protocol: String,
-    padding: String,
-}
-
-/// A server's wish for another ClientHello with a cookie (RFC 6347, section 4.2.1).
-#[derive(Debug, Drop, Serialize)]
-pub struct HelloVerifyRequest {
-    server_version: String,
-    cookie: String,
-}
-
-/// The end of a handshake (RFC 5246, section 7.4.9).
-#[derive(Debug, Drop, Serialize)]
-pub struct Finished {
-    verify_data: String,
-}
-
-/// New keys are in use (RFC 8446, section 4.6.3).
-#[derive(Debug, Drop, Serialize)]
-pub struct KeyUpdate {
-    request_update: u8,
-}
-
-/// What a message has, by its type.
-#[derive(Debug, Drop, Serialize)]
-#[serde(untagged)]
-pub enum Body {
-    ClientHello(ClientHello),
-    ServerHello(ServerHello),
-    HelloRetryRequest(HelloRetryRequest),
-    Certificates(Certificates),
-    CertificateRequest(CertificateRequest),
-    NewSessionTicket(NewSessionTicket),
-    CertificateStatus(CertificateStatus),
-    NextProtocol(NextProtocol),
-    HelloVerifyRequest(HelloVerifyRequest),
-    Finished(Finished),
-    KeyUpdate(KeyUpdate),
-    ServerKeyExchange(ServerKeyExchange),
-    ClientKeyExchange(ClientKeyExchange),
-    /// A CertificateVerify (RFC 5246, section 7.4.8).
-    Signature(Signature),
-    /// Of another type, or not read.
-    Bytes(String),
-}
-
-/// A body, and the bytes behind its last field.
-#[derive(Debug, Drop, Serialize)]
-pub struct Content {
-    body: Body,
-    #[serde(skip_serializing_if = "Option::is_none")]
-    rest: Option<String>,
-}
-
-/// The chain in the bytes of its list.
-fn chain(alloc: Global, list: &[u8]) -> Result<Certificates, AllocError> {
-    let whole: Items<RawCertificate> = Items::new(list);
-    let rest = some_hexadecimal(alloc, whole.rest())?;
-    let walk: Items<RawCertificate> = Items::new(list);
-    let mut certificate_list = Vec::new(alloc);
-    for certificate in walk {
-        certificate_list.push(hexadecimal(alloc, certificate.bytes)?)?;
-    }
-    Ok(Certificates {
-        certificate_list,
-        rest,
-    })
+fn request(alloc: Global, request: &CertificateRequestView<'_>) -> Result<Value, AllocError>
+    ensures { IfOk result (Shows (request_fields request.now)) }
+{
+    let table = Table::new(alloc).add("certificate_types", codes(alloc, request.cert_types));
+    with_algorithms(alloc, table, request.sig_hash_algs)
+        .add("certificate_authorities", blobs(alloc, request.unparsed_ca))
+        .some_bytes("rest", request.unparsed_ca.rest())
+        .finish()
 }
 
 /// `None` where half a signature algorithm is left, for which there is no field.
-fn request(
-    alloc: Global,
-    request: &CertificateRequestView<'_>,
-) -> Result<Option<Body>, AllocError> {
-    let supported_signature_algorithms = match request.sig_hash_algs {
-        Some(list) if !list.rest().is_empty() => return Ok(None),
-        Some(list) => Some(numbers(alloc, list)?),
-        None => None,
-    };
-    Ok(Some(Body::CertificateRequest(CertificateRequest {
-        certificate_types: codes(alloc, request.cert_types)?,
-        supported_signature_algorithms,
-        certificate_authorities: blobs(alloc, request.unparsed_ca)?,
-        rest: some_hexadecimal(alloc, request.unparsed_ca.rest())?,
-    })))
+fn whole_request(alloc: Global, wish: &CertificateRequestView<'_>) -> Answer
+    ensures { IfSome result (λ r. IfOk r (Shows (request_fields wish.now))) }
+{
+    match wish.sig_hash_algs {
+        Some(list) if !list.rest().is_empty() => None,
+        _ => Some(request(alloc, wish)),
+    }
 }
 
-/// A message without lists; `None` where its fields are those of its bytes alone.
-fn other(alloc: Global, message: &TlsMessageHandshake<'_>) -> Result<Option<Body>, AllocError> {
-    let body = match message {
-        TlsMessageHandshake::ServerHello(hello) => {
-            Body::ServerHello(ServerHello::new(alloc, hello)?)
-        }
+/// A ticket (RFC 5077, section 3.3).
+fn ticket(alloc: Global, lifetime_hint: u32, ticket: &[u8]) -> Result<Value, AllocError>
+    ensures { IfOk result (Shows (ticket_fields lifetime_hint ticket.now)) }
+{
+    Table::new(alloc)
+        .decimal("ticket_lifetime_hint", u64::from(lifetime_hint))
+        .bytes("ticket", ticket)
+        .finish()
+}
+
+/// The status of a certificate (RFC 6066, section 8).
+fn status(alloc: Global, status: &TlsCertificateStatusContents<'_>) -> Result<Value, AllocError>
+    ensures { IfOk result (Shows (status_fields status.now)) }
+{
+    Table::new(alloc)
+        .decimal("status_type", u64::from(status.status_type))
+        .bytes("response", status.blob)
+        .finish()
+}
+
+/// The protocol that a client chose (draft-agl-tls-nextprotoneg-04, section 3).
+fn next_protocol(alloc: Global, next: &TlsNextProtocolContent<'_>) -> Result<Value, AllocError>
+    ensures { IfOk result (HasNames next_protocol_names) }
+{
+    Table::new(alloc)
+        .add("selected_protocol", escaped(alloc, next.selected_protocol))
+        .bytes("padding", next.padding)
+        .finish()
+}
+
+/// A server's wish for another ClientHello with a cookie (RFC 6347, section 4.2.1).
+fn verify_request(alloc: Global, version: TlsVersion, cookie: &[u8]) -> Result<Value, AllocError>
+    ensures { IfOk result (Shows (verify_request_fields version.0 cookie.now)) }
+{
+    Table::new(alloc)
+        .hexadecimal("server_version", version.0)
+        .bytes("cookie", cookie)
+        .finish()
+}
+
+/// The end of a handshake (RFC 5246, section 7.4.9).
+fn finished(alloc: Global, verify_data: &[u8]) -> Result<Value, AllocError>
+    ensures { IfOk result (Shows (finished_fields verify_data.now)) }
+{
+    single(alloc, "verify_data", blob(alloc, verify_data))
+}
+
+/// New keys are in use (RFC 8446, section 4.6.3).
+fn key_update(alloc: Global, request_update: u8) -> Result<Value, AllocError>
+    ensures { IfOk result (Shows (key_update_fields request_update)) }
+{
+    Table::new(alloc)
+        .decimal("request_update", u64::from(request_update))
+        .finish()
+}
+
+/// A message without lists.
+fn other(alloc: Global, message: &TlsMessageHandshake<'_>) -> Answer {
+    match message {
+        TlsMessageHandshake::ServerHello(hello) => Some(server_hello(alloc, hello)),
         TlsMessageHandshake::ServerHelloV13Draft18(hello) => {
-            Body::ServerHello(ServerHello::of_draft(alloc, hello)?)
+            Some(server_hello_of_draft(alloc, hello))
         }
         TlsMessageHandshake::HelloRetryRequest(request) => {
-            Body::HelloRetryRequest(HelloRetryRequest::new(alloc, request)?)
+            Some(hello_retry_request(alloc, request))
         }
-        TlsMessageHandshake::CertificateStatus(status) => {
-            Body::CertificateStatus(CertificateStatus {
-                status_type: status.status_type,
-                response: hexadecimal(alloc, status.blob)?,
-            })
-        }
-        TlsMessageHandshake::NextProtocol(next) => Body::NextProtocol(NextProtocol {
-            selected_protocol: name(alloc, next.selected_protocol)?,
-            padding: hexadecimal(alloc, next.padding)?,
-        }),
-        TlsMessageHandshake::Finished(verify_data) => Body::Finished(Finished {
-            verify_data: hexadecimal(alloc, verify_data)?,
-        }),
-        TlsMessageHandshake::KeyUpdate(request_update) => Body::KeyUpdate(KeyUpdate {
-            request_update: *request_update,
-        }),
-        _ => return Ok(None),
-    };
-    Ok(Some(body))
+        TlsMessageHandshake::CertificateStatus(contents) => Some(status(alloc, contents)),
+        TlsMessageHandshake::NextProtocol(next) => Some(next_protocol(alloc, next)),
+        TlsMessageHandshake::Finished(verify_data) => Some(finished(alloc, verify_data)),
+        TlsMessageHandshake::KeyUpdate(request_update) => Some(key_update(alloc, *request_update)),
+        _ => None,
+    }
 }
 
-/// What was read of a message of TLS; `None` where its fields are those of its bytes alone.
-fn body_of(alloc: Global, read: HandshakeView<'_>) -> Result<Option<Body>, AllocError> {
+/// What was read of a message of TLS.
+fn body_of(alloc: Global, read: HandshakeView<'_>) -> Answer {
     match read {
-        HandshakeView::ClientHello(hello) => {
-            Ok(Some(Body::ClientHello(ClientHello::new(alloc, &hello)?)))
-        }
-        HandshakeView::Certificate(list) => {
-            Ok(Some(Body::Certificates(chain(alloc, list.bytes())?)))
-        }
-        HandshakeView::CertificateRequest(wish) => request(alloc, &wish),
+        HandshakeView::ClientHello(hello) => Some(client_hello(alloc, &hello, None)),
+        HandshakeView::Certificate(list) => Some(chain(alloc, list.bytes())),
+        HandshakeView::CertificateRequest(wish) => whole_request(alloc, &wish),
         HandshakeView::Other(message) => other(alloc, &message),
     }
 }
 
-/// The same of a message whose body is another in DTLS than in TLS.
-fn body_in_datagrams(alloc: Global, read: DTLSBodyView<'_>) -> Result<Option<Body>, AllocError> {
+/// A ClientHello of DTLS, which has a cookie.
+fn client_hello_of_datagrams(
+    alloc: Global,
+    hello: &DTLSClientHelloView<'_>,
+) -> Result<Value, AllocError> {
+    let as_of_tls = ClientHelloView {
+        version: hello.version,
+        random: hello.random,
+        session_id: hello.session_id,
+        ciphers: hello.ciphers,
+        comp: hello.comp,
+        ext: hello.ext,
+    };
+    client_hello(alloc, &as_of_tls, Some(hello.cookie))
+}
+
+/// A body that is another in DTLS than in TLS.
+fn other_in_datagrams(alloc: Global, read: &DTLSBodyView<'_>) -> Answer {
     match read {
-        DTLSBodyView::ClientHello(hello) => Ok(Some(Body::ClientHello(ClientHello::of_datagrams(
-            alloc, &hello,
-        )?))),
+        DTLSBodyView::ClientHello(hello) => Some(client_hello_of_datagrams(alloc, hello)),
         DTLSBodyView::Other(DTLSMessageHandshakeBody::ServerHello(hello)) => {
-            Ok(Some(Body::ServerHello(ServerHello::new(alloc, &hello)?)))
+            Some(server_hello(alloc, hello))
         }
-        DTLSBodyView::Other(DTLSMessageHandshakeBody::HelloVerifyRequest(verify)) => {
-            Ok(Some(Body::HelloVerifyRequest(HelloVerifyRequest {
-                server_version: number(alloc, verify.server_version.0)?,
-                cookie: hexadecimal(alloc, verify.cookie)?,
-            })))
-        }
-        _ => Ok(None),
+        DTLSBodyView::Other(DTLSMessageHandshakeBody::HelloVerifyRequest(verify)) => Some(
+            verify_request(alloc, verify.server_version, verify.cookie),
+        ),
+        _ => None,
     }
 }
 
-impl Content {
+/// What was read of a message whose body is another in DTLS than in TLS.
+fn body_in_datagrams(alloc: Global, read: DTLSBodyView<'_>) -> Answer {
+    other_in_datagrams(alloc, &read)
+}
+
+impl<'a> Content<'a> {
     /// A body and the bytes behind it, or the bytes of one that isn't read.
-    fn of_body(
-        alloc: Global,
-        body: Option<Body>,
-        behind: &[u8],
-        bytes: &[u8],
-    ) -> Result<Content, AllocError> {
+    fn of_body(alloc: Global, body: Answer, rest: &'a [u8], bytes: &[u8]) -> Content<'a> {
         match body {
-            Some(body) => Ok(Content {
-                body,
-                rest: some_hexadecimal(alloc, behind)?,
-            }),
+            Some(body) => Content { body, rest },
             None => Content::of_bytes(alloc, bytes),
         }
     }
 
     /// A body that isn't read.
-    fn of_bytes(alloc: Global, bytes: &[u8]) -> Result<Content, AllocError> {
-        Ok(Content {
-            body: Body::Bytes(hexadecimal(alloc, bytes)?),
-            rest: None,
-        })
+    fn of_bytes(alloc: Global, bytes: &[u8]) -> Content<'a> {
+        Content {
+            body: blob(alloc, bytes),
+            rest: &[],
+        }
     }
 
     /// A ticket. The library leaves its length in front of it, so it is read here.
-    fn of_ticket(alloc: Global, bytes: &[u8]) -> Result<Content, AllocError> {
-        let Ok((i, ticket_lifetime_hint)) = number4(bytes) else {
+    fn of_ticket(alloc: Global, bytes: &'a [u8]) -> Content<'a> {
+        let Ok((i, lifetime_hint)) = number4(bytes) else {
             return Content::of_bytes(alloc, bytes);
         };
-        let Ok((behind, ticket)) = counted2(i) else {
+        let Ok((rest, there)) = counted2(i) else {
             return Content::of_bytes(alloc, bytes);
         };
-        let ticket = NewSessionTicket {
-            ticket_lifetime_hint,
-            ticket: hexadecimal(alloc, ticket)?,
-        };
-        Content::of_body(alloc, Some(Body::NewSessionTicket(ticket)), behind, bytes)
+        Content {
+            body: ticket(alloc, lifetime_hint, there),
+            rest,
+        }
     }
 
     /// That of a message whose fields depend on what the server chose.
@@ -247,28 +253,15 @@ impl Content {
         alloc: Global,
         chosen: Chosen,
         msg_type: TlsHandshakeType,
-        bytes: &[u8],
-    ) -> Result<Content, AllocError> {
+        bytes: &'a [u8],
+    ) -> Content<'a> {
         let read = match msg_type {
-            TlsHandshakeType::ServerKeyExchange => {
-                match ServerKeyExchange::new(alloc, chosen, bytes)? {
-                    Some((behind, body)) => Some((behind, Body::ServerKeyExchange(body))),
-                    None => None,
-                }
-            }
-            TlsHandshakeType::ClientKeyExchange => {
-                match ClientKeyExchange::new(alloc, chosen, bytes)? {
-                    Some((behind, body)) => Some((behind, Body::ClientKeyExchange(body))),
-                    None => None,
-                }
-            }
-            _ => match Signature::new(alloc, chosen.version, bytes)? {
-                Some((behind, body)) => Some((behind, Body::Signature(body))),
-                None => None,
-            },
+            TlsHandshakeType::ServerKeyExchange => server_key_exchange(alloc, chosen, bytes),
+            TlsHandshakeType::ClientKeyExchange => client_key_exchange(alloc, chosen, bytes),
+            _ => signature(alloc, chosen.version, bytes),
         };
         match read {
-            Some((behind, body)) => Content::of_body(alloc, Some(body), behind, bytes),
+            Some((rest, body)) => Content { body, rest },
             None => Content::of_bytes(alloc, bytes),
         }
     }
@@ -278,8 +271,8 @@ impl Content {
         alloc: Global,
         chosen: Option<Chosen>,
         msg_type: TlsHandshakeType,
-        body: &[u8],
-    ) -> Result<Content, AllocError> {
+        body: &'a [u8],
+    ) -> Content<'a> {
         match msg_type {
             TlsHandshakeType::NewSessionTicket => Content::of_ticket(alloc, body),
             TlsHandshakeType::ServerKeyExchange
@@ -293,14 +286,10 @@ impl Content {
     }
 
     /// That of a message which needs no other to be read.
-    fn of_itself(
-        alloc: Global,
-        msg_type: TlsHandshakeType,
-        body: &[u8],
-    ) -> Result<Content, AllocError> {
+    fn of_itself(alloc: Global, msg_type: TlsHandshakeType, body: &'a [u8]) -> Content<'a> {
         let message = RawHandshake { msg_type, body };
         match message.parse_body() {
-            Ok((behind, read)) => Content::of_body(alloc, body_of(alloc, read)?, behind, body),
+            Ok((rest, read)) => Content::of_body(alloc, body_of(alloc, read), rest, body),
             Err(_) => Content::of_bytes(alloc, body),
         }
     }
@@ -310,8 +299,8 @@ impl Content {
         alloc: Global,
         chosen: Option<Chosen>,
         msg_type: TlsHandshakeType,
-        body: &[u8],
-    ) -> Result<Content, AllocError> {
+        body: &'a [u8],
+    ) -> Content<'a> {
         match msg_type {
             TlsHandshakeType::ClientHello
             | TlsHandshakeType::ServerHello
@@ -326,15 +315,13 @@ impl Content {
     fn of_datagrams_alone(
         alloc: Global,
         msg_type: TlsHandshakeType,
-        body: &[u8],
-    ) -> Result<Content, AllocError> {
+        body: &'a [u8],
+    ) -> Content<'a> {
         let Some(message) = whole_message(msg_type, body) else {
             return Content::of_bytes(alloc, body);
         };
         match message.parse_body() {
-            Ok((behind, read)) => {
-                Content::of_body(alloc, body_in_datagrams(alloc, read)?, behind, body)
-            }
+            Ok((rest, read)) => Content::of_body(alloc, body_in_datagrams(alloc, read), rest, body),
             Err(_) => Content::of_bytes(alloc, body),
         }
     }

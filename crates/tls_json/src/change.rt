@@ -1,11 +1,26 @@
 //! Changes of a cipher.
-use serde::Serialize;
+ghost use Rattle.serde_json.specs.Events.{SendsValue};
+ghost use Rattle.tls_json.specs.Tables.{change_fields};
+
+use serde::{Described, Serialize, Serializer};
 
 /// A ChangeCipherSpec (RFC 5246, section 7.1).
-#[derive(Clone, Copy, Debug, PartialEq, Eq, Serialize)]
+#[derive(Clone, Copy)]
 pub struct ChangeCipherSpec {
-    #[serde(rename = "type")]
     kind: u8,
+}
+
+impl Described for ChangeCipherSpec {
+    ghost writes = { λ c. SendsValue (change_fields c.kind) };
+}
+
+impl Serialize for ChangeCipherSpec {
+    fn serialize<S: Serializer>(&self, out: &mut S) -> Result<(), S::Error> {
+        out.begin_map(Some(1))?;
+        out.key("type")?;
+        out.u64(u64::from(self.kind))?;
+        out.end_map()
+    }
 }
 
 impl ChangeCipherSpec {

@@ -6,10 +6,32 @@ use tls_hs::{HandshakeView, RawHandshake, TlsMessageHandshake};
 use tls_parser::{DTLSBodyView, DTLSMessageHandshakeBody};
 
 /// The version and the suite of a ServerHello.
-#[derive(Clone, Copy, Debug, PartialEq, Eq)]
+#[derive(Clone, Copy)]
 pub struct Chosen {
     pub(crate) version: TlsVersion,
     pub(crate) cipher: TlsCipherSuiteID,
+}
+
+/// By a ServerHello; `None` where the message is another.
+fn by_message(read: &HandshakeView<'_>) -> Option<Chosen> {
+    match read {
+        HandshakeView::Other(TlsMessageHandshake::ServerHello(hello)) => Some(Chosen {
+            version: hello.version,
+            cipher: hello.cipher,
+        }),
+        _ => None,
+    }
+}
+
+/// The same of DTLS.
+fn by_datagrams(read: &DTLSBodyView<'_>) -> Option<Chosen> {
+    match read {
+        DTLSBodyView::Other(DTLSMessageHandshakeBody::ServerHello(hello)) => Some(Chosen {
+            version: hello.version,
+            cipher: hello.cipher,
+        }),
+        _ => None,
+    }
 }
 
 impl Chosen {
@@ -22,13 +44,8 @@ impl Chosen {
             return None;
         }
         match raw.parse_body() {
-            Ok((_, HandshakeView::Other(TlsMessageHandshake::ServerHello(hello)))) => {
-                Some(Chosen {
-                    version: hello.version,
-                    cipher: hello.cipher,
-                })
-            }
-            _ => None,
+            Ok((_, read)) => by_message(&read),
+            Err(_) => None,
         }
     }
 
@@ -37,17 +54,10 @@ impl Chosen {
         if msg_type != TlsHandshakeType::ServerHello {
             return None;
         }
-        let Some(message) = whole_message(msg_type, body) else {
-            return None;
-        };
+        let message = whole_message(msg_type, body)?;
         match message.parse_body() {
-            Ok((_, DTLSBodyView::Other(DTLSMessageHandshakeBody::ServerHello(hello)))) => {
-                Some(Chosen {
-                    version: hello.version,
-                    cipher: hello.cipher,
-                })
-            }
-            _ => None,
+            Ok((_, read)) => by_datagrams(&read),
+            Err(_) => None,
         }
     }
 }

@@ -1,7 +1,13 @@
 //! How the content of an extension is read, by its type.
-use crate::data::{Data, Filter, KeyShare, ServerName};
+ghost use Rattle.std.specs.Prelude.{IfOk, IfSome, ◌∷◌, []};
+ghost use Rattle.tls_json.specs.Outline.{Shows, HasNames, ReadsAs};
+ghost use Rattle.tls_json.specs.Extensions.{filter_fields, share_fields};
+ghost use Rattle.tls_json.specs.Extensions as names_of;
+
+use crate::json::Value;
 use crate::offers;
-use crate::text::{blobs, codes, hexadecimal, name, number, numbers};
+use crate::table::{Table, Values, single};
+use crate::text::{blob, blobs, code_text, codes, escaped, numbers};
 use std::alloc::{AllocError, Global};
 use tls_base::{NamedGroup, TlsExtensionType, TlsVersion};
 use tls_ext::{
@@ -19,7 +25,7 @@ const COMPRESS_CERTIFICATE: TlsExtensionType = TlsExtensionType(27);
 const CONNECTION_ID: TlsExtensionType = TlsExtensionType(54);
 
 /// Who sent an extension.
-#[derive(Clone, Copy, Debug, PartialEq, Eq)]
+#[derive(Clone, Copy)]
 pub enum Sender {
     /// It stands in a ClientHello.
     Client,
@@ -28,7 +34,7 @@ pub enum Sender {
 }
 
 /// A content by its fields; `None` where not all of it is read.
-pub type Answer = Result<Option<Data>, AllocError>;
+pub type Answer = Option<Result<Value, AllocError>>;
 
 /// A list of which all is read, up to the end of its extension.
 fn whole<'a, T: InPlace<'a>>(answer: IResult<&'a [u8], Items<'a, T>>) -> Option<Items<'a, T>> {
@@ -54,212 +60,267 @@ fn whole_list<'a, T: InPlace<'a>>(answer: IResult<&'a [u8], &'a [u8]>) -> Option
     }
 }
 
-fn server_name_list(alloc: Global, content: &[u8]) -> Answer {
-    let Some(list) = whole(server_names(content)) else {
-        return Ok(None);
-    };
-    let mut server_name_list = Vec::new(alloc);
+/// A name of a server (RFC 6066, section 3).
+fn server_name(alloc: Global, name_type: u8, host_name: &[u8]) -> Result<Value, AllocError>
+    ensures { IfOk result (HasNames names_of.server_name) }
+{
+    Table::new(alloc)
+        .decimal("name_type", u64::from(name_type))
+        .add("host_name", escaped(alloc, host_name))
+        .finish()
+}
+
+/// server_name (RFC 6066, section 3).
+fn server_name_list(alloc: Global, content: &[u8]) -> Answer
+    ensures { IfSome result (ReadsAs names_of.server_name_list) }
+{
+    let list = whole(server_names(content))?;
+    let mut names = Values::new(alloc);
     for (name_type, host_name) in list {
-        server_name_list.push(ServerName {
-            name_type: name_type.0,
-            host_name: name(alloc, host_name)?,
-        })?;
+        names = names.add(server_name(alloc, name_type.0, host_name));
     }
-    Ok(Some(Data::ServerNames { server_name_list }))
+    Some(single(alloc, "server_name_list", names.finish()))
 }
 
-fn status_request(alloc: Global, content: &[u8]) -> Answer {
-    match content {
-        [status_type, request @ ..] => Ok(Some(Data::StatusRequest {
-            status_type: *status_type,
-            request: hexadecimal(alloc, request)?,
-        })),
-        [] => Ok(None),
-    }
-}
-
-fn named_group_list(alloc: Global, content: &[u8]) -> Answer {
-    match whole(supported_groups(content)) {
-        Some(list) => Ok(Some(Data::Groups {
-            named_group_list: numbers(alloc, list.map(|group| group.0))?,
-        })),
-        None => Ok(None),
-    }
-}
-
-fn point_format_list(alloc: Global, content: &[u8]) -> Answer {
-    match whole_bytes(ec_point_formats(content)) {
-        Some(formats) => Ok(Some(Data::PointFormats {
-            ec_point_format_list: codes(alloc, formats)?,
-        })),
-        None => Ok(None),
-    }
-}
-
-fn schemes(alloc: Global, content: &[u8]) -> Answer {
-    match whole(signature_algorithms(content)) {
-        Some(list) => Ok(Some(Data::Schemes {
-            supported_signature_algorithms: numbers(alloc, list)?,
-        })),
-        None => Ok(None),
-    }
-}
-
-fn protocol_name_list(alloc: Global, content: &[u8]) -> Answer {
-    let Some(list) = whole::<Counted1>(protocol_names(content)) else {
-        return Ok(None);
+/// A client's status_request (RFC 6066, section 8).
+fn status_request(alloc: Global, content: &[u8]) -> Answer
+    ensures { IfSome result (ReadsAs names_of.status_request) }
+{
+    let [status_type, request @ ..] = content else {
+        return None;
     };
-    let mut protocol_name_list = Vec::new(alloc);
+    Some(
+        Table::new(alloc)
+            .decimal("status_type", u64::from(*status_type))
+            .bytes("request", request)
+            .finish(),
+    )
+}
+
+/// supported_groups (RFC 8446, section 4.2.7).
+fn named_group_list(alloc: Global, content: &[u8]) -> Answer
+    ensures { IfSome result (ReadsAs names_of.supported_groups) }
+{
+    let list = whole(supported_groups(content))?;
+    Some(single(alloc, "named_group_list", numbers(alloc, list.bytes())))
+}
+
+/// ec_point_formats (RFC 8422, section 5.1.2).
+fn point_format_list(alloc: Global, content: &[u8]) -> Answer
+    ensures { IfSome result (ReadsAs names_of.ec_point_formats) }
+{
+    let formats = whole_bytes(ec_point_formats(content))?;
+    Some(single(alloc, "ec_point_format_list", codes(alloc, formats)))
+}
+
+/// signature_algorithms and signature_algorithms_cert (RFC 8446, section 4.2.3).
+fn schemes(alloc: Global, content: &[u8]) -> Answer
+    ensures { IfSome result (ReadsAs names_of.signature_algorithms) }
+{
+    let list = whole(signature_algorithms(content))?;
+    Some(single(
+        alloc,
+        "supported_signature_algorithms",
+        numbers(alloc, list.bytes()),
+    ))
+}
+
+/// application_layer_protocol_negotiation (RFC 7301, section 3.1).
+fn protocol_name_list(alloc: Global, content: &[u8]) -> Answer
+    ensures { IfSome result (ReadsAs names_of.protocol_names) }
+{
+    let list = whole::<Counted1>(protocol_names(content))?;
+    let mut names = Values::new(alloc);
     for protocol in list {
-        protocol_name_list.push(name(alloc, protocol)?)?;
+        names = names.add(escaped(alloc, protocol));
     }
-    Ok(Some(Data::Protocols { protocol_name_list }))
+    Some(single(alloc, "protocol_name_list", names.finish()))
 }
 
-fn timestamps(alloc: Global, content: &[u8]) -> Answer {
-    match whole_list::<Counted2>(counted2(content)) {
-        Some(list) => Ok(Some(Data::Timestamps {
-            sct_list: blobs(alloc, list)?,
-        })),
-        None => Ok(None),
-    }
+/// signed_certificate_timestamp (RFC 6962, section 3.3).
+fn timestamps(alloc: Global, content: &[u8]) -> Answer
+    ensures { IfSome result (ReadsAs names_of.timestamps) }
+{
+    let list = whole_list::<Counted2>(counted2(content))?;
+    Some(single(alloc, "sct_list", blobs(alloc, list)))
 }
 
-fn authorities(alloc: Global, content: &[u8]) -> Answer {
-    match whole_list::<Counted2>(counted2(content)) {
-        Some(list) => Ok(Some(Data::Authorities {
-            authorities: blobs(alloc, list)?,
-        })),
-        None => Ok(None),
-    }
+/// certificate_authorities (RFC 8446, section 4.2.4).
+fn authorities(alloc: Global, content: &[u8]) -> Answer
+    ensures { IfSome result (ReadsAs names_of.certificate_authorities) }
+{
+    let list = whole_list::<Counted2>(counted2(content))?;
+    Some(single(alloc, "authorities", blobs(alloc, list)))
 }
 
-fn offered_versions(alloc: Global, content: &[u8]) -> Answer {
-    match whole_list::<TlsVersion>(counted1(content)) {
-        Some(list) => Ok(Some(Data::Versions {
-            versions: numbers(alloc, list.map(|version| version.0))?,
-        })),
-        None => Ok(None),
-    }
+/// A client's supported_versions (RFC 8446, section 4.2.1).
+fn offered_versions(alloc: Global, content: &[u8]) -> Answer
+    ensures { IfSome result (ReadsAs names_of.offered_versions) }
+{
+    let list = whole_list::<TlsVersion>(counted1(content))?;
+    Some(single(alloc, "versions", numbers(alloc, list.bytes())))
 }
 
-fn selected_version(alloc: Global, content: &[u8]) -> Answer {
-    match content {
-        [upper, lower] => Ok(Some(Data::SelectedVersion {
-            selected_version: number(alloc, u16::from_be_bytes([*upper, *lower]))?,
-        })),
-        _ => Ok(None),
-    }
-}
-
-fn cookie(alloc: Global, content: &[u8]) -> Answer {
-    match whole_bytes(counted2(content)) {
-        Some(cookie) => Ok(Some(Data::Cookie {
-            cookie: hexadecimal(alloc, cookie)?,
-        })),
-        None => Ok(None),
-    }
-}
-
-fn key_exchange_modes(alloc: Global, content: &[u8]) -> Answer {
-    match whole_bytes(psk_key_exchange_modes(content)) {
-        Some(modes) => Ok(Some(Data::KeyExchangeModes {
-            ke_modes: codes(alloc, modes)?,
-        })),
-        None => Ok(None),
-    }
-}
-
-fn filters(alloc: Global, content: &[u8]) -> Answer {
-    let Some(list) = whole::<OidFilter>(oid_filters(content)) else {
-        return Ok(None);
+/// A content that is a number of 2 bytes which stands for a thing.
+fn single_code(alloc: Global, name: &'static str, content: &[u8]) -> Answer
+    ensures { IfSome result (ReadsAs (name.now ∷ [])) }
+{
+    let [upper, lower] = content else {
+        return None;
     };
-    let mut filters = Vec::new(alloc);
+    let code = u16::from_be_bytes([*upper, *lower]);
+    Some(single(alloc, name, code_text(alloc, code)))
+}
+
+/// cookie (RFC 8446, section 4.2.2).
+fn cookie(alloc: Global, content: &[u8]) -> Answer
+    ensures { IfSome result (ReadsAs names_of.cookie) }
+{
+    let cookie = whole_bytes(counted2(content))?;
+    Some(single(alloc, "cookie", blob(alloc, cookie)))
+}
+
+/// psk_key_exchange_modes (RFC 8446, section 4.2.9).
+fn key_exchange_modes(alloc: Global, content: &[u8]) -> Answer
+    ensures { IfSome result (ReadsAs names_of.psk_key_exchange_modes) }
+{
+    let modes = whole_bytes(psk_key_exchange_modes(content))?;
+    Some(single(alloc, "ke_modes", codes(alloc, modes)))
+}
+
+/// A filter on certificates (RFC 8446, section 4.2.5).
+fn filter_of(alloc: Global, filter: &OidFilter<'_>) -> Result<Value, AllocError>
+    ensures { IfOk result (Shows (filter_fields filter.now)) }
+{
+    Table::new(alloc)
+        .bytes("certificate_extension_oid", filter.cert_ext_oid)
+        .bytes("certificate_extension_values", filter.cert_ext_val)
+        .finish()
+}
+
+/// oid_filters (RFC 8446, section 4.2.5).
+fn filters(alloc: Global, content: &[u8]) -> Answer
+    ensures { IfSome result (ReadsAs names_of.oid_filters) }
+{
+    let list = whole::<OidFilter>(oid_filters(content))?;
+    let mut all = Values::new(alloc);
     for filter in list {
-        filters.push(Filter {
-            certificate_extension_oid: hexadecimal(alloc, filter.cert_ext_oid)?,
-            certificate_extension_values: hexadecimal(alloc, filter.cert_ext_val)?,
-        })?;
+        all = all.add(filter_of(alloc, &filter));
     }
-    Ok(Some(Data::Filters { filters }))
+    Some(single(alloc, "filters", all.finish()))
 }
 
-fn share_of(alloc: Global, group: NamedGroup, key_exchange: &[u8]) -> Result<KeyShare, AllocError> {
-    Ok(KeyShare {
-        group: number(alloc, group.0)?,
-        key_exchange: hexadecimal(alloc, key_exchange)?,
-    })
+/// A key share (RFC 8446, section 4.2.8).
+fn share_of(alloc: Global, group: NamedGroup, key_exchange: &[u8]) -> Result<Value, AllocError>
+    ensures { IfOk result (Shows (share_fields group.0 key_exchange.now)) }
+{
+    Table::new(alloc)
+        .hexadecimal("group", group.0)
+        .bytes("key_exchange", key_exchange)
+        .finish()
 }
 
-fn client_shares(alloc: Global, content: &[u8]) -> Answer {
-    let Some(list) = whole(key_shares(content)) else {
-        return Ok(None);
-    };
-    let mut client_shares = Vec::new(alloc);
+/// A client's key_share (RFC 8446, section 4.2.8).
+fn client_shares(alloc: Global, content: &[u8]) -> Answer
+    ensures { IfSome result (ReadsAs names_of.client_shares) }
+{
+    let list = whole(key_shares(content))?;
+    let mut all = Values::new(alloc);
     for share in list {
-        client_shares.push(share_of(alloc, share.group, share.kx)?)?;
+        all = all.add(share_of(alloc, share.group, share.kx));
     }
-    Ok(Some(Data::ClientShares { client_shares }))
+    Some(single(alloc, "client_shares", all.finish()))
 }
 
-/// A server's key share; where it asks for another it is a group alone.
-fn server_share(alloc: Global, content: &[u8]) -> Answer {
-    if let [upper, lower] = content {
-        return Ok(Some(Data::SelectedGroup {
-            selected_group: number(alloc, u16::from_be_bytes([*upper, *lower]))?,
-        }));
-    }
+/// A server's key share.
+fn server_share(alloc: Global, content: &[u8]) -> Answer
+    ensures { IfSome result (ReadsAs names_of.server_share) }
+{
     match KeyShareEntry::read(content) {
-        Ok(([], share)) => Ok(Some(Data::ServerShare {
-            server_share: share_of(alloc, share.group, share.kx)?,
-        })),
-        _ => Ok(None),
+        Ok(([], share)) => {
+            let share = share_of(alloc, share.group, share.kx);
+            Some(single(alloc, "server_share", share))
+        }
+        _ => None,
     }
 }
 
-fn renegotiation(alloc: Global, content: &[u8]) -> Answer {
-    match whole_bytes(counted1(content)) {
-        Some(bytes) => Ok(Some(Data::Renegotiation {
-            renegotiated_connection: hexadecimal(alloc, bytes)?,
-        })),
-        None => Ok(None),
+/// A server's key_share; where it asks for another it is a group alone.
+fn server_key_share(alloc: Global, content: &[u8]) -> Answer {
+    match content {
+        [_, _] => single_code(alloc, "selected_group", content),
+        _ => server_share(alloc, content),
     }
 }
 
-fn encrypted_server_name(alloc: Global, content: &[u8]) -> Answer {
-    match parse_tls_extension_encrypted_server_name(content) {
-        Ok(
-            (
-                [],
-                TlsExtension::EncryptedServerName {
-                    ciphersuite,
-                    group,
-                    key_share,
-                    record_digest,
-                    encrypted_sni,
-                },
-            ),
-        ) => Ok(Some(Data::EncryptedServerName {
-            suite: number(alloc, ciphersuite.0)?,
-            key_share: share_of(alloc, group, key_share)?,
-            record_digest: hexadecimal(alloc, record_digest)?,
-            encrypted_sni: hexadecimal(alloc, encrypted_sni)?,
-        })),
-        _ => Ok(None),
-    }
+/// renegotiation_info (RFC 5746, section 3.2).
+fn renegotiation(alloc: Global, content: &[u8]) -> Answer
+    ensures { IfSome result (ReadsAs names_of.renegotiation_info) }
+{
+    let bytes = whole_bytes(counted1(content))?;
+    Some(single(alloc, "renegotiated_connection", blob(alloc, bytes)))
 }
 
-/// A content that is a number.
-fn single(kind: TlsExtensionType, content: &[u8]) -> Option<Data> {
+/// encrypted_server_name (draft-ietf-tls-esni-02, section 5).
+fn encrypted_server_name(alloc: Global, content: &[u8]) -> Answer
+    ensures { IfSome result (ReadsAs names_of.encrypted_server_name) }
+{
+    let Ok(([], read)) = parse_tls_extension_encrypted_server_name(content) else {
+        return None;
+    };
+    let TlsExtension::EncryptedServerName {
+        ciphersuite,
+        group,
+        key_share,
+        record_digest,
+        encrypted_sni,
+    } = read
+    else {
+        return None;
+    };
+    Some(
+        Table::new(alloc)
+            .hexadecimal("suite", ciphersuite.0)
+            .add("key_share", share_of(alloc, group, key_share))
+            .bytes("record_digest", record_digest)
+            .bytes("encrypted_sni", encrypted_sni)
+            .finish(),
+    )
+}
+
+/// heartbeat (RFC 6520, section 2).
+fn heartbeat_mode(alloc: Global, mode: u8) -> Result<Value, AllocError>
+    ensures { IfOk result (HasNames names_of.heartbeat) }
+{
+    single(alloc, "mode", Ok(Value::Number(u64::from(mode))))
+}
+
+/// early_data of a ticket (RFC 8446, section 4.2.10).
+fn early_data(alloc: Global, max_size: u32) -> Result<Value, AllocError>
+    ensures { IfOk result (HasNames names_of.early_data) }
+{
+    single(
+        alloc,
+        "max_early_data_size",
+        Ok(Value::Number(u64::from(max_size))),
+    )
+}
+
+/// A content that is one number: max_fragment_length (RFC 6066, section 4) and record_size_limit (RFC 8449, section 4) have no field.
+fn of_number(alloc: Global, kind: TlsExtensionType, content: &[u8]) -> Answer {
     match (kind, content) {
-        (TlsExtensionType::MaxFragmentLength, [code]) => Some(Data::MaxFragmentLength(*code)),
-        (TlsExtensionType::Heartbeat, [mode]) => Some(Data::Heartbeat { mode: *mode }),
-        (TlsExtensionType::RecordSizeLimit, [upper, lower]) => Some(Data::RecordSizeLimit(
-            u16::from_be_bytes([*upper, *lower]),
-        )),
-        (TlsExtensionType::EarlyData, [first, second, third, fourth]) => Some(Data::EarlyData {
-            max_early_data_size: u32::from_be_bytes([*first, *second, *third, *fourth]),
-        }),
+        (TlsExtensionType::MaxFragmentLength, [code]) => {
+            Some(Ok(Value::Number(u64::from(*code))))
+        }
+        (TlsExtensionType::Heartbeat, [mode]) => Some(heartbeat_mode(alloc, *mode)),
+        (TlsExtensionType::RecordSizeLimit, [upper, lower]) => {
+            let limit = u16::from_be_bytes([*upper, *lower]);
+            Some(Ok(Value::Number(u64::from(limit))))
+        }
+        (TlsExtensionType::EarlyData, [first, second, third, fourth]) => {
+            let max_size = u32::from_be_bytes([*first, *second, *third, *fourth]);
+            Some(early_data(alloc, max_size))
+        }
         _ => None,
     }
 }
@@ -268,14 +329,18 @@ fn single(kind: TlsExtensionType, content: &[u8]) -> Option<Data> {
 fn of_sender(alloc: Global, sender: Sender, kind: TlsExtensionType, content: &[u8]) -> Answer {
     match (kind, sender) {
         (TlsExtensionType::SupportedVersions, Sender::Client) => offered_versions(alloc, content),
-        (TlsExtensionType::SupportedVersions, Sender::Server) => selected_version(alloc, content),
+        (TlsExtensionType::SupportedVersions, Sender::Server) => single_code(
+            alloc,
+            "selected_version",
+            content,
+        ),
         (TlsExtensionType::KeyShare, Sender::Client) => client_shares(alloc, content),
-        (TlsExtensionType::KeyShare, Sender::Server) => server_share(alloc, content),
+        (TlsExtensionType::KeyShare, Sender::Server) => server_key_share(alloc, content),
         (TlsExtensionType::PreSharedKey, Sender::Client) => offers::known_keys(alloc, content),
-        (TlsExtensionType::PreSharedKey, Sender::Server) => Ok(offers::selected_key(content)),
+        (TlsExtensionType::PreSharedKey, Sender::Server) => offers::selected_key(alloc, content),
         (DELEGATED_CREDENTIAL, Sender::Client) => schemes(alloc, content),
         (ENCRYPTED_CLIENT_HELLO, Sender::Client) => offers::encrypted_hello(alloc, content),
-        _ => Ok(single(kind, content)),
+        _ => of_number(alloc, kind, content),
     }
 }
 
@@ -305,17 +370,15 @@ fn read(alloc: Global, sender: Sender, kind: TlsExtensionType, content: &[u8]) -
     }
 }
 
-impl Data {
-    /// What stands in an extension of that type: its bytes where it has no fields, or not all of them are read.
-    pub fn new(
-        alloc: Global,
-        sender: Sender,
-        kind: TlsExtensionType,
-        content: &[u8],
-    ) -> Result<Data, AllocError> {
-        match read(alloc, sender, kind, content)? {
-            Some(data) => Ok(data),
-            None => Ok(Data::Bytes(hexadecimal(alloc, content)?)),
-        }
+/// What stands in an extension of that type: its bytes where it has no fields, or not all of them are read.
+pub fn content_of(
+    alloc: Global,
+    sender: Sender,
+    kind: TlsExtensionType,
+    content: &[u8],
+) -> Result<Value, AllocError> {
+    match read(alloc, sender, kind, content) {
+        Some(data) => data,
+        None => blob(alloc, content),
     }
 }

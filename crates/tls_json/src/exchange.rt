@@ -3,7 +3,7 @@ use tls_base::TlsCipherSuiteID;
 use tls_facts::{has_hint, names_curve};
 
 /// What a key is made of.
-#[derive(Clone, Copy, Debug, PartialEq, Eq)]
+#[derive(Clone, Copy)]
 pub enum Public {
     /// A key that both sides know before, and nothing else (RFC 4279, section 2).
     Nothing,
@@ -16,7 +16,7 @@ pub enum Public {
 }
 
 /// The key exchange of a suite.
-#[derive(Clone, Copy, Debug, PartialEq, Eq)]
+#[derive(Clone, Copy)]
 pub struct KeyExchange {
     /// Whether a key is used that both sides know before (RFC 4279, sections 2 to 4; RFC 5489, section 2).
     pub has_identity: bool,
@@ -45,66 +45,131 @@ const fn signed(public: Public) -> KeyExchange {
 }
 
 /// RSA alone, also of export.
-fn is_rsa(suite: u16) -> bool {
-    matches!(suite,
-        0x0001..=0x000a | 0x002f | 0x0035 | 0x003b..=0x003d | 0x0041 | 0x0084 | 0x0096 | 0x009c..=0x009d | 0x00ba | 0x00c0
-        | 0xc03c..=0xc03d | 0xc050..=0xc051 | 0xc07a..=0xc07b | 0xc09c..=0xc09d | 0xc0a0..=0xc0a1)
-}
+static RSA: [(u16, u16); 15] = [
+    (0x0001, 0x000a),
+    (0x002f, 0x002f),
+    (0x0035, 0x0035),
+    (0x003b, 0x003d),
+    (0x0041, 0x0041),
+    (0x0084, 0x0084),
+    (0x0096, 0x0096),
+    (0x009c, 0x009d),
+    (0x00ba, 0x00ba),
+    (0x00c0, 0x00c0),
+    (0xc03c, 0xc03d),
+    (0xc050, 0xc051),
+    (0xc07a, 0xc07b),
+    (0xc09c, 0xc09d),
+    (0xc0a0, 0xc0a1),
+];
 
 /// Diffie-Hellman with a certificate: DHE, and with fixed keys, whose server has no key exchange to send.
-fn is_dh(suite: u16) -> bool {
-    matches!(suite,
-        0x000b..=0x0016 | 0x0030..=0x0033 | 0x0036..=0x0039 | 0x003e..=0x0040 | 0x0042..=0x0045 | 0x0067..=0x006b | 0x0085..=0x0088
-        | 0x0097..=0x009a | 0x009e..=0x00a5 | 0x00bb..=0x00be | 0x00c1..=0x00c4 | 0xc03e..=0xc045 | 0xc052..=0xc059
-        | 0xc07c..=0xc083 | 0xc09e..=0xc09f | 0xc0a2..=0xc0a3 | 0xccaa)
-}
+static DH: [(u16, u16); 17] = [
+    (0x000b, 0x0016),
+    (0x0030, 0x0033),
+    (0x0036, 0x0039),
+    (0x003e, 0x0040),
+    (0x0042, 0x0045),
+    (0x0067, 0x006b),
+    (0x0085, 0x0088),
+    (0x0097, 0x009a),
+    (0x009e, 0x00a5),
+    (0x00bb, 0x00be),
+    (0x00c1, 0x00c4),
+    (0xc03e, 0xc045),
+    (0xc052, 0xc059),
+    (0xc07c, 0xc083),
+    (0xc09e, 0xc09f),
+    (0xc0a2, 0xc0a3),
+    (0xccaa, 0xccaa),
+];
 
 /// Diffie-Hellman without a certificate.
-fn is_anonymous_dh(suite: u16) -> bool {
-    matches!(suite,
-        0x0017..=0x001b | 0x0034 | 0x003a | 0x0046 | 0x006c..=0x006d | 0x0089 | 0x009b | 0x00a6..=0x00a7 | 0x00bf | 0x00c5
-        | 0xc046..=0xc047 | 0xc05a..=0xc05b | 0xc084..=0xc085)
-}
+static ANONYMOUS_DH: [(u16, u16); 13] = [
+    (0x0017, 0x001b),
+    (0x0034, 0x0034),
+    (0x003a, 0x003a),
+    (0x0046, 0x0046),
+    (0x006c, 0x006d),
+    (0x0089, 0x0089),
+    (0x009b, 0x009b),
+    (0x00a6, 0x00a7),
+    (0x00bf, 0x00bf),
+    (0x00c5, 0x00c5),
+    (0xc046, 0xc047),
+    (0xc05a, 0xc05b),
+    (0xc084, 0xc085),
+];
 
 /// The same over elliptic curves.
-fn is_anonymous_ecdh(suite: u16) -> bool {
-    matches!(suite, 0xc015..=0xc019)
-}
+static ANONYMOUS_ECDH: [(u16, u16); 1] = [(0xc015, 0xc019)];
 
 /// A key that both sides know before, alone.
-fn is_known_key(suite: u16) -> bool {
-    matches!(suite,
-        0x002c | 0x008a..=0x008d | 0x00a8..=0x00a9 | 0x00ae..=0x00b1 | 0xc064..=0xc065 | 0xc06a..=0xc06b | 0xc08e..=0xc08f
-        | 0xc094..=0xc095 | 0xc0a4..=0xc0a5 | 0xc0a8..=0xc0a9 | 0xccab)
-}
+static KNOWN_KEY: [(u16, u16); 11] = [
+    (0x002c, 0x002c),
+    (0x008a, 0x008d),
+    (0x00a8, 0x00a9),
+    (0x00ae, 0x00b1),
+    (0xc064, 0xc065),
+    (0xc06a, 0xc06b),
+    (0xc08e, 0xc08f),
+    (0xc094, 0xc095),
+    (0xc0a4, 0xc0a5),
+    (0xc0a8, 0xc0a9),
+    (0xccab, 0xccab),
+];
 
 /// Such a key with Diffie-Hellman.
-fn is_known_key_with_dh(suite: u16) -> bool {
-    matches!(suite,
-        0x002d | 0x008e..=0x0091 | 0x00aa..=0x00ab | 0x00b2..=0x00b5 | 0xc066..=0xc067 | 0xc06c..=0xc06d | 0xc090..=0xc091
-        | 0xc096..=0xc097 | 0xc0a6..=0xc0a7 | 0xc0aa..=0xc0ab | 0xccad)
-}
+static KNOWN_KEY_WITH_DH: [(u16, u16); 11] = [
+    (0x002d, 0x002d),
+    (0x008e, 0x0091),
+    (0x00aa, 0x00ab),
+    (0x00b2, 0x00b5),
+    (0xc066, 0xc067),
+    (0xc06c, 0xc06d),
+    (0xc090, 0xc091),
+    (0xc096, 0xc097),
+    (0xc0a6, 0xc0a7),
+    (0xc0aa, 0xc0ab),
+    (0xccad, 0xccad),
+];
 
 /// Such a key with RSA.
-fn is_known_key_with_rsa(suite: u16) -> bool {
-    matches!(suite,
-        0x002e | 0x0092..=0x0095 | 0x00ac..=0x00ad | 0x00b6..=0x00b9 | 0xc068..=0xc069 | 0xc06e..=0xc06f | 0xc092..=0xc093
-        | 0xc098..=0xc099 | 0xccae)
+static KNOWN_KEY_WITH_RSA: [(u16, u16); 9] = [
+    (0x002e, 0x002e),
+    (0x0092, 0x0095),
+    (0x00ac, 0x00ad),
+    (0x00b6, 0x00b9),
+    (0xc068, 0xc069),
+    (0xc06e, 0xc06f),
+    (0xc092, 0xc093),
+    (0xc098, 0xc099),
+    (0xccae, 0xccae),
+];
+
+/// Whether a number is within one of the ranges, each from its first to its last.
+fn is_within(ranges: &[(u16, u16)], number: u16) -> bool {
+    for (first, last) in ranges {
+        if *first <= number && number <= *last {
+            return true;
+        }
+    }
+    false
 }
 
 impl KeyExchange {
     /// That of a suite of the registry of TLS Cipher Suites; `None` of TLS 1.3's, and of those by Kerberos, SRP, GOST and passwords.
     pub fn of(suite: TlsCipherSuiteID) -> Option<KeyExchange> {
         match suite.0 {
-            suite if is_rsa(suite) => Some(unsigned(false, Public::Rsa)),
-            suite if is_dh(suite) => Some(signed(Public::Dh)),
-            suite if is_anonymous_dh(suite) => Some(unsigned(false, Public::Dh)),
-            suite if is_anonymous_ecdh(suite) => Some(unsigned(false, Public::Ecdh)),
+            suite if is_within(&RSA, suite) => Some(unsigned(false, Public::Rsa)),
+            suite if is_within(&DH, suite) => Some(signed(Public::Dh)),
+            suite if is_within(&ANONYMOUS_DH, suite) => Some(unsigned(false, Public::Dh)),
+            suite if is_within(&ANONYMOUS_ECDH, suite) => Some(unsigned(false, Public::Ecdh)),
             suite if names_curve(suite) => Some(signed(Public::Ecdh)),
             suite if has_hint(suite) => Some(unsigned(true, Public::Ecdh)),
-            suite if is_known_key(suite) => Some(unsigned(true, Public::Nothing)),
-            suite if is_known_key_with_dh(suite) => Some(unsigned(true, Public::Dh)),
-            suite if is_known_key_with_rsa(suite) => Some(unsigned(true, Public::Rsa)),
+            suite if is_within(&KNOWN_KEY, suite) => Some(unsigned(true, Public::Nothing)),
+            suite if is_within(&KNOWN_KEY_WITH_DH, suite) => Some(unsigned(true, Public::Dh)),
+            suite if is_within(&KNOWN_KEY_WITH_RSA, suite) => Some(unsigned(true, Public::Rsa)),
             _ => None,
         }
     }

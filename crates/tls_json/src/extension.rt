@@ -1,59 +1,67 @@
 //! Extensions.
-use crate::content::Sender;
-use crate::data::Data;
+ghost use Rattle.std.specs.Prelude.{IfOk, ◌≡◌, ◌++◌};
+ghost use Rattle.serde_json.specs.Data.{Data, array, no_items};
+ghost use Rattle.tls_fields.specs.Items.{left_in};
+ghost use Rattle.tls_ext.specs.InPlace.{raw_extension};
+ghost use Rattle.tls_json.specs.Outline.{Shows, Entries, HasFields};
+ghost use Rattle.tls_json.specs.Tables.{extensions_fields, extension_fields};
+
+use crate::content::{Sender, content_of};
+use crate::json::Value;
 use crate::names::extension_name;
-use crate::text::some_hexadecimal;
-use serde::Serialize;
+use crate::table::{Table, Values};
 use std::alloc::{AllocError, Global};
+use tls_base::TlsExtensionType;
 use tls_ext::RawExtension;
 use tls_fields::Items;
 
 /// An extension (RFC 8446, section 4.2): its type, the name of that where it has one, and its content.
-#[derive(Debug, Drop, Serialize)]
-pub struct Extension {
-    extension_type: u16,
-    #[serde(skip_serializing_if = "Option::is_none")]
+fn fields(
+    alloc: Global,
+    extension_type: TlsExtensionType,
     name: Option<&'static str>,
-    extension_data: Data,
+    extension_data: Result<Value, AllocError>,
+) -> Result<Value, AllocError>
+    ensures { (d : Data) → IfOk extension_data (Shows d) → IfOk result (Shows (extension_fields extension_type.0 name.entry d)) }
+{
+    Table::new(alloc)
+        .decimal("extension_type", u64::from(extension_type.0))
+        .some_name("name", name)
+        .add("extension_data", extension_data)
+        .finish()
 }
 
-/// The extensions of a hello in their order, where it has a whole block of them; and the bytes of the block behind the last that is
-/// whole.
-#[derive(Debug, Drop, Serialize)]
-pub struct Extensions {
-    #[serde(skip_serializing_if = "Option::is_none")]
-    extensions: Option<Vec<Extension>>,
-    #[serde(skip_serializing_if = "Option::is_none")]
-    rest: Option<String>,
+/// The extensions of a block, in their order.
+fn list<'a>(alloc: Global, sender: Sender, block: &'a [u8]) -> Result<Value, AllocError>
+    ensures { IfOk result (Shows (array no_items)) }
+{
+    let walk: Items<RawExtension> = Items::new(block);
+    let mut all = Values::new(alloc);
+    for one in walk {
+        let name = extension_name(one.extension_type);
+        let data = content_of(alloc, sender, one.extension_type, one.content);
+        all = all.add(fields(alloc, one.extension_type, name, data));
+    }
+    all.finish()
 }
 
-impl Extensions {
-    /// Those of a hello's `ext`, which is its block of extensions, as it stands behind its length.
-    pub fn new<'a>(
-        alloc: Global,
-        sender: Sender,
-        ext: Option<&'a [u8]>,
-    ) -> Result<Extensions, AllocError> {
-        let Some(block) = ext else {
-            return Ok(Extensions {
-                extensions: None,
-                rest: None,
-            });
-        };
-        let whole: Items<RawExtension> = Items::new(block);
-        let rest = some_hexadecimal(alloc, whole.rest())?;
-        let walk: Items<RawExtension> = Items::new(block);
-        let mut extensions = Vec::new(alloc);
-        for one in walk {
-            extensions.push(Extension {
-                extension_type: one.extension_type.0,
-                name: extension_name(one.extension_type),
-                extension_data: Data::new(alloc, sender, one.extension_type, one.content)?,
-            })?;
-        }
-        Ok(Extensions {
-            extensions: Some(extensions),
-            rest,
-        })
+/// What a block of extensions leaves behind the last that is whole.
+fn rest<'a>(block: &'a [u8]) -> &'a [u8]
+    ensures { result.now ≡ left_in raw_extension block.now }
+{
+    let walk: Items<RawExtension> = Items::new(block);
+    walk.rest()
+}
+
+/// With the extensions of a hello's `ext`, which is its block of extensions, as it stands behind its length, where it has one; and the
+/// bytes of the block behind the last that is whole.
+pub fn with_extensions(alloc: Global, table: Table, sender: Sender, ext: Option<&[u8]>) -> Table
+    ensures { (es : Entries) → HasFields es table → HasFields (es ++ extensions_fields ext.entry) result }
+{
+    match ext {
+        Some(block) => table
+            .add("extensions", list(alloc, sender, block))
+            .some_bytes("rest", rest(block)),
+        None => table,
     }
 }

@@ -1,22 +1,46 @@
 //! Heartbeats.
-use crate::text::hexadecimal;
-use serde::Serialize;
-use std::alloc::{AllocError, Global};
+ghost use Rattle.std.specs.Prelude.{IfOk};
+ghost use Rattle.serde_json.specs.Events.{SendsValue};
+ghost use Rattle.tls_json.specs.Views.{view};
+ghost use Rattle.tls_json.specs.Outline.{Shows};
+ghost use Rattle.tls_json.specs.Tables.{heartbeat_fields};
 
-/// A heartbeat (RFC 6520, section 4).
-#[derive(Debug, Drop, Serialize)]
-#[serde(untagged)]
-pub enum HeartbeatMessage {
-    /// By its fields.
-    Fields {
-        #[serde(rename = "type")]
-        kind: u8,
-        payload_length: u16,
-        payload: String,
-        padding: String,
-    },
-    /// Its bytes, in hexadecimal, where its payload isn't whole.
-    Bytes(String),
+use crate::json::Value;
+use crate::table::Table;
+use crate::text::blob;
+use serde::{Described, Serialize, Serializer};
+use std::alloc::{AllocError, Global};
+use tls_hs::TlsMessageHeartbeat;
+
+/// A heartbeat (RFC 6520, section 4) by its fields, or its bytes, in hexadecimal, where its payload isn't whole.
+#[derive(Drop)]
+pub struct HeartbeatMessage {
+    value: Value,
+}
+
+impl Described for HeartbeatMessage {
+    ghost writes = { λ h. SendsValue (view h.value) };
+}
+
+impl Serialize for HeartbeatMessage {
+    fn serialize<S: Serializer>(&self, out: &mut S) -> Result<(), S::Error> {
+        self.value.serialize(out)
+    }
+}
+
+fn fields(
+    alloc: Global,
+    message: &TlsMessageHeartbeat<'_>,
+    padding: &[u8],
+) -> Result<Value, AllocError>
+    ensures { IfOk result (Shows (heartbeat_fields message.now padding.now)) }
+{
+    Table::new(alloc)
+        .decimal("type", u64::from(message.heartbeat_type.0))
+        .decimal("payload_length", u64::from(message.payload_len))
+        .bytes("payload", message.payload)
+        .bytes("padding", padding)
+        .finish()
 }
 
 impl HeartbeatMessage {
@@ -27,13 +51,10 @@ impl HeartbeatMessage {
         if let Ok(length) = u16::try_from(fragment.len())
             && let Ok((padding, message)) = tls_hs::heartbeat(fragment, length)
         {
-            return Ok(HeartbeatMessage::Fields {
-                kind: message.heartbeat_type.0,
-                payload_length: message.payload_len,
-                payload: hexadecimal(alloc, message.payload)?,
-                padding: hexadecimal(alloc, padding)?,
-            });
+            let value = fields(alloc, &message, padding)?;
+            return Ok(HeartbeatMessage { value });
         }
-        Ok(HeartbeatMessage::Bytes(hexadecimal(alloc, fragment)?))
+        let value = blob(alloc, fragment)?;
+        Ok(HeartbeatMessage { value })
     }
 }

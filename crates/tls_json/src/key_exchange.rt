@@ -1,243 +1,225 @@
 //! Key exchanges and signatures, whose fields depend on what the server chose.
+ghost use Rattle.std.specs.Prelude.{IfOk, ◌++◌, List, ℕ, codes};
+ghost use Rattle.tls_json.specs.Outline.{Shows, HasNames, HasFieldNames, IfRead, IfMore};
+ghost use Rattle.tls_json.specs.Tables.{coefficients_fields, explicit_prime_fields, named_curve_fields, curve_fields, dh_fields, ecdh_fields, signature_fields, names_if, params_names, server_key_exchange_names, client_value_names, client_key_exchange_names};
+
 use crate::chosen::Chosen;
 use crate::exchange::{KeyExchange, Public};
-use crate::text::{hexadecimal, name, number};
-use serde::Serialize;
+use crate::json::Value;
+use crate::table::Table;
+use crate::text::{blob, escaped};
 use std::alloc::{AllocError, Global};
 use tls_base::{
-    ECParameters, ECParametersContent, ExplicitPrimeContent, TlsVersion, parse_dh_params,
-    parse_digitally_signed, parse_digitally_signed_old, parse_ecdh_params,
+    ECParameters, ECParametersContent, ExplicitPrimeContent, ServerDHParams, ServerECDHParams,
+    TlsVersion, parse_dh_params, parse_digitally_signed, parse_digitally_signed_old,
+    parse_ecdh_params,
 };
 use tls_fields::{counted1, counted2};
 
 /// What was read, behind what is left; `None` where not all of it is there.
-type Read<'a, T> = Result<Option<(&'a [u8], T)>, AllocError>;
+type Read<'a> = Option<(&'a [u8], Result<Value, AllocError>)>;
 
-/// A signature (RFC 5246, section 4.7), which names its algorithm from TLS 1.2 on.
-#[derive(Debug, Drop, Serialize)]
-pub struct Signature {
-    #[serde(skip_serializing_if = "Option::is_none")]
-    algorithm: Option<String>,
-    signature: String,
+/// A table with more fields, behind what is left; `None` where not all of them are there.
+type More<'a> = Option<(&'a [u8], Table)>;
+
+/// With the identity of a key that both sides know, or a server's hint at it, where the suite has one. It is text (RFC 4279, section 5.1).
+fn with_identity<'a>(
+    alloc: Global,
+    table: Table,
+    name: &'static str,
+    exchange: KeyExchange,
+    i: &'a [u8],
+) -> More<'a>
+    ensures { (ns : List (List ℕ)) → HasFieldNames ns table
+        → IfMore (HasFieldNames (ns ++ names_if exchange.has_identity name.now)) result }
+{
+    if !exchange.has_identity {
+        return Some((i, table));
+    }
+    let Ok((i, identity)) = counted2(i) else {
+        return None;
+    };
+    Some((i, table.add(name, escaped(alloc, identity))))
 }
 
 /// The coefficients of a curve (RFC 4492, section 5.4).
-#[derive(Debug, Drop, Serialize)]
-struct Coefficients {
-    a: String,
-    b: String,
+fn coefficients(alloc: Global, a: &[u8], b: &[u8]) -> Result<Value, AllocError>
+    ensures { IfOk result (Shows (coefficients_fields a.now b.now)) }
+{
+    Table::new(alloc).bytes("a", a).bytes("b", b).finish()
 }
 
-/// A curve by its number (RFC 8422, section 5.4) or by its parameters (RFC 4492, section 5.4).
-#[derive(Debug, Drop, Serialize)]
-#[serde(untagged)]
-enum Curve {
-    Named {
-        curve_type: u8,
-        namedcurve: String,
-    },
-    ExplicitPrime {
-        curve_type: u8,
-        prime_p: String,
-        curve: Coefficients,
-        base: String,
-        order: String,
-        cofactor: String,
-    },
-}
-
-/// What a server sends of its public values (RFC 5246, section 7.4.3; RFC 8422, section 5.4).
-#[derive(Debug, Drop, Serialize)]
-#[serde(untagged)]
-enum Parameters {
-    Dh {
-        dh_p: String,
-        dh_g: String,
-        #[serde(rename = "dh_Ys")]
-        dh_ys: String,
-    },
-    Ecdh {
-        curve_params: Curve,
-        public: String,
-    },
-}
-
-/// A server's key exchange (RFC 5246, section 7.4.3; RFC 8422, section 5.4; RFC 4279, sections 2 to 4; RFC 5489, section 2).
-#[derive(Debug, Drop, Serialize)]
-pub struct ServerKeyExchange {
-    #[serde(skip_serializing_if = "Option::is_none")]
-    psk_identity_hint: Option<String>,
-    #[serde(skip_serializing_if = "Option::is_none")]
-    params: Option<Parameters>,
-    #[serde(skip_serializing_if = "Option::is_none")]
-    signed_params: Option<Signature>,
-}
-
-/// A client's key exchange (RFC 5246, section 7.4.7; RFC 8422, section 5.7; RFC 4279, sections 2 to 4; RFC 5489, section 2).
-#[derive(Debug, Drop, Serialize)]
-pub struct ClientKeyExchange {
-    #[serde(skip_serializing_if = "Option::is_none")]
-    psk_identity: Option<String>,
-    #[serde(skip_serializing_if = "Option::is_none")]
-    pre_master_secret: Option<String>,
-    #[serde(rename = "dh_Yc")]
-    #[serde(skip_serializing_if = "Option::is_none")]
-    dh_yc: Option<String>,
-    #[serde(rename = "ecdh_Yc")]
-    #[serde(skip_serializing_if = "Option::is_none")]
-    ecdh_yc: Option<String>,
-}
-
-/// The identity of a key that both sides know, or a server's hint at it, where the suite has one. It is text (RFC 4279, section 5.1).
-fn identity<'a>(alloc: Global, exchange: KeyExchange, i: &'a [u8]) -> Read<'a, Option<String>> {
-    if !exchange.has_identity {
-        return Ok(Some((i, None)));
-    }
-    let Ok((i, identity)) = counted2(i) else {
-        return Ok(None);
-    };
-    Ok(Some((i, Some(name(alloc, identity)?))))
-}
-
+/// A curve by its parameters (RFC 4492, section 5.4).
 fn explicit_prime(
     alloc: Global,
     curve_type: u8,
     content: &ExplicitPrimeContent<'_>,
-) -> Result<Curve, AllocError> {
-    Ok(Curve::ExplicitPrime {
-        curve_type,
-        prime_p: hexadecimal(alloc, content.prime_p)?,
-        curve: Coefficients {
-            a: hexadecimal(alloc, content.curve.a)?,
-            b: hexadecimal(alloc, content.curve.b)?,
-        },
-        base: hexadecimal(alloc, content.base.point)?,
-        order: hexadecimal(alloc, content.order)?,
-        cofactor: hexadecimal(alloc, content.cofactor)?,
-    })
+) -> Result<Value, AllocError>
+    ensures { IfOk result (Shows (explicit_prime_fields curve_type content.now)) }
+{
+    Table::new(alloc)
+        .decimal("curve_type", u64::from(curve_type))
+        .bytes("prime_p", content.prime_p)
+        .add(
+            "curve",
+            coefficients(alloc, content.curve.a, content.curve.b),
+        )
+        .bytes("base", content.base.point)
+        .bytes("order", content.order)
+        .bytes("cofactor", content.cofactor)
+        .finish()
 }
 
-fn curve_of(alloc: Global, parameters: &ECParameters<'_>) -> Result<Curve, AllocError> {
+/// A curve by its number (RFC 8422, section 5.4).
+fn named_curve(alloc: Global, curve_type: u8, namedcurve: u16) -> Result<Value, AllocError>
+    ensures { IfOk result (Shows (named_curve_fields curve_type namedcurve)) }
+{
+    Table::new(alloc)
+        .decimal("curve_type", u64::from(curve_type))
+        .hexadecimal("namedcurve", namedcurve)
+        .finish()
+}
+
+fn curve_of(alloc: Global, parameters: &ECParameters<'_>) -> Result<Value, AllocError>
+    ensures { IfOk result (Shows (curve_fields parameters.now)) }
+{
     let curve_type = parameters.curve_type.0;
     match &parameters.params_content {
-        ECParametersContent::NamedGroup(group) => Ok(Curve::Named {
-            curve_type,
-            namedcurve: number(alloc, group.0)?,
-        }),
+        ECParametersContent::NamedGroup(group) => named_curve(alloc, curve_type, group.0),
         ECParametersContent::ExplicitPrime(content) => explicit_prime(alloc, curve_type, content),
     }
 }
 
-/// A server's public values, where the suite has some.
-fn public_values<'a>(
-    alloc: Global,
-    exchange: KeyExchange,
-    i: &'a [u8],
-) -> Read<'a, Option<Parameters>> {
-    match exchange.public {
-        Public::Nothing | Public::Rsa => Ok(Some((i, None))),
+/// A server's public values of Diffie-Hellman (RFC 5246, section 7.4.3).
+fn dh_params(alloc: Global, values: &ServerDHParams<'_>) -> Result<Value, AllocError>
+    ensures { IfOk result (Shows (dh_fields values.now)) }
+{
+    Table::new(alloc)
+        .bytes("dh_p", values.dh_p)
+        .bytes("dh_g", values.dh_g)
+        .bytes("dh_Ys", values.dh_ys)
+        .finish()
+}
+
+/// The same over elliptic curves (RFC 8422, section 5.4).
+fn ecdh_params(alloc: Global, values: &ServerECDHParams<'_>) -> Result<Value, AllocError>
+    ensures { IfOk result (Shows (ecdh_fields values.now)) }
+{
+    Table::new(alloc)
+        .add("curve_params", curve_of(alloc, &values.curve_params))
+        .bytes("public", values.public.point)
+        .finish()
+}
+
+/// With a server's public values, where the suite has some.
+fn with_public_values<'a>(alloc: Global, table: Table, public: Public, i: &'a [u8]) -> More<'a>
+    ensures { (ns : List (List ℕ)) → HasFieldNames ns table
+        → IfMore (HasFieldNames (ns ++ params_names public)) result }
+{
+    match public {
+        Public::Nothing | Public::Rsa => Some((i, table)),
         Public::Dh => {
             let Ok((i, values)) = parse_dh_params(i) else {
-                return Ok(None);
+                return None;
             };
-            let parameters = Parameters::Dh {
-                dh_p: hexadecimal(alloc, values.dh_p)?,
-                dh_g: hexadecimal(alloc, values.dh_g)?,
-                dh_ys: hexadecimal(alloc, values.dh_ys)?,
-            };
-            Ok(Some((i, Some(parameters))))
+            Some((i, table.add("params", dh_params(alloc, &values))))
         }
         Public::Ecdh => {
             let Ok((i, values)) = parse_ecdh_params(i) else {
-                return Ok(None);
+                return None;
             };
-            let parameters = Parameters::Ecdh {
-                curve_params: curve_of(alloc, &values.curve_params)?,
-                public: hexadecimal(alloc, values.public.point)?,
-            };
-            Ok(Some((i, Some(parameters))))
+            Some((i, table.add("params", ecdh_params(alloc, &values))))
         }
     }
 }
 
-impl Signature {
-    /// A signature of that version; `None` also of versions other than SSL 3.0, TLS 1.0 to 1.2, and DTLS 1.0 and 1.2.
-    pub fn new<'a>(alloc: Global, version: TlsVersion, i: &'a [u8]) -> Read<'a, Signature> {
-        let answer = match version {
-            TlsVersion::Ssl30 | TlsVersion::Tls10 | TlsVersion::Tls11 | TlsVersion::DTls10 => {
-                parse_digitally_signed_old(i)
-            }
-            TlsVersion::Tls12 | TlsVersion::DTls12 => parse_digitally_signed(i),
-            _ => return Ok(None),
-        };
-        let Ok((i, signed)) = answer else {
-            return Ok(None);
-        };
-        let algorithm = match signed.alg {
-            Some(pair) => Some(number(alloc, u16::from_be_bytes([pair.hash.0, pair.sign.0]))?),
-            None => None,
-        };
-        let signature = hexadecimal(alloc, signed.bytes)?;
-        Ok(Some((
-            i,
-            Signature {
-                algorithm,
-                signature,
-            },
-        )))
-    }
-
-    /// The same, where there is one.
-    fn new_if<'a>(
-        alloc: Global,
-        is_there: bool,
-        version: TlsVersion,
-        i: &'a [u8],
-    ) -> Read<'a, Option<Signature>> {
-        if !is_there {
-            return Ok(Some((i, None)));
-        }
-        match Signature::new(alloc, version, i)? {
-            Some((i, signature)) => Ok(Some((i, Some(signature)))),
-            None => Ok(None),
-        }
-    }
+/// A signature (RFC 5246, section 4.7), which names its algorithm from TLS 1.2 on.
+fn signature_of(
+    alloc: Global,
+    algorithm: Option<u16>,
+    signature: &[u8],
+) -> Result<Value, AllocError>
+    ensures { IfOk result (Shows (signature_fields algorithm signature.now)) }
+{
+    Table::new(alloc)
+        .some_hexadecimal("algorithm", algorithm)
+        .bytes("signature", signature)
+        .finish()
 }
 
-impl ServerKeyExchange {
-    /// That in a body. By RSA alone a server has none, but for suites of export, whose values aren't read.
-    pub fn new<'a>(alloc: Global, chosen: Chosen, body: &'a [u8]) -> Read<'a, ServerKeyExchange> {
-        let Some(exchange) = KeyExchange::of(chosen.cipher) else {
-            return Ok(None);
-        };
-        if exchange.public == Public::Rsa && !exchange.has_identity {
-            return Ok(None);
+/// A signature of that version; `None` also of versions other than SSL 3.0, TLS 1.0 to 1.2, and DTLS 1.0 and 1.2.
+pub fn signature<'a>(alloc: Global, version: TlsVersion, i: &'a [u8]) -> Read<'a> {
+    let answer = match version {
+        TlsVersion::Ssl30 | TlsVersion::Tls10 | TlsVersion::Tls11 | TlsVersion::DTls10 => {
+            parse_digitally_signed_old(i)
         }
-        let Some((i, psk_identity_hint)) = identity(alloc, exchange, body)? else {
-            return Ok(None);
-        };
-        let Some((i, params)) = public_values(alloc, exchange, i)? else {
-            return Ok(None);
-        };
-        let signed = Signature::new_if(alloc, exchange.is_signed, chosen.version, i)?;
-        let Some((i, signed_params)) = signed else {
-            return Ok(None);
-        };
-        let read = ServerKeyExchange {
-            psk_identity_hint,
-            params,
-            signed_params,
-        };
-        Ok(Some((i, read)))
+        TlsVersion::Tls12 | TlsVersion::DTls12 => parse_digitally_signed(i),
+        _ => return None,
+    };
+    let Ok((i, signed)) = answer else {
+        return None;
+    };
+    let algorithm = match signed.alg {
+        Some(pair) => Some(u16::from_be_bytes([pair.hash.0, pair.sign.0])),
+        None => None,
+    };
+    Some((i, signature_of(alloc, algorithm, signed.bytes)))
+}
+
+/// With the signature of a server's public values, where the suite has one.
+fn with_signature<'a>(
+    alloc: Global,
+    table: Table,
+    is_signed: bool,
+    version: TlsVersion,
+    i: &'a [u8],
+) -> More<'a>
+    ensures { (ns : List (List ℕ)) → HasFieldNames ns table
+        → IfMore (HasFieldNames (ns ++ names_if is_signed (codes "signed_params"))) result }
+{
+    if !is_signed {
+        return Some((i, table));
     }
+    let (i, signed_params) = signature(alloc, version, i)?;
+    Some((i, table.add("signed_params", signed_params)))
+}
+
+/// A server's key exchange by its fields.
+fn server_fields<'a>(
+    alloc: Global,
+    exchange: KeyExchange,
+    version: TlsVersion,
+    body: &'a [u8],
+) -> Read<'a>
+    ensures { IfRead (HasNames (server_key_exchange_names exchange)) result }
+{
+    let table = Table::new(alloc);
+    let (i, table) = with_identity(alloc, table, "psk_identity_hint", exchange, body)?;
+    let (i, table) = with_public_values(alloc, table, exchange.public, i)?;
+    let (i, table) = with_signature(alloc, table, exchange.is_signed, version, i)?;
+    Some((i, table.finish()))
+}
+
+/// A server's key exchange (RFC 5246, section 7.4.3; RFC 8422, section 5.4; RFC 4279, sections 2 to 4; RFC 5489, section 2). By RSA alone
+/// a server has none, but for suites of export, whose values aren't read.
+pub fn server_key_exchange<'a>(alloc: Global, chosen: Chosen, body: &'a [u8]) -> Read<'a> {
+    let exchange = KeyExchange::of(chosen.cipher)?;
+    if matches!(exchange.public, Public::Rsa) && !exchange.has_identity {
+        return None;
+    }
+    server_fields(alloc, exchange, chosen.version, body)
 }
 
 /// A client's public value or encrypted secret, where the suite has one. In SSL 3.0 the secret has no length (RFC 6101, section 5.6.7.1), and
 /// isn't divided.
-fn client_value<'a>(chosen: Chosen, public: Public, i: &'a [u8]) -> Option<(&'a [u8], &'a [u8])> {
+fn client_value<'a>(
+    version: TlsVersion,
+    public: Public,
+    i: &'a [u8],
+) -> Option<(&'a [u8], &'a [u8])> {
     let answer = match public {
         Public::Nothing => return Some((i, &[])),
-        Public::Rsa if chosen.version == TlsVersion::Ssl30 => return None,
+        Public::Rsa if version == TlsVersion::Ssl30 => return None,
         Public::Rsa | Public::Dh => counted2(i),
         Public::Ecdh => counted1(i),
     };
@@ -247,30 +229,39 @@ fn client_value<'a>(chosen: Chosen, public: Public, i: &'a [u8]) -> Option<(&'a 
     }
 }
 
-impl ClientKeyExchange {
-    /// That in a body. A client whose public value is that of its certificate has an empty one (RFC 5246, section 7.4.7.2), which isn't read.
-    pub fn new<'a>(alloc: Global, chosen: Chosen, body: &'a [u8]) -> Read<'a, ClientKeyExchange> {
-        let Some(exchange) = KeyExchange::of(chosen.cipher) else {
-            return Ok(None);
-        };
-        let Some((i, psk_identity)) = identity(alloc, exchange, body)? else {
-            return Ok(None);
-        };
-        let Some((i, bytes)) = client_value(chosen, exchange.public, i) else {
-            return Ok(None);
-        };
-        let mut read = ClientKeyExchange {
-            psk_identity,
-            pre_master_secret: None,
-            dh_yc: None,
-            ecdh_yc: None,
-        };
-        match exchange.public {
-            Public::Nothing => {}
-            Public::Rsa => read.pre_master_secret = Some(hexadecimal(alloc, bytes)?),
-            Public::Dh => read.dh_yc = Some(hexadecimal(alloc, bytes)?),
-            Public::Ecdh => read.ecdh_yc = Some(hexadecimal(alloc, bytes)?),
-        }
-        Ok(Some((i, read)))
+/// With a client's public value or secret, by the name that it has.
+fn with_client_value(alloc: Global, table: Table, public: Public, content: &[u8]) -> Table
+    ensures { (ns : List (List ℕ)) → HasFieldNames ns table → HasFieldNames (ns ++ client_value_names public) result }
+{
+    match public {
+        Public::Nothing => table,
+        Public::Rsa => table.add("pre_master_secret", blob(alloc, content)),
+        Public::Dh => table.add("dh_Yc", blob(alloc, content)),
+        Public::Ecdh => table.add("ecdh_Yc", blob(alloc, content)),
     }
+}
+
+/// A client's key exchange by its fields.
+fn client_fields<'a>(
+    alloc: Global,
+    exchange: KeyExchange,
+    version: TlsVersion,
+    body: &'a [u8],
+) -> Read<'a>
+    ensures { IfRead (HasNames (client_key_exchange_names exchange)) result }
+{
+    let table = Table::new(alloc);
+    let (i, table) = with_identity(alloc, table, "psk_identity", exchange, body)?;
+    let (i, content) = client_value(version, exchange.public, i)?;
+    Some((
+        i,
+        with_client_value(alloc, table, exchange.public, content).finish(),
+    ))
+}
+
+/// A client's key exchange (RFC 5246, section 7.4.7; RFC 8422, section 5.7; RFC 4279, sections 2 to 4; RFC 5489, section 2). A client whose
+/// public value is that of its certificate has an empty one (RFC 5246, section 7.4.7.2), which isn't read.
+pub fn client_key_exchange<'a>(alloc: Global, chosen: Chosen, body: &'a [u8]) -> Read<'a> {
+    let exchange = KeyExchange::of(chosen.cipher)?;
+    client_fields(alloc, exchange, chosen.version, body)
 }

@@ -4,6 +4,8 @@
 //! written by `serde`: numbers that stand for a thing are hexadecimal, as `0xc02f`, counts and codes of one byte are decimal, bytes are
 //! hexadecimal without `0x`, and names that a peer sent are text in which whatever is no printable ASCII is escaped, as `\xff`.
 //!
+//! A message is a table of its fields, which one printer writes; which fields a message has stands in `specs/Tables.antt`.
+//!
 //! Key exchanges and signatures are read by what the server chose: [`Chosen`] is that of a ServerHello.
 //!
 //! Nothing is left out. A body, or the content of an extension, that isn't read is a text: its bytes in hexadecimal. Bytes behind the
@@ -15,16 +17,17 @@ mod body;
 mod change;
 mod chosen;
 mod content;
-mod data;
 mod datagrams;
 mod exchange;
 mod extension;
 mod heartbeat;
 mod hello;
+mod json;
 mod key_exchange;
 mod message;
 mod names;
 mod offers;
+mod table;
 mod text;
 
 pub use alert::AlertMessage;

@@ -1,8 +1,17 @@
 //! Handshake messages.
+ghost use Rattle.std.specs.Prelude.{IfOk};
+ghost use Rattle.serde_json.specs.Data.{Data};
+ghost use Rattle.serde_json.specs.Events.{SendsValue};
+ghost use Rattle.tls_json.specs.Views.{view};
+ghost use Rattle.tls_json.specs.Outline.{Shows};
+ghost use Rattle.tls_json.specs.Tables.{message_fields};
+
 use crate::body::Content;
 use crate::chosen::Chosen;
+use crate::json::Value;
 use crate::names::message_name;
-use serde::Serialize;
+use crate::table::Table;
+use serde::{Described, Serialize, Serializer};
 use std::alloc::{AllocError, Global};
 use tls_base::TlsHandshakeType;
 use tls_fields::InPlace;
@@ -10,16 +19,41 @@ use tls_hs::RawHandshake;
 
 /// A handshake message (RFC 5246, section 7.4; of DTLS RFC 6347, section 4.2.2): its type, the name of that where it has one, the
 /// bytes of its body, in DTLS its number, and what stands in the body.
-#[derive(Debug, Drop, Serialize)]
+#[derive(Drop)]
 pub struct Message {
-    msg_type: u8,
-    #[serde(skip_serializing_if = "Option::is_none")]
+    value: Value,
+}
+
+impl Described for Message {
+    ghost writes = { λ m. SendsValue (view m.value) };
+}
+
+impl Serialize for Message {
+    fn serialize<S: Serializer>(&self, out: &mut S) -> Result<(), S::Error> {
+        self.value.serialize(out)
+    }
+}
+
+/// The fields of a message; of its body the length, and what stands in it.
+fn fields(
+    alloc: Global,
+    msg_type: TlsHandshakeType,
     name: Option<&'static str>,
     length: usize,
-    #[serde(skip_serializing_if = "Option::is_none")]
-    message_seq: Option<u16>,
-    #[serde(flatten)]
-    content: Content,
+    message_seq: Option<u64>,
+    content: Content<'_>,
+) -> Result<Value, AllocError>
+    ensures { (d : Data) → IfOk content.entry.body (Shows d)
+        → IfOk result (Shows (message_fields msg_type.0 name.entry length message_seq d content.entry.rest.now)) }
+{
+    Table::new(alloc)
+        .decimal("msg_type", u64::from(msg_type.0))
+        .some_name("name", name)
+        .decimal("length", length as u64)
+        .some_decimal("message_seq", message_seq)
+        .add("body", content.body)
+        .some_bytes("rest", content.rest)
+        .finish()
 }
 
 impl Message {
@@ -35,13 +69,16 @@ impl Message {
         let Ok((_, raw)) = RawHandshake::read(message) else {
             return Ok(None);
         };
-        Ok(Some(Message {
-            msg_type: raw.msg_type.0,
-            name: message_name(raw.msg_type),
-            length: raw.body.len(),
-            message_seq: None,
-            content: Content::new(alloc, chosen, raw.msg_type, raw.body)?,
-        }))
+        let content = Content::new(alloc, chosen, raw.msg_type, raw.body);
+        let value = fields(
+            alloc,
+            raw.msg_type,
+            message_name(raw.msg_type),
+            raw.body.len(),
+            None,
+            content,
+        )?;
+        Ok(Some(Message { value }))
     }
 
     /// A whole message of DTLS, by its type, its number and its body, which was put together from its fragments; `chosen` as for TLS.
@@ -54,12 +91,16 @@ impl Message {
         message_seq: u16,
         body: &[u8],
     ) -> Result<Message, AllocError> {
-        Ok(Message {
-            msg_type: msg_type.0,
-            name: message_name(msg_type),
-            length: body.len(),
-            message_seq: Some(message_seq),
-            content: Content::of_datagrams(alloc, chosen, msg_type, body)?,
-        })
+        let content = Content::of_datagrams(alloc, chosen, msg_type, body);
+        let number = Some(u64::from(message_seq));
+        let value = fields(
+            alloc,
+            msg_type,
+            message_name(msg_type),
+            body.len(),
+            number,
+            content,
+        )?;
+        Ok(Message { value })
     }
 }

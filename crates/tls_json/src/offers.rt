@@ -1,116 +1,153 @@
 //! Contents of extensions that the library hands over undivided, or has no name for.
+ghost use Rattle.std.specs.Prelude.{IfOk, IfSome};
+ghost use Rattle.tls_json.specs.Outline.{Shows, ReadsAs};
+ghost use Rattle.tls_json.specs.Extensions.{identity_fields, suite_fields, encrypted_hello_fields};
+ghost use Rattle.tls_json.specs.Extensions as names_of;
+
 use crate::content::Answer;
-use crate::data::{Data, HpkeSymmetricCipherSuite, PskIdentity};
-use crate::text::{blobs, hexadecimal, number, numbers};
+use crate::json::Value;
+use crate::table::{Table, Values, single};
+use crate::text::{blob, numbers};
 use std::alloc::{AllocError, Global};
-use tls_fields::{Counted1, IResult, Items, counted1, counted2, number1, number2, number4};
+use tls_fields::{Counted1, Items, counted1, counted2, number4};
 
 /// The form of an encrypted_client_hello that isn't itself encrypted (RFC 9849, section 5).
 const OUTER: u8 = 0;
 
-/// The 2-byte numbers of a list; `None` where half of one is left.
-fn whole_numbers<'a>(bytes: &'a [u8]) -> Option<Items<'a, u16>> {
-    let list: Items<u16> = Items::new(bytes);
-    if list.rest().is_empty() {
-        return Some(list);
-    }
-    None
+/// A key that a client knows before (RFC 8446, section 4.2.11).
+fn identity_of(alloc: Global, identity: &[u8], age: u32) -> Result<Value, AllocError>
+    ensures { IfOk result (Shows (identity_fields identity.now age)) }
+{
+    Table::new(alloc)
+        .bytes("identity", identity)
+        .decimal("obfuscated_ticket_age", u64::from(age))
+        .finish()
 }
 
 /// The identities in the bytes of their list (RFC 8446, section 4.2.11); `None` where not all of it is read.
-fn identities(alloc: Global, list: &[u8]) -> Result<Option<Vec<PskIdentity>>, AllocError> {
-    let mut all = Vec::new(alloc);
+fn identities(alloc: Global, list: &[u8]) -> Answer {
+    let mut all = Values::new(alloc);
     let mut left = list;
     for _ in 0..list.len() {
         if left.is_empty() {
             break;
         }
         let Ok((i, identity)) = counted2(left) else {
-            return Ok(None);
+            return None;
         };
-        let Ok((i, obfuscated_ticket_age)) = number4(i) else {
-            return Ok(None);
+        let Ok((i, age)) = number4(i) else {
+            return None;
         };
-        all.push(PskIdentity {
-            identity: hexadecimal(alloc, identity)?,
-            obfuscated_ticket_age,
-        })?;
+        all = all.add(identity_of(alloc, identity, age));
         left = i;
     }
-    Ok(Some(all))
+    Some(all.finish())
+}
+
+/// What shows that a client knows them (RFC 8446, section 4.2.11).
+fn binders(alloc: Global, list: Items<'_, Counted1>) -> Result<Value, AllocError> {
+    let mut all = Values::new(alloc);
+    for binder in list {
+        all = all.add(blob(alloc, binder));
+    }
+    all.finish()
 }
 
 /// The keys that a client knows before, and what shows that it does (RFC 8446, section 4.2.11).
-pub fn known_keys(alloc: Global, content: &[u8]) -> Answer {
+pub fn known_keys(alloc: Global, content: &[u8]) -> Answer
+    ensures { IfSome result (ReadsAs names_of.offered_psks) }
+{
     let Ok((i, list)) = counted2(content) else {
-        return Ok(None);
+        return None;
     };
     let Ok(([], shown)) = counted2(i) else {
-        return Ok(None);
+        return None;
     };
-    let binders: Items<Counted1> = Items::new(shown);
-    if !binders.rest().is_empty() {
-        return Ok(None);
+    let list_of_binders: Items<Counted1> = Items::new(shown);
+    if !list_of_binders.rest().is_empty() {
+        return None;
     }
-    let Some(identities) = identities(alloc, list)? else {
-        return Ok(None);
-    };
-    Ok(Some(Data::OfferedPsks {
-        identities,
-        binders: blobs(alloc, binders)?,
-    }))
+    let identities = identities(alloc, list)?;
+    Some(
+        Table::new(alloc)
+            .add("identities", identities)
+            .add("binders", binders(alloc, list_of_binders))
+            .finish(),
+    )
 }
 
 /// Which of them a server takes up (RFC 8446, section 4.2.11).
-pub fn selected_key(content: &[u8]) -> Option<Data> {
-    match content {
-        [upper, lower] => Some(Data::SelectedIdentity {
-            selected_identity: u16::from_be_bytes([*upper, *lower]),
-        }),
-        _ => None,
-    }
+pub fn selected_key(alloc: Global, content: &[u8]) -> Answer
+    ensures { IfSome result (ReadsAs names_of.selected_identity) }
+{
+    let [upper, lower] = content else {
+        return None;
+    };
+    let identity = u16::from_be_bytes([*upper, *lower]);
+    Some(single(
+        alloc,
+        "selected_identity",
+        Ok(Value::Number(u64::from(identity))),
+    ))
 }
 
 /// The algorithms by which a certificate may be compressed (RFC 8879, section 3).
-pub fn compressions(alloc: Global, content: &[u8]) -> Answer {
+pub fn compressions(alloc: Global, content: &[u8]) -> Answer
+    ensures { IfSome result (ReadsAs names_of.compress_certificate) }
+{
     let Ok(([], list)) = counted1(content) else {
-        return Ok(None);
+        return None;
     };
-    let Some(list) = whole_numbers(list) else {
-        return Ok(None);
-    };
-    let mut algorithms = Vec::new(alloc);
-    for algorithm in list {
-        algorithms.push(algorithm)?;
+    if list.len() % 2 != 0 {
+        return None;
     }
-    Ok(Some(Data::Compressions { algorithms }))
+    let list: Items<u16> = Items::new(list);
+    let mut algorithms = Values::new(alloc);
+    for algorithm in list {
+        algorithms = algorithms.add(Ok(Value::Number(u64::from(algorithm))));
+    }
+    Some(single(alloc, "algorithms", algorithms.finish()))
 }
 
 /// How media behind the handshake may be protected (RFC 5764, section 4.1.1).
-pub fn srtp_profiles(alloc: Global, content: &[u8]) -> Answer {
+pub fn srtp_profiles(alloc: Global, content: &[u8]) -> Answer
+    ensures { IfSome result (ReadsAs names_of.use_srtp) }
+{
     let Ok((i, list)) = counted2(content) else {
-        return Ok(None);
+        return None;
     };
     let Ok(([], srtp_mki)) = counted1(i) else {
-        return Ok(None);
+        return None;
     };
-    let Some(list) = whole_numbers(list) else {
-        return Ok(None);
-    };
-    Ok(Some(Data::SrtpProfiles {
-        profiles: numbers(alloc, list)?,
-        srtp_mki: hexadecimal(alloc, srtp_mki)?,
-    }))
+    if list.len() % 2 != 0 {
+        return None;
+    }
+    Some(
+        Table::new(alloc)
+            .add("SRTPProtectionProfiles", numbers(alloc, list))
+            .bytes("srtp_mki", srtp_mki)
+            .finish(),
+    )
 }
 
 /// The id that a side wants in the records that it gets (RFC 9146, section 3).
-pub fn connection_id(alloc: Global, content: &[u8]) -> Answer {
-    match counted1(content) {
-        Ok(([], cid)) => Ok(Some(Data::ConnectionId {
-            cid: hexadecimal(alloc, cid)?,
-        })),
-        _ => Ok(None),
-    }
+pub fn connection_id(alloc: Global, content: &[u8]) -> Answer
+    ensures { IfSome result (ReadsAs names_of.connection_id) }
+{
+    let Ok(([], cid)) = counted1(content) else {
+        return None;
+    };
+    Some(single(alloc, "cid", blob(alloc, cid)))
+}
+
+/// How a hello is encrypted (RFC 9849, section 4).
+fn suite_of(alloc: Global, kdf_id: u16, aead_id: u16) -> Result<Value, AllocError>
+    ensures { IfOk result (Shows (suite_fields kdf_id aead_id)) }
+{
+    Table::new(alloc)
+        .hexadecimal("kdf_id", kdf_id)
+        .hexadecimal("aead_id", aead_id)
+        .finish()
 }
 
 /// The parts of an encrypted_client_hello behind its type.
@@ -123,38 +160,47 @@ struct Outer<'a> {
     payload: &'a [u8],
 }
 
-fn parts_of_outer<'a>(i: &'a [u8]) -> IResult<&'a [u8], Outer<'a>> {
-    let (i, kdf_id) = number2(i)?;
-    let (i, aead_id) = number2(i)?;
-    let (i, config_id) = number1(i)?;
-    let (i, enc) = counted2(i)?;
-    let (i, payload) = counted2(i)?;
-    let parts = Outer {
-        kdf_id,
-        aead_id,
-        config_id,
-        enc,
-        payload,
-    };
-    Ok((i, parts))
+/// A client's encrypted_client_hello, as it stands in the hello that isn't encrypted (RFC 9849, section 5).
+fn outer_fields(alloc: Global, parts: &Outer<'_>) -> Result<Value, AllocError>
+    ensures { IfOk result (Shows (encrypted_hello_fields parts.now)) }
+{
+    Table::new(alloc)
+        .decimal("type", u64::from(OUTER))
+        .add("cipher_suite", suite_of(alloc, parts.kdf_id, parts.aead_id))
+        .decimal("config_id", u64::from(parts.config_id))
+        .bytes("enc", parts.enc)
+        .bytes("payload", parts.payload)
+        .finish()
 }
 
 /// An encrypted hello in the one that isn't (RFC 9849, section 5).
-pub fn encrypted_hello(alloc: Global, content: &[u8]) -> Answer {
-    let [OUTER, i @ ..] = content else {
-        return Ok(None);
+pub fn encrypted_hello(alloc: Global, content: &[u8]) -> Answer
+    ensures { IfSome result (ReadsAs names_of.encrypted_client_hello) }
+{
+    let [
+        OUTER,
+        kdf_upper,
+        kdf_lower,
+        aead_upper,
+        aead_lower,
+        config_id,
+        i @ ..,
+    ] = content
+    else {
+        return None;
     };
-    let Ok(([], parts)) = parts_of_outer(i) else {
-        return Ok(None);
+    let Ok((i, enc)) = counted2(i) else {
+        return None;
     };
-    Ok(Some(Data::EncryptedClientHello {
-        kind: OUTER,
-        cipher_suite: HpkeSymmetricCipherSuite {
-            kdf_id: number(alloc, parts.kdf_id)?,
-            aead_id: number(alloc, parts.aead_id)?,
-        },
-        config_id: parts.config_id,
-        enc: hexadecimal(alloc, parts.enc)?,
-        payload: hexadecimal(alloc, parts.payload)?,
-    }))
+    let Ok(([], payload)) = counted2(i) else {
+        return None;
+    };
+    let parts = Outer {
+        kdf_id: u16::from_be_bytes([*kdf_upper, *kdf_lower]),
+        aead_id: u16::from_be_bytes([*aead_upper, *aead_lower]),
+        config_id: *config_id,
+        enc,
+        payload,
+    };
+    Some(outer_fields(alloc, &parts))
 }

@@ -1,59 +1,65 @@
 //! How numbers and bytes are written.
-ghost use Rattle.std.specs.Iterator.{IsFinite};
+ghost use Rattle.std.specs.Prelude.{IfOk};
+ghost use Rattle.hex.specs.Hex.{encode_lower};
+ghost use Rattle.serde_json.specs.Data.{string, array, no_items};
+ghost use Rattle.tls_json.specs.Outline.{Shows, number_text, bytes};
 
+use crate::json::Value;
+use crate::table::Values;
 use std::alloc::{AllocError, Global};
+use tls_fields::{Counted2, Items};
 
 /// Bytes, in hexadecimal.
-pub fn hexadecimal(alloc: Global, bytes: &[u8]) -> Result<String, AllocError> {
-    hex::encode(alloc, bytes)
-}
-
-/// The same of bytes that may be missing: nothing where there are none.
-pub fn some_hexadecimal(alloc: Global, bytes: &[u8]) -> Result<Option<String>, AllocError> {
-    if bytes.is_empty() {
-        return Ok(None);
-    }
-    Ok(Some(hexadecimal(alloc, bytes)?))
-}
-
-/// Blobs in their order, each in hexadecimal.
-pub fn blobs<'a, I: Iterator<Item = &'a [u8]>>(
-    alloc: Global,
-    list: I,
-) -> Result<Vec<String>, AllocError>
-    requires { I.can_next list × IsFinite (I.remaining list) }
+pub fn blob(alloc: Global, bytes: &[u8]) -> Result<Value, AllocError>
+    ensures { IfOk result (Shows (string (encode_lower bytes.now))) }
 {
-    let mut all = Vec::new(alloc);
-    for one in list {
-        all.push(hexadecimal(alloc, one)?)?;
-    }
-    Ok(all)
+    Ok(Value::Text(hex::encode(alloc, bytes)?))
 }
 
 /// A number of 2 bytes that stands for a thing, as `0xc02f`.
-pub fn number(alloc: Global, number: u16) -> Result<String, AllocError> {
-    format!(in alloc; "0x{number:04x}")
+pub fn code_text(alloc: Global, code: u16) -> Result<Value, AllocError>
+    ensures { IfOk result (Shows (string (number_text code))) }
+{
+    let mut text = String::from_str(alloc, "0x")?;
+    text.push_str(hex::encode(alloc, &code.to_be_bytes())?.as_str())?;
+    Ok(Value::Text(text))
 }
 
-/// Such numbers, in their order.
-pub fn numbers<I: Iterator<Item = u16>>(alloc: Global, list: I) -> Result<Vec<String>, AllocError>
-    requires { I.can_next list × IsFinite (I.remaining list) }
+/// Blobs in their order, each in hexadecimal.
+pub fn blobs(alloc: Global, list: Items<'_, Counted2>) -> Result<Value, AllocError>
+    ensures { IfOk result (Shows (array no_items)) }
 {
-    let mut all = Vec::new(alloc);
+    let mut all = Values::new(alloc);
     for one in list {
-        all.push(number(alloc, one)?)?;
+        all = all.add(blob(alloc, one));
     }
-    Ok(all)
+    all.finish()
+}
+
+/// The numbers of 2 bytes in `bytes`, in their order, as `0xc02f`.
+pub fn numbers(alloc: Global, bytes: &[u8]) -> Result<Value, AllocError>
+    ensures { IfOk result (Shows (array no_items)) }
+{
+    let list: Items<u16> = Items::new(bytes);
+    let mut all = Values::new(alloc);
+    for one in list {
+        all = all.add(code_text(alloc, one));
+    }
+    all.finish()
 }
 
 /// Codes of one byte, in their order.
-pub fn codes(alloc: Global, bytes: &[u8]) -> Result<Vec<u8>, AllocError> {
-    let mut all = Vec::new(alloc);
-    all.extend_from_slice(bytes)?;
-    Ok(all)
+pub fn codes(alloc: Global, bytes: &[u8]) -> Result<Value, AllocError>
+    ensures { IfOk result (Shows (array no_items)) }
+{
+    let mut all = Values::new(alloc);
+    for code in bytes {
+        all = all.add(Ok(Value::Number(u64::from(*code))));
+    }
+    all.finish()
 }
 
 /// A name that a peer sent; whatever is no printable ASCII is escaped.
-pub fn name(alloc: Global, bytes: &[u8]) -> Result<String, AllocError> {
-    format!(in alloc; "{}", bytes.escape_ascii())
+pub fn escaped(alloc: Global, bytes: &[u8]) -> Result<Value, AllocError> {
+    Ok(Value::Text(format!(in alloc; "{}", bytes.escape_ascii())?))
 }

@@ -1,0 +1,4 @@
+pub mod Views
+pub mod Outline
+pub mod Tables
+pub mod Extensions

@@ -1,0 +1,140 @@
+-- What the clauses say of a value: all of it but what stands in lists.
+use Rattle.std.specs.Prelude.{◌≡◌, ◌++◌, ◌/◌, ◌%◌, ℕ, List, [], ◌∷◌, map, codes, Option, Some, None, Result, IfOk, Vec, ⊤}
+use Rattle.std.specs.Borrow.{Bor}
+use Rattle.std.specs.declared.alloc.AllocError.{AllocError}
+use Rattle.std.specs.declared.alloc.Global.{Global}
+use Rattle.hex.specs.Hex.{encode_lower}
+use Rattle.serde_json.specs.Data.{
+  Data,
+  null,
+  boolean,
+  number,
+  unsigned,
+  string,
+  array,
+  object,
+  no_items,
+  Members,
+  no_members,
+  member,
+}
+use Rattle.tls_json.specs.Views.{view}
+use Rattle.tls_json.specs.declared.json.Value.{Value}
+use Rattle.tls_json.specs.declared.table.Table.{Table}
+
+-- The same with each list emptied.
+abbrev mutual
+  pub outline : Data → Data
+  outline null = null
+  outline (boolean b) = boolean b
+  outline (number n) = number n
+  outline (string s) = string s
+  outline (array ds) = array no_items
+  outline (object ms) = object (outlines ms)
+
+  pub outlines : Members → Members
+  outlines no_members = no_members
+  outlines (member k d ms) = member k (outline d) (outlines ms)
+
+abbrev pub Shows : Data → Value → Type 0
+Shows d v = outline (view v) ≡ d
+
+-- Names of fields, each with what it stands for.
+abbrev pub Entries : Type 0
+Entries = List (List ℕ × Data)
+
+abbrev pub entries : List (Bor (List ℕ) × Value) → Entries
+entries = map (λ m. (m.0.now, outline (view m.1)))
+
+abbrev pub entry_names : Entries → List (List ℕ)
+entry_names = map (λ e. e.0)
+
+abbrev pub members : Entries → Members
+members [] = no_members
+members (e ∷ es) = member e.0 e.1 (members es)
+
+abbrev pub object_of : Entries → Data
+object_of es = object (members es)
+
+-- A number of 2 bytes, as `0xc02f`.
+abbrev pub number_text : ℕ → List ℕ
+number_text n = codes "0x" ++ encode_lower (n / 256 ∷ n % 256 ∷ [])
+
+-- The fields of each form of value.
+abbrev pub decimal : List ℕ → ℕ → List ℕ × Data
+decimal name n = (name, number (unsigned n))
+
+abbrev pub hexadecimal : List ℕ → ℕ → List ℕ × Data
+hexadecimal name n = (name, string (number_text n))
+
+abbrev pub bytes : List ℕ → List ℕ → List ℕ × Data
+bytes name b = (name, string (encode_lower b))
+
+abbrev pub list : List ℕ → List ℕ × Data
+list name = (name, array no_items)
+
+-- Fields that may be missing.
+abbrev pub some_decimal : List ℕ → Option ℕ → Entries
+some_decimal name None = []
+some_decimal name (Some n) = decimal name n ∷ []
+
+abbrev pub some_hexadecimal : List ℕ → Option ℕ → Entries
+some_hexadecimal name None = []
+some_hexadecimal name (Some n) = hexadecimal name n ∷ []
+
+abbrev pub some_bytes : List ℕ → List ℕ → Entries
+some_bytes name [] = []
+some_bytes name (b ∷ bs) = bytes name (b ∷ bs) ∷ []
+
+abbrev pub bytes_if : List ℕ → Option (Bor (List ℕ)) → Entries
+bytes_if name None = []
+bytes_if name (Some b) = bytes name b.now ∷ []
+
+abbrev pub some_name : List ℕ → Option (Bor (List ℕ)) → Entries
+some_name name None = []
+some_name name (Some s) = (name, string s.now) ∷ []
+
+-- The names of an object's fields; any other value has none.
+abbrev pub member_names : Members → List (List ℕ)
+member_names no_members = []
+member_names (member k d ms) = k ∷ member_names ms
+
+abbrev pub names : Data → List (List ℕ)
+names null = []
+names (boolean b) = []
+names (number n) = []
+names (string s) = []
+names (array ds) = []
+names (object ms) = member_names ms
+
+abbrev pub HasNames : List (List ℕ) → Value → Type 0
+HasNames ns v = names (outline (view v)) ≡ ns
+
+abbrev pub Made : Type 0
+Made = Result Value AllocError
+
+-- Where there was memory for it, the fields have these names.
+abbrev pub ReadsAs : List (List ℕ) → Made → Type 0
+ReadsAs ns r = IfOk r (HasNames ns)
+
+-- What a table holds, where there was memory for it.
+abbrev pub HasEntries : Entries → Vec (Bor (List ℕ) × Value) Global → Type 0
+HasEntries es fields = entries fields.items ≡ es
+
+abbrev pub IsNamed : List (List ℕ) → Vec (Bor (List ℕ) × Value) Global → Type 0
+IsNamed ns fields = entry_names (entries fields.items) ≡ ns
+
+abbrev pub HasFields : Entries → Table → Type 0
+HasFields es t = IfOk t.fields (HasEntries es)
+
+abbrev pub HasFieldNames : List (List ℕ) → Table → Type 0
+HasFieldNames ns t = IfOk t.fields (IsNamed ns)
+
+-- Where all of it is there, p holds of what was read, or of the table with more fields.
+abbrev pub IfRead : (Value → Type 0) → Option (Bor (List ℕ) × Made) → Type 0
+IfRead p None = ⊤
+IfRead p (Some x) = IfOk x.1 p
+
+abbrev pub IfMore : (Table → Type 0) → Option (Bor (List ℕ) × Table) → Type 0
+IfMore p None = ⊤
+IfMore p (Some x) = p x.1
