@@ -8,9 +8,11 @@ ghost use Rattle.tls_parser.specs.DtlsHello.{hello_verify_request as hello_verif
 
 use std::alloc::Global;
 use tls_base::{CipherTable, TlsCipherSuite, TlsCipherSuiteID, TlsCompressionID, TlsVersion};
-use tls_fields::{IResult, OutOfMemory, block, counted1, maybe2};
+use tls_fields::{IResult, OutOfMemory, block, counted1};
 use tls_hs::ClientHello;
-use tls_hs::parts::{cipher_suites, compressions, random_bytes, random_time, session_id, suites};
+use tls_hs::parts::{
+    cipher_suites, compressions, extension_block, random_bytes, random_time, session_id, suites,
+};
 
 /// The body of a ClientHello of DTLS (RFC 6347, section 4.2.1).
 #[derive(Debug, PartialEq, Drop)]
@@ -102,7 +104,7 @@ pub(crate) fn client_hello(alloc: Global, i: &[u8]) -> IResult<&[u8], DTLSClient
     let (i, cookie) = counted1(i)?;
     let (i, ciphers) = cipher_suites(alloc, i)?;
     let (i, comp) = compressions(alloc, i)?;
-    let (i, ext) = maybe2(i)?;
+    let (i, ext) = extension_block(i);
     let hello = DTLSClientHello {
         version,
         random,

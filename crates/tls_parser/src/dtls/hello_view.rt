@@ -4,8 +4,8 @@ ghost use Rattle.tls_parser.specs.DtlsHello.{client_hello};
 ghost use Rattle.tls_parser.specs.DtlsInPlace.{view_client_hello_in_place};
 
 use tls_base::{TlsCipherSuiteID, TlsCompressionID, TlsVersion};
-use tls_fields::{IResult, Items, block, counted1, maybe2};
-use tls_hs::parts::{cipher_suites_in_place, compressions_in_place, session_id};
+use tls_fields::{IResult, Items, block, counted1};
+use tls_hs::parts::{cipher_suites_in_place, compressions_in_place, extension_block, session_id};
 
 /// The body of a ClientHello of DTLS (RFC 6347, section 4.2.1), as [`crate::DTLSClientHello`], but with its lists in place.
 #[derive(Clone, Copy, Debug, PartialEq)]
@@ -42,7 +42,7 @@ impl<'a> DTLSClientHelloView<'a> {
         let (i, cookie) = counted1(i)?;
         let (i, ciphers) = cipher_suites_in_place(i)?;
         let (i, comp) = compressions_in_place(i)?;
-        let (i, ext) = maybe2(i)?;
+        let (i, ext) = extension_block(i);
         let hello = DTLSClientHelloView {
             version,
             random,

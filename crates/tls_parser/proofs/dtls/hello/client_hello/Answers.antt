@@ -27,10 +27,6 @@ pub returns-in_err-i-6 : goal.returns-in_err-i-6
 unfolding client_hello
 returns-in_err-i-6 c = grind (arith, read_allowed)
 
-pub returns-in_err-i-7 : goal.returns-in_err-i-7
-unfolding client_hello
-returns-in_err-i-7 c = grind (arith, read_allowed)
-
 pub returns : goal.returns
 unfolding client_hello
 returns c = grind (arith, read_allowed)
