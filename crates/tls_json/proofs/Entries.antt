@@ -1,5 +1,5 @@
 -- Fields in their order.
-use Rattle.std.proofs.Common.{◌≡◌, ℕ, List, [], ◌∷◌, ◌++◌, refl, ap, ◌∙◌, Vec, Global, Ok, Err, IfOk, rules}
+use Rattle.std.proofs.Common.{◌≡◌, ℕ, List, [], ◌∷◌, refl, ap, ◌∙◌, Vec, Global, Ok, Err, IfOk, rules}
 use Rattle.std.specs.Borrow.{Bor}
 use Rattle.serde_json.specs.Data.{Data, null, object, member}
 use Rattle.tls_json.specs.Views.{view, members_view}
@@ -19,10 +19,6 @@ use Rattle.tls_json.specs.Outline.{
 }
 use Rattle.tls_json.specs.declared.json.Value.{Value, Object, the_lemmas}
 
-pub entries_append : (fs gs : List (Bor (List ℕ) × Value)) → entries (fs ++ gs) ≡ entries fs ++ entries gs
-entries_append [] gs = refl
-entries_append (f ∷ fs) gs = ap (λ es. (f.0.now, outline (view f.1)) ∷ es) (entries_append fs gs)
-
 view_object : (v : Vec (Bor (List ℕ) × Value) Global) → view (Object v) ≡ object (members_view v.items)
 view_object v = search (rules, the_lemmas)
 
@@ -40,11 +36,6 @@ names_members (e ∷ es) = ap (λ ns. e.0 ∷ ns) (names_members es)
 
 pub names_object : (v : Vec (Bor (List ℕ) × Value) Global) → names (outline (view (Object v))) ≡ entry_names (entries v.items)
 names_object v = ap (λ d. names d) (outline_object v) ∙ names_members (entries v.items)
-
--- The names of two lists of fields, one behind the other.
-pub names_append : (es fs : Entries) → entry_names (es ++ fs) ≡ entry_names es ++ entry_names fs
-names_append [] fs = refl
-names_append (e ∷ es) fs = ap (λ ns. e.0 ∷ ns) (names_append es fs)
 
 -- What a value shows, where it is there.
 abbrev pub data_of : Made → Data
