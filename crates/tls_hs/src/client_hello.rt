@@ -7,11 +7,11 @@ ghost use Rattle.tls_hs.specs.Hello.{view_client_hello, client_hello};
 
 use crate::client_hello_trait::ClientHello;
 use crate::hello_fields::{
-    cipher_suites, compressions, extension_block, random_bytes, random_time, session_id, suites,
+    cipher_suites, compressions, random_bytes, random_time, session_id, suites,
 };
 use std::alloc::Global;
 use tls_base::{CipherTable, TlsCipherSuite, TlsCipherSuiteID, TlsCompressionID, TlsVersion};
-use tls_fields::{IResult, OutOfMemory, block};
+use tls_fields::{IResult, OutOfMemory, block, maybe2};
 
 /// The body of a ClientHello (RFC 5246, section 7.4.1.2).
 #[derive(Debug, PartialEq, Drop)]
@@ -164,7 +164,8 @@ pub fn parse_tls_handshake_client_hello(
     let (i, session_id) = session_id(i)?;
     let (i, ciphers) = cipher_suites(alloc, i)?;
     let (i, comp) = compressions(alloc, i)?;
-    let (i, ext) = extension_block(i);
+    // (by `extension_block` this call is inlined where the type is chosen, and each other message takes 5 to 8 instructions more)
+    let (i, ext) = maybe2(i)?;
     let hello = TlsClientHelloContents {
         version,
         random,
