@@ -1,4 +1,4 @@
-"""The checks of tlslog's options on its stored captures: fields, comma-separated values, names of suites, messages, and the uses of docs/TLSLOG.md."""
+"""The checks of tlslog's options on its stored captures: fields, comma-separated values, names of suites, messages, and the commands of docs/REPORT.md and SCALE.md."""
 
 import csv
 import io
@@ -179,14 +179,14 @@ def printed(what, text):
 
 
 def uses(program, files, lines, room):
-    """The commands of docs/TLSLOG.md, as they stand there."""
+    """The commands of docs/REPORT.md, as they stand there."""
     if not shutil.which("jq"):
-        print("logs: there is no jq: the uses of docs/TLSLOG.md weren't run")
+        print("logs: there is no jq: the commands of docs/REPORT.md weren't run")
         return 0
     (room / "suites").write_text(SUITES)
-    rows = re.findall(r"^\| (.*?) \| `(\./tlslog .*)` \|$", (TOP / "docs" / "TLSLOG.md").read_text(), re.M)
+    rows = re.findall(r"^\| (.*?) \| `(\./tlslog .*)` \|$", (TOP / "docs" / "REPORT.md").read_text(), re.M)
     wanted = wanted_of_uses(lines)
-    want(len(rows) == len(wanted), len(rows), "uses in docs/TLSLOG.md")
+    want(len(rows) == len(wanted), len(rows), "commands in docs/REPORT.md")
     for what, command in rows:
         shell = command.replace("\\|", "|").replace("./tlslog", shlex.quote(str(program)))
         shell = shell.replace("suites.txt", shlex.quote(str(room / "suites")))
@@ -201,6 +201,23 @@ def uses(program, files, lines, room):
     return len(rows)
 
 
+def many_captures(program, ask, files, room):
+    """The command of docs/SCALE.md on many captures, as it stands there."""
+    [command] = re.findall(r"^    (printf .*)$", (TOP / "docs" / "SCALE.md").read_text(), re.M)
+    folder = room / "many"
+    folder.mkdir()
+    for file in files:
+        shutil.copy(file, folder / f"a {file.name}")
+    shell = command.replace("./tlslog", shlex.quote(str(program)))
+    ran = subprocess.run(["bash", "-c", "set -o pipefail\n" + shell], cwd=folder, stderr=subprocess.PIPE, text=True, check=False)
+    want(ran.returncode == 0, command, ran.returncode, ran.stderr[-300:])
+    for file in files:
+        text = (folder / f"a {file.name}.json").read_text()
+        want(text == ask([file])[1], command, file.name, text[-300:])
+    shutil.rmtree(folder)
+    return len(files)
+
+
 def check(program, ask, files, lines, room):
     """All of them. `ask` runs the program on arguments: its status, output and error output."""
     count = fields(ask, files, lines)
@@ -209,4 +226,5 @@ def check(program, ask, files, lines, room):
     count, with_fields = messages(ask, files)
     print(f"logs: {count} messages are those that tshark has, with their places, also as comma-separated values; {with_fields} of them have the "
           "fields of key exchanges, signatures and keys known before that tshark has")
-    print(f"logs: {uses(program, files, lines, room)} uses of docs/TLSLOG.md print what the stored lines want")
+    print(f"logs: {uses(program, files, lines, room)} commands of docs/REPORT.md print what the stored lines want")
+    print(f"logs: the command of docs/SCALE.md on {many_captures(program, ask, files, room)} captures prints the lines of each")

@@ -68,7 +68,7 @@ def rows(capture, port, udp):
     layer, prefix = ("udp", "dtls") if udp else ("tcp", "tls")
     fields = [*OUTER, *(OF_UDP if udp else OF_TCP), *wanted_hellos.SHARED]
     fields += [f"{prefix}.{field}" for field in (*FIELDS, *wanted_hellos.FIELDS)]
-    command = ["tshark", "-r", str(capture), "-T", "fields", "-E", "separator=|", "-E", "occurrence=a", "-E", "aggregator=;", "-Y", layer]
+    command = ["tshark", "-r", str(capture), "-T", "fields", "-E", "separator=/t", "-E", "occurrence=a", "-E", "aggregator=;", "-Y", layer]
     command += ["-o", "tcp.reassemble_out_of_order:TRUE"]
     if port:
         command += ["-d", f"{layer}.port=={port},{prefix}"]
@@ -77,7 +77,7 @@ def rows(capture, port, udp):
     names = [field if field in wanted_hellos.SHARED else re.sub("^d?tls[.]", "", field) for field in fields]
     text = subprocess.run(command, stdout=subprocess.PIPE, stderr=subprocess.DEVNULL, text=True, check=True).stdout
     for line in text.splitlines():
-        yield {name: [v for v in part.split(";") if v] for name, part in zip(names, line.split("|"))}
+        yield {name: [v for v in part.split(";") if v] for name, part in zip(names, line.split("\t"))}
 
 
 def first(row, *fields):
@@ -163,7 +163,7 @@ class Talk:
         self.sent[side].note(row, self.layer)
         types = row["handshake.type"]
         self.is_tls |= bool(types or row["alert_message.desc"] or row["record.content_type"])
-        if CLIENT_HELLO in types:
+        if CLIENT_HELLO in types and row["handshake.version"]:  # Of a fragment there is a type alone.
             self.note_server_names(row)
             self.said |= wanted_hellos.of_client(row, self.layer, VERSIONS)
         if SERVER_HELLO in types:

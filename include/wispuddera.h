@@ -164,6 +164,12 @@ typedef struct {
  * WISPUDDERA_INCOMPLETE where the part isn't whole, as at `offset` == `count`. Nothing else is refused, but for what a function names:
  * any number may stand as a version, a type or a length, and a part may be empty. */
 
+/* Whether these are the first bytes of a stream of TLS: a record's header (RFC 8446, section 5.1) with a type from 20 to 24, a version
+ * from 0x0300 to 0x0304 and a length of at most 16640. WISPUDDERA_READ where they are, WISPUDDERA_NONE where they aren't, and
+ * WISPUDDERA_INCOMPLETE where there are fewer than 5 bytes, which don't tell. Ask it before you wait for what a record lacks: the
+ * functions below refuse no type and no version. */
+uint32_t wispuddera_looks_like_tls(const uint8_t *bytes, size_t count);
+
 /* A record (RFC 5246, section 6.2.1). WISPUDDERA_TOO_LARGE where its length is above 16640. */
 uint32_t wispuddera_read_record(const uint8_t *bytes, size_t count, size_t offset, wispuddera_record *out);
 

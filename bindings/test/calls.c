@@ -475,6 +475,16 @@ static void test_refusals_of_finds(void) {
     IS(f.missing, 2);
     IS(wispuddera_find_certificates(BYTES("\x00\x00\x00"), &f), WISPUDDERA_READ);
     PLACE(f.place, 3, 0);
+    /* Types 20 to 24, versions 3.0 to 3.4 and lengths up to 16640 are those of TLS; fewer bytes than a header has don't tell. */
+    IS(wispuddera_looks_like_tls(BYTES("\x14\x03\x00\x00\x00")), WISPUDDERA_READ);
+    IS(wispuddera_looks_like_tls(BYTES("\x18\x03\x04\x41\x00")), WISPUDDERA_READ);
+    IS(wispuddera_looks_like_tls(BYTES("\x18\x03\x04\x41\x01")), WISPUDDERA_NONE);
+    IS(wispuddera_looks_like_tls(BYTES("\x13\x03\x03\x00\x01")), WISPUDDERA_NONE);
+    IS(wispuddera_looks_like_tls(BYTES("\x19\x03\x03\x00\x01")), WISPUDDERA_NONE);
+    IS(wispuddera_looks_like_tls(BYTES("\x16\x03\x05\x00\x01")), WISPUDDERA_NONE);
+    IS(wispuddera_looks_like_tls(BYTES("GET / HTTP/1.0\r\n\r\n")), WISPUDDERA_NONE);
+    IS(wispuddera_looks_like_tls(BYTES("\x16\x03\x01\x00")), WISPUDDERA_INCOMPLETE);
+    IS(wispuddera_looks_like_tls(NULL, 0), WISPUDDERA_INCOMPLETE);
     /* A record that is none of handshakes, one that is too large, a hello that goes on in another record, and one that is refused. */
     IS(wispuddera_find_server_name_in_record(BYTES("\x15\x03\x03\x00\x02\x02\x28"), &f), WISPUDDERA_NONE);
     IS(wispuddera_find_server_name_in_record(BYTES("\x16\x03\x03\x41\x01"), &f), WISPUDDERA_TOO_LARGE);

@@ -143,7 +143,11 @@ static void call_others(const uint8_t *b, size_t n, size_t at) {
         printf("mutated: no kind of event\n");
         exit(1);
     }
-    calls += is_mutated;
+    if (wispuddera_looks_like_tls(b, n) > WISPUDDERA_NONE) {
+        printf("mutated: no answer whether it is TLS\n");
+        exit(1);
+    }
+    calls += 2 * is_mutated;
     is_read(wispuddera_best_version(b, n, (uint16_t)at, &v), &v.missing);
 }
 

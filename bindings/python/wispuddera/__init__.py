@@ -60,6 +60,7 @@ __all__ = [
     "groups",
     "key_share",
     "key_shares",
+    "looks_like_tls",
     "message",
     "messages",
     "outcome",
@@ -277,6 +278,15 @@ def _record(given: _Given, offset: int) -> Record:
 def record(data: Data, offset: int = 0) -> Record:
     """The record at that offset (RFC 5246, section 6.2.1)."""
     return _record(_Given(data), offset)
+
+
+def looks_like_tls(data: Data) -> Optional[bool]:
+    """Whether these are the first bytes of a stream of TLS: a record's header (RFC 8446, section 5.1) with a type from 20 to 24, a version
+    from 0x0300 to 0x0304 and a length of at most 16640. `None` where there are fewer than 5 bytes, which don't tell.
+
+    Ask it before you wait for what a record lacks: the calls that read records refuse no type and no version."""
+    given = _Given(data)
+    return {_c.READ: True, _c.NONE: False}.get(_c.looks_like_tls(given.address, given.count))
 
 
 def records(data: Data) -> Iterator[Record]:

@@ -143,6 +143,7 @@ def _function(name, *arguments, answer=_U32):
 # `bytes` as they lie, or the address of a writable buffer.
 _BYTES, _OUT = ctypes.c_void_p, ctypes.POINTER
 
+looks_like_tls = _function("looks_like_tls", _BYTES, _SIZE)
 read_record = _function("read_record", _BYTES, _SIZE, _SIZE, _OUT(Record))
 read_message = _function("read_message", _BYTES, _SIZE, _SIZE, _OUT(Part))
 read_extension = _function("read_extension", _BYTES, _SIZE, _SIZE, _OUT(Part))

@@ -39,6 +39,7 @@
 #[cfg(not(target_pointer_width = "64"))]
 compile_error!("libwispuddera.a is made for processors of 64 bits");
 
+mod detection;
 mod dtls;
 mod error;
 mod found;
@@ -49,6 +50,7 @@ mod part;
 mod stream;
 mod sys;
 
+pub use detection::looks_like_tls;
 pub use dtls::{dtls_messages, dtls_records, DtlsClientHello, DtlsMessage, DtlsRecord};
 pub use error::{Error, Kind};
 pub use found::{find_body, find_extension, server_name, server_name_of_hello, server_name_of_record};

@@ -171,6 +171,7 @@ extern "C" {
     pub fn wispuddera_version_at(bytes: *const u8, count: usize, index: usize, out: *mut Number) -> u32;
     pub fn wispuddera_group_at(bytes: *const u8, count: usize, index: usize, out: *mut Number) -> u32;
     pub fn wispuddera_signature_scheme_at(bytes: *const u8, count: usize, index: usize, out: *mut Number) -> u32;
+    pub fn wispuddera_looks_like_tls(bytes: *const u8, count: usize) -> u32;
     pub fn wispuddera_best_version(bytes: *const u8, count: usize, version: u16, out: *mut Number) -> u32;
 
     pub fn wispuddera_feed(buffer: *mut u8, capacity: usize, held: *mut Place, piece: *const u8, count: usize, taken: *mut usize) -> u32;

@@ -110,6 +110,17 @@ fn numbers_are_read() {
 }
 
 #[test]
+fn detection() {
+    for first in [b"\x14\x03\x00\x00\x00", b"\x18\x03\x04\x41\x00"] {
+        assert_eq!((looks_like_tls(first), looks_like_tls(&first[..4])), (Some(true), None));
+    }
+    for first in [&b"\x18\x03\x04\x41\x01"[..], b"\x13\x03\x03\x00\x01", b"\x19\x03\x03\x00\x01", b"\x16\x03\x05\x00\x01", b"GET / HTTP/1.0"] {
+        assert_eq!(looks_like_tls(first), Some(false));
+    }
+    assert_eq!(looks_like_tls(b""), None);
+}
+
+#[test]
 fn dtls_is_read() {
     let datagram = b"\x16\xfe\xfd\x00\x01\x00\x00\x00\x00\x12\x34\x00\x0e\x0b\x00\x00\x09\x00\x05\x00\x00\x03\x00\x00\x02\xd1\xd2";
     let wanted = DtlsRecord { content_type: 22, version: 0xfefd, epoch: 1, sequence_number: 0x1234, fragment: &datagram[13..] };

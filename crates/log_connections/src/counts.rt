@@ -12,7 +12,7 @@ pub struct Counts {
     pub other_protocols: u64,
     /// Parts of datagrams that were cut.
     pub fragments: u64,
-    /// Segments of TCP that belong to no connection.
+    /// Segments of TCP with data that belong to no open connection.
     pub stray_segments: u64,
     /// Connections that are neither TLS nor DTLS.
     pub other_connections: u64,
@@ -51,7 +51,10 @@ impl Counts {
                 "packets of another link or protocol than TCP and UDP",
             ),
             (self.fragments, "fragments of IP"),
-            (self.stray_segments, "segments of no open connection"),
+            (
+                self.stray_segments,
+                "segments with data of no open connection",
+            ),
             (
                 self.other_connections,
                 "connections that are neither TLS nor DTLS",

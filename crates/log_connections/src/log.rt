@@ -263,7 +263,10 @@ impl<K: Keeper> Log<K> {
             Some(true) => self.connections.take_closed(segment),
             Some(false) => Ok(None),
             None => {
-                add_one(&mut self.counts.stray_segments);
+                // (the last acknowledgement of a connection that is over loses nothing)
+                if !segment.payload.is_empty() {
+                    add_one(&mut self.counts.stray_segments);
+                }
                 Ok(None)
             }
         }

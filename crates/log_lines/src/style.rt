@@ -5,6 +5,7 @@ use crate::suites::Suites;
 use crate::text::add_text;
 use csv::WriterBuilder;
 use std::alloc::{AllocError, Global};
+use std::fmt::{self, Display, Formatter};
 
 /// How a line is written.
 #[derive(Drop)]
@@ -38,8 +39,10 @@ pub struct Style {
 /// Why no such lines can be printed.
 #[derive(Drop)]
 pub enum StyleError<'a> {
-    /// There is no field of that name.
+    /// The line of a connection has no field of that name.
     UnknownField(&'a str),
+    /// The line of a message has no field of that name.
+    UnknownPart(&'a str),
     /// That field is named twice.
     DoubledField(&'a str),
     /// Memory ran out.
@@ -49,6 +52,39 @@ pub enum StyleError<'a> {
 impl From<AllocError> for StyleError<'_> {
     fn from(_e: AllocError) -> Self {
         StyleError::OutOfMemory
+    }
+}
+
+/// Writes the names of a table's fields.
+fn write_names<T, W: fmt::Write>(table: &[Column<T>], f: &mut Formatter<W>) -> fmt::Result {
+    let mut separator = "";
+    for column in table {
+        write!(f, "{separator}{}", column.0)?;
+        separator = ", ";
+    }
+    Ok(())
+}
+
+impl Display for StyleError<'_> {
+    fn fmt<W: fmt::Write>(&self, f: &mut Formatter<W>) -> fmt::Result {
+        match self {
+            StyleError::UnknownField(name) => {
+                write!(
+                    f,
+                    "there is no field {name}; the fields of a connection are "
+                )?;
+                write_names(FIELDS, f)
+            }
+            StyleError::UnknownPart(name) => {
+                write!(
+                    f,
+                    "no field {name} goes with --messages; the fields of a message are "
+                )?;
+                write_names(PARTS, f)
+            }
+            StyleError::DoubledField(name) => write!(f, "the field {name} is named twice"),
+            StyleError::OutOfMemory => f.write_str("out of memory"),
+        }
     }
 }
 
@@ -92,10 +128,13 @@ impl Lines {
         are_messages: bool,
         names: Option<&str>,
     ) -> Result<Lines, StyleError<'_>> {
-        if are_messages {
-            Ok(Lines::Messages(chosen(alloc, PARTS, names)?))
-        } else {
-            Ok(Lines::Connections(chosen(alloc, FIELDS, names)?))
+        if !are_messages {
+            return Ok(Lines::Connections(chosen(alloc, FIELDS, names)?));
+        }
+        match chosen(alloc, PARTS, names) {
+            Ok(places) => Ok(Lines::Messages(places)),
+            Err(StyleError::UnknownField(name)) => Err(StyleError::UnknownPart(name)),
+            Err(e) => Err(e),
         }
     }
 }

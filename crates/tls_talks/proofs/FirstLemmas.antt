@@ -35,7 +35,7 @@ use Rattle.tls_fields.specs.Bytes.{Bytes}
 use Rattle.tls_flow.specs.Table.{outcome_at}
 use Rattle.tls_flow.specs.declared.letter.Direction.{Direction as Side}
 use Rattle.tls_flow.specs.declared.letter.Direction.TheVariants.{ToServer, FromServer}
-use Rattle.tls_talks.specs.Front.{begins_tls}
+use Rattle.tls_detection.specs.Front.{begins_tls}
 use Rattle.tls_talks.specs.Talks.{
   IsFirstBy,
   IsFirstHeard,

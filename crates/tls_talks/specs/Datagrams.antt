@@ -11,7 +11,7 @@ use Rattle.tls_flow.specs.declared.letter.Direction.{Direction as Side}
 use Rattle.tls_flow.specs.declared.letter.Direction.TheVariants.{ToServer, FromServer}
 use Rattle.tls_conversations.specs.Events.{event_in_datagram}
 use Rattle.tls_facts.specs.Facts.{Facts, nothing, of_alert, of_datagram_message, view_facts}
-use Rattle.tls_talks.specs.Front.{front_epoch}
+use Rattle.tls_detection.specs.Front.{front_epoch}
 use Rattle.tls_talks.specs.History.{letter_in_datagram, with_letter}
 use Rattle.tls_talks.specs.declared.account.Account.{Account}
 use Rattle.tls_talks.specs.declared.account.Progress.{Progress}

@@ -2,7 +2,6 @@ pub mod Noting
 pub mod History
 pub mod Hearing
 pub mod Ends
-pub mod Front
 pub mod Datagrams
 pub mod Talks
 pub mod Records

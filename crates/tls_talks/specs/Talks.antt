@@ -14,7 +14,7 @@ use Rattle.tls_conversations.specs.Ears.{says}
 use Rattle.tls_conversations.specs.Events.{event_of}
 use Rattle.tls_conversations.specs.declared.conversation.Conversation.{Conversation}
 use Rattle.tls_facts.specs.Facts.{nothing, view_facts}
-use Rattle.tls_talks.specs.Front.{begins_tls}
+use Rattle.tls_detection.specs.Front.{begins_tls}
 use Rattle.tls_talks.specs.Hearing.{IsNoted, turns}
 use Rattle.tls_talks.specs.History.{history}
 use Rattle.tls_talks.specs.Noting.{facts, has_sealed, is_sealed}

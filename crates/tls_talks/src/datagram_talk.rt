@@ -10,10 +10,10 @@ ghost use Rattle.tls_talks.specs.Ends.{is_established as established_by, is_resu
 
 use crate::account::{Account, Progress};
 use crate::ends;
-use crate::front::front_epoch;
 use dtls_stream::{DEFAULT_LIMITS, Messages, read_datagram};
 use std::alloc::{AllocError, Global};
 use tls_conversations::{Direction, Flow, Outcome, Stop};
+use tls_detection::front_epoch;
 use tls_facts::Facts;
 
 /// One side.

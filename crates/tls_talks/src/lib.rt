@@ -16,7 +16,6 @@ mod account;
 mod datagram_records;
 mod datagram_talk;
 mod ends;
-mod front;
 mod hearer;
 mod history;
 mod records;

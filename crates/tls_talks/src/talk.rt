@@ -8,11 +8,11 @@ ghost use Rattle.tls_talks.specs.Ends.{is_established as established_by, is_resu
 ghost use Rattle.tls_talks.specs.Talks.{IsFirstHeard, IsHeardOn, IsNew, IsNext, IsTaken, IsTalkOf, Waits, hearing as hearing_of, is_over as is_over_in, waiting as waiting_of, with_hearing};
 
 use crate::ends;
-use crate::front::{HEADER_LEN, begins_tls};
 use crate::hearer::Hearer;
 use std::alloc::{AllocError, Global};
 use std::mem;
 use tls_conversations::{Direction, Outcome, Stop};
+use tls_detection::{HEADER_LEN, begins_tls};
 use tls_facts::Facts;
 
 /// How a side is heard.

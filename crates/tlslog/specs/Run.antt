@@ -9,7 +9,7 @@ use Rattle.packets.specs.declared.visit.VisitError.TheVariants as visit
 use Rattle.tlslog.specs.declared.failure.Exit.{Exit}
 use Rattle.tlslog.specs.declared.failure.Exit.TheVariants as exit
 use Rattle.tlslog.specs.declared.failure.Failure.{Failure}
-use Rattle.tlslog.specs.declared.failure.Failure.TheVariants.{Capture, OutOfMemory, Reading, Writing}
+use Rattle.tlslog.specs.declared.failure.Failure.TheVariants.{Capture, OutOfMemory, Opening, Reading, Endless, Closed, Writing}
 use Rattle.tlslog.specs.declared.output.LineError.{LineError}
 use Rattle.tlslog.specs.declared.output.LineError.TheVariants as line
 
@@ -18,17 +18,23 @@ abbrev pub IsOfCapture : Failure → Type 0
 IsOfCapture (Capture text) = ⊤
 IsOfCapture f = ⊥
 
+-- The same failure, or another text of what is wrong with the capture.
+abbrev pub IsSameCause : Failure → Failure → Type 0
+IsSameCause (Capture text) f = IsOfCapture f
+IsSameCause e f = f ≡ e
+
 abbrev pub failure_of_line : LineError → Failure
 failure_of_line line.OutOfMemory = OutOfMemory
-failure_of_line line.Writing = Writing
+failure_of_line line.Closed = Closed
+failure_of_line (line.Writing e) = Writing e
 
 -- A run fails by what ended the visit of its packets.
 abbrev pub IsFailureOf : VisitError LineError → Failure → Type 0
 IsFailureOf (visit.Capture capture.OutOfMemory) f = f ≡ OutOfMemory
 IsFailureOf (visit.Capture e) f = IsOfCapture f
 IsFailureOf visit.BrokenOff f = IsOfCapture f
-IsFailureOf (visit.Reading e) f = f ≡ Reading
-IsFailureOf visit.Endless f = f ≡ Reading
+IsFailureOf (visit.Reading e) f = f ≡ Reading e
+IsFailureOf visit.Endless f = f ≡ Endless
 IsFailureOf (visit.Visitor e) f = f ≡ failure_of_line e
 
 -- The source has a whole capture, and all of it was read.
@@ -49,13 +55,19 @@ EndsBy old new (Err f) = ⊤
 abbrev pub Exits : Option Bytes → Option Bytes → Exit → Type 0
 Exits old new exit.Clean = IsReadWhole old new
 Exits old new exit.Broken = HasNoWholeCapture old
-Exits old new exit.Failed = ⊤
+Exits old new e = ⊤
 
 -- It exits by why it failed.
 abbrev pub ExitsBy : Failure → Exit → Type 0
 ExitsBy f exit.Clean = ⊥
+ExitsBy f exit.Closed = f ≡ Closed
 ExitsBy f exit.Broken = IsOfCapture f
 ExitsBy f exit.Failed = ⊤
+
+-- It exits as before, or fails.
+abbrev pub IsAsBefore : Exit → Exit → Type 0
+IsAsBefore e exit.Failed = ⊤
+IsAsBefore e e' = e' ≡ e
 
 -- Unless it failed otherwise than by the capture, it is sound if it was.
 abbrev pub StaysSound : Bool → Bool → Result Unit Failure → Type 0
@@ -63,7 +75,8 @@ StaysSound old new (Ok u) = old ≡ false → new ≡ false
 StaysSound old new (Err (Capture text)) = old ≡ false → new ≡ false
 StaysSound old new (Err f) = ⊤
 
--- Unless it exits as failed, no write failed.
+-- Unless it exits as failed, or nobody reads on, no write failed.
 abbrev pub HasWritten : Bool → Exit → Bool → Type 0
 HasWritten old exit.Failed new = ⊤
+HasWritten old exit.Closed new = ⊤
 HasWritten old e new = old ≡ false → new ≡ false

@@ -1,37 +1,54 @@
 //! The arguments of the command line.
+use crate::failure::Reason;
 use clap::{Arg, ArgAction, ArgMatches, Command};
 use log_lines::{Format, Lines, Style, StyleError, Suites};
 use std::alloc::{AllocError, Global};
-use std::fs;
+use std::fmt::{self, Display, Formatter};
 use std::rt::Runtime;
+use std::{fs, io};
+
+/// The version, as it is in the file VERSION.
+const VERSION: &str = "0.1.0";
 
 /// Why a run doesn't begin.
 #[derive(Drop)]
 pub enum Refusal<'a> {
-    /// There is no field of that name.
-    UnknownField(&'a str),
-    /// That field is named twice.
-    DoubledField(&'a str),
+    /// No lines can be printed in that way.
+    Style(StyleError<'a>),
     /// The file of that name is no list of cipher suites.
     NoList(&'a str),
     /// The file of that name can't be read.
-    Reading(&'a str),
-    /// Memory ran out.
-    OutOfMemory,
+    Reading(&'a str, io::Error),
 }
 
 impl From<AllocError> for Refusal<'_> {
     fn from(_e: AllocError) -> Self {
-        Refusal::OutOfMemory
+        Refusal::Style(StyleError::OutOfMemory)
     }
 }
 
 impl<'a> From<StyleError<'a>> for Refusal<'a> {
     fn from(e: StyleError<'a>) -> Refusal<'a> {
-        match e {
-            StyleError::UnknownField(name) => Refusal::UnknownField(name),
-            StyleError::DoubledField(name) => Refusal::DoubledField(name),
-            StyleError::OutOfMemory => Refusal::OutOfMemory,
+        Refusal::Style(e)
+    }
+}
+
+impl Display for Refusal<'_> {
+    fn fmt<W: fmt::Write>(&self, f: &mut Formatter<W>) -> fmt::Result {
+        match self {
+            Refusal::Style(e) => Display::fmt(e, f),
+            Refusal::NoList(path) => write!(f, "{path}: this is no list of cipher suites"),
+            Refusal::Reading(path, e) => write!(f, "{path}: cannot read: {}", Reason(e)),
+        }
+    }
+}
+
+impl Refusal<'_> {
+    /// The status of a run that doesn't begin for this: 2 where the arguments are wrong, else 3.
+    pub fn status(&self) -> u8 {
+        match self {
+            Refusal::Style(StyleError::OutOfMemory) | Refusal::Reading(_, _) => 3,
+            Refusal::Style(_) | Refusal::NoList(_) => 2,
         }
     }
 }
@@ -42,7 +59,7 @@ static FORMATS: [&str; 2] = ["json", "csv"];
 /// The captures.
 fn captures<'a>(alloc: Global) -> Arg<'a> {
     Arg::new(alloc, "captures")
-        .help("Captures, as pcap or pcapng; standard input where none is named")
+        .help("Captures, as pcap or pcapng; standard input where none is named, or for -")
         .num_args(0..)
         .action(ArgAction::Append)
 }
@@ -86,6 +103,7 @@ fn ciphers<'a>(alloc: Global) -> Arg<'a> {
 /// The matches of the command line.
 pub fn matches<'a>(alloc: Global, words: &'a [String]) -> Result<ArgMatches<'a>, clap::Error> {
     Command::new(alloc, "tlslog")
+        .version(VERSION)
         .about("Prints a line for each connection of TLS or DTLS in a capture, or for each message")
         .arg(captures(alloc))?
         .arg(messages(alloc))?
@@ -97,8 +115,9 @@ pub fn matches<'a>(alloc: Global, words: &'a [String]) -> Result<ArgMatches<'a>,
 
 /// The names of cipher suites in a file.
 fn suites_of<'a, R: Runtime + AllocGlobal>(rt: &R, path: &'a str) -> Result<Suites, Refusal<'a>> {
-    let Ok(list) = fs::read_to_string(rt, path) else {
-        return Err(Refusal::Reading(path));
+    let list = match fs::read_to_string(rt, path) {
+        Ok(list) => list,
+        Err(e) => return Err(Refusal::Reading(path, e)),
     };
     match Suites::read(rt.alloc(), list.as_str())? {
         Some(suites) => Ok(suites),

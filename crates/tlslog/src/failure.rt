@@ -1,19 +1,24 @@
 //! How a run ends, and why it ends early.
 ghost use Rattle.std.specs.Prelude.{◌≡◌};
 ghost use Rattle.tlslog.specs.Exit.{worse};
+ghost use Rattle.tlslog.specs.Run.{IsSameCause};
 
 use crate::output::LineError;
 use packets::{CaptureError, VisitError};
 use std::alloc::AllocError;
+use std::fmt::{self, Display, Formatter};
+use std::io::{self, ErrorKind};
 
 /// How a run ends; each has its own exit status.
 #[derive(Clone, Copy)]
 pub enum Exit {
     /// All was read and printed.
     Clean,
+    /// Nobody reads on what is printed.
+    Closed,
     /// An input is no capture, or is broken off.
     Broken,
-    /// Memory ran out, or reading or writing failed.
+    /// Memory ran out, or a file wasn't opened, or reading or writing failed.
     Failed,
 }
 
@@ -24,7 +29,7 @@ impl From<Exit> for u8 {
 
     fn from(exit: Exit) -> u8 {
         match exit {
-            Exit::Clean => 0,
+            Exit::Clean | Exit::Closed => 0,
             Exit::Broken => 1,
             Exit::Failed => 3,
         }
@@ -38,6 +43,7 @@ impl Exit {
     {
         match (self, other) {
             (Exit::Failed, _) | (_, Exit::Failed) => Exit::Failed,
+            (Exit::Closed, _) | (_, Exit::Closed) => Exit::Closed,
             (Exit::Broken, _) | (_, Exit::Broken) => Exit::Broken,
             (Exit::Clean, Exit::Clean) => Exit::Clean,
         }
@@ -51,10 +57,57 @@ pub enum Failure {
     Capture(&'static str),
     /// Memory ran out.
     OutOfMemory,
-    /// A read failed, or the source has no end.
-    Reading,
+    /// The file wasn't opened.
+    Opening(io::Error),
+    /// A read failed.
+    Reading(io::Error),
+    /// What is read has no end.
+    Endless,
+    /// Nobody reads on what is printed.
+    Closed,
     /// A write failed.
-    Writing,
+    Writing(io::Error),
+}
+
+impl Failure {
+    /// The same, of a source that is compressed in a form that this command unpacks: then that is why it is no capture.
+    pub fn of_source(self, compression: Option<&'static str>) -> Failure
+        ensures { IsSameCause self result }
+    {
+        match (self, compression) {
+            (Failure::Capture(_), Some(hint)) => Failure::Capture(hint),
+            (failure, _) => failure,
+        }
+    }
+}
+
+/// Why the system refused something, in its own words, or in those that users know where it has none.
+#[derive(Drop)]
+pub struct Reason<'a>(pub &'a io::Error);
+
+impl Display for Reason<'_> {
+    fn fmt<W: fmt::Write>(&self, f: &mut Formatter<W>) -> fmt::Result {
+        match self.0.kind() {
+            ErrorKind::NotFound => f.write_str("no such file"),
+            ErrorKind::StorageFull => f.write_str("no space left on the device"),
+            ErrorKind::Uncategorized => Display::fmt(self.0, f),
+            kind => Display::fmt(&kind, f),
+        }
+    }
+}
+
+impl Display for Failure {
+    fn fmt<W: fmt::Write>(&self, f: &mut Formatter<W>) -> fmt::Result {
+        match self {
+            Failure::Capture(text) => f.write_str(text),
+            Failure::OutOfMemory => f.write_str("out of memory"),
+            Failure::Opening(e) => write!(f, "cannot open: {}", Reason(e)),
+            Failure::Reading(e) => write!(f, "cannot read: {}", Reason(e)),
+            Failure::Endless => f.write_str("cannot read: there is no end"),
+            Failure::Closed => f.write_str("cannot write: nobody reads on"),
+            Failure::Writing(e) => write!(f, "cannot write: {}", Reason(e)),
+        }
+    }
 }
 
 impl From<AllocError> for Failure {
@@ -71,7 +124,8 @@ impl From<LineError> for Failure {
     fn from(e: LineError) -> Failure {
         match e {
             LineError::OutOfMemory => Failure::OutOfMemory,
-            LineError::Writing => Failure::Writing,
+            LineError::Closed => Failure::Closed,
+            LineError::Writing(e) => Failure::Writing(e),
         }
     }
 }
@@ -91,7 +145,8 @@ impl From<VisitError<LineError>> for Failure {
             }
             VisitError::Capture(CaptureError::OutOfMemory) => Failure::OutOfMemory,
             VisitError::BrokenOff => Failure::Capture("the capture is broken off"),
-            VisitError::Reading(_) | VisitError::Endless => Failure::Reading,
+            VisitError::Reading(e) => Failure::Reading(e),
+            VisitError::Endless => Failure::Endless,
             VisitError::Visitor(e) => Failure::from(e),
         }
     }

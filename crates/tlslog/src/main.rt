@@ -1,8 +1,8 @@
 //! Prints a line for each connection of TLS or DTLS in a capture, at its end, or for each message, as it comes.
 //!
 //! The capture is standard input, or files that are named. A line is an object of JSON, or a record of comma-separated values. The names are
-//! those of Zeek's logs. What was left out is told on standard error. The status is 0, or 1 where an input is no capture or is broken off, 2
-//! for wrong arguments, 3 where memory ran out, or reading or writing failed.
+//! those of Zeek's logs. What was left out is told on standard error. The status is 0, also where nobody reads on what is printed, or 1 where
+//! an input is no capture or is broken off, 2 for wrong arguments, 3 where memory ran out, or opening, reading or writing failed.
 #![tactic(auto)]
 
 mod arguments;
@@ -12,13 +12,13 @@ mod output;
 mod program;
 mod progress;
 
-ghost use Rattle.std.specs.Prelude.{◌≡◌, false, true};
+ghost use Rattle.tlslog.specs.Output.{Tells};
 ghost use Rattle.tlslog.specs.Run.{HasWritten};
 
 use crate::arguments::{Refusal, matches, style_of};
-use crate::failure::Exit;
-use crate::output::Output;
-use crate::program::{log_file, log_standard_input};
+use crate::failure::{Exit, Failure};
+use crate::output::{LineError, Output};
+use crate::program::{STANDARD_OUTPUT, log_file, log_standard_input, tell};
 use clap::ArgMatches;
 use clap::error::ErrorKind;
 use log_lines::Style;
@@ -28,18 +28,40 @@ use std::process::ExitCode;
 use std::random::RandomSource;
 use std::rt::Runtime;
 
-/// Writes the line in front of all, if there is one, and says whether that was done.
-fn write_header<W: Write>(alloc: Global, style: &Style, out: &mut Output<W>) -> bool
-    ensures { out.old.has_failed ≡ false → result ≡ true → out.new.has_failed ≡ false }
+/// The name of standard input among the captures.
+const DASH: &str = "-";
+
+/// Writes the line in front of all, if there is one.
+fn write_header<W: Write>(
+    alloc: Global,
+    style: &Style,
+    out: &mut Output<W>,
+) -> Result<(), LineError>
+    ensures { Tells out.old.has_failed out.new.has_failed result }
 {
-    match style.header(alloc) {
-        Ok(Some(header)) => out.write_line(header).is_ok(),
-        Ok(None) => true,
-        Err(_) => false,
+    match style.header(alloc)? {
+        Some(header) => out.write_line(header),
+        None => Ok(()),
     }
 }
 
-/// Logs each capture that is named, or standard input, behind the line in front of all.
+/// Logs the capture of that name.
+fn log_one<R: Runtime + AllocGlobal + RandomSource, W: Write>(
+    rt: &R,
+    style: &Style,
+    path: &str,
+    out: Output<W>,
+) -> (Exit, Output<W>)
+    ensures { HasWritten out.has_failed result.0 result.1.has_failed }
+{
+    if path == DASH {
+        log_standard_input(rt, style, out)
+    } else {
+        log_file(rt, style, path, out)
+    }
+}
+
+/// Logs each capture that is named, or standard input, behind the line in front of all, as long as somebody reads on what is printed.
 fn log_all<R: Runtime + AllocGlobal + RandomSource, W: Write>(
     rt: &R,
     style: &Style,
@@ -49,32 +71,28 @@ fn log_all<R: Runtime + AllocGlobal + RandomSource, W: Write>(
     ensures { HasWritten out.has_failed result.0 result.1.has_failed }
 {
     let mut out = out;
-    if !write_header(rt.alloc(), style, &mut out) {
-        return (Exit::Failed, out);
+    if let Err(e) = write_header(rt.alloc(), style, &mut out) {
+        return (tell(rt, STANDARD_OUTPUT, Failure::from(e), 0), out);
     }
     let Some(paths) = matches.get_strs("captures") else {
         return log_standard_input(rt, style, out);
     };
     let mut exit = Exit::Clean;
     'paths: for path in paths {
-        let (of_path, behind) = log_file(rt, style, path, out);
+        let (of_path, behind) = log_one(rt, style, path, out);
         exit = exit.and(of_path);
         out = behind;
+        if matches!(exit, Exit::Closed) {
+            break;
+        }
     }
     (exit, out)
 }
 
 /// Tells why the arguments are refused, and which status that is.
 fn refuse<R: Runtime + AllocGlobal>(rt: &R, refusal: Refusal<'_>) -> u8 {
-    let (status, front, name, behind) = match refusal {
-        Refusal::UnknownField(name) => (2, "there is no field ", name, ""),
-        Refusal::DoubledField(name) => (2, "the field ", name, " is named twice"),
-        Refusal::NoList(path) => (2, "", path, ": this is no list of cipher suites"),
-        Refusal::Reading(path) => (3, "", path, ": reading failed"),
-        Refusal::OutOfMemory => (3, "", "memory ran out", ""),
-    };
-    match eprintln!(rt; "tlslog: {front}{name}{behind}") {
-        Ok(()) => status,
+    match eprintln!(rt; "tlslog: {refusal}") {
+        Ok(()) => refusal.status(),
         Err(_) => 3,
     }
 }
@@ -83,8 +101,8 @@ fn refuse<R: Runtime + AllocGlobal>(rt: &R, refusal: Refusal<'_>) -> u8 {
 fn tell_error<R: Runtime + AllocGlobal>(rt: &R, error: &clap::Error) -> u8 {
     let is_told = error.print(rt).is_ok();
     match error.kind() {
-        ErrorKind::DisplayHelp if is_told => 0,
-        ErrorKind::DisplayHelp | ErrorKind::OutOfMemory => 3,
+        ErrorKind::DisplayHelp | ErrorKind::DisplayVersion if is_told => 0,
+        ErrorKind::DisplayHelp | ErrorKind::DisplayVersion | ErrorKind::OutOfMemory => 3,
         _ if is_told => 2,
         _ => 3,
     }

@@ -1,19 +1,20 @@
 //! Where lines go.
 ghost use Rattle.std.specs.Prelude.{◌≡◌, ◌++◌, [], ◌∷◌, false, OnOk, string_bytes};
 ghost use Rattle.std.specs.Io.KnownBytes.{Appends};
-ghost use Rattle.tlslog.specs.Output.{Tells};
+ghost use Rattle.tlslog.specs.Output.{IsOfWriting, Tells};
 
 use std::alloc::{AllocError, AllocFailed};
-use std::io::Write;
-use tls_fields::write_whole;
+use std::io::{self, ErrorKind, Write};
 
 /// Why a line isn't written.
 #[derive(Clone, Copy)]
 pub enum LineError {
     /// Memory ran out.
     OutOfMemory,
+    /// Nobody reads what is written any more: the pipe was closed.
+    Closed,
     /// A write failed, or took nothing.
-    Writing,
+    Writing(io::Error),
 }
 
 impl From<AllocError> for LineError {
@@ -23,6 +24,17 @@ impl From<AllocError> for LineError {
 
     fn from(_e: AllocError) -> LineError {
         LineError::OutOfMemory
+    }
+}
+
+/// A write that failed by this error.
+fn refused_by(e: io::Error) -> LineError
+    ensures { IsOfWriting result }
+{
+    if e.kind() == ErrorKind::BrokenPipe {
+        LineError::Closed
+    } else {
+        LineError::Writing(e)
     }
 }
 
@@ -53,10 +65,12 @@ impl<W: Write> Output<W> {
     {
         let mut line = line;
         line.push('\n')?;
-        if write_whole(&mut self.writer, line.as_bytes()).is_err() {
-            self.has_failed = true;
-            return Err(LineError::Writing);
+        match self.writer.write_all(line.as_bytes()) {
+            Ok(()) => Ok(()),
+            Err(e) => {
+                self.has_failed = true;
+                Err(refused_by(e))
+            }
         }
-        Ok(())
     }
 }

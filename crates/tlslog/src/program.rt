@@ -1,12 +1,12 @@
 //! The run over one capture.
-ghost use Rattle.std.specs.Prelude.{◌≡◌, ◌≢◌, false};
+ghost use Rattle.std.specs.Prelude.{◌≡◌};
 ghost use Rattle.tlslog.specs.Output.{Tells};
-ghost use Rattle.tlslog.specs.Run.{EndsBy, Exits, ExitsBy, HasWritten, StaysSound};
+ghost use Rattle.tlslog.specs.Run.{EndsBy, Exits, ExitsBy, HasWritten, IsAsBefore, StaysSound};
 
 use crate::failure::{Exit, Failure};
 use crate::listener::{Listener, Messages, summary, take_messages};
 use crate::output::{LineError, Output};
-use crate::progress::{STANDARD_INPUT, Watched};
+use crate::progress::{STANDARD_INPUT, Source, Watched};
 use connections::Connection;
 use log_connections::{Counts, Log, add_one};
 use log_lines::{Lines, Spoken, Style, Summary, message_row, row_of};
@@ -17,6 +17,9 @@ use std::hash::RandomState;
 use std::io::{Read, Write};
 use std::random::RandomSource;
 use std::rt::Runtime;
+
+/// What failures to write are of.
+pub const STANDARD_OUTPUT: &str = "standard output";
 
 /// Prints the line of a connection.
 fn print_row<W: Write>(
@@ -228,37 +231,46 @@ fn print_left<W: Write>(
     Ok(())
 }
 
-/// Tells why a run ended early, behind so many packets, and which status that is.
-fn tell<R: Runtime>(rt: &R, name: &str, failure: Failure, packets: u64) -> Exit
+/// Tells why a run ended early, behind so many packets, and which status that is. Where nobody reads on, nothing is told.
+pub fn tell<R: Runtime>(rt: &R, name: &str, failure: Failure, packets: u64) -> Exit
     ensures { ExitsBy failure result }
 {
-    let (exit, text) = match failure {
-        Failure::Capture(text) => (Exit::Broken, text),
-        Failure::OutOfMemory => (Exit::Failed, "memory ran out"),
-        Failure::Reading => (Exit::Failed, "reading failed"),
-        Failure::Writing => (Exit::Failed, "writing failed"),
+    let (exit, name) = match failure {
+        Failure::Closed => return Exit::Closed,
+        Failure::Capture(_) => (Exit::Broken, name),
+        Failure::Writing(_) => (Exit::Failed, STANDARD_OUTPUT),
+        Failure::OutOfMemory | Failure::Opening(_) | Failure::Reading(_) | Failure::Endless => {
+            (Exit::Failed, name)
+        }
     };
-    match eprintln!(rt; "{name}: {text}, behind {packets} packets") {
+    let told = match packets {
+        0 => eprintln!(rt; "{name}: {failure}"),
+        _ => eprintln!(rt; "{name}: {failure}, after {packets} packets"),
+    };
+    match told {
         Ok(()) => exit,
         Err(_) => Exit::Failed,
     }
 }
 
 /// Logs all that the reader gives, and the connections that are left at its end, and says how that ended.
-fn log_whole<R: Runtime + AllocGlobal, I: Read, W: Write>(
+fn log_whole<R: Runtime + AllocGlobal, I: Read + Source, W: Write>(
     rt: &R,
     name: &str,
     logger: &mut Logger<'_, W>,
     reader: &mut I,
 ) -> Exit
     ensures exits { Exits (I.remaining reader.old) (I.remaining reader.new) result }
-    ensures written { logger.old.out.has_failed ≡ false → result ≢ Exit.Failed → logger.new.out.has_failed ≡ false }
+    ensures written { HasWritten logger.old.out.has_failed result logger.new.out.has_failed }
 {
     let exit = match log_packets(logger, reader) {
         Ok(()) => Exit::Clean,
-        Err(failure) => tell(rt, name, failure, logger.log.counts.packets),
+        Err(failure) => {
+            let failure = failure.of_source(reader.compression());
+            tell(rt, name, failure, logger.log.counts.packets)
+        }
     };
-    if matches!(exit, Exit::Failed) {
+    if matches!(exit, Exit::Failed | Exit::Closed) {
         return exit;
     }
     match print_left(logger.alloc, logger.style, &mut logger.log, &mut logger.out) {
@@ -267,11 +279,26 @@ fn log_whole<R: Runtime + AllocGlobal, I: Read, W: Write>(
     }
 }
 
+/// Tells what was read and left out, unless nobody reads on, or nothing was read of a source that is at fault; it failed where it can't be told.
+fn tell_counts<R: Runtime>(rt: &R, name: &str, counts: &Counts, exit: Exit) -> Exit
+    ensures { IsAsBefore exit result }
+{
+    let is_of_none = counts.packets == 0 && !matches!(exit, Exit::Clean);
+    if is_of_none || matches!(exit, Exit::Closed) {
+        return exit;
+    }
+    match counts.tell(rt, name) {
+        Ok(()) => exit,
+        Err(_) => Exit::Failed,
+    }
+}
+
 /// Logs a capture that is read from there, under that name, and hands back where its lines go.
 ///
 /// The run is clean where the reader has a whole capture, which was read to its end, and every line was written; it is broken where
-/// the reader has none, or one that is broken off. Where memory ran out, a read failed or a write failed, it failed.
-pub fn log_input<R: Runtime + AllocGlobal + RandomSource, I: Read, W: Write>(
+/// the reader has none, or one that is broken off. Where nobody reads on what is printed, it is closed. Where memory ran out, a read failed
+/// or a write failed, it failed.
+pub fn log_input<R: Runtime + AllocGlobal + RandomSource, I: Read + Source, W: Write>(
     rt: &R,
     style: &Style,
     name: &str,
@@ -281,8 +308,12 @@ pub fn log_input<R: Runtime + AllocGlobal + RandomSource, I: Read, W: Write>(
     ensures exits { Exits (I.remaining reader.old) (I.remaining reader.new) result.0 }
     ensures written { HasWritten out.has_failed result.0 result.1.has_failed }
 {
-    let Ok(keys) = RandomState::new(rt) else {
-        return (tell(rt, name, Failure::Reading, 0), out);
+    let keys = match RandomState::new(rt) {
+        Ok(keys) => keys,
+        Err(e) => return (
+            tell(rt, "the system's random numbers", Failure::Reading(e), 0),
+            out,
+        ),
     };
     let keeps_messages = matches!(style.lines, Lines::Messages(_));
     let log = match Log::new(rt.alloc(), keys, keeps_messages) {
@@ -297,11 +328,8 @@ pub fn log_input<R: Runtime + AllocGlobal + RandomSource, I: Read, W: Write>(
         out,
     };
     let exit = log_whole(rt, name, &mut logger, reader);
-    let exit = match logger.log.counts.tell(rt, name) {
-        Ok(()) => exit,
-        Err(_) => Exit::Failed,
-    };
     let Logger { log, out, .. } = logger;
+    let exit = tell_counts(rt, name, &log.counts, exit);
     drop(log);
     (exit, out)
 }
@@ -320,7 +348,7 @@ pub fn log_file<R: Runtime + AllocGlobal + RandomSource, W: Write>(
             let mut reader = Watched::new(rt, path, path, file);
             log_input(rt, style, path, &mut reader, out)
         }
-        Err(_) => (tell(rt, path, Failure::Reading, 0), out),
+        Err(e) => (tell(rt, path, Failure::Opening(e), 0), out),
     }
 }
 

@@ -57,6 +57,7 @@ pub use Rattle.tls_places.specs.Place as PlacePlace
 pub use Rattle.tls_places.specs.Last
 pub use Rattle.tls_places.specs.Hello as PlaceHello
 pub use Rattle.tls_places.specs.DtlsHello as PlaceDtlsHello
+pub use Rattle.tls_detection.specs.Front as Detection
 pub use Rattle.tls_stream.specs.Frames
 pub use Rattle.tls_stream.specs.Records
 pub use Rattle.tls_events.specs.Held

@@ -9,6 +9,7 @@
 //! | `datagrams` | what one direction of DTLS says, from its datagrams |
 //! | `fragments` | messages of DTLS from their fragments |
 //! | `conversations` | both sides together: what they say, and how the handshake ended |
+//! | `detection` | whether bytes are TLS or DTLS, by what they begin with |
 //! | `places` | where the parts of a message stand in its bytes |
 //! | `flows` | how a handshake ended: full, resumed, TLS 1.3, broken off |
 //!
@@ -23,6 +24,7 @@ pub use dtls_messages as fragments;
 pub use dtls_stream as datagrams;
 pub use tls_base as numbers;
 pub use tls_conversations as conversations;
+pub use tls_detection as detection;
 pub use tls_events as events;
 pub use tls_ext as extensions;
 pub use tls_fields as fields;

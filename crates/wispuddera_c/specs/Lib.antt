@@ -10,3 +10,4 @@ pub mod Layout
 pub mod Stream
 pub mod Outcome
 pub mod Flow
+pub mod Detection

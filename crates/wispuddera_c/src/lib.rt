@@ -6,6 +6,7 @@
 #![tactic(auto, using(tls_fields::proofs::OneAnswerLemmas::read_allowed))]
 
 mod client_hello;
+mod detection;
 mod dtls;
 mod flow;
 mod found;

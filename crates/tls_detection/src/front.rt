@@ -3,7 +3,7 @@ ghost use Rattle.std.specs.Prelude.{◌≡◌};
 ghost use Rattle.tls_fields.specs.Reading.{reading};
 ghost use Rattle.tls_parser.specs.DtlsRecord as datagram;
 ghost use Rattle.tls_parser.specs.Record as stream;
-ghost use Rattle.tls_talks.specs.Front.{begins_tls as begins, epoch_in, is_front, is_front_of_datagram};
+ghost use Rattle.tls_detection.specs.Front.{begins_tls as begins, epoch_in, is_front, is_front_of_datagram, looks_like_tls as looks};
 
 use tls_parser::{
     DTLSRecordHeader, MAX_RECORD_LEN, TlsRecordHeader, parse_dtls_record_header,
@@ -11,7 +11,7 @@ use tls_parser::{
 };
 
 /// How many bytes tell whether a side speaks TLS: the header of a record (RFC 8446, section 5.1).
-pub(crate) const HEADER_LEN: usize = 5;
+pub const HEADER_LEN: usize = 5;
 
 /// A type of records that there is, a version 3.0 to 3.4, and a length within the limit.
 fn is_header(header: &TlsRecordHeader) -> bool
@@ -25,13 +25,26 @@ fn is_header(header: &TlsRecordHeader) -> bool
 }
 
 /// Whether a stream begins with the header of a record of TLS.
-pub(crate) fn begins_tls(bytes: &[u8]) -> bool
+pub fn begins_tls(bytes: &[u8]) -> bool
     ensures { result ≡ begins bytes.now }
 {
     match parse_tls_record_header(bytes) {
         Ok((_, header)) => is_header(&header),
         Err(_) => false,
     }
+}
+
+/// Whether these are the first bytes of a stream of TLS: they begin with the header of a record (RFC 8446, section 5.1), with a type from 20
+/// to 24, a version from 0x0300 to 0x0304, and a length of at most 16,640 bytes. `None` where there are fewer than 5 bytes, which don't tell.
+///
+/// By this rule `tlslog` takes a side of a connection for TLS.
+pub fn looks_like_tls(bytes: &[u8]) -> Option<bool>
+    ensures { result ≡ looks bytes.now }
+{
+    if bytes.len() < HEADER_LEN {
+        return None;
+    }
+    Some(begins_tls(bytes))
 }
 
 /// A type of records that there is, the version of DTLS 1.0 or 1.2, and a length that the datagram has.
@@ -45,7 +58,7 @@ fn is_header_of_datagram(header: &DTLSRecordHeader, rest: &[u8]) -> bool
 }
 
 /// The epoch of the record of DTLS that a datagram begins with; `None` where it begins otherwise.
-pub(crate) fn front_epoch(bytes: &[u8]) -> Option<u16>
+pub fn front_epoch(bytes: &[u8]) -> Option<u16>
     ensures { result ≡ epoch_in (reading datagram.record_header bytes.now) }
 {
     match parse_dtls_record_header(bytes) {

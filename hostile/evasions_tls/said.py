@@ -1,0 +1,48 @@
+"""What peers printed, and how it becomes what is wanted."""
+
+import json
+import re
+
+ALERT = 21
+
+
+def fault(text):
+    """The last line that tells a fault."""
+    of_keys = "verify error|Verif|[*]{3} PKI"  # Of certificates that nobody vouches for.
+    lines = [line for line in text.splitlines() if re.search("rror|alert (read|write):fatal|fail", line) and not re.match(of_keys, line)]
+    return re.sub("^[0-9A-F]{8,}:", "", lines[-1]) if lines else "silent"
+
+
+def host(text):
+    """The name that `openssl s_server` printed last."""
+    names = re.findall('Hostname in TLS extension: "([^"]*)"', text)
+    return names[-1] if names else None
+
+
+def alerts(segments):
+    """The alerts in the clear of datagrams: the port of the sender, the level and the description."""
+    found = []
+    for one in segments:
+        at, bytes_ = 0, one.payload
+        while at + 13 <= len(bytes_):
+            length = int.from_bytes(bytes_[at + 11 : at + 13], "big")
+            if bytes_[at] == ALERT and bytes_[at + 1] == 0xFE and bytes_[at + 3 : at + 5] == b"\0\0" and length == 2:
+                found.append((int.from_bytes(one.source[1], "big"), *bytes_[at + 13 : at + 15]))
+            at += 13 + length
+    return found
+
+
+def line(fields, absent=(), sources=None):
+    return {"line": fields, "absent": list(absent), "from": sources or {}}
+
+
+def keep(folder, name, lines, seen):
+    """Puts them into the folder's wanted.json, in place of those of that name."""
+    file = folder / "wanted.json"
+    known = json.loads(file.read_text()) if file.exists() else {}
+    known[name] = {"lines": lines, "peers": seen}
+    parts = []
+    for key in sorted(known):
+        rows = ",\n".join("   " + json.dumps(one) for one in known[key]["lines"])
+        parts.append(f' {json.dumps(key)}: {{\n  "peers": {json.dumps(known[key]["peers"])},\n  "lines": [\n{rows}\n  ]\n }}')
+    file.write_text("{\n" + ",\n".join(parts) + "\n}\n")
