@@ -6,7 +6,7 @@ from dataclasses import dataclass, replace
 ETHERNET = 1
 FIN, SYN, RST, PSH = 1, 2, 4, 8
 FILE_HEADER, PACKET_HEADER, LINK_HEADER, UDP_HEADER = 24, 16, 14, 8
-UDP = 17
+TCP, UDP = 6, 17
 
 
 @dataclass(frozen=True)
@@ -39,6 +39,10 @@ class Segment:
         return int.from_bytes(self.tcp[4:8], "big")
 
     @property
+    def acknowledgment(self):
+        return int.from_bytes(self.tcp[8:12], "big")
+
+    @property
     def is_udp(self):
         return len(self.tcp) == UDP_HEADER
 
@@ -58,13 +62,29 @@ class Segment:
         return replace(self, tcp=tcp, payload=self.payload[begin:end])
 
     def frame(self):
-        """Its bytes, with the lengths that IP says. Sums are left as they were."""
+        """Its bytes, with the lengths and the checksums that they should have: hosts drop others."""
         front, behind = bytearray(self.front), len(self.tcp) + len(self.payload)
         if self.is_v6:
             front[LINK_HEADER + 4 : LINK_HEADER + 6] = (len(front) - LINK_HEADER - 40 + behind).to_bytes(2, "big")
         else:
             front[LINK_HEADER + 2 : LINK_HEADER + 4] = (len(front) - LINK_HEADER + behind).to_bytes(2, "big")
-        return bytes(front) + self.tcp + self.payload
+            front[LINK_HEADER + 10 : LINK_HEADER + 12] = bytes(2)
+            front[LINK_HEADER + 10 : LINK_HEADER + 12] = checksum(words(front[LINK_HEADER:]))
+        place = 6 if self.is_udp else 16
+        tcp = self.tcp[:place] + bytes(2) + self.tcp[place + 2 :]
+        pseudo = words(self.source[0] + self.destination[0]) + (UDP if self.is_udp else TCP) + behind
+        sum_of_all = checksum(pseudo + words(tcp) + words(self.payload))
+        return bytes(front) + tcp[:place] + sum_of_all + tcp[place + 2 :] + self.payload
+
+
+def words(data):
+    """The sum of its words of 16 bits (RFC 1071)."""
+    return sum(struct.unpack(f">{(len(data) + 1) // 2}H", data + bytes(len(data) % 2)))
+
+
+def checksum(total):
+    """That of words with this sum; over UDP 0 says that there is none, and 0xffff stands for it (RFC 768)."""
+    return (-total % 65535 or 65535).to_bytes(2, "big")
 
 
 def segment(time, frame):

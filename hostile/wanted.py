@@ -12,7 +12,7 @@ FIELDS = """
     alert_message.level alert_message.desc record.length
 """.split()
 OUTER = ["frame.time_epoch", "ip.src", "ipv6.src", "ip.dst", "ipv6.dst", "_ws.col.Info"]
-OF_TCP = ["tcp.stream", "tcp.srcport", "tcp.dstport", "tcp.flags.syn", "tcp.flags.fin", "tcp.flags.reset", "tcp.seq_raw", "tcp.len"]
+OF_TCP = ["tcp.stream", "tcp.srcport", "tcp.dstport", "tcp.flags.syn", "tcp.flags.fin", "tcp.flags.reset", "tcp.flags.ack", "tcp.seq_raw", "tcp.ack_raw", "tcp.len"]
 OF_UDP = ["udp.stream", "udp.srcport", "udp.dstport", "udp.length"]
 UDP_HEADER = 8
 VERSIONS = {
@@ -48,7 +48,7 @@ ORDER = """
 
 def lines(capture, port=None, udp=False):
     """The lines in the order of the connections' ends: those of TLS, or of DTLS. tshark takes a port for TLS by its number; `port` is
-    another one. Each connection is over with the FIN or RST of both of its sides, or at the end; a capture in which one is idle
+    another one. Each connection is over with an RST, with the acknowledgement of the FINs of both of its sides, or at the end; a capture in which one is idle
     for 300 seconds, or segments come out of order, isn't for this."""
     talks, ended = {}, []
     for row in rows(capture, port, udp):
@@ -178,8 +178,16 @@ class Talk:
         for kind in row["record.content_type"]:
             self.note_record(kind, side)
         self.note_alerts(row, side)
-        if self.layer == "tcp" and (is_set(row, "tcp.flags.fin") or is_set(row, "tcp.flags.reset")):
-            self.closed.add(side)
+        if self.layer == "tcp":
+            self.note_end(row, side)
+
+    def note_end(self, row, side):
+        """An RST ends both sides, and an acknowledgement behind the other side's FIN that side."""
+        if is_set(row, "tcp.flags.reset"):
+            self.closed |= {True, False}
+        fin = self.sent[not side].fin
+        if is_set(row, "tcp.flags.ack") and fin is not None and (int(first(row, "tcp.ack_raw")) - fin) % 2**32 == 1:
+            self.closed.add(not side)
 
     def note_server_names(self, row):
         """The first name of the type host_name, and those of other types (RFC 6066, section 3)."""

@@ -475,13 +475,14 @@ static void test_refusals_of_finds(void) {
     IS(f.missing, 2);
     IS(wispuddera_find_certificates(BYTES("\x00\x00\x00"), &f), WISPUDDERA_READ);
     PLACE(f.place, 3, 0);
-    /* Types 20 to 24, versions 3.0 to 3.4 and lengths up to 16640 are those of TLS; fewer bytes than a header has don't tell. */
+    /* Types 20 to 24, the major version 3 and lengths up to 16640 are those of TLS; fewer bytes than a header has don't tell. */
     IS(wispuddera_looks_like_tls(BYTES("\x14\x03\x00\x00\x00")), WISPUDDERA_READ);
     IS(wispuddera_looks_like_tls(BYTES("\x18\x03\x04\x41\x00")), WISPUDDERA_READ);
     IS(wispuddera_looks_like_tls(BYTES("\x18\x03\x04\x41\x01")), WISPUDDERA_NONE);
     IS(wispuddera_looks_like_tls(BYTES("\x13\x03\x03\x00\x01")), WISPUDDERA_NONE);
     IS(wispuddera_looks_like_tls(BYTES("\x19\x03\x03\x00\x01")), WISPUDDERA_NONE);
-    IS(wispuddera_looks_like_tls(BYTES("\x16\x03\x05\x00\x01")), WISPUDDERA_NONE);
+    IS(wispuddera_looks_like_tls(BYTES("\x16\x03\xff\x00\x01")), WISPUDDERA_READ);
+    IS(wispuddera_looks_like_tls(BYTES("\x16\x04\x00\x00\x01")), WISPUDDERA_NONE);
     IS(wispuddera_looks_like_tls(BYTES("GET / HTTP/1.0\r\n\r\n")), WISPUDDERA_NONE);
     IS(wispuddera_looks_like_tls(BYTES("\x16\x03\x01\x00")), WISPUDDERA_INCOMPLETE);
     IS(wispuddera_looks_like_tls(NULL, 0), WISPUDDERA_INCOMPLETE);

@@ -57,9 +57,9 @@ def test_hello():
 
 def test_detection():
     assert w.looks_like_tls(RECORD) is True and w.looks_like_tls(RECORD[:5]) is True and w.looks_like_tls(RECORD[:4]) is None
-    for first, looks in (("1403030001", True), ("1803044100", True), ("1803044101", False), ("1303030001", False), ("1903030001", False)):
+    for first, looks in (("1403030001", True), ("1803044100", True), ("1603ff0001", True), ("1803044101", False), ("1303030001", False), ("1903030001", False)):
         assert w.looks_like_tls(bytes.fromhex(first)) is looks
-    for first in (b"GET / HTTP/1.0\r\n\r\n", bytes.fromhex("1602010001"), bytes.fromhex("1603050001"), bytes.fromhex("16fefd0000")):
+    for first in (b"GET / HTTP/1.0\r\n\r\n", bytes.fromhex("1602010001"), bytes.fromhex("1604000001"), bytes.fromhex("16fefd0000")):
         assert w.looks_like_tls(first) is False
     assert w.looks_like_tls(b"") is None
 

@@ -172,7 +172,7 @@ def gro_lengths(room):
     end.replies()
     for name in ("gro_flush_timeout", "napi_defer_hard_irqs"):
         Path(f"/sys/class/net/{wire.DEVICE}/{name}").write_text("0")
-    finish(room, end, talk, next_protocol=REAL_ONE, orig_alpn=PROTOCOLS)
+    finish(room, end, talk, orig_alpn=PROTOCOLS)
     longest = max((one for _, one in room.wire.recorded), key=len)
     expect(len(longest) > 1514, "no packet is longer than the link takes")
     packet = wire.parse(0, longest)

@@ -49,7 +49,7 @@ def go_on(room, server, end, talk, hello, sent):
         end.say(hello[sent : sent + PART])
         sent = min(sent + PART, len(hello))
         end.receive(LONG)
-    finish(room, end, talk, next_protocol=REAL_ONE, orig_alpn=PROTOCOLS)
+    finish(room, end, talk, orig_alpn=PROTOCOLS)
 
 
 @scene(

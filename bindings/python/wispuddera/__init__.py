@@ -281,8 +281,8 @@ def record(data: Data, offset: int = 0) -> Record:
 
 
 def looks_like_tls(data: Data) -> Optional[bool]:
-    """Whether these are the first bytes of a stream of TLS: a record's header (RFC 8446, section 5.1) with a type from 20 to 24, a version
-    from 0x0300 to 0x0304 and a length of at most 16640. `None` where there are fewer than 5 bytes, which don't tell.
+    """Whether these are the first bytes of a stream of TLS: a record's header (RFC 8446, section 5.1) with a type from 20 to 24, the major
+    version 3 and a length of at most 16640. `None` where there are fewer than 5 bytes, which don't tell.
 
     Ask it before you wait for what a record lacks: the calls that read records refuse no type and no version."""
     given = _Given(data)

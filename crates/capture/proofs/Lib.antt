@@ -1,1 +1,3 @@
 pub mod HeadersLemmas
+pub mod OptionLemmas
+pub mod SumLemmas

@@ -1,14 +1,15 @@
 -- Datagrams of the Internet Protocol (RFC 791; RFC 8200).
-use Rattle.std.specs.Prelude.{ℕ, zero, suc, ◌+◌, ◌-◌, ◌*◌, ◌/◌, ◌%◌, ◌^◌, ◌==◌, ◌||◌, ◌&&◌, nat_le, Bool, if◌then◌else◌}
-use Rattle.tls_fields.specs.Bytes.{Bytes}
+use Rattle.std.specs.Prelude.{ℕ, zero, suc, ◌+◌, ◌-◌, ◌*◌, ◌/◌, ◌%◌, ◌==◌, ◌||◌, ◌&&◌, nat_le, Bool, true, if◌then◌else◌}
 use Rattle.tls_fields.specs.Layout.{Layout, done, number, block, window, complete, test, choose, mapped, ◌>>=◌, ◌>>◌}
 use Rattle.tls_fields.specs.declared.result.ErrorKind.TheVariants.{Verify, LengthValue}
 use Rattle.capture.specs.Jumbo.{payload_length}
+use Rattle.capture.specs.Words.{words, words4, is_right}
 use Rattle.capture.specs.Transport.{Content, Fragment, view_content, transport}
 use Rattle.capture.specs.declared.ip.Address.{Address as StoredAddress}
 use Rattle.capture.specs.declared.ip.Address.TheVariants as address
 use Rattle.capture.specs.declared.ip.Datagram.{Datagram as LentDatagram}
 use Rattle.capture.specs.declared.ip.FieldsV4.{FieldsV4 as LentFieldsV4}
+use Rattle.capture.specs.declared.ip.LengthsV4.{LengthsV4 as StoredLengthsV4}
 use Rattle.capture.specs.declared.ip.Step.{Step}
 use Rattle.capture.specs.declared.ip.Step.TheVariants.{Next, Part, Last}
 
@@ -24,12 +25,15 @@ view_address (address.V6 upper lower) = V6 upper lower
 pub record Datagram : Type 0 where
   pub source : Address
   pub destination : Address
+  -- whether the checksum of a header of IPv4 is right; one of IPv6 has none
+  pub is_header_right : Bool
   pub content : Content
 
 abbrev pub view_datagram : LentDatagram → Datagram
 view_datagram d = record {
   source = view_address d.source;
   destination = view_address d.destination;
+  is_header_right = d.is_header_right;
   content = view_content d.content;
 }
 
@@ -42,39 +46,59 @@ is_fragment_v4 flags = nat_le 1 (flags % 16384)
 unfoldable pub content_v4 : ℕ → ℕ → Layout Content
 content_v4 flags protocol = choose (is_fragment_v4 flags) (done Fragment) (transport protocol)
 
--- Version and length of the header in words of 4 bytes; type of service; total length (RFC 791, section 3.1): the two lengths, in
--- bytes.
-unfoldable pub lengths_v4 : Layout (ℕ × ℕ)
+-- The lengths of a header and of its datagram, in bytes, and the sum of the words up to there.
+pub record LengthsV4 : Type 0 where
+  pub header : ℕ
+  pub total : ℕ
+  pub words : ℕ
+
+abbrev pub view_lengths_v4 : StoredLengthsV4 → LengthsV4
+view_lengths_v4 l = record { header = l.header; total = l.total; words = l.words }
+
+-- Version and length of the header in words of 4 bytes; type of service; total length (RFC 791, section 3.1). A total length of 0 is that of
+-- a datagram which the sender's network card was to cut into smaller ones, and which was captured before.
+unfoldable pub lengths_v4 : Layout LengthsV4
 lengths_v4 = do
   first ← number 1
   test (first / 16 == 4) Verify
   test (nat_le 5 (first % 16)) LengthValue
-  block 1
+  service ← number 1
   total ← number 2
-  test (nat_le (first % 16 * 4) total) LengthValue
-  done (first % 16 * 4, total)
+  test (total == 0 || nat_le (first % 16 * 4) total) LengthValue
+  done (record { header = first % 16 * 4; total = total; words = first * 256 + service + total })
 
--- What of a header's further fields is kept.
+-- What of a header's further fields is kept, and the sum of their words.
 pub record FieldsV4 : Type 0 where
   pub flags : ℕ
   pub protocol : ℕ
   pub source : ℕ
   pub destination : ℕ
+  pub words : ℕ
 
 abbrev pub view_fields_v4 : LentFieldsV4 → FieldsV4
-view_fields_v4 f = record { flags = f.flags; protocol = f.protocol; source = f.source; destination = f.destination }
+view_fields_v4 f = record { flags = f.flags; protocol = f.protocol; source = f.source; destination = f.destination; words = f.words }
 
 -- Identification; flags and fragment offset; time to live; protocol; checksum; source; destination.
 unfoldable pub fields_v4 : Layout FieldsV4
 fields_v4 = do
-  block 2
+  identification ← number 2
   flags ← number 2
-  block 1
+  lifetime ← number 1
   protocol ← number 1
-  block 2
+  checksum ← number 2
   source ← number 4
   destination ← number 4
-  done (record { flags = flags; protocol = protocol; source = source; destination = destination })
+  done (record {
+    flags = flags;
+    protocol = protocol;
+    source = source;
+    destination = destination;
+    words = identification + flags + (lifetime * 256 + protocol) + checksum + words4 source + words4 destination;
+  })
+
+-- What the datagram holds, which ends where its total length says, or where that is 0 with what was captured.
+unfoldable pub held_v4 : ℕ → ℕ → Layout Content → Layout Content
+held_v4 header total content = choose (total == 0) (complete content) (window (total - header) (complete content))
 
 -- The header, with options up to its length, and what the datagram holds, which ends where its total length says: what follows is
 -- padding of the link, and no part of it.
@@ -82,9 +106,14 @@ unfoldable pub ipv4 : Layout Datagram
 ipv4 = do
   lengths ← lengths_v4
   fields ← fields_v4
-  block (lengths.0 - 20)
-  content ← window (lengths.1 - lengths.0) (complete (content_v4 fields.flags fields.protocol))
-  done (record { source = V4 fields.source; destination = V4 fields.destination; content = content })
+  options ← block (lengths.header - 20)
+  content ← held_v4 lengths.header lengths.total (content_v4 fields.flags fields.protocol)
+  done (record {
+    source = V4 fields.source;
+    destination = V4 fields.destination;
+    is_header_right = is_right (lengths.words + fields.words + words options);
+    content = content;
+  })
 
 -- Hop-by-Hop Options, Routing, Destination Options, Mobility: 8 bytes, and as many times 8 as the header says (RFC
 -- 8200, section 4).
@@ -148,12 +177,19 @@ front_v6 = do
   block 1
   done (len, next)
 
--- The same, source, destination, and the payload, with at most 16 extension headers.
+-- The payload, behind a header that says this length and this next header, with at most 16 extension headers. A length of 0 in front of
+-- TCP is that of a datagram which the sender's network card was to cut into smaller ones, and which was captured before: it ends with what was
+-- captured.
+unfoldable pub held_v6 : ℕ → ℕ → Layout Content
+held_v6 said next =
+    choose ((said == 0) && (next == 6)) (complete (headers 16 next)) (
+    payload_length said next >>= λ len. window len (complete (headers 16 next)))
+
+-- The same, source, destination, and the payload.
 unfoldable pub ipv6 : Layout Datagram
 ipv6 = do
   front ← front_v6
   source ← address_v6
   destination ← address_v6
-  len ← payload_length front.0 front.1
-  content ← window len (complete (headers 16 front.1))
-  done (record { source = source; destination = destination; content = content })
+  content ← held_v6 front.0 front.1
+  done (record { source = source; destination = destination; is_header_right = true; content = content })

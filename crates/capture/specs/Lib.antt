@@ -1,10 +1,13 @@
 pub mod Order
 pub mod Pcap
 pub mod Pcapng
+pub mod Words
 pub mod Transport
+pub mod Options
 pub mod Jumbo
 pub mod Ip
 pub mod Link
+pub mod Checksum
 pub use Rattle.tls_fields.specs.Bytes
 pub use Rattle.tls_fields.specs.Layout
 pub use Rattle.tls_fields.specs.Meaning

@@ -1,10 +1,10 @@
 -- Files of blocks, in sections (draft-ietf-opsawg-pcapng).
-use Rattle.std.specs.Prelude.{ℕ, ◌+◌, ◌-◌, ◌*◌, ◌/◌, ◌%◌, ◌^◌, ◌==◌, ◌||◌, ◌&&◌, not, min, nat_le, nat_lt, Bool}
+use Rattle.std.specs.Prelude.{ℕ, ◌+◌, ◌-◌, ◌*◌, ◌/◌, ◌%◌, ◌^◌, ◌==◌, ◌||◌, ◌&&◌, not, min, nat_le, nat_lt}
 use Rattle.std.specs.Prelude.{Option, Some, None, if◌then◌else◌, ℤ, pos, negsuc}
 use Rattle.std.specs.Int.{w64, cast_signed}
 use Rattle.std.specs.Option.{option_and_then}
 use Rattle.tls_fields.specs.Bytes.{Bytes}
-use Rattle.tls_fields.specs.Layout.{Layout, done, refuse, number, block, left, list, either, look, test, choose}
+use Rattle.tls_fields.specs.Layout.{Layout, done, refuse, number, block, list, either, look, test, choose}
 use Rattle.tls_fields.specs.Layout.{mapped, ◌>>=◌, ◌>>◌}
 use Rattle.tls_fields.specs.declared.result.ErrorKind.TheVariants.{Tag, Verify, LengthValue, TooLarge}
 use Rattle.capture.specs.Order.{number_by}

@@ -4,6 +4,7 @@ use Rattle.tls_fields.specs.Bytes.{Bytes}
 use Rattle.tls_fields.specs.Layout.{Layout, done, number, block, rest, test, choose, mapped, ◌>>=◌, ◌>>◌}
 use Rattle.tls_fields.specs.declared.result.ErrorKind.TheVariants.{LengthValue}
 use Rattle.capture.specs.declared.transport.Numbers.{Numbers as LentNumbers}
+use Rattle.capture.specs.declared.transport.Control.{Control as LentControl}
 use Rattle.capture.specs.declared.transport.TcpSegment.{TcpSegment}
 use Rattle.capture.specs.declared.transport.UdpDatagram.{UdpDatagram}
 use Rattle.capture.specs.declared.transport.Content.{Content as LentContent}
@@ -15,7 +16,12 @@ pub record Segment : Type 0 where
   pub destination : ℕ
   pub sequence : ℕ
   pub acknowledgment : ℕ
+  pub offset : ℕ
   pub flags : ℕ
+  pub window : ℕ
+  pub checksum : ℕ
+  pub urgent_pointer : ℕ
+  pub options : Bytes
   pub payload : Bytes
 
 abbrev pub view_segment : TcpSegment → Segment
@@ -24,7 +30,12 @@ view_segment s = record {
   destination = s.destination;
   sequence = s.sequence;
   acknowledgment = s.acknowledgment;
+  offset = s.offset;
   flags = s.flags;
+  window = s.window;
+  checksum = s.checksum;
+  urgent_pointer = s.urgent_pointer;
+  options = s.options.now;
   payload = s.payload.now;
 }
 
@@ -51,50 +62,74 @@ numbers = do
   acknowledgment ← number 4
   done (record { source = source; destination = destination; sequence = sequence; acknowledgment = acknowledgment })
 
--- Data offset in the upper 4 bits, in words of 4 bytes; flags; window, checksum, urgent pointer: the header's length in bytes, and
--- the flags.
-unfoldable pub control : Layout (ℕ × ℕ)
-control = do
+pub record Control : Type 0 where
+  pub offset : ℕ
+  pub flags : ℕ
+  pub window : ℕ
+  pub checksum : ℕ
+  pub urgent_pointer : ℕ
+
+abbrev pub view_control : LentControl → Control
+view_control c = record { offset = c.offset; flags = c.flags; window = c.window; checksum = c.checksum; urgent_pointer = c.urgent_pointer }
+
+-- Data offset in the upper 4 bits, in words of 4 bytes; flags; window; checksum; urgent pointer.
+unfoldable pub control_fields : Layout Control
+control_fields = do
   offset ← number 1
   flags ← number 1
-  block 6
+  window ← number 2
+  checksum ← number 2
+  urgent_pointer ← number 2
   test (nat_le 5 (offset / 16)) LengthValue
-  done (offset / 16 * 4, flags)
+  done (record { offset = offset; flags = flags; window = window; checksum = checksum; urgent_pointer = urgent_pointer })
 
 -- The header, with options up to the data offset, and the data.
 unfoldable pub tcp : Layout Segment
 tcp = do
   n ← numbers
-  c ← control
-  block (c.0 - 20)
+  c ← control_fields
+  options ← block (c.offset / 16 * 4 - 20)
   payload ← rest
   done (record {
     source = n.source;
     destination = n.destination;
     sequence = n.sequence;
     acknowledgment = n.acknowledgment;
-    flags = c.1;
+    offset = c.offset;
+    flags = c.flags;
+    window = c.window;
+    checksum = c.checksum;
+    urgent_pointer = c.urgent_pointer;
+    options = options;
     payload = payload;
   })
 
 pub record UserDatagram : Type 0 where
   pub source : ℕ
   pub destination : ℕ
+  pub length : ℕ
+  pub checksum : ℕ
   pub payload : Bytes
 
 abbrev pub view_datagram : UdpDatagram → UserDatagram
-view_datagram d = record { source = d.source; destination = d.destination; payload = d.payload.now }
+view_datagram d = record {
+  source = d.source;
+  destination = d.destination;
+  length = d.length;
+  checksum = d.checksum;
+  payload = d.payload.now;
+}
 
 -- Ports, the length of header and data, checksum, data (RFC 768).
 unfoldable pub udp : Layout UserDatagram
 udp = do
   source ← number 2
   destination ← number 2
-  len ← number 2
-  block 2
-  test (nat_le 8 len) LengthValue
-  payload ← block (len - 8)
-  done (record { source = source; destination = destination; payload = payload })
+  length ← number 2
+  checksum ← number 2
+  test (nat_le 8 length) LengthValue
+  payload ← block (length - 8)
+  done (record { source = source; destination = destination; length = length; checksum = checksum; payload = payload })
 
 pub data Content : Type 0 where
   Tcp : Segment → Content

@@ -1,17 +1,18 @@
 //! Datagrams of the Internet Protocol (RFC 791; RFC 8200).
 #![tactic(auto, using(tls_fields::proofs::OneAnswerLemmas::read_allowed), unfolding(crate::specs::Ip::content_v4, crate::specs::Ip::front_v6, crate::specs::Ip::skipped, crate::specs::Ip::fragment_header, crate::specs::Ip::step, crate::specs::Ip::address_v6))]
 
-ghost use Rattle.std.specs.Prelude.{◌≡◌, ◌<◌, ◌≤◌, IfOk};
+ghost use Rattle.std.specs.Prelude.{◌≡◌, ◌⊎◌, ◌<◌, ◌≤◌, ◌^◌, IfOk};
 ghost use Rattle.tls_fields.specs.Layout.{complete};
 ghost use Rattle.tls_fields.specs.Answers.{Gives};
 ghost use Rattle.capture.specs.Transport.{view_content};
 ghost use Rattle.capture.specs.Ip.{content_v4 as content_v4_layout, ipv4, ipv6, view_datagram, view_address};
-ghost use Rattle.capture.specs.Ip.{skipped as skipped_layout, lengths_v4 as lengths_v4_layout, fields_v4 as fields_v4_layout, view_fields_v4};
-ghost use Rattle.capture.specs.Ip.{address_v6 as address_v6_layout, front_v6 as front_v6_layout, headers as headers_layout, step as step_layout};
+ghost use Rattle.capture.specs.Ip.{skipped as skipped_layout, lengths_v4 as lengths_v4_layout, view_lengths_v4, fields_v4 as fields_v4_layout, view_fields_v4, held_v4 as held_v4_layout};
+ghost use Rattle.capture.specs.Ip.{address_v6 as address_v6_layout, front_v6 as front_v6_layout, headers as headers_layout, step as step_layout, held_v6 as held_v6_layout};
 ghost use Rattle.capture.specs.Ip.{fragment_header as fragment_header_layout, is_extension as is_extension_number};
 
+use crate::checksum::{is_right, sum_of, words4};
 use crate::jumbo::payload_length;
-use crate::transport::{Content, transport};
+use crate::transport::{Content, TCP, transport};
 use tls_fields::{Err, ErrorKind, IResult, block, number1, number2, number4, number8, refused};
 
 /// An address, as the number that its bytes spell, the most significant first.
@@ -30,11 +31,21 @@ pub struct Datagram<'a> {
     pub source: Address,
     /// Where it goes to.
     pub destination: Address,
+    /// Whether the checksum of a header of IPv4 is right; one of IPv6 has none.
+    pub is_header_right: bool,
     /// What it holds.
     pub content: Content<'a>,
 }
 
-/// What of a header of IPv4 is kept, but for its lengths.
+/// The lengths of a header of IPv4 and of its datagram, in bytes, and the sum of the words up to there.
+#[derive(Clone, Copy)]
+struct LengthsV4 {
+    header: usize,
+    total: usize,
+    words: u64,
+}
+
+/// What of a header of IPv4 is kept behind these, and the sum of its words.
 #[derive(Clone, Copy)]
 struct FieldsV4 {
     /// The flags and the fragment offset.
@@ -45,6 +56,8 @@ struct FieldsV4 {
     source: u32,
     /// Where it goes to.
     destination: u32,
+    /// The sum of the words of 16 bits.
+    words: u64,
 }
 
 /// What a header of IPv6 leads to.
@@ -78,12 +91,14 @@ fn whole_v4(i: &[u8], flags: u16, protocol: u8) -> IResult<&[u8], Content>
     }
 }
 
-/// The lengths of a header of IPv4 and of its datagram, in bytes.
+/// The lengths of a header of IPv4 and of its datagram.
 #[tactic(auto, using(tls_fields::proofs::OneAnswerLemmas::read_allowed), unfolding(crate::specs::Ip::lengths_v4))]
 #[inline]
-fn lengths_v4(i: &[u8]) -> IResult<&[u8], (usize, usize)>
-    ensures gives { Gives (λ v. v) lengths_v4_layout i.now result }
-    ensures fits { IfOk result (λ x. (20 ≤ x.1.0) × (x.1.0 ≤ x.1.1)) }
+fn lengths_v4(i: &[u8]) -> IResult<&[u8], LengthsV4>
+    ensures gives { Gives view_lengths_v4 lengths_v4_layout i.now result }
+    ensures header { IfOk result (λ x. 20 ≤ x.1.header) }
+    ensures total { IfOk result (λ x. (x.1.total ≡ 0) ⊎ (x.1.header ≤ x.1.total)) }
+    ensures words { IfOk result (λ x. x.1.words < 2 ^ 20) }
 {
     let (i, first) = number1(i)?;
     if first / 16 != 4 {
@@ -93,38 +108,66 @@ fn lengths_v4(i: &[u8]) -> IResult<&[u8], (usize, usize)>
         return refused(i, ErrorKind::LengthValue);
     }
     let header = (first % 16) as usize * 4;
-    let (i, _) = block(i, 1)?;
+    let (i, service) = number1(i)?;
     let (i, total) = number2(i)?;
-    if header > total as usize {
+    if total != 0 && header > total as usize {
         return refused(i, ErrorKind::LengthValue);
     }
-    Ok((i, (header, total as usize)))
+    let lengths = LengthsV4 {
+        header,
+        total: total as usize,
+        words: u64::from(first) * 256 + u64::from(service) + u64::from(total),
+    };
+    Ok((i, lengths))
 }
 
 /// The fields of a header of IPv4 behind its lengths.
 #[tactic(auto, using(tls_fields::proofs::OneAnswerLemmas::read_allowed), unfolding(crate::specs::Ip::fields_v4))]
 #[inline]
 fn fields_v4(i: &[u8]) -> IResult<&[u8], FieldsV4>
-    ensures { Gives view_fields_v4 fields_v4_layout i.now result }
+    ensures gives { Gives view_fields_v4 fields_v4_layout i.now result }
+    ensures words { IfOk result (λ x. x.1.words < 2 ^ 20) }
 {
-    let (i, _) = block(i, 2)?;
+    let (i, identification) = number2(i)?;
     let (i, flags) = number2(i)?;
-    let (i, _) = block(i, 1)?;
+    let (i, lifetime) = number1(i)?;
     let (i, protocol) = number1(i)?;
-    let (i, _) = block(i, 2)?;
+    let (i, checksum) = number2(i)?;
     let (i, source) = number4(i)?;
     let (i, destination) = number4(i)?;
+    let kind = u64::from(lifetime) * 256 + u64::from(protocol);
     let fields = FieldsV4 {
         flags,
         protocol,
         source,
         destination,
+        words: u64::from(identification)
+            + u64::from(flags)
+            + kind
+            + u64::from(checksum)
+            + words4(source)
+            + words4(destination),
     };
     Ok((i, fields))
 }
 
+/// What a datagram of IPv4 holds, behind a header of this length.
+#[tactic(auto, using(tls_fields::proofs::OneAnswerLemmas::read_allowed), unfolding(crate::specs::Ip::held_v4))]
+fn held_v4<'a>(i: &'a [u8], lengths: LengthsV4, fields: FieldsV4) -> IResult<&'a [u8], Content<'a>>
+    requires { (lengths.total ≡ 0) ⊎ (lengths.header ≤ lengths.total) }
+    ensures { Gives view_content (held_v4_layout lengths.header lengths.total (content_v4_layout fields.flags fields.protocol)) i.now result }
+{
+    if lengths.total == 0 {
+        return whole_v4(i, fields.flags, fields.protocol);
+    }
+    let (i, held) = block(i, lengths.total - lengths.header)?;
+    let (_, content) = whole_v4(held, fields.flags, fields.protocol)?;
+    Ok((i, content))
+}
+
 /// Reads a datagram of IPv4 (RFC 791, section 3.1): its header of 20 bytes and options, and what it holds, which ends
-/// where its total length says. What follows is padding.
+/// where its total length says; what follows is padding. A total length of 0 is that of a datagram which the sender's network card was to
+/// cut into smaller ones, and which was captured before: it ends where the bytes do.
 ///
 /// - `Incomplete` of what is missing of the header, or of the bytes that the total length counts: it wasn't captured
 ///   whole.
@@ -136,14 +179,14 @@ fn fields_v4(i: &[u8]) -> IResult<&[u8], FieldsV4>
 pub fn parse_ipv4(i: &[u8]) -> IResult<&[u8], Datagram>
     ensures { Gives view_datagram ipv4 i.now result }
 {
-    let (i, (header, total)) = lengths_v4(i)?;
+    let (i, lengths) = lengths_v4(i)?;
     let (i, fields) = fields_v4(i)?;
-    let (i, _) = block(i, header - 20)?;
-    let (i, held) = block(i, total - header)?;
-    let (_, content) = whole_v4(held, fields.flags, fields.protocol)?;
+    let (i, options) = block(i, lengths.header - 20)?;
+    let (i, content) = held_v4(i, lengths, fields)?;
     let datagram = Datagram {
         source: Address::V4(fields.source),
         destination: Address::V4(fields.destination),
+        is_header_right: is_right(lengths.words + fields.words + sum_of(options)),
         content,
     };
     Ok((i, datagram))
@@ -251,9 +294,24 @@ fn front_v6(i: &[u8]) -> IResult<&[u8], (u16, u8)>
     Ok((i, (len, next)))
 }
 
+/// What a datagram of IPv6 holds, behind a header that says this length and this next header.
+#[tactic(auto, using(tls_fields::proofs::OneAnswerLemmas::read_allowed), unfolding(crate::specs::Ip::held_v6))]
+fn held_v6(i: &[u8], len: u16, next: u8) -> IResult<&[u8], Content>
+    ensures { Gives view_content (held_v6_layout len next) i.now result }
+{
+    if len == 0 && next == TCP {
+        return whole_v6(i, next);
+    }
+    let (i, len) = payload_length(i, len, next)?;
+    let (i, held) = block(i, len as usize)?;
+    let (_, content) = whole_v6(held, next)?;
+    Ok((i, content))
+}
+
 /// Reads a datagram of IPv6 (RFC 8200, section 3): its header of 40 bytes, at most 16 extension headers, and what it
 /// holds, which ends where its payload length says, or, where that is 0 and Hop-by-Hop Options follow, the length in their
-/// jumbo payload (RFC 2675). What follows is padding. One more extension header behind 16 is `Other`.
+/// jumbo payload (RFC 2675). What follows is padding. One more extension header behind 16 is `Other`. A payload length of 0 in front of TCP is
+/// that of a datagram which the sender's network card was to cut into smaller ones, and which was captured before: it ends where the bytes do.
 ///
 /// - `Incomplete` of what is missing of the header, or of the bytes that the payload length counts: it wasn't captured
 ///   whole.
@@ -269,12 +327,11 @@ pub fn parse_ipv6(i: &[u8]) -> IResult<&[u8], Datagram>
     let (i, (len, next)) = front_v6(i)?;
     let (i, source) = address_v6(i)?;
     let (i, destination) = address_v6(i)?;
-    let (i, len) = payload_length(i, len, next)?;
-    let (i, held) = block(i, len as usize)?;
-    let (_, content) = whole_v6(held, next)?;
+    let (i, content) = held_v6(i, len, next)?;
     let datagram = Datagram {
         source,
         destination,
+        is_header_right: true,
         content,
     };
     Ok((i, datagram))

@@ -5,10 +5,12 @@
 #![tactic(auto, using(tls_fields::proofs::OneAnswerLemmas::read_allowed))]
 
 mod block_packet;
+mod checksum;
 mod interface;
 mod ip;
 mod jumbo;
 mod link;
+mod options;
 mod order;
 mod pcap;
 mod pcapng;
@@ -17,9 +19,11 @@ mod transport;
 pub use block_packet::{
     BlockPacket, parse_enhanced_packet, parse_obsolete_packet, parse_simple_packet,
 };
+pub use checksum::Checksum;
 pub use interface::{Interface, parse_interface};
 pub use ip::{Address, Datagram, parse_ipv4, parse_ipv6};
 pub use link::parse_packet;
+pub use options::{maximum_segment_size, option_of, timestamp, window_scale};
 pub use order::{Order, number2_by, number4_by, number8_by};
 pub use pcap::{
     Captured, Format, MAX_PACKET_LEN, PcapHeader, Unit, parse_pcap_header, parse_pcap_packet,

@@ -2,10 +2,16 @@
 ghost use Rattle.std.specs.Prelude.{◌≤◌, IfOk};
 ghost use Rattle.tls_fields.specs.Answers.{Gives};
 ghost use Rattle.capture.specs.Transport.{tcp as tcp_layout, view_segment, udp as udp_layout, view_datagram};
-ghost use Rattle.capture.specs.Transport.{numbers as numbers_layout, view_numbers, control as control_layout};
+ghost use Rattle.capture.specs.Transport.{numbers as numbers_layout, view_numbers, control_fields as control_fields_layout, view_control};
 ghost use Rattle.capture.specs.Transport.{transport as transport_layout, view_content};
 
 use tls_fields::{ErrorKind, IResult, block, number1, number2, number4, refused, rest};
+
+/// The number of the protocol TCP.
+pub(crate) const TCP: u8 = 6;
+
+/// The number of the protocol UDP.
+pub(crate) const UDP: u8 = 17;
 
 /// The numbers in front of a segment's header.
 #[derive(Clone, Copy)]
@@ -14,6 +20,16 @@ struct Numbers {
     destination: u16,
     sequence: u32,
     acknowledgment: u32,
+}
+
+/// What stands behind these, up to the options.
+#[derive(Clone, Copy)]
+struct Control {
+    offset: u8,
+    flags: u8,
+    window: u16,
+    checksum: u16,
+    urgent_pointer: u16,
 }
 
 /// A segment of TCP (RFC 9293, section 3.1).
@@ -27,8 +43,18 @@ pub struct TcpSegment<'a> {
     pub sequence: u32,
     /// Where ACK is set, the number of the next byte that the sender waits for.
     pub acknowledgment: u32,
+    /// The length of header and options, in words of 4 bytes, in the upper half; the lower half is reserved.
+    pub offset: u8,
     /// CWR, ECE, URG, ACK, PSH, RST, SYN, FIN, from bit 7 to bit 0.
     pub flags: u8,
+    /// How many bytes the sender takes from the acknowledged one on, before its scale (RFC 7323, section 2).
+    pub window: u16,
+    /// The checksum, as it stands there.
+    pub checksum: u16,
+    /// Where URG is set, how far behind the first byte urgent data ends.
+    pub urgent_pointer: u16,
+    /// The options: [`option_of`] finds one.
+    pub options: &'a [u8],
     /// The data.
     pub payload: &'a [u8],
 }
@@ -40,6 +66,10 @@ pub struct UdpDatagram<'a> {
     pub source: u16,
     /// The port that it goes to.
     pub destination: u16,
+    /// The length of header and data, in bytes.
+    pub length: u16,
+    /// The checksum, as it stands there; 0 where there is none.
+    pub checksum: u16,
     /// The data.
     pub payload: &'a [u8],
 }
@@ -76,21 +106,29 @@ fn read_numbers(i: &[u8]) -> IResult<&[u8], Numbers>
     Ok((i, numbers))
 }
 
-/// Reads the header's length in bytes, and its flags.
-#[tactic(auto, using(tls_fields::proofs::OneAnswerLemmas::read_allowed), unfolding(crate::specs::Transport::control))]
+/// Reads what stands behind the numbers, up to the options.
+#[tactic(auto, using(tls_fields::proofs::OneAnswerLemmas::read_allowed), unfolding(crate::specs::Transport::control_fields))]
 #[inline]
-fn control(i: &[u8]) -> IResult<&[u8], (usize, u8)>
-    ensures gives { Gives (λ v. v) control_layout i.now result }
-    ensures fits { IfOk result (λ x. 20 ≤ x.1.0) }
+fn control_fields(i: &[u8]) -> IResult<&[u8], Control>
+    ensures gives { Gives view_control control_fields_layout i.now result }
+    ensures fits { IfOk result (λ x. 80 ≤ x.1.offset) }
 {
     let (i, offset) = number1(i)?;
     let (i, flags) = number1(i)?;
-    let (i, _) = block(i, 6)?;
-    let words = (offset / 16) as usize;
-    if words < 5 {
+    let (i, window) = number2(i)?;
+    let (i, checksum) = number2(i)?;
+    let (i, urgent_pointer) = number2(i)?;
+    if offset / 16 < 5 {
         return refused(i, ErrorKind::LengthValue);
     }
-    Ok((i, (words * 4, flags)))
+    let control = Control {
+        offset,
+        flags,
+        window,
+        checksum,
+        urgent_pointer,
+    };
+    Ok((i, control))
 }
 
 /// Reads a segment of TCP, all of `i` (RFC 9293, section 3.1): 20 bytes, options up to the data offset, and the data.
@@ -102,15 +140,20 @@ pub fn parse_tcp(i: &[u8]) -> IResult<&[u8], TcpSegment>
     ensures { Gives view_segment tcp_layout i.now result }
 {
     let (i, numbers) = read_numbers(i)?;
-    let (i, (header, flags)) = control(i)?;
-    let (i, _) = block(i, header - 20)?;
+    let (i, control) = control_fields(i)?;
+    let (i, options) = block(i, (control.offset / 16) as usize * 4 - 20)?;
     let (i, payload) = rest(i)?;
     let segment = TcpSegment {
         source: numbers.source,
         destination: numbers.destination,
         sequence: numbers.sequence,
         acknowledgment: numbers.acknowledgment,
-        flags,
+        offset: control.offset,
+        flags: control.flags,
+        window: control.window,
+        checksum: control.checksum,
+        urgent_pointer: control.urgent_pointer,
+        options,
         payload,
     };
     Ok((i, segment))
@@ -126,15 +169,17 @@ pub fn parse_udp(i: &[u8]) -> IResult<&[u8], UdpDatagram>
 {
     let (i, source) = number2(i)?;
     let (i, destination) = number2(i)?;
-    let (i, len) = number2(i)?;
-    let (i, _) = block(i, 2)?;
-    if len < 8 {
+    let (i, length) = number2(i)?;
+    let (i, checksum) = number2(i)?;
+    if length < 8 {
         return refused(i, ErrorKind::LengthValue);
     }
-    let (i, payload) = block(i, len as usize - 8)?;
+    let (i, payload) = block(i, length as usize - 8)?;
     let datagram = UdpDatagram {
         source,
         destination,
+        length,
+        checksum,
         payload,
     };
     Ok((i, datagram))
@@ -146,11 +191,11 @@ pub(crate) fn transport(i: &[u8], protocol: u8) -> IResult<&[u8], Content>
     ensures { Gives view_content (transport_layout protocol) i.now result }
 {
     match protocol {
-        6 => {
+        TCP => {
             let (i, segment) = parse_tcp(i)?;
             Ok((i, Content::Tcp(segment)))
         }
-        17 => {
+        UDP => {
             let (i, datagram) = parse_udp(i)?;
             Ok((i, Content::Udp(datagram)))
         }

@@ -1,3 +1,4 @@
+pub mod ConnectionLemmas
 pub mod EndLemmas
 pub mod StreamLemmas
 pub mod TableLemmas

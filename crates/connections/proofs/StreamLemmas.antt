@@ -1,9 +1,10 @@
 -- The next number of a stream is that of the place from which on it holds bytes.
-use Rattle.std.proofs.Common.{◌≡◌, ℕ, ◌+◌, ◌%◌, ◌<◌, ◌^◌, true, false, Bool, refl, sym, ap, ◌∙◌, inl, inr, arith, subst, length, take}
+use Rattle.std.proofs.Common.{if◌then◌else◌, ◌≡◌, ℕ, ◌+◌, ◌%◌, ◌<◌, ◌^◌, true, false, Bool, Some, refl, sym, ap, ◌∙◌, arith, subst, length, take}
 use Rattle.std.proofs.Math.Nat.{mod-add-mod}
 use Rattle.segments.specs.Cells.{Bytes, run}
 use Rattle.connections.specs.Segment.{breaks, first_of}
-use Rattle.connections.specs.Stream.{Accepts, begun, noted, number_begun, behind_front, next_behind, stopped, HasTaken, IsNumberOf}
+use Rattle.connections.specs.Stream.{begun, begun_at, is_begun, noted, number_begun, behind_front, next_behind, put, stopped, with_numbers, HasPut, HasTaken, IsNumberOf}
+use Rattle.connections.specs.Stream.HasPut.{left_out, taken}
 use Rattle.connections.specs.declared.segment.Segment.{Segment}
 use Rattle.connections.specs.declared.stream.TheConstants.{HELD_LIMIT}
 use Rattle.connections.specs.declared.stream.Stream.{Stream}
@@ -13,44 +14,50 @@ use Rattle.connections.specs.declared.stream.Reading.TheVariants.{Unbegun, Open,
 remainder_of_sum : (a b k n : ℕ) → ((a + b) % n + k) % n ≡ (a + (b + k)) % n
 remainder_of_sum a b k n = mod-add-mod (a + b) n k ∙ ap (λ x. x % n) (omega arith)
 
--- A number of 32 bits is its own remainder.
-small_first : (s : Segment) → s.sequence < 2 ^ 32 → first_of s < 2 ^ 32
-small_first s small = grind arith
-
 begun_number : (first next : ℕ) (r : Reading) → first < 2 ^ 32 → IsNumberOf next r
     → IsNumberOf (number_begun r first next) (begun HELD_LIMIT first r)
 begun_number first next Unbegun small h = (omega (arith, small), refl)
 begun_number first next (Open held) small h = h
 begun_number first next Over small h = h
 
-accepted_number : (seq next : ℕ) (b : Bytes) (r after : Reading) → Accepts seq b r after → IsNumberOf next r
-    → IsNumberOf next after
-accepted_number seq next b Unbegun after a h = subst (λ x. IsNumberOf next x) (sym a) h
-accepted_number seq next b (Open held) after (inl p) h = subst (λ x. IsNumberOf next x) (sym p.1) _
-accepted_number seq next b (Open held) after (inr p) h = subst (λ x. IsNumberOf next x) (sym p.1) h
-accepted_number seq next b Over after a h = subst (λ x. IsNumberOf next x) (sym a) h
+-- Behind its beginning.
+pub begun_at_number : (n : ℕ) (t : Stream) → n < 2 ^ 32 → IsNumberOf t.next t.reading
+    → IsNumberOf (begun_at (Some n) t).next (begun_at (Some n) t).reading
+begun_at_number n t small h = begun_number n t.next t.reading small h
 
-pub noted_number : (s : Segment) (t : Stream) → s.sequence < 2 ^ 32 → IsNumberOf t.next t.reading
+put_number : (seq next : ℕ) (b : Bytes) (r : Reading) → IsNumberOf next r → IsNumberOf next (put seq b r)
+put_number seq next b Unbegun h = h
+put_number seq next b (Open held) h = h
+put_number seq next b Over h = h
+
+noted_by : (s : Segment) (t : Stream) (b : Bool) → is_begun t.reading ≡ b → IsNumberOf t.next t.reading
+    → IsNumberOf (if b then with_numbers s t else t).next (if b then with_numbers s t else t).reading
+noted_by s t true e h = h
+noted_by s t false e h = h
+
+pub noted_number : (s : Segment) (t : Stream) → IsNumberOf t.next t.reading
     → IsNumberOf (noted s t).next (noted s t).reading
-noted_number s t small h = begun_number (first_of s) t.next t.reading (small_first s small) h
+noted_number s t h = noted_by s t (is_begun t.reading) refl h
 
-by_break : (s : Segment) (old new : Stream) (b : Bool) → breaks s ≡ b → s.sequence < 2 ^ 32 → HasTaken s old new
+bytes_number : (s : Segment) (old new : Stream) → HasPut s old new → IsNumberOf old.next old.reading
+    → IsNumberOf new.next new.reading
+bytes_number s old new (left_out few same) h = rw same h
+bytes_number s old new (taken fits same) h = rw same (put_number (first_of s) old.next s.payload.now old.reading h)
+
+by_break : (s : Segment) (old new : Stream) (b : Bool) → breaks s ≡ b → HasTaken s old new
     → IsNumberOf old.next old.reading → IsNumberOf new.next new.reading
-by_break s old new true e small t h = rw (t.broken e) h
-by_break s old new false e small t h = let put = t.taken e in
-    subst (λ n. IsNumberOf n new.reading) (sym (ap (λ x. x.next) put.others))
-    (accepted_number (first_of s) (noted s old).next s.payload.now (noted s old).reading new.reading put.bytes
-    (noted_number s old small h))
+by_break s old new true e t h = rw (t.broken e) h
+by_break s old new false e t h = bytes_number s (noted s old) new (t.taken e) (noted_number s old h)
 
-pub accepted : (s : Segment) (old new : Stream) → s.sequence < 2 ^ 32 → HasTaken s old new
+pub accepted : (s : Segment) (old new : Stream) → HasTaken s old new
     → IsNumberOf old.next old.reading → IsNumberOf new.next new.reading
-accepted s old new small t h = by_break s old new (breaks s) refl small t h
+accepted s old new t h = by_break s old new (breaks s) refl t h
 
-pub taken : (n next : ℕ) (r : Reading) → IsNumberOf next r → IsNumberOf (next_behind n r next) (behind_front n r)
-taken n next Unbegun h = h
-taken n next (Open held) h = let k = length (take n (run held.cells)) in
+pub handed : (n next : ℕ) (r : Reading) → IsNumberOf next r → IsNumberOf (next_behind n r next) (behind_front n r)
+handed n next Unbegun h = h
+handed n next (Open held) h = let k = length (take n (run held.cells)) in
     (rw h.0 (remainder_of_sum held.first held.taken k (2 ^ 32)), h.1)
-taken n next Over h = h
+handed n next Over h = h
 
 by_reading : (t : Stream) (r : Reading) → t.reading ≡ r → IsNumberOf t.next r
     → IsNumberOf (stopped t r).next (stopped t r).reading

@@ -1,15 +1,16 @@
 -- What a table of ends holds after a step.
 use Rattle.std.proofs.Common.{◌≡◌, ℕ, zero, suc, ◌-◌, ◌≤◌, true, false, Option, Some, None, List, [], ◌∷◌, ◌++◌, length}
 use Rattle.std.proofs.Common.{take, slice_get, refl, sym, ap, ◌∙◌, subst, arith, rules, Bool, cond}
-use Rattle.std.specs.Prelude.{OnErr, Result, Ok, Err}
+use Rattle.std.specs.Prelude.{IfSome, OnErr, Result, Ok, Err}
 use Rattle.std.specs.Map.{lookup_entry, set_value}
 use Rattle.lru.specs.LruCache.{LruCache, promoted, put_entries, last_entry}
 use Rattle.connections.specs.Ends.{are_ends}
 use Rattle.connections.specs.Segment.{ends_of}
-use Rattle.connections.specs.Connection.{without_bytes}
-use Rattle.connections.specs.Table.{at, others, left_out, WasLast, IsOver, IsForgotten, IsPut}
+use Rattle.connections.specs.Connection.{Begins, ChangesCountsAlone, IsAnew, LeavesOut, Shows}
+use Rattle.connections.specs.Table.{at, others, with_other, ChangesCountsAt, IsAnewAt, LeavesOutAt, Replaces, Table, WasLast, IsOver, IsForgotten, IsPut}
 use Rattle.connections.specs.Table.IsForgotten.{one}
 use Rattle.connections.specs.declared.ends.Ends.{Ends}
+use Rattle.connections.specs.declared.connection.Beginning.{Beginning}
 use Rattle.connections.specs.declared.connection.Connection.{Connection}
 use Rattle.connections.specs.declared.segment.Segment.{Segment}
 
@@ -123,10 +124,47 @@ pub on_err : {A E P : Type 0} → (r : Result A E) → P → OnErr r P
 on_err (Ok x) p = _
 on_err (Err e) p = p
 
--- Written to the one that is found, without the segment's bytes.
-pub left_in : {T : Type 0} → (s : Segment) (xs : List (Ends × Connection T)) (c w : Connection T)
-    → Some c ≡ at (ends_of s) xs → w ≡ without_bytes s c
-    → set_value (are_ends (ends_of s)) (promoted (are_ends (ends_of s)) xs) w ≡ left_out s (at (ends_of s) xs) xs
-left_in s xs c w h eq = let e = ends_of s in
-    subst (λ o. set_value (are_ends e) (promoted (are_ends e) xs) w ≡ left_out s o xs) h
-    (written e xs c w (sym h) ∙ ap (λ v. (e, v) ∷ others e xs) eq)
+module _ {T : Type 0} where
+  -- Written to the one that is found, without the segment's bytes.
+  pub left_in : (s : Segment) (xs : List (Ends × Connection T)) (c w : Connection T)
+      → Some c ≡ at (ends_of s) xs → LeavesOut s c w
+      → LeavesOutAt s (at (ends_of s) xs) xs (set_value (are_ends (ends_of s)) (promoted (are_ends (ends_of s)) xs) w)
+  left_in s xs c w h leaves = let e = ends_of s in
+      subst (λ o. LeavesOutAt s o xs (set_value (are_ends e) (promoted (are_ends e) xs) w)) h
+      (w, leaves, written e xs c w (sym h))
+
+  -- None is begun.
+  pub none_left : (s : Segment) (xs ys : List (Ends × Connection T)) → None ≡ at (ends_of s) xs → ys ≡ xs
+      → LeavesOutAt s (at (ends_of s) xs) xs ys
+  none_left s xs ys h same = subst (λ o. LeavesOutAt s o xs ys) h same
+
+  -- Of the one that is found only counts change.
+  pub counts_at : (e : Ends) (old : Table T) (c w : Connection T) → Some c ≡ at e old.live → ChangesCountsAlone c w
+      → ChangesCountsAt e (at e old.live) old (with_other e w old)
+  counts_at e old c w h changes = subst (λ o. ChangesCountsAt e o old (with_other e w old)) h (w, changes, refl)
+
+  pub none_at : (e : Ends) (old new : Table T) → None ≡ at e old.live → new ≡ old
+      → ChangesCountsAt e (at e old.live) old new
+  none_at e old new h same = subst (λ o. ChangesCountsAt e o old new) h same
+
+  -- The one that is found is anew.
+  pub anew_at : (time : ℕ) (e : Ends) (old : Table T) (c w : Connection T) → Some c ≡ at e old.live → IsAnew time c w
+      → IsAnewAt time e (at e old.live) old (with_other e w old)
+  anew_at time e old c w h anew = subst (λ o. IsAnewAt time e o old (with_other e w old)) h (w, anew, refl)
+
+  pub none_anew : (time : ℕ) (e : Ends) (old new : Table T) → None ≡ at e old.live → new ≡ old
+      → IsAnewAt time e (at e old.live) old new
+  none_anew time e old new h same = subst (λ o. IsAnewAt time e o old new) h same
+
+  -- Another stands first, in the place of the one that is found.
+  pub replaced_by : (s : Segment) (old : Table T) (b : Beginning) (its was over : Connection T) → Shows s b → Begins b its
+      → Some was ≡ at (ends_of s) old.live → over ≡ record was { waiting = over.waiting }
+      → Replaces s old (record old { live = set_value (are_ends (ends_of s)) (promoted (are_ends (ends_of s)) old.live) its }) over
+  replaced_by s old b its was over shows begins h same = record {
+    beginning = b;
+    its = its;
+    shows = shows;
+    begins = begins;
+    was = subst (λ o. IfSome o (λ c. over ≡ record c { waiting = over.waiting })) h same;
+    stands = ap (λ l. record old { live = l }) (written (ends_of s) old.live was its (sym h));
+  }

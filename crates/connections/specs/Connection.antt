@@ -1,16 +1,26 @@
 -- What is held of a connection.
-use Rattle.std.specs.Prelude.{◌≡◌, ℕ, ◌==◌, Bool, false, ◌&&◌, not, Option, Some, None, if◌then◌else◌, length}
+use Rattle.std.specs.Prelude.{◌≡◌, ◌⊎◌, ℕ, ◌==◌, Bool, true, false, ◌&&◌, ◌||◌, not, is_some, Option, Some, None, if◌then◌else◌, [], length}
 use Rattle.connections.specs.Ends.{is_end}
-use Rattle.connections.specs.Segment.{answers, asks, first_of}
-use Rattle.connections.specs.Stream.{silent_stream, noted, HasTaken, is_over}
+use Rattle.connections.specs.Segment.{acknowledges, answers, begins, begins_stream, first_of, without_fin, IsWithoutData}
+use Rattle.connections.specs.Hosts.{damaged_before, has_fin_of, later, silent_host, with_checksum, with_taken}
+use Rattle.connections.specs.Receiver.{is_damaged, judge}
+use Rattle.connections.specs.Dropped.{none_dropped, with_damaged, with_dropped}
+use Rattle.connections.specs.Stream.{begun_at, front_of, silent_stream, noted, HasTaken, is_over}
 use Rattle.connections.specs.Traffic.{nothing_sent, with_packet}
 use Rattle.connections.specs.declared.datagram.Datagram.{Datagram}
 use Rattle.connections.specs.declared.ends.Protocol.{Protocol}
 use Rattle.connections.specs.declared.ends.Protocol.TheVariants.{Tcp, Udp}
 use Rattle.connections.specs.declared.ends.End.{End}
 use Rattle.connections.specs.declared.segment.Segment.{Segment}
+use Rattle.connections.specs.declared.host.Host.{Host}
+use Rattle.connections.specs.declared.receiver.Judgement.{Judgement}
+use Rattle.connections.specs.declared.receiver.Judgement.TheVariants as judgement
+use Rattle.connections.specs.declared.receiver.Reason.{Reason}
+use Rattle.connections.specs.declared.stream.Front.{Front}
 use Rattle.connections.specs.declared.stream.Stream.{Stream}
+use Rattle.connections.specs.declared.waiting.Waiting.{Waiting}
 use Rattle.connections.specs.declared.traffic.Traffic.{Traffic}
+use Rattle.connections.specs.declared.connection.Beginning.{Beginning}
 use Rattle.connections.specs.declared.connection.Connection.{Connection}
 use Rattle.connections.specs.declared.connection.Side.{Side}
 use Rattle.connections.specs.declared.connection.Side.TheVariants.{Originator, Responder}
@@ -22,26 +32,77 @@ originator_of s = if answers s then s.destination else s.source
 abbrev pub responder_of : Segment → End
 responder_of s = if answers s then s.source else s.destination
 
+-- Where the stream of a segment's sender begins, if nothing of it came before: behind the SYN; with what its receiver y waits for, where that
+-- is behind the segment's first; or with that.
+abbrev pub start_without_syn : Option ℕ → Segment → Option ℕ
+start_without_syn None s = if begins_stream s then Some (first_of s) else None
+start_without_syn (Some n) s = Some (later (Some n) (first_of s))
+
+abbrev pub start_of : Host → Segment → Option ℕ
+start_of y s = if begins s then Some (first_of s) else start_without_syn y.acknowledged s
+
+-- What is known of a sender x behind a segment that is put into its stream: of one that its receiver y had, no more than its checksum.
+abbrev pub host_by : Judgement → Host → Host → Segment → Host
+host_by judgement.Again x y s = with_checksum s.checksum x
+host_by judgement.Taken x y s = with_taken (with_checksum s.checksum x) y s
+host_by (judgement.Waiting r) x y s = with_taken (with_checksum s.checksum x) y s
+host_by (judgement.Dropped r) x y s = with_taken (with_checksum s.checksum x) y s
+
+-- What of a segment is put into its sender's stream: of one that its receiver has, no FIN. Of a SYN no bytes are, which wait until its receiver
+-- acknowledges them (RFC 7413, section 3).
+abbrev pub fin_by : Judgement → Segment → Segment
+fin_by judgement.Again s = without_fin s
+fin_by judgement.Taken s = s
+fin_by (judgement.Waiting r) s = s
+fin_by (judgement.Dropped r) s = s
+
+-- A segment goes on behind a SYN of its sender's, or it shows that its sender takes the answer to its SYN.
+abbrev pub goes_on : Segment → Bool
+goes_on s = acknowledges s && not (begins s)
+
+abbrev pub goes_on_behind : Segment → Segment → Bool
+goes_on_behind s asking = is_end s.source asking.source && (goes_on s && s.sequence == first_of asking)
+
+abbrev pub confirms : Segment → Segment → Bool
+confirms s answering =
+    is_end s.source answering.destination
+    && (goes_on s && (s.sequence == answering.acknowledgment && s.acknowledgment == first_of answering))
+
+abbrev pub last_of : Segment → Option Segment → Segment
+last_of first None = first
+last_of first (Some answer) = answer
+
+-- It shows that a connection began so.
+abbrev pub Shows : Segment → Beginning → Type 0
+Shows s b = (confirms s (last_of b.first b.answer) ≡ true) ⊎ (goes_on_behind s b.first ≡ true)
+
 module _ {T : Type 0} where
   -- One of which nothing came.
-  abbrev pub silent : Protocol → End → End → ℕ → T → Connection T
-  silent p originator responder time listener = record {
+  abbrev pub silent : Protocol → End → End → ℕ → Waiting → T → Connection T
+  silent p originator responder time waiting listener = record {
     protocol = p;
     originator = originator;
     responder = responder;
     first_time = time;
     last_time = time;
-    asked = None;
+    originator_host = silent_host;
+    responder_host = silent_host;
+    waiting = waiting;
     from_originator = silent_stream;
     from_responder = silent_stream;
     originator_sent = nothing_sent;
     responder_sent = nothing_sent;
+    originator_dropped = none_dropped;
+    responder_dropped = none_dropped;
     listener = listener;
   }
 
+  abbrev pub NoneWaits : Connection T → Type 0
+  NoneWaits c = c.waiting.kept.items ≡ []
+
   -- The same at the first packet's ends and time, with any value of the caller.
   abbrev pub IsBegunBy : Segment → Connection T → Type 0
-  IsBegunBy s c = c ≡ silent Tcp (originator_of s) (responder_of s) s.time c.listener
+  IsBegunBy s c = (c ≡ silent Tcp (originator_of s) (responder_of s) s.time c.waiting c.listener) × NoneWaits c
 
   abbrev pub side_of : Connection T → End → Side
   side_of c sender = if is_end sender c.originator then Originator else Responder
@@ -54,60 +115,172 @@ module _ {T : Type 0} where
   sent_by Originator c = c.originator_sent
   sent_by Responder c = c.responder_sent
 
-  -- The segment asks, and is not the one that asked for this connection, sent once more.
-  abbrev pub is_the_one_that_asked : Segment → Connection T → Option ℕ → Bool
-  is_the_one_that_asked s c None = false
-  is_the_one_that_asked s c (Some first) = is_end s.source c.originator && first_of s == first
+  -- A SYN of it was captured.
+  abbrev pub has_opening : Connection T → Bool
+  has_opening c = is_some c.originator_host.first || is_some c.responder_host.first
 
-  abbrev pub is_another : Segment → Connection T → Bool
-  is_another s c = asks s && not (is_the_one_that_asked s c c.asked)
+  -- What is known of a segment's sender, and of its receiver.
+  abbrev pub hosts_from : Side → Connection T → Host × Host
+  hosts_from Originator c = (c.originator_host, c.responder_host)
+  hosts_from Responder c = (c.responder_host, c.originator_host)
 
-  -- The sender's stream takes the segment, which is counted; the other side, the ends and the caller's value stay.
-  abbrev pub TakesFrom : Side → Segment → Connection T → Connection T → Type 0
-  TakesFrom Originator s old new =
-      HasTaken s old.from_originator new.from_originator
-      × (new ≡ record old {
-        last_time = s.time;
-        asked = if asks s then Some (first_of s) else old.asked;
-        from_originator = new.from_originator;
-        originator_sent = with_packet (length s.payload.now) old.originator_sent;
-      })
-  TakesFrom Responder s old new =
-      HasTaken s old.from_responder new.from_responder
-      × (new ≡ record old { last_time = s.time; from_responder = new.from_responder; responder_sent = with_packet (length s.payload.now) old.responder_sent })
+  abbrev pub hosts_of : Segment → Connection T → Host × Host
+  hosts_of s c = hosts_from (side_of c s.source) c
 
-  abbrev pub Accepts : Segment → Connection T → Connection T → Type 0
-  Accepts s old new = TakesFrom (side_of old s.source) s old new
+  abbrev pub front_at : Side → Connection T → Front
+  front_at side c = front_of (stream_of side c) (stream_of side c).reading
 
-  -- The same of a segment whose bytes are left out.
-  abbrev pub noted_from : Side → Segment → Connection T → Connection T
-  noted_from Originator s c = record c {
+  -- What the receiver of a segment does with it.
+  abbrev pub judgement_of : Segment → Connection T → Judgement
+  judgement_of s c = judge (hosts_of s c).0 (hosts_of s c).1 (front_at (side_of c s.source) c) s
+
+  -- Of a packet that is dropped, or waits, only counts change, and what waits.
+  abbrev pub ChangesCountsAlone : Connection T → Connection T → Type 0
+  ChangesCountsAlone old new = new ≡ record old {
+    waiting = new.waiting;
+    originator_dropped = new.originator_dropped;
+    responder_dropped = new.responder_dropped;
+  }
+
+  abbrev pub dropped_from : Side → Reason → Connection T → Connection T
+  dropped_from Originator r c = record c { originator_dropped = with_dropped r c.originator_dropped }
+  dropped_from Responder r c = record c { responder_dropped = with_dropped r c.responder_dropped }
+
+  -- What is known of a segment's sender behind it, and how many of its packets before were damaged.
+  abbrev pub noting_from : Side → Judgement → Segment → Connection T → Connection T
+  noting_from Originator j s c = record c {
+    originator_host = host_by j c.originator_host c.responder_host s;
+    originator_dropped = with_damaged (damaged_before s.checksum c.originator_host) c.originator_dropped;
+  }
+  noting_from Responder j s c = record c {
+    responder_host = host_by j c.responder_host c.originator_host s;
+    responder_dropped = with_damaged (damaged_before s.checksum c.responder_host) c.responder_dropped;
+  }
+
+  abbrev pub noting : Judgement → Segment → Connection T → Connection T
+  noting j s c = noting_from (side_of c s.source) j s c
+
+  -- Its bytes are put into its sender's stream, and nothing else changes.
+  abbrev pub PutsFrom : Side → Segment → Connection T → Connection T → Type 0
+  PutsFrom Originator s old new =
+      HasTaken s (begun_at (start_of old.responder_host s) old.from_originator) new.from_originator
+      × (new ≡ record old { from_originator = new.from_originator })
+  PutsFrom Responder s old new =
+      HasTaken s (begun_at (start_of old.originator_host s) old.from_responder) new.from_responder
+      × (new ≡ record old { from_responder = new.from_responder })
+
+  abbrev pub Puts : Segment → Connection T → Connection T → Type 0
+  Puts s old new = PutsFrom (side_of old s.source) s old new
+
+  -- Where they are left out, its numbers are noted.
+  abbrev pub left_out_from : Side → Segment → Connection T → Connection T
+  left_out_from Originator s c =
+      record c { from_originator = noted s (begun_at (start_of c.responder_host s) c.from_originator) }
+  left_out_from Responder s c =
+      record c { from_responder = noted s (begun_at (start_of c.originator_host s) c.from_responder) }
+
+  abbrev pub without_bytes : Segment → Connection T → Connection T
+  without_bytes s c = left_out_from (side_of c s.source) s c
+
+  -- It is counted, and its time noted.
+  abbrev pub counted_from : Side → Segment → Connection T → Connection T
+  counted_from Originator s c = record c {
     last_time = s.time;
-    asked = if asks s then Some (first_of s) else c.asked;
-    from_originator = noted s c.from_originator;
     originator_sent = with_packet (length s.payload.now) c.originator_sent;
   }
-  noted_from Responder s c = record c {
+  counted_from Responder s c = record c {
     last_time = s.time;
-    from_responder = noted s c.from_responder;
     responder_sent = with_packet (length s.payload.now) c.responder_sent;
   }
 
-  abbrev pub without_bytes : Segment → Connection T → Connection T
-  without_bytes s c = noted_from (side_of c s.source) s c
+  abbrev pub counted : Segment → Connection T → Connection T
+  counted s c = counted_from (side_of c s.source) s c
 
-  -- A datagram is counted, and its time noted.
+  -- The stream of a SYN's sender begins behind it; its data waits.
+  pub record PutsSyn (s : Segment) (old new : Connection T) : Type 0 where
+    pub waits : Waiting
+    pub bare : Segment
+    pub is_bare : IsWithoutData s bare
+    pub puts : Puts bare (record old { waiting = waits }) new
+
+  pub data LeavesOutSyn (s : Segment) (old : Connection T) : Connection T → Type 0 where
+    no_data : (waits : Waiting) → LeavesOutSyn s old (record old { waiting = waits })
+    nothing : (waits : Waiting) (bare : Segment) → IsWithoutData s bare → LeavesOutSyn s old (without_bytes bare (record old { waiting = waits }))
+
+  -- A segment is counted, what it says of its sender is noted, and its bytes are put into its sender's stream; those of a SYN wait. The other
+  -- side, the ends and the caller's value stay.
+  abbrev pub PutsPart : Bool → Judgement → Segment → Connection T → Connection T → Type 0
+  PutsPart true j s old new = PutsSyn s old new
+  PutsPart false j s old new = Puts (fin_by j s) old new
+
+  abbrev pub Accepts : Segment → Connection T → Connection T → Type 0
+  Accepts s old new = PutsPart (begins s) (judgement_of s old) s (noting (judgement_of s old) s (counted s old)) new
+
+  -- Where memory is refused, its bytes are left out, and its numbers noted.
+  abbrev pub LeavesOutPart : Bool → Judgement → Segment → Connection T → Connection T → Type 0
+  LeavesOutPart true j s old new = LeavesOutSyn s old new
+  LeavesOutPart false j s old new = new ≡ without_bytes (fin_by j s) old
+
+  abbrev pub LeavesOut : Segment → Connection T → Connection T → Type 0
+  LeavesOut s old new = LeavesOutPart (begins s) (judgement_of s old) s (noting (judgement_of s old) s (counted s old)) new
+
+  -- One that began with these segments.
+  abbrev pub AcceptsAnswer : Option Segment → Connection T → Connection T → Type 0
+  AcceptsAnswer None c its = its ≡ c
+  AcceptsAnswer (Some answer) c its = Accepts answer c its
+
+  pub record Begins (b : Beginning) (its : Connection T) : Type 0 where
+    pub silent : Connection T
+    pub begun : Connection T
+    pub is_silent : IsBegunBy b.first silent
+    pub first : Accepts b.first silent begun
+    pub answer : AcceptsAnswer b.answer begun its
+
+  -- A datagram is counted, and its time and its checksum noted.
   abbrev pub counts_from : Side → Datagram → Connection T → Connection T
-  counts_from Originator d c = record c { last_time = d.time; originator_sent = with_packet (length d.payload.now) c.originator_sent }
-  counts_from Responder d c = record c { last_time = d.time; responder_sent = with_packet (length d.payload.now) c.responder_sent }
+  counts_from Originator d c = record c {
+    last_time = d.time;
+    originator_host = with_checksum d.checksum c.originator_host;
+    originator_dropped = with_damaged (damaged_before d.checksum c.originator_host) c.originator_dropped;
+    originator_sent = with_packet (length d.payload.now) c.originator_sent;
+  }
+  counts_from Responder d c = record c {
+    last_time = d.time;
+    responder_host = with_checksum d.checksum c.responder_host;
+    responder_dropped = with_damaged (damaged_before d.checksum c.responder_host) c.responder_dropped;
+    responder_sent = with_packet (length d.payload.now) c.responder_sent;
+  }
 
   abbrev pub with_datagram : Datagram → Connection T → Connection T
   with_datagram d c = counts_from (side_of c d.source) d c
 
-  -- One that a datagram begins; its sender is the originator.
-  abbrev pub begun_by_datagram : Datagram → T → Connection T
-  begun_by_datagram d listener = with_datagram d (silent Udp d.source d.destination d.time listener)
+  -- A checksum of a datagram is wrong, as it arrives.
+  abbrev pub is_datagram_damaged : Datagram → Connection T → Bool
+  is_datagram_damaged d c =
+      is_damaged (hosts_from (side_of c d.source) c).0 (hosts_from (side_of c d.source) c).1 d.checksum (length d.payload.now)
 
-  -- Both sides said their last.
+  -- One that a datagram begins; its sender is the originator.
+  abbrev pub begun_by_datagram : Datagram → Waiting → T → Connection T
+  begun_by_datagram d waiting listener = with_datagram d (silent Udp d.source d.destination d.time waiting listener)
+
+  -- The same ends anew, of which nothing came; what was damaged before is counted.
+  pub record IsAnew (time : ℕ) (old new : Connection T) : Type 0 where
+    pub originator_damaged : ℕ
+    pub responder_damaged : ℕ
+    pub is_silent : new ≡ record (silent old.protocol old.originator old.responder time new.waiting new.listener) {
+      originator_dropped = with_damaged originator_damaged none_dropped;
+      responder_dropped = with_damaged responder_damaged none_dropped;
+    }
+    pub waits : NoneWaits new
+
+  -- A datagram is counted; in the same exchange anew where all that came before was damaged, as the datagram shows.
+  abbrev pub TakesDatagramIn : Datagram → Connection T → Connection T → Type 0
+  TakesDatagramIn d old new =
+      (new ≡ with_datagram d old) ⊎ ((anew : Connection T) × IsAnew d.time old anew × (new ≡ with_datagram d anew))
+
+  -- One side broke it off; or both said their last, and each has that of the other.
   abbrev pub is_closed : Connection T → Bool
-  is_closed c = is_over c.from_originator && is_over c.from_responder
+  is_closed c =
+      c.from_originator.is_broken || c.from_responder.is_broken
+      || (is_over c.from_originator && is_over c.from_responder
+      && (has_fin_of c.responder_host c.originator_host && has_fin_of c.originator_host c.responder_host))

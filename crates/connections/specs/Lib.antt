@@ -1,8 +1,12 @@
 pub mod Ends
+pub mod Numbers
 pub mod Segment
+pub mod Hosts
+pub mod Receiver
 pub mod Datagram
 pub mod Stream
 pub mod Connection
 pub mod Table
 pub mod Traffic
+pub mod Dropped
 pub mod Lends

@@ -1,10 +1,12 @@
 -- What is read of a direction.
-use Rattle.std.specs.Prelude.{◌≡◌, ◌⊎◌, ℕ, ◌+◌, ◌-◌, ◌%◌, ◌^◌, ◌==◌, ⊤, Bool, true, false, nat_lt, ◌&&◌, ◌||◌, if◌then◌else◌, Option, Some, None, [], length, min, take, drop}
+use Rattle.std.specs.Prelude.{◌≡◌, ℕ, ◌+◌, ◌-◌, ◌%◌, ◌^◌, ◌==◌, ⊤, Bool, true, false, nat_lt, ◌||◌, if◌then◌else◌, Option, Some, None, [], length, min, take, drop}
 use Rattle.segments.specs.Cells.{Bytes, Held, differing_in, known_behind, run, with_segment, without_front, IsTooMuch}
+use Rattle.connections.specs.Numbers.{advance, ahead_of, is_behind}
 use Rattle.connections.specs.Segment.{breaks, ends, first_of, behind_of}
 use Rattle.connections.specs.Traffic.{plus}
 use Rattle.connections.specs.declared.segment.Segment.{Segment}
 use Rattle.connections.specs.declared.stream.TheConstants.{HELD_LIMIT}
+use Rattle.connections.specs.declared.stream.Front.{Front}
 use Rattle.connections.specs.declared.stream.Stream.{Stream}
 use Rattle.connections.specs.declared.stream.Reading.{Reading}
 use Rattle.connections.specs.declared.stream.Reading.TheVariants.{Unbegun, Open, Over}
@@ -19,11 +21,17 @@ begun limit first Unbegun = Open (empty_from limit first)
 begun limit first (Open h) = Open h
 begun limit first Over = Over
 
--- A segment's bytes are put where none stood; exactly where it ends too far behind what is missing, the stream is read no further.
-abbrev pub Accepts : ℕ → Bytes → Reading → Reading → Type 0
-Accepts seq b (Open h) r = (IsTooMuch seq b h × (r ≡ Over)) ⊎ ((¬ IsTooMuch seq b h) × (r ≡ Open (with_segment seq b h)))
-Accepts seq b Unbegun r = r ≡ Unbegun
-Accepts seq b Over r = r ≡ Over
+-- A segment ends too far behind what is missing.
+abbrev pub IsLeftOut : ℕ → Bytes → Reading → Type 0
+IsLeftOut seq b (Open h) = IsTooMuch seq b h
+IsLeftOut seq b Unbegun = ⊥
+IsLeftOut seq b Over = ⊥
+
+-- Any other's bytes are put where none stood.
+abbrev pub put : ℕ → Bytes → Reading → Reading
+put seq b (Open h) = Open (with_segment seq b h)
+put seq b Unbegun = Unbegun
+put seq b Over = Over
 
 -- The bytes that come next.
 abbrev pub next_bytes : Reading → Bytes
@@ -45,7 +53,6 @@ silent_stream = record {
   last = 0;
   fin = None;
   is_broken = false;
-  has_gap = false;
   length = 0;
   repeated = 0;
   disagreeing = 0;
@@ -63,17 +70,6 @@ abbrev pub number_begun : Reading → ℕ → ℕ → ℕ
 number_begun Unbegun first n = first
 number_begun (Open h) first n = n
 number_begun Over first n = n
-
--- How far a number is ahead of another, in the circle of 2^32; a number is behind the other where it is less than half ahead.
-abbrev pub ahead_of : ℕ → ℕ → ℕ
-ahead_of n m = (n + (2 ^ 32 - m)) % 2 ^ 32
-
-abbrev pub is_behind : ℕ → ℕ → Bool
-is_behind n m = nat_lt 0 (ahead_of n m) && nat_lt (ahead_of n m) (2 ^ 31)
-
--- How far a number is behind another; one that isn't is not at all.
-abbrev pub advance : ℕ → ℕ → ℕ
-advance n m = if is_behind n m then ahead_of n m else 0
 
 -- How many bytes are held, in order and behind others that are missing.
 abbrev pub came : Held → ℕ
@@ -136,26 +132,38 @@ with_numbers s t = record t {
   fin = if ends s then Some (behind_of s) else t.fin;
 }
 
--- Its bytes are taken, and those of them that stood, or don't agree with those that stand, are counted. Where the stream is read no
--- further from then on, bytes are missing.
-pub record HasPut (s : Segment) (old new : Stream) : Type 0 where
-  pub bytes : Accepts (first_of s) s.payload.now old.reading new.reading
-  pub repeated : new.repeated ≡ with_repeated s old.passing old.reading new.reading old.repeated
-  pub disagreeing : new.disagreeing ≡ with_disagreeing (first_of s) s.payload.now old.reading new.reading old.disagreeing
-  pub gap : new.reading ≡ Over → (old.reading ≡ Over → ⊥) → new.has_gap ≡ true
-  pub others : new ≡ record old { reading = new.reading; repeated = new.repeated; disagreeing = new.disagreeing; has_gap = new.has_gap }
-
--- The stream begins with the segment's first byte, if none came before.
-abbrev pub begun_by : Segment → Stream → Stream
-begun_by s t = record t {
-  reading = begun HELD_LIMIT (first_of s) t.reading;
-  next = number_begun t.reading (first_of s) t.next;
-  last = number_begun t.reading (first_of s) t.last;
+-- Its bytes are taken, and those of them that stood, or don't agree with those that stand, are counted. Those of one that ends too far behind
+-- what is missing are left out.
+abbrev pub with_bytes : Segment → Reading → Stream → Stream
+with_bytes s r t = record t {
+  reading = r;
+  repeated = with_repeated s t.passing t.reading r t.repeated;
+  disagreeing = with_disagreeing (first_of s) s.payload.now t.reading r t.disagreeing;
 }
 
--- What is noted of a segment without RST, before its bytes are taken.
+pub data HasPut (s : Segment) (old new : Stream) : Type 0 where
+  left_out : IsLeftOut (first_of s) s.payload.now old.reading → new ≡ old → HasPut s old new
+  taken :
+      ¬ IsLeftOut (first_of s) s.payload.now old.reading
+      → new ≡ with_bytes s (put (first_of s) s.payload.now old.reading) old → HasPut s old new
+
+-- The stream begins with that number, if it is known and nothing came before.
+abbrev pub begun_at : Option ℕ → Stream → Stream
+begun_at None t = t
+begun_at (Some start) t = record t {
+  reading = begun HELD_LIMIT start t.reading;
+  next = number_begun t.reading start t.next;
+  last = number_begun t.reading start t.last;
+}
+
+-- What is noted of a segment without RST, before its bytes are taken: the numbers of a stream that began.
+abbrev pub is_begun : Reading → Bool
+is_begun Unbegun = false
+is_begun (Open h) = true
+is_begun Over = true
+
 abbrev pub noted : Segment → Stream → Stream
-noted s t = with_numbers s (begun_by s t)
+noted s t = if is_begun t.reading then with_numbers s t else t
 
 -- A segment with RST breaks the stream off, and its bytes are not read; of any other the numbers are noted and the bytes taken.
 pub record HasTaken (s : Segment) (old new : Stream) : Type 0 where
@@ -179,8 +187,24 @@ is_over s = s.is_broken || has_come_to s.fin s.next s.reading
 -- Bytes are missing in front of others, or of a FIN, that came.
 abbrev pub lacks : Stream → Reading → Bool
 lacks s (Open h) = is_behind s.last ((s.next + length (run h.cells)) % 2 ^ 32)
-lacks s Unbegun = s.has_gap
-lacks s Over = s.has_gap
+lacks s Unbegun = false
+lacks s Over = false
+
+-- How far it came in order, and whether it is read.
+abbrev pub front_of : Stream → Reading → Front
+front_of s (Open h) = record { reached = Some ((s.next + length (run h.cells)) % 2 ^ 32); is_read = true }
+front_of s Unbegun = record { reached = None; is_read = false }
+front_of s Over = record { reached = s.passing; is_read = false }
+
+-- Bytes are missing in front of a number.
+abbrev pub is_unreached : Option ℕ → Reading → ℕ → Bool
+is_unreached (Some reached) r n = is_behind n reached
+is_unreached None Unbegun n = true
+is_unreached None (Open h) n = false
+is_unreached None Over n = false
+
+abbrev pub is_missing : ℕ → Stream → Bool
+is_missing n s = is_unreached (front_of s s.reading).reached s.reading n
 
 -- The next number of a stream is that of the place from which on it holds bytes, within the limit.
 abbrev pub IsNumberOf : ℕ → Reading → Type 0

@@ -1,15 +1,19 @@
 -- The table of connections: each by its ends, the one with the latest packet first.
 use Rattle.std.specs.Prelude.{◌≡◌, ℕ, ◌-◌, ◌<◌, ◌⊎◌, Bool, true, false, ◌&&◌, ◌||◌, not, is_some, if◌then◌else◌, Option, Some, None, IfSome, List, [], ◌∷◌, ◌++◌, length}
-use Rattle.std.specs.Option.{option_and_then}
-use Rattle.std.specs.Map.{lookup, remove_entry}
+use Rattle.std.specs.Option.{option_and_then, option_map}
+use Rattle.std.specs.Map.{lookup, remove_entry, set_value}
 use Rattle.lru.specs.LruCache.{last_entry}
 use Rattle.connections.specs.Ends.{are_ends}
-use Rattle.connections.specs.Segment.{asks, begins_one, ends_of}
-use Rattle.connections.specs.Connection.{IsBegunBy, Accepts, without_bytes, is_another, is_closed, begun_by_datagram, with_datagram}
+use Rattle.connections.specs.Datagram.{ends_of_datagram}
+use Rattle.connections.specs.Segment.{begins, begins_one, ends_of, is_refused}
+use Rattle.connections.specs.Connection.{begun_by_datagram, dropped_from, is_closed, is_datagram_damaged, judgement_of, side_of, Accepts, Begins, ChangesCountsAlone, IsAnew, IsBegunBy, LeavesOut, NoneWaits, Shows, TakesDatagramIn}
 use Rattle.connections.specs.declared.datagram.Datagram.{Datagram}
 use Rattle.connections.specs.declared.ends.Ends.{Ends}
 use Rattle.connections.specs.declared.segment.Segment.{Segment}
 use Rattle.connections.specs.declared.connection.Connection.{Connection}
+use Rattle.connections.specs.declared.receiver.Judgement.{Judgement}
+use Rattle.connections.specs.declared.receiver.Reason.TheVariants as reason
+use Rattle.connections.specs.declared.connection.Beginning.{Beginning}
 use Rattle.connections.specs.declared.table.TheConstants.{IDLE_LIMIT, MAX_CONNECTIONS}
 
 -- Those that are open, and of those that both sides ended, the time: what still comes of these is left out.
@@ -60,12 +64,47 @@ module _ {T : Type 0} where
 
   -- A datagram is counted, and its time noted, in the exchange that is there, or in one that it begins.
   abbrev pub TakesDatagram : Datagram → Option (Connection T) → Connection T → Type 0
-  TakesDatagram d (Some c) its = its ≡ with_datagram d c
-  TakesDatagram d None its = its ≡ begun_by_datagram d its.listener
+  TakesDatagram d (Some c) its = TakesDatagramIn d c its
+  TakesDatagram d None its = (its ≡ begun_by_datagram d its.waiting its.listener) × NoneWaits its
 
-  -- There is an open connection between the segment's ends, or the segment begins one where none was closed.
+  -- What the receiver of a segment does with it, where a connection is open between its ends.
+  abbrev pub judgement_in : Segment → Table T → Option Judgement
+  judgement_in s t = option_map (judgement_of s) (at (ends_of s) t.live)
+
+  -- The connection between these ends is another one, in the same place; all others stay.
+  abbrev pub with_other : Ends → Connection T → Table T → Table T
+  with_other e c t = record t { live = set_value (are_ends e) t.live c }
+
+  -- Of the connection between these ends only counts change, and what waits.
+  abbrev pub ChangesCountsAt : Ends → Option (Connection T) → Table T → Table T → Type 0
+  ChangesCountsAt e None old new = new ≡ old
+  ChangesCountsAt e (Some c) old new = (c' : Connection T) × ChangesCountsAlone c c' × (new ≡ with_other e c' old)
+
+  -- A segment that its receiver drops, or that waits, changes no more.
+  abbrev pub Drops : Segment → Table T → Table T → Type 0
+  Drops s old new = ChangesCountsAt (ends_of s) (at (ends_of s) old.live) old new
+
+  -- A datagram with a wrong checksum is counted in the exchange between its ends.
+  abbrev pub is_damaged_in : Datagram → Option (Connection T) → Bool
+  is_damaged_in d None = is_refused d.checksum
+  is_damaged_in d (Some c) = is_datagram_damaged d c
+
+  abbrev pub DropsDatagramOf : Datagram → Option (Connection T) → Table T → Table T → Type 0
+  DropsDatagramOf d None old new = new ≡ old
+  DropsDatagramOf d (Some c) old new =
+      new ≡ with_other (ends_of_datagram d) (dropped_from (side_of c d.source) reason.Checksum c) old
+
+  abbrev pub DropsDatagram : Datagram → Bool → Table T → Table T → Type 0
+  DropsDatagram d false old new = new ≡ old
+  DropsDatagram d true old new = DropsDatagramOf d (at (ends_of_datagram d) old.live) old new
+
+  -- There is an open connection between the segment's ends, or the segment begins one: behind one that was closed only a SYN does.
   abbrev pub belongs : Segment → Table T → Bool
-  belongs s t = is_some (at (ends_of s) t.live) || (not (is_some (at (ends_of s) t.closed)) && begins_one s)
+  belongs s t =
+      is_some (at (ends_of s) t.live) || (begins_one s && (begins s || not (is_some (at (ends_of s) t.closed))))
+
+  abbrev pub closed_behind : Bool → Segment → Table T → List (Ends × ℕ)
+  closed_behind begun s t = without_if (begun && not (is_some (at (ends_of s) t.live))) (ends_of s) t.closed
 
   abbrev pub Puts : Bool → Segment → Table T → Table T → Type 0
   Puts true s old new = IsPut (ends_of s) (TakesSegment s) old.live new.live
@@ -76,22 +115,35 @@ module _ {T : Type 0} where
   NoneIsOver time xs = IfSome (last_entry xs) (λ e. ¬ IsOver time xs e.1.last_time)
 
   -- Where memory is refused, the bytes are left out of the connection that was there; where there was none, none is begun.
-  abbrev pub left_out : Segment → Option (Connection T) → List (Ends × Connection T) → List (Ends × Connection T)
-  left_out s (Some c) xs = (ends_of s, without_bytes s c) ∷ others (ends_of s) xs
-  left_out s None xs = xs
+  abbrev pub LeavesOutAt : Segment → Option (Connection T) → List (Ends × Connection T) → List (Ends × Connection T) → Type 0
+  LeavesOutAt s None xs ys = ys ≡ xs
+  LeavesOutAt s (Some c) xs ys = (c' : Connection T) × LeavesOut s c c' × (ys ≡ (ends_of s, c') ∷ others (ends_of s) xs)
 
-  -- The connection between the segment's ends, where the segment asks for another one, and where both sides said their last.
-  abbrev pub replaced : Segment → Table T → Option (Connection T)
-  replaced s t = option_and_then (λ c. if is_another s c then Some c else None) (at (ends_of s) t.live)
-
+  -- Both sides of the connection between these ends said their last.
   abbrev pub ended : Ends → Table T → Option (Connection T)
   ended e t = option_and_then (λ c. if is_closed c then Some c else None) (at e t.live)
 
-  abbrev pub without_replaced : Segment → Table T → Table T
-  without_replaced s t = record {
-    live = without_if (is_some (replaced s t)) (ends_of s) t.live;
-    closed = without_if (asks s) (ends_of s) t.closed;
-  }
+  -- Another connection stands first, which begins with the segments that this one shows; the one before is taken out, without the SYNs that were
+  -- kept.
+  pub record Replaces (s : Segment) (old new : Table T) (c : Connection T) : Type 0 where
+    pub beginning : Beginning
+    pub its : Connection T
+    pub shows : Shows s beginning
+    pub begins : Begins beginning its
+    pub was : IfSome (at (ends_of s) old.live) (λ c'. c ≡ record c' { waiting = c.waiting })
+    pub stands : new ≡ record old { live = (ends_of s, its) ∷ others (ends_of s) old.live }
+
+  abbrev pub Replaced : Segment → Table T → Table T → Option (Connection T) → Type 0
+  Replaced s old new None = new ≡ old
+  Replaced s old new (Some c) = Replaces s old new c
+
+  -- The connection between these ends is anew.
+  abbrev pub IsAnewAt : ℕ → Ends → Option (Connection T) → Table T → Table T → Type 0
+  IsAnewAt time e None old new = new ≡ old
+  IsAnewAt time e (Some c) old new = (c' : Connection T) × IsAnew time c c' × (new ≡ with_other e c' old)
+
+  abbrev pub Restarts : Segment → Table T → Table T → Type 0
+  Restarts s old new = IsAnewAt s.time (ends_of s) (at (ends_of s) old.live) old new
 
   -- It stands among those that were closed from then on.
   abbrev pub without_ended : Ends → ℕ → Table T → Table T

@@ -3,8 +3,11 @@ use Rattle.std.specs.Prelude.{ℕ, ◌+◌, ◌-◌, ◌^◌, min}
 use Rattle.connections.specs.declared.traffic.Traffic.{Traffic}
 
 -- A count with more: it stays where it can't be held.
+abbrev pub plus_up_to : ℕ → ℕ → ℕ → ℕ
+plus_up_to most n more = min (n + more) most
+
 abbrev pub plus : ℕ → ℕ → ℕ
-plus n more = min (n + more) (2 ^ 64 - 1)
+plus = plus_up_to (2 ^ 64 - 1)
 
 -- Nothing was sent.
 abbrev pub nothing_sent : Traffic

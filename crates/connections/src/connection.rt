@@ -1,12 +1,17 @@
 //! A connection of TCP, or an exchange over UDP.
-ghost use Rattle.std.specs.Prelude.{◌≡◌, OnOk, OnErr};
-ghost use Rattle.connections.specs.Connection.{silent, IsBegunBy, Accepts, without_bytes, side_of, stream_of, sent_by, is_closed, is_another, begun_by_datagram, with_datagram};
+ghost use Rattle.std.specs.Prelude.{◌≡◌, IfOk, IfSome, OnOk, OnErr, Some, true};
+ghost use Rattle.connections.specs.declared.receiver.Reason.TheVariants as reason;
+ghost use Rattle.connections.specs.Connection.{begun_by_datagram, confirms as confirms_answer, counted as counting, dropped_from, fin_by, goes_on_behind, has_opening, hosts_of, is_closed, is_datagram_damaged, last_of, judgement_of, noting, sent_by, side_of, silent, start_of, stream_of, with_datagram, without_bytes, Accepts, Begins, ChangesCountsAlone, IsAnew, IsBegunBy, LeavesOut, LeavesOutSyn, NoneWaits, Puts, PutsSyn, Shows, TakesDatagramIn};
 
 use crate::datagram::Datagram;
+use crate::dropped::Dropped;
 use crate::ends::{End, Protocol};
-use crate::segment::Segment;
+use crate::host::{Host, later};
+use crate::receiver::{Judgement, Reason, is_behind_fin, is_damaged, judge};
+use crate::segment::{Checksum, Segment};
 use crate::stream::Stream;
 use crate::traffic::Traffic;
+use crate::waiting::{Kept, Told, Waiting};
 use std::alloc::{AllocError, Global};
 
 /// A value of a caller that goes with a connection.
@@ -37,18 +42,95 @@ pub struct Connection<T> {
     pub first_time: u64,
     /// The same of its last.
     pub last_time: u64,
-    // The number of the first byte behind the SYN that asked for it, if one was captured.
-    asked: Option<u32>,
+    // What is known of both ends over TCP.
+    originator_host: Host,
+    responder_host: Host,
+    // Segments of which their receivers' acknowledgements tell whether they were taken; and SYNs, with which another connection between the
+    // same ends may begin.
+    waiting: Waiting,
     /// What the originator says over TCP.
     pub from_originator: Stream,
     /// What the responder says over TCP.
     pub from_responder: Stream,
-    /// What the originator sent.
+    /// What the originator sent, and the responder took.
     pub originator_sent: Traffic,
-    /// What the responder sent.
+    /// What the responder sent, and the originator took.
     pub responder_sent: Traffic,
+    /// What the originator sent over TCP, and the responder took nothing of.
+    pub originator_dropped: Dropped,
+    /// What the responder sent over TCP, and the originator took nothing of.
+    pub responder_dropped: Dropped,
     /// The caller's own.
     pub listener: T,
+}
+
+/// The segments with which a connection began: the SYN and the answer to it, or the one of them that was captured.
+#[derive(Clone, Copy)]
+pub(crate) struct Beginning {
+    /// The first one.
+    pub(crate) first: Segment<'static>,
+    /// The answer to it.
+    pub(crate) answer: Option<Segment<'static>>,
+}
+
+/// How far numbers of one connection may lie apart, at most, so that another isn't seen in them.
+const FAR: u32 = 0x1_0000;
+
+/// Whether a number lies far from one that is known.
+fn is_far(known: Option<u32>, number: u32) -> bool {
+    match known {
+        Some(other) => number.wrapping_sub(other) > FAR && other.wrapping_sub(number) > FAR,
+        None => false,
+    }
+}
+
+/// What of a segment is put into its sender's stream: where the receiver has its bytes, no FIN.
+fn part_of<'a>(segment: &Segment<'a>, judgement: Judgement) -> Segment<'a>
+    ensures { result ≡ fin_by judgement segment.now }
+{
+    match judgement {
+        Judgement::Again => segment.without_fin(),
+        Judgement::Taken | Judgement::Waiting(_) | Judgement::Dropped(_) => *segment,
+    }
+}
+
+/// What a connection is to a segment between its ends.
+#[derive(Clone, Copy, Debug, PartialEq, Eq)]
+pub struct Verdict {
+    /// What the segment's receiver does with it.
+    pub judgement: Judgement,
+    /// Whether it shows that another connection between the same ends began.
+    pub begins_another: bool,
+    /// Whether others wait, of which it may tell that its sender took them.
+    pub tells: bool,
+    /// Whether it shows that all that came before had a wrong checksum, so that nobody took it.
+    pub shows_damage: bool,
+}
+
+/// Whether a SYN with ACK answers this SYN.
+fn answers_this(answering: &Segment<'_>, asking: &Segment<'_>) -> bool {
+    answering.source == asking.destination && answering.acknowledgment == asking.first()
+}
+
+/// Whether a segment goes on behind a SYN of its sender's.
+fn is_first_behind(segment: &Segment<'_>, asking: &Segment<'_>) -> bool
+    ensures { result ≡ goes_on_behind segment.now asking.now }
+{
+    segment.source == asking.source
+        && segment.acknowledges()
+        && !segment.begins()
+        && segment.sequence == asking.first()
+}
+
+/// Whether a segment shows that its sender takes the answer to its SYN.
+fn confirms(segment: &Segment<'_>, answering: &Segment<'_>) -> bool
+    ensures { result ≡ confirms_answer segment.now answering.now }
+{
+    segment.source == answering.destination
+        && segment.acknowledges()
+        && !segment.begins()
+        && segment.sequence == answering.acknowledgment
+        && segment.acknowledgment == answering.first()
 }
 
 impl<T: Listener> Connection<T> {
@@ -60,7 +142,8 @@ impl<T: Listener> Connection<T> {
         responder: End,
         time: u64,
     ) -> Connection<T>
-        ensures { result ≡ silent protocol originator responder time result.listener }
+        ensures begun { result ≡ silent protocol originator responder time result.waiting result.listener }
+        ensures waits { NoneWaits result }
     {
         Connection {
             protocol,
@@ -68,11 +151,15 @@ impl<T: Listener> Connection<T> {
             responder,
             first_time: time,
             last_time: time,
-            asked: None,
+            originator_host: Host::new(),
+            responder_host: Host::new(),
+            waiting: Waiting::new(alloc),
             from_originator: Stream::new(),
             from_responder: Stream::new(),
             originator_sent: Traffic::new(),
             responder_sent: Traffic::new(),
+            originator_dropped: Dropped::new(),
+            responder_dropped: Dropped::new(),
             listener: T::begin(alloc, protocol),
         }
     }
@@ -89,9 +176,28 @@ impl<T: Listener> Connection<T> {
         Connection::new(alloc, Protocol::Tcp, originator, responder, segment.time)
     }
 
+    /// One that began with these segments. `AllocError` where it could not be held.
+    pub(crate) fn of_beginning(
+        alloc: Global,
+        beginning: &Beginning,
+    ) -> Result<Connection<T>, AllocError>
+        ensures { IfOk result (λ its. Begins beginning.now its) }
+    {
+        let mut connection = Connection::of_segment(alloc, &beginning.first);
+        connection.accept(alloc, &beginning.first)?;
+        match beginning.answer {
+            Some(answer) => {
+                connection.accept(alloc, &answer)?;
+                Ok(connection)
+            }
+            None => Ok(connection),
+        }
+    }
+
     /// One that this datagram begins.
     pub(crate) fn of_datagram(alloc: Global, datagram: &Datagram<'_>) -> Connection<T>
-        ensures { result ≡ begun_by_datagram datagram.now result.listener }
+        ensures begun { result ≡ begun_by_datagram datagram.now result.waiting result.listener }
+        ensures waits { NoneWaits result }
     {
         let mut exchange = Connection::new(
             alloc,
@@ -102,6 +208,13 @@ impl<T: Listener> Connection<T> {
         );
         exchange.accept_datagram(datagram);
         exchange
+    }
+
+    /// Whether a SYN of it was captured.
+    pub fn has_opening(&self) -> bool
+        ensures { result ≡ has_opening self.now }
+    {
+        self.originator_host.first.is_some() || self.responder_host.first.is_some()
     }
 
     /// Which side a sender of its packets is.
@@ -135,40 +248,337 @@ impl<T: Listener> Connection<T> {
         }
     }
 
-    /// Whether the segment asks for another connection between its ends.
-    pub(crate) fn is_another(&self, segment: &Segment<'_>) -> bool
-        ensures { result ≡ is_another segment.now self.now }
+    /// What is known of the sender of a segment, and of its receiver.
+    fn hosts(&self, segment: &Segment<'_>) -> (&Host, &Host)
+        ensures { (result.0.now, result.1.now) ≡ hosts_of segment.now self.now }
     {
-        if !segment.asks() {
-            return false;
-        }
-        match self.asked {
-            Some(first) => {
-                self.side_of(segment.source) != Side::Originator || segment.first() != first
-            }
-            None => true,
+        match self.side_of(segment.source) {
+            Side::Originator => (&self.originator_host, &self.responder_host),
+            Side::Responder => (&self.responder_host, &self.originator_host),
         }
     }
 
-    /// Puts the segment into its sender's stream. `AllocError` where its bytes could not be held: they are left out.
-    pub(crate) fn accept(&mut self, alloc: Global, segment: &Segment<'_>) -> Result<(), AllocError>
-        ensures taken { OnOk result (Accepts segment.now self.old self.new) }
+    /// What the receiver of a segment does with it.
+    pub(crate) fn judge(&self, segment: &Segment<'_>) -> Judgement
+        ensures { result ≡ judgement_of segment.now self.now }
+    {
+        let (sender, receiver) = self.hosts(segment);
+        let front = self.stream(self.side_of(segment.source)).front();
+        judge(sender, receiver, front, segment)
+    }
+
+    /// What the connection is to a segment.
+    pub(crate) fn verdict(&self, segment: &Segment<'_>) -> Verdict
+        ensures judgement { result.judgement ≡ judgement_of segment.now self.now }
+    {
+        let has_waiting = !self.waiting.is_empty();
+        Verdict {
+            judgement: self.judge(segment),
+            begins_another: has_waiting && self.another(segment).is_some(),
+            tells: has_waiting && segment.acknowledges(),
+            shows_damage: self.shows_damage(segment.source, segment.checksum),
+        }
+    }
+
+    /// Whether the numbers of a segment are none of this connection: they lie far from those that came.
+    fn is_apart(&self, segment: &Segment<'_>) -> bool {
+        let (sender, receiver) = self.hosts(segment);
+        is_far(sender.next, segment.sequence) || is_far(receiver.next, segment.acknowledgment)
+    }
+
+    /// With which segments a connection began to which this one is an answer.
+    fn beginning(&self, answering: &Segment<'static>) -> Beginning
+        ensures { last_of result.first result.answer ≡ answering.now }
+    {
+        match self.waiting.syn(false) {
+            Some(asking) if answers_this(answering, &asking) => Beginning {
+                first: asking,
+                answer: Some(*answering),
+            },
+            _ => Beginning {
+                first: *answering,
+                answer: None,
+            },
+        }
+    }
+
+    /// The segments with which another connection between the same ends began, where this one shows that: its sender takes the answer to a SYN,
+    /// or goes on behind a SYN whose receiver wasn't captured.
+    pub(crate) fn another(&self, segment: &Segment<'_>) -> Option<Beginning>
+        ensures { IfSome result (λ beginning. Shows segment.now beginning) }
+    {
+        if !self.is_apart(segment) {
+            return None;
+        }
+        match (self.waiting.syn(true), self.waiting.syn(false)) {
+            (Some(answering), _) if confirms(segment, &answering) => {
+                Some(self.beginning(&answering))
+            }
+            (_, Some(asking)) if self.goes_on_alone(segment, &asking) => Some(Beginning {
+                first: asking,
+                answer: None,
+            }),
+            _ => None,
+        }
+    }
+
+    /// Whether a segment goes on behind a SYN of its sender's, of whose receiver nothing was captured.
+    fn goes_on_alone(&self, segment: &Segment<'_>, asking: &Segment<'_>) -> bool
+        ensures { result ≡ true → goes_on_behind segment.now asking.now ≡ true }
+    {
+        let (sender, receiver) = self.hosts(segment);
+        receiver.next.is_none() && sender.next.is_some() && is_first_behind(segment, asking)
+    }
+
+    /// Whether a packet shows by its checksum that all that came before was damaged: none of it is of the other end, and none had a right one.
+    pub(crate) fn shows_damage(&self, sender: End, checksum: Checksum) -> bool {
+        let side = self.side_of(sender);
+        let (host, other) = match side {
+            Side::Originator => (&self.originator_host, self.responder_sent),
+            Side::Responder => (&self.responder_host, self.originator_sent),
+        };
+        host.is_damaged() && checksum != Checksum::Wrong && other.packets == 0
+    }
+
+    /// The connection anew, of which nobody took what came before: that is counted.
+    pub(crate) fn restart(&mut self, alloc: Global, time: u64)
+        ensures { IsAnew time self.old self.new }
+    {
+        let mut fresh = Connection::new(
+            alloc,
+            self.protocol,
+            self.originator,
+            self.responder,
+            time,
+        );
+        let damaged = u64::from(self.originator_host.unchecked);
+        fresh.originator_dropped.add_damaged(damaged.saturating_add(
+            self.dropped(Side::Originator).packets,
+        ));
+        let damaged = u64::from(self.responder_host.unchecked);
+        fresh.responder_dropped.add_damaged(damaged.saturating_add(
+            self.dropped(Side::Responder).packets,
+        ));
+        *self = fresh;
+    }
+
+    /// Lets the SYNs go with which another connection began.
+    pub(crate) fn forget_syns(&mut self)
+        ensures { self.new ≡ record self.old { waiting = self.new.waiting } }
+    {
+        self.waiting.forget_syns();
+    }
+
+    /// Counts a packet of which its receiver takes nothing.
+    fn count_dropped(&mut self, side: Side, reason: Reason)
+        ensures { self.new ≡ dropped_from side reason self.old }
+    {
+        match side {
+            Side::Originator => self.originator_dropped.add(reason),
+            Side::Responder => self.responder_dropped.add(reason),
+        }
+    }
+
+    /// Counts a segment of which its receiver takes nothing. A SYN is kept: another connection may begin with it.
+    pub(crate) fn drop_segment(
+        &mut self,
+        alloc: Global,
+        segment: &Segment<'_>,
+        reason: Reason,
+    ) -> Result<(), AllocError>
+        ensures { ChangesCountsAlone self.old self.new }
+    {
+        let may_begin = segment.begins() && reason != Reason::Checksum;
+        if may_begin && self.is_apart(segment) {
+            if let Some(earlier) = self.waiting.take_syn(segment.answers()) {
+                self.count_dropped(self.side_of(earlier.segment().source), reason);
+            }
+            return self.waiting.keep_syn(alloc, segment, reason);
+        }
+        self.count_dropped(self.side_of(segment.source), reason);
+        Ok(())
+    }
+
+    /// Keeps a segment until its receiver tells whether it took it; where too many wait, it counts as dropped for that reason.
+    pub(crate) fn wait(
+        &mut self,
+        alloc: Global,
+        segment: &Segment<'_>,
+        reason: Reason,
+    ) -> Result<(), AllocError>
+        ensures { ChangesCountsAlone self.old self.new }
+    {
+        if !self.waiting.keep(alloc, segment, Some(reason))? {
+            self.count_dropped(self.side_of(segment.source), reason);
+        }
+        Ok(())
+    }
+
+    /// Keeps the data of a SYN that its receiver took, until that tells whether it took these too.
+    fn keep_data_of_syn(&mut self, alloc: Global, segment: &Segment<'_>) -> Result<(), AllocError>
+        ensures { self.new ≡ record self.old { waiting = self.new.waiting } }
+    {
+        if segment.begins() && segment.has_data() {
+            self.waiting.keep(alloc, &segment.data_of_syn(), None)?;
+        }
+        Ok(())
+    }
+
+    /// Takes out a segment that waited until its receiver, the sender of this one, acknowledged it. One of which all bytes came otherwise counts as
+    /// dropped.
+    pub(crate) fn take_waiting(&mut self, segment: &Segment<'_>) -> Option<Told>
+        ensures { ChangesCountsAlone self.old self.new }
+    {
+        let other = self.hosts(segment).1;
+        let (sent, fin) = (other.next, other.fin);
+        let Some(kept) = self.waiting.take(segment, sent, fin) else {
+            self.waiting.forget_data_of_syn(segment.source);
+            return None;
+        };
+        let side = self.side_of(kept.segment().source);
+        if self.lacks(&kept) {
+            return Some(Told::Taken(kept));
+        }
+        if let Some(reason) = kept.reason() {
+            self.count_dropped(side, reason);
+        }
+        Some(Told::Had)
+    }
+
+    /// Whether bytes of a segment that waited are missing in its sender's stream, in front of a FIN.
+    fn lacks(&self, kept: &Kept) -> bool {
+        let segment = kept.segment();
+        self.stream(self.side_of(segment.source))
+            .lacks(segment.end())
+            && !is_behind_fin(self.hosts(&segment).0, &segment)
+    }
+
+    /// What that side sent over TCP, and the other took nothing of; with it what waits.
+    pub fn dropped(&self, side: Side) -> Dropped {
+        let (mut dropped, end) = match side {
+            Side::Originator => (self.originator_dropped, self.originator),
+            Side::Responder => (self.responder_dropped, self.responder),
+        };
+        self.waiting.count(end, &mut dropped);
+        dropped
+    }
+
+    /// Where the stream of a segment's sender begins, if nothing of it came before: behind the SYN, or with what its receiver waits for.
+    fn start(receiver: &Host, segment: &Segment<'_>) -> Option<u32>
+        ensures { result ≡ start_of receiver.now segment.now }
+    {
+        if segment.begins() {
+            return Some(segment.first());
+        }
+        match receiver.acknowledged {
+            Some(number) => Some(later(Some(number), segment.first())),
+            None if segment.begins_stream() => Some(segment.first()),
+            None => None,
+        }
+    }
+
+    /// Notes what a segment says of its sender, unless the receiver has all of it.
+    fn note(&mut self, segment: &Segment<'_>, judgement: Judgement)
+        ensures { self.new ≡ noting judgement segment.now self.old }
+    {
+        let is_new = judgement != Judgement::Again;
+        let checksum = segment.checksum;
+        match self.side_of(segment.source) {
+            Side::Originator => {
+                let wrong = self.originator_host.note_checksum(checksum);
+                self.originator_dropped.add_damaged(u64::from(wrong));
+                if is_new {
+                    self.originator_host.note(&self.responder_host, segment);
+                }
+            }
+            Side::Responder => {
+                let wrong = self.responder_host.note_checksum(checksum);
+                self.responder_dropped.add_damaged(u64::from(wrong));
+                if is_new {
+                    self.responder_host.note(&self.originator_host, segment);
+                }
+            }
+        }
+    }
+
+    /// Puts a segment's bytes into its sender's stream; those of a SYN wait.
+    fn put(&mut self, alloc: Global, segment: &Segment<'_>) -> Result<(), AllocError>
+        ensures taken { OnOk result (Puts segment.now self.old self.new) }
         ensures left_out { OnErr result (self.new ≡ without_bytes segment.now self.old) }
+    {
+        match self.side_of(segment.source) {
+            Side::Originator => {
+                let start = Self::start(&self.responder_host, segment);
+                self.from_originator.begin(alloc, start);
+                self.from_originator.accept(segment)
+            }
+            Side::Responder => {
+                let start = Self::start(&self.originator_host, segment);
+                self.from_responder.begin(alloc, start);
+                self.from_responder.accept(segment)
+            }
+        }
+    }
+
+    /// Counts a segment, and notes its time.
+    fn count(&mut self, segment: &Segment<'_>)
+        ensures { self.new ≡ counting segment.now self.old }
     {
         self.last_time = segment.time;
         match self.side_of(segment.source) {
-            Side::Originator => {
-                if segment.asks() {
-                    self.asked = Some(segment.first());
-                }
-                self.originator_sent.add(segment.payload);
-                self.from_originator.accept(alloc, segment)
-            }
-            Side::Responder => {
-                self.responder_sent.add(segment.payload);
-                self.from_responder.accept(alloc, segment)
-            }
+            Side::Originator => self.originator_sent.add(segment.payload),
+            Side::Responder => self.responder_sent.add(segment.payload),
         }
+    }
+
+    /// Puts the segment into its sender's stream, counts it, and notes what it says of its sender. `AllocError` where its bytes could not be
+    /// held: they are left out.
+    pub(crate) fn accept(&mut self, alloc: Global, segment: &Segment<'_>) -> Result<(), AllocError>
+        ensures taken { OnOk result (Accepts segment.now self.old self.new) }
+        ensures left_out { OnErr result (LeavesOut segment.now self.old self.new) }
+    {
+        let judgement = self.judge(segment);
+        self.count(segment);
+        self.note(segment, judgement);
+        if segment.begins() {
+            return self.put_syn(alloc, segment);
+        }
+        self.put(alloc, &part_of(segment, judgement))
+    }
+
+    /// Begins the sender's stream behind its SYN, and keeps the SYN's data.
+    fn put_syn(&mut self, alloc: Global, segment: &Segment<'_>) -> Result<(), AllocError>
+        ensures taken { OnOk result (PutsSyn segment.now self.old self.new) }
+        ensures left_out { OnErr result (LeavesOutSyn segment.now self.old self.new) }
+    {
+        self.keep_data_of_syn(alloc, segment)?;
+        self.put(alloc, &segment.without_data())
+    }
+
+    /// Puts a segment that waited into its sender's stream; the data of a SYN was counted with it.
+    pub(crate) fn accept_kept(&mut self, alloc: Global, kept: &Kept) -> Result<(), AllocError> {
+        if kept.is_of_syn() {
+            return self.put(alloc, &kept.segment());
+        }
+        self.accept(alloc, &kept.segment())
+    }
+
+    /// Whether a checksum of the datagram is wrong, as it arrives.
+    pub(crate) fn is_damaged(&self, datagram: &Datagram<'_>) -> bool
+        ensures { result ≡ is_datagram_damaged datagram.now self.now }
+    {
+        let (sender, receiver) = match self.side_of(datagram.source) {
+            Side::Originator => (&self.originator_host, &self.responder_host),
+            Side::Responder => (&self.responder_host, &self.originator_host),
+        };
+        is_damaged(sender, receiver, datagram.checksum, datagram.payload.len())
+    }
+
+    /// Counts a datagram of which its receiver takes nothing, since a checksum is wrong.
+    pub(crate) fn drop_datagram(&mut self, datagram: &Datagram<'_>)
+        ensures { self.new ≡ dropped_from (side_of self.old datagram.now.source) reason.Checksum self.old }
+    {
+        self.count_dropped(self.side_of(datagram.source), Reason::Checksum);
     }
 
     /// Notes the datagram's time, and counts it.
@@ -177,15 +587,39 @@ impl<T: Listener> Connection<T> {
     {
         self.last_time = datagram.time;
         match self.side_of(datagram.source) {
-            Side::Originator => self.originator_sent.add(datagram.payload),
-            Side::Responder => self.responder_sent.add(datagram.payload),
+            Side::Originator => {
+                let wrong = self.originator_host.note_checksum(datagram.checksum);
+                self.originator_dropped.add_damaged(u64::from(wrong));
+                self.originator_sent.add(datagram.payload);
+            }
+            Side::Responder => {
+                let wrong = self.responder_host.note_checksum(datagram.checksum);
+                self.responder_dropped.add_damaged(u64::from(wrong));
+                self.responder_sent.add(datagram.payload);
+            }
         }
     }
 
-    /// Whether both sides said their last.
+    /// The same, anew where the datagram shows that all before it was damaged.
+    pub(crate) fn take_datagram(&mut self, alloc: Global, datagram: &Datagram<'_>)
+        ensures { TakesDatagramIn datagram.now self.old self.new }
+    {
+        if self.shows_damage(datagram.source, datagram.checksum) {
+            self.restart(alloc, datagram.time);
+        }
+        self.accept_datagram(datagram);
+    }
+
+    /// Whether it is over: one side broke it off, or both said their last, and each has that of the other.
     pub fn is_closed(&self) -> bool
         ensures { result ≡ is_closed self.now }
     {
-        self.from_originator.is_closed() && self.from_responder.is_closed()
+        if self.from_originator.is_broken() || self.from_responder.is_broken() {
+            return true;
+        }
+        self.from_originator.is_closed()
+            && self.from_responder.is_closed()
+            && self.responder_host.has_fin_of(&self.originator_host)
+            && self.originator_host.has_fin_of(&self.responder_host)
     }
 }

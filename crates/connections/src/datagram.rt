@@ -3,6 +3,7 @@ ghost use Rattle.std.specs.Prelude.{◌≡◌};
 ghost use Rattle.connections.specs.Datagram.{ends_of_datagram};
 
 use crate::ends::{End, Ends, Protocol};
+use crate::segment::Checksum;
 
 /// A datagram of UDP as it was captured (RFC 768).
 #[derive(Clone, Copy, Debug)]
@@ -13,6 +14,8 @@ pub struct Datagram<'a> {
     pub source: End,
     /// To whom.
     pub destination: End,
+    /// What its checksum is, or that of the datagram of IP that holds it.
+    pub checksum: Checksum,
     /// The data.
     pub payload: &'a [u8],
 }

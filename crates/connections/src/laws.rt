@@ -1,15 +1,18 @@
 //! What stands of the two ends of a connection, and of the numbers of a stream. Each function's contract is one law.
-ghost use Rattle.std.specs.Prelude.{◌≡◌, ◌⊎◌, ◌<◌, ◌^◌, ℕ, List};
+ghost use Rattle.std.specs.Prelude.{◌≡◌, ◌⊎◌, ◌<◌, ◌^◌, ℕ, List, Some};
 ghost use Rattle.std.specs.Cmp.{IsPartialOrder, IsTotalOrder, Agrees};
 ghost use Rattle.connections.specs.Ends.{ends_between};
 ghost use Rattle.connections.specs.declared.ends.Protocol.{Protocol};
 ghost use Rattle.connections.specs.declared.ends.End.{End as AnEnd};
 ghost use Rattle.connections.specs.Table.{at, others};
 ghost use Rattle.connections.specs.declared.ends.Ends.{Ends};
+ghost use Rattle.connections.specs.Connection.{judgement_of, stream_of, ChangesCountsAlone};
+ghost use Rattle.connections.specs.declared.connection.Connection.{Connection};
+ghost use Rattle.connections.specs.declared.connection.Side.{Side};
 ghost use Rattle.connections.specs.declared.segment.Segment.{Segment};
 ghost use Rattle.connections.specs.declared.stream.Stream.{Stream};
 ghost use Rattle.connections.specs.declared.stream.Reading.{Reading};
-ghost use Rattle.connections.specs.Stream.{silent_stream, noted, behind_front, next_behind, stopped, HasTaken, IsNumberOf};
+ghost use Rattle.connections.specs.Stream.{begun_at, silent_stream, noted, behind_front, next_behind, stopped, HasTaken, IsNumberOf};
 
 use crate::ends::End;
 
@@ -40,9 +43,19 @@ pub fn what_stands_under_other_ends_stays<T>()
 /// The next number of a stream is that of the place from which on it holds bytes: at first, and behind each call.
 pub fn the_next_number_is_that_of_what_is_held()
     ensures silent { IsNumberOf silent_stream.next silent_stream.reading }
-    ensures accepted { (s : Segment) (old new : Stream) → s.sequence < 2 ^ 32 → HasTaken s old new
-        → IsNumberOf old.next old.reading → IsNumberOf new.next new.reading }
-    ensures noted { (s : Segment) (t : Stream) → s.sequence < 2 ^ 32 → IsNumberOf t.next t.reading → IsNumberOf (noted s t).next (noted s t).reading }
+    ensures begun { (n : ℕ) (t : Stream) → n < 2 ^ 32 → IsNumberOf t.next t.reading
+        → IsNumberOf (begun_at (Some n) t).next (begun_at (Some n) t).reading }
+    ensures accepted { (s : Segment) (old new : Stream) → HasTaken s old new → IsNumberOf old.next old.reading → IsNumberOf new.next new.reading }
+    ensures noted { (s : Segment) (t : Stream) → IsNumberOf t.next t.reading → IsNumberOf (noted s t).next (noted s t).reading }
     ensures taken { (n next : ℕ) (r : Reading) → IsNumberOf next r → IsNumberOf (next_behind n r next) (behind_front n r) }
     ensures stopped { (t : Stream) → IsNumberOf t.next t.reading → IsNumberOf (stopped t t.reading).next (stopped t t.reading).reading }
+{}
+
+/// What a receiver does with a segment, and which streams it reads, is the same behind packets of which it took nothing: these change only counts,
+/// and what waits.
+pub fn dropped_packets_change_nothing_that_is_heard<T>()
+    ensures judgement { (s : Segment) (old new : Connection T) → ChangesCountsAlone old new → judgement_of s new ≡ judgement_of s old }
+    ensures streams { (side : Side) (old new : Connection T) → ChangesCountsAlone old new → stream_of side new ≡ stream_of side old }
+    ensures listener { (old new : Connection T) → ChangesCountsAlone old new → new.listener ≡ old.listener }
+    ensures many { (old mid new : Connection T) → ChangesCountsAlone old mid → ChangesCountsAlone mid new → ChangesCountsAlone old new }
 {}

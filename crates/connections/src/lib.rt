@@ -9,21 +9,31 @@
 
 mod connection;
 mod datagram;
+mod dropped;
 mod ends;
+mod host;
 mod laws;
+mod numbers;
+mod receiver;
 mod segment;
 mod stream;
 mod table;
 mod traffic;
+mod waiting;
 
-pub use connection::{Connection, Listener, Side};
+pub use connection::{Connection, Listener, Side, Verdict};
 pub use datagram::Datagram;
+pub use dropped::Dropped;
 pub use ends::{End, Ends, Protocol};
+pub use host::Host;
 pub use laws::{
-    both_directions_have_the_same_ends, no_other_packets_have_these_ends,
-    the_next_number_is_that_of_what_is_held, what_stands_under_other_ends_stays,
+    both_directions_have_the_same_ends, dropped_packets_change_nothing_that_is_heard,
+    no_other_packets_have_these_ends, the_next_number_is_that_of_what_is_held,
+    what_stands_under_other_ends_stays,
 };
-pub use segment::Segment;
-pub use stream::{HELD_LIMIT, Stream};
+pub use receiver::{Judgement, Reason, judge};
+pub use segment::{Checksum, Options, Segment};
+pub use stream::{Front, HELD_LIMIT, Stream};
 pub use table::{Connections, IDLE_LIMIT, MAX_CONNECTIONS};
 pub use traffic::Traffic;
+pub use waiting::{Kept, MAX_WAITING, Told};

@@ -1,18 +1,15 @@
 //! One direction of a connection.
 ghost use Rattle.std.specs.Prelude.{◌≡◌, ◌%◌, ◌^◌, length, false, OnOk, OnErr};
 ghost use Rattle.connections.specs.Segment.{breaks, first_of};
-ghost use Rattle.connections.specs.Stream.{begun_by, next_bytes, behind_front, next_behind, passed, passed_before, passing_behind, silent_stream, stopped, is_behind as comes_behind, advance as advance_of, came, end_of, with_numbers, noted, HasPut, HasTaken, is_over, lacks};
-ghost use Rattle.connections.specs.declared.stream.Reading.TheVariants.{Over};
+ghost use Rattle.connections.specs.Stream.{begun_at, behind_front, came, end_of, front_of, is_missing, is_over, lacks, next_behind, next_bytes, noted, passed, passed_before, passing_behind, silent_stream, stopped, with_numbers, HasPut, HasTaken};
 
+use crate::numbers::{HALF, advance, is_behind};
 use crate::segment::Segment;
 use segments::{SegmentError, Segments};
 use std::alloc::{AllocError, Global};
 
-/// How many bytes a segment may end behind the first that is missing. Where one ends further, the missing bytes count as lost.
+/// How many bytes a segment may end behind the first that is missing. The bytes of one that ends further are left out.
 pub const HELD_LIMIT: u32 = 262_144;
-
-/// Half of all numbers: one that is less than this ahead of another comes behind it.
-const HALF: u32 = 0x8000_0000;
 
 /// How a direction is read.
 #[derive(Drop)]
@@ -25,6 +22,15 @@ enum Reading {
     Over,
 }
 
+/// How far a direction came.
+#[derive(Clone, Copy, Debug, PartialEq, Eq)]
+pub struct Front {
+    /// The number behind all bytes that came in order, where it is known.
+    pub reached: Option<u32>,
+    /// Whether they are read.
+    pub is_read: bool,
+}
+
 /// One direction of a connection: what came of it in order.
 #[derive(Drop)]
 pub struct Stream {
@@ -35,7 +41,6 @@ pub struct Stream {
     last: u32,
     fin: Option<u32>,
     is_broken: bool,
-    has_gap: bool,
     // How far its last byte stands from its first.
     length: u64,
     // How many bytes came once more.
@@ -44,25 +49,6 @@ pub struct Stream {
     disagreeing: u64,
     // Where it is read no further: the number of the next byte that is passed on, as long as none is missing.
     passing: Option<u32>,
-}
-
-/// Whether a number comes behind another, among the numbers around it.
-fn is_behind(number: u32, other: u32) -> bool
-    ensures { result ≡ comes_behind number other }
-{
-    let ahead = number.wrapping_sub(other);
-    ahead > 0 && ahead < HALF
-}
-
-/// How far a number comes behind another; 0 where it doesn't.
-fn advance(number: u32, other: u32) -> u32
-    ensures { result ≡ advance_of number other }
-{
-    if is_behind(number, other) {
-        number.wrapping_sub(other)
-    } else {
-        0
-    }
 }
 
 /// How many bytes are held, in order and behind others that are missing.
@@ -91,7 +77,6 @@ impl Stream {
             last: 0,
             fin: None,
             is_broken: false,
-            has_gap: false,
             length: 0,
             repeated: 0,
             disagreeing: 0,
@@ -99,14 +84,14 @@ impl Stream {
         }
     }
 
-    /// It begins with its first segment.
-    fn begin(&mut self, alloc: Global, segment: &Segment<'_>)
-        ensures { self.new ≡ begun_by segment.now self.old }
+    /// It begins with this number, where that is known and nothing came before.
+    pub(crate) fn begin(&mut self, alloc: Global, start: Option<u32>)
+        ensures { self.new ≡ begun_at start self.old }
     {
-        if let Reading::Unbegun = self.reading {
-            self.next = segment.first();
-            self.last = self.next;
-            self.reading = Reading::Open(Segments::new(alloc, self.next, HELD_LIMIT));
+        if let (Reading::Unbegun, Some(number)) = (&self.reading, start) {
+            self.next = number;
+            self.last = number;
+            self.reading = Reading::Open(Segments::new(alloc, number, HELD_LIMIT));
         }
     }
 
@@ -167,10 +152,7 @@ impl Stream {
                         self.repeated = self.repeated.saturating_add(again);
                         self.disagreeing = self.disagreeing.saturating_add(differing as u64);
                     }
-                    Err(SegmentError::TooMuch) => {
-                        self.has_gap = true;
-                        self.reading = Reading::Over;
-                    }
+                    Err(SegmentError::TooMuch) => {}
                     Err(SegmentError::OutOfMemory) => return Err(AllocError),
                 }
             }
@@ -180,9 +162,9 @@ impl Stream {
         Ok(())
     }
 
-    /// Puts the segment's bytes where they stand. Where it ends more than [`HELD_LIMIT`] behind the first byte that is missing,
-    /// there is a gap, and nothing further is read. `OutOfMemory` where its bytes could not be held: they are left out.
-    pub fn accept(&mut self, alloc: Global, segment: &Segment<'_>) -> Result<(), AllocError>
+    /// Puts the segment's bytes where they stand. Where it ends more than [`HELD_LIMIT`] behind the first byte that is missing, they are left
+    /// out. `AllocError` where its bytes could not be held: they are left out too.
+    pub fn accept(&mut self, segment: &Segment<'_>) -> Result<(), AllocError>
         ensures taken { OnOk result (HasTaken segment.now self.old self.new) }
         ensures left_out { OnErr result ((breaks segment.now ≡ false) × (self.new ≡ noted segment.now self.old)) }
     {
@@ -190,7 +172,9 @@ impl Stream {
             self.is_broken = true;
             return Ok(());
         }
-        self.begin(alloc, segment);
+        if let Reading::Unbegun = self.reading {
+            return Ok(());
+        }
         self.note_numbers(segment);
         self.put(segment)
     }
@@ -271,6 +255,23 @@ impl Stream {
         bytes
     }
 
+    /// Whether its sender broke the connection off.
+    pub(crate) fn is_broken(&self) -> bool
+        ensures { result ≡ self.now.is_broken }
+    {
+        self.is_broken
+    }
+
+    /// Whether bytes are missing in front of this number, as far as it is known.
+    pub(crate) fn lacks(&self, number: u32) -> bool
+        ensures { result ≡ is_missing number self.now }
+    {
+        match self.front().reached {
+            Some(reached) => is_behind(number, reached),
+            None => matches!(self.reading, Reading::Unbegun),
+        }
+    }
+
     /// Whether its sender said its last: it broke the connection off, or all in front of its FIN came.
     pub fn is_closed(&self) -> bool
         ensures { result ≡ is_over self.now }
@@ -287,6 +288,21 @@ impl Stream {
         }
     }
 
+    /// How far it came.
+    pub(crate) fn front(&self) -> Front
+        ensures { result ≡ front_of self.now self.now.reading }
+    {
+        let reached = match &self.reading {
+            Reading::Open(segments) => { Some(self.next.wrapping_add(count(segments.available()))) }
+            Reading::Unbegun => None,
+            Reading::Over => self.passing,
+        };
+        Front {
+            reached,
+            is_read: matches!(self.reading, Reading::Open(_)),
+        }
+    }
+
     /// Whether bytes are missing in front of others, or of a FIN, that came.
     pub fn has_gap(&self) -> bool
         ensures { result ≡ lacks self.now self.now.reading }
@@ -298,7 +314,7 @@ impl Stream {
                     self.next.wrapping_add(count(segments.available())),
                 )
             }
-            Reading::Unbegun | Reading::Over => self.has_gap,
+            Reading::Unbegun | Reading::Over => false,
         }
     }
 }

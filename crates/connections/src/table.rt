@@ -1,20 +1,23 @@
 //! The connections that are open.
 ghost use Rattle.std.specs.Prelude.{◌≡◌, ◌-◌, ◌^◌, ◌≤◌, length, is_some, true, IfOk, IfSome, IfNone, OnErr, OnOk, [], ◌∷◌};
 ghost use Rattle.std.specs.Borrow.{sem};
-ghost use Rattle.std.specs.Option.{option_copied_mut};
+ghost use Rattle.std.specs.Option.{option_copied_mut, option_map};
 ghost use Rattle.connections.specs.Segment.{ends_of};
-ghost use Rattle.connections.specs.Table.{at, others, belongs, Puts, IsPut, TakesDatagram, WasLast, IsForgotten, IsOver, NoneIsOver, NoneToForget, left_out, replaced, without_replaced, ended, without_ended};
+ghost use Rattle.connections.specs.Table.{at, belongs, closed_behind, ended, is_damaged_in, judgement_in, others, without_ended, Drops, DropsDatagram, IsForgotten, IsOver, IsPut, LeavesOutAt, NoneIsOver, NoneToForget, Puts, Replaced, Restarts, TakesDatagram, WasLast};
 ghost use Rattle.connections.specs.Datagram.{ends_of_datagram};
 ghost use Rattle.connections.specs.Lends.{lends_connection};
 
-use crate::connection::{Connection, Listener};
+use crate::connection::{Connection, Listener, Verdict};
 use crate::datagram::Datagram;
 use crate::ends::Ends;
-use crate::segment::Segment;
+use crate::receiver::Reason;
+use crate::segment::{Checksum, Segment};
+use crate::waiting::{Kept, Told};
 use lru::LruCache;
 use std::alloc::{AllocError, Global};
 use std::hash::RandomState;
 use std::marker::Model;
+use std::mem;
 
 /// After so many nanoseconds of the capture's clock without a packet a connection is over: 300 seconds.
 pub const IDLE_LIMIT: u64 = 300_000_000_000;
@@ -85,6 +88,77 @@ impl<T: Listener> Connections<T> {
         })
     }
 
+    /// What the connection between a segment's ends is to it; `None` where none is open.
+    pub fn verdict(&self, segment: &Segment<'_>) -> Option<Verdict>
+        ensures { option_map (λ verdict. verdict.judgement) result ≡ judgement_in segment.now self.now }
+    {
+        let connection = self.live.peek(&segment.between())?;
+        Some(connection.verdict(segment))
+    }
+
+    /// Counts a segment of which its receiver takes nothing in the connection between its ends. All else stays as it is, and the connection
+    /// in its place among the others. A SYN is kept: another connection may begin with it.
+    ///
+    /// `AllocError` where it could not be held.
+    pub fn drop_segment(&mut self, segment: &Segment<'_>, reason: Reason) -> Result<(), AllocError>
+        ensures { Drops segment.now self.old self.new }
+    {
+        let (alloc, ends) = (self.alloc, segment.between());
+        if let Some(connection) = self.live.peek_mut(&ends) {
+            return connection.drop_segment(alloc, segment, reason);
+        }
+        Ok(())
+    }
+
+    /// Begins the connection between a segment's ends anew, where the segment shows that nobody took what came before, since all of it was
+    /// damaged.
+    pub fn restart(&mut self, segment: &Segment<'_>)
+        ensures { Restarts segment.now self.old self.new }
+    {
+        let (alloc, ends) = (self.alloc, segment.between());
+        let Some(connection) = self.live.peek_mut(&ends) else {
+            return;
+        };
+        connection.restart(alloc, segment.time);
+    }
+
+    /// Keeps a segment in the connection between its ends, until its receiver tells whether it took it; where more than [`MAX_WAITING`] wait, it
+    /// counts as dropped for that reason.
+    ///
+    /// `AllocError` where it could not be held.
+    pub fn wait(&mut self, segment: &Segment<'_>, reason: Reason) -> Result<(), AllocError>
+        ensures { Drops segment.now self.old self.new }
+    {
+        let (alloc, ends) = (self.alloc, segment.between());
+        if let Some(connection) = self.live.peek_mut(&ends) {
+            return connection.wait(alloc, segment, reason);
+        }
+        Ok(())
+    }
+
+    /// Takes out a segment that waited until its receiver, the sender of this one, acknowledged it; one of which all bytes came otherwise counts
+    /// as dropped. To be called before this one is put into its connection, until there is none.
+    pub fn take_waiting(&mut self, segment: &Segment<'_>) -> Option<Told>
+        ensures { Drops segment.now self.old self.new }
+    {
+        let ends = segment.between();
+        if let Some(connection) = self.live.peek_mut(&ends) {
+            return connection.take_waiting(segment);
+        }
+        None
+    }
+
+    /// Puts a segment that waited into the connection between its ends.
+    ///
+    /// `AllocError` where its bytes could not be held: they are left out.
+    pub fn accept_kept(&mut self, kept: &Kept) -> Result<(), AllocError> {
+        let alloc = self.alloc;
+        match self.live.get_mut(&kept.segment().between()) {
+            Some(connection) => connection.accept_kept(alloc, kept),
+            None => Ok(()),
+        }
+    }
+
     /// Puts the segment into the connection between its ends, and says whether there is one. There is none where the segment
     /// neither begins one nor has data, or where the last one was closed.
     ///
@@ -94,8 +168,8 @@ impl<T: Listener> Connections<T> {
         ensures put { IfOk result (λ belongs_to_one. Puts belongs_to_one segment.now self.old self.new) }
         ensures others { others (ends_of segment.now) self.new.live ≡ others (ends_of segment.now) self.old.live }
         ensures refused { OnErr result (belongs segment.now self.old ≡ true) }
-        ensures left_out { OnErr result (self.new.live ≡ left_out segment.now (at (ends_of segment.now) self.old.live) self.old.live) }
-        ensures closed { self.new.closed ≡ self.old.closed }
+        ensures left_out { OnErr result (LeavesOutAt segment.now (at (ends_of segment.now) self.old.live) self.old.live self.new.live) }
+        ensures closed { IfOk result (λ belongs_to_one. self.new.closed ≡ closed_behind belongs_to_one segment.now self.old) }
     {
         let ends = segment.between();
         let alloc = self.alloc;
@@ -103,13 +177,30 @@ impl<T: Listener> Connections<T> {
             connection.accept(alloc, segment)?;
             return Ok(true);
         }
-        if self.closed.contains(&ends) || !segment.begins_one() {
+        if !segment.begins_one() || (!segment.begins() && self.closed.contains(&ends)) {
             return Ok(false);
         }
         let mut connection = Connection::of_segment(alloc, segment);
         connection.accept(alloc, segment)?;
         put_under(&mut self.live, ends, connection)?;
+        self.closed.pop(&ends);
         Ok(true)
+    }
+
+    /// Counts a datagram with a wrong checksum in the exchange between its ends, of which nothing else changes, and says whether it is one.
+    pub fn drop_damaged(&mut self, datagram: &Datagram<'_>) -> bool
+        ensures dropped { DropsDatagram datagram.now result self.old self.new }
+        ensures damaged { result ≡ is_damaged_in datagram.now (at (ends_of_datagram datagram.now) self.old.live) }
+    {
+        let ends = datagram.between();
+        let Some(exchange) = self.live.peek_mut(&ends) else {
+            return datagram.checksum == Checksum::Refused;
+        };
+        if !exchange.is_damaged(datagram) {
+            return false;
+        }
+        exchange.drop_datagram(datagram);
+        true
     }
 
     /// Counts the datagram, and notes its time, in the exchange between its ends, which it begins where there is none.
@@ -121,8 +212,9 @@ impl<T: Listener> Connections<T> {
         ensures closed { self.new.closed ≡ self.old.closed }
     {
         let ends = datagram.between();
+        let alloc = self.alloc;
         if let Some(exchange) = self.live.get_mut(&ends) {
-            exchange.accept_datagram(datagram);
+            exchange.take_datagram(alloc, datagram);
             return Ok(());
         }
         let exchange = Connection::of_datagram(self.alloc, datagram);
@@ -136,6 +228,21 @@ impl<T: Listener> Connections<T> {
         ensures value { option_copied_mut result ≡ at ends.now self.old.live }
     {
         self.live.peek_mut(ends)
+    }
+
+    /// The same to look at.
+    pub fn get(&self, ends: &Ends) -> Option<&Connection<T>>
+        ensures { option_map (λ c. c.now) result ≡ at ends.now self.now.live }
+    {
+        self.live.peek(ends)
+    }
+
+    /// Takes out the connection between these ends.
+    pub fn take(&mut self, ends: &Ends) -> Option<Connection<T>>
+        ensures taken { result ≡ at ends.now self.old.live }
+        ensures left { self.new ≡ record self.old { live = others ends.now self.old.live } }
+    {
+        self.live.pop(ends)
     }
 
     /// Whether both sides ended the last connection between these ends, so that what still comes of it is left out. It is known up to
@@ -164,21 +271,30 @@ impl<T: Listener> Connections<T> {
         Some(connection)
     }
 
-    /// Takes out the connection between the segment's ends where the segment asks for another one.
-    pub fn take_replaced(&mut self, segment: &Segment<'_>) -> Option<Connection<T>>
-        ensures taken { result ≡ replaced segment.now self.old }
-        ensures left { self.new ≡ without_replaced segment.now self.old }
+    /// Takes out the connection between the segment's ends where the segment shows that another one began, and puts that in its place: a
+    /// SYN in the middle of a connection is no more than counted, until the other end answers it.
+    ///
+    /// `AllocError` where the other one could not be held. Nothing changes then.
+    pub fn take_replaced(
+        &mut self,
+        segment: &Segment<'_>,
+    ) -> Result<Option<Connection<T>>, AllocError>
+        ensures { IfOk result (λ taken. Replaced segment.now self.old self.new taken) }
     {
-        if !segment.asks() {
-            return None;
-        }
         let ends = segment.between();
-        self.closed.pop(&ends);
-        let connection = self.live.peek(&ends)?;
-        if !connection.is_another(segment) {
-            return None;
-        }
-        self.live.pop(&ends)
+        let Some(connection) = self.live.peek(&ends) else {
+            return Ok(None);
+        };
+        let Some(beginning) = connection.another(segment) else {
+            return Ok(None);
+        };
+        let another = Connection::of_beginning(self.alloc, &beginning)?;
+        let Some(place) = self.live.get_mut(&ends) else {
+            return Ok(None);
+        };
+        let mut over = mem::replace(place, another);
+        over.forget_syns();
+        Ok(Some(over))
     }
 
     /// Takes out the connection between the segment's ends where both sides ended it. What still comes of it is left out then,

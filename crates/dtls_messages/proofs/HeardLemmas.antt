@@ -98,10 +98,9 @@ judged_as_heard [] None f first is = refl
 judged_as_heard [] (Some h) f first is = absurd is
 judged_as_heard (g ∷ gs) None f first is = absurd is
 judged_as_heard (g ∷ gs) (Some h) f first is =
-    ap (λ b. cond {A = Result Unit FragmentError} b (agrees h.msg_type h.size f) (Err OtherMessage))
+    ap (λ b. cond {A = Result Unit FragmentError} b (agrees h.size f) (Err OtherMessage))
     (eq-eqb h.message_seq f.message_seq (is.same.message_seq ∙ first g gs refl))
-    ∙ ap (λ t. agrees t h.size f) is.same.msg_type
-    ∙ ap (λ n. agrees g.msg_type n f) is.same.size
+    ∙ ap (λ n. agrees n f) is.same.size
 
 -- A fragment that is near enough and not too large is judged by those of its message.
 pub verdict_near : (l : Limits) (h : Heard) (f : Fragment) → h.next ≤ f.message_seq → f.message_seq < h.next + l.ahead

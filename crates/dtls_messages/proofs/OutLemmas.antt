@@ -73,7 +73,6 @@ use Rattle.dtls_messages.specs.declared.fragments.FragmentError.TheVariants.{
   TooLarge,
   Outside,
   OtherLength,
-  OtherType,
 }
 use Rattle.dtls_messages.proofs.HeardLemmas.{of_message_more, of_message_other, verdict_near}
 use Rattle.dtls_messages.proofs.SentLemmas.{AreAll, IsRun, all_of_message, covered_message, run_of}
@@ -245,9 +244,7 @@ inside_ok m f is = ap (λ b. cond {A = Result Unit FragmentError} b (Ok tt) (Err
 agreed_ok : (m : Sent) (gs : List Fragment) (f : Fragment) → AreAll m gs → IsOf m f → agreed gs f ≡ Ok tt
 agreed_ok m [] f all is = inside_ok m f is
 agreed_ok m (g ∷ gs) f all is =
-    ap (λ b. cond {A = Result Unit FragmentError} b (cond (g.length == f.length) (inside f) (Err OtherLength))
-    (Err OtherType)) (eq-eqb g.msg_type f.msg_type (all.0.msg_type ∙ sym is.msg_type))
-    ∙ ap (λ b. cond {A = Result Unit FragmentError} b (inside f) (Err OtherLength))
+    ap (λ b. cond {A = Result Unit FragmentError} b (inside f) (Err OtherLength))
     (eq-eqb g.length f.length (all.0.size ∙ sym is.size))
     ∙ inside_ok m f is
 

@@ -5,7 +5,7 @@ use Rattle.tls_fields.specs.Bytes.{Bytes}
 use Rattle.tls_fields.specs.Layout.{Layout, done, number, block, ◌>>=◌}
 use Rattle.dtls_messages.specs.declared.fragments.Fragment.{Fragment as Lent}
 use Rattle.dtls_messages.specs.declared.fragments.FragmentError.{FragmentError}
-use Rattle.dtls_messages.specs.declared.fragments.FragmentError.TheVariants.{Outside, OtherLength, OtherType, OtherMessage}
+use Rattle.dtls_messages.specs.declared.fragments.FragmentError.TheVariants.{Outside, OtherLength, OtherMessage}
 
 -- The fields of a Handshake (section 4.2.2) of which the body may be a part; its fragment_length is that of these bytes.
 pub record Fragment : Type 0 where
@@ -73,9 +73,9 @@ pub record Cover (fs : List Fragment) (n : ℕ) : Type 0 where
 abbrev pub inside : Fragment → Result Unit FragmentError
 inside f = cond (nat_le (f.fragment_offset + length f.body) f.length) (Ok tt) (Err Outside)
 
--- Whether it goes with a type and a length that were said before, and lies within its message.
-abbrev pub agrees : ℕ → ℕ → Fragment → Result Unit FragmentError
-agrees msg_type len f = cond (msg_type == f.msg_type) (cond (len == f.length) (inside f) (Err OtherLength)) (Err OtherType)
+-- Whether it goes with a length that was said before, and lies within its message. Another type is no refusal: the first stands.
+abbrev pub agrees : ℕ → Fragment → Result Unit FragmentError
+agrees len f = cond (len == f.length) (inside f) (Err OtherLength)
 
 -- A message that was cut into fragments.
 pub record Whole : Type 0 where
@@ -118,9 +118,9 @@ pub record IsBegun (h : Held) (f : Fragment) : Type 0 where
   pub same : IsOfSame h f
   pub none : (i : ℕ) → byte h i ≡ None
 
--- Whether a fragment is taken: it is of that message, says the same of it, and lies within it.
+-- Whether a fragment is taken: it is of that message, says the same length of it, and lies within it.
 abbrev pub judged : Held → Fragment → Result Unit FragmentError
-judged h f = cond (h.message_seq == f.message_seq) (agrees h.msg_type h.size f) (Err OtherMessage)
+judged h f = cond (h.message_seq == f.message_seq) (agrees h.size f) (Err OtherMessage)
 
 -- A fragment's bytes are put where none are yet: the first stand.
 pub record IsAdded (old : Held) (f : Fragment) (new : Held) : Type 0 where

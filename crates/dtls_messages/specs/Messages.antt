@@ -111,10 +111,14 @@ pub record Heard : Type 0 where
 abbrev pub nothing : Heard
 nothing = record { taken = []; next = 0 }
 
+-- Nothing was heard, and those in front of this number are missing.
+abbrev pub nothing_from : ℕ → Heard
+nothing_from first = record { taken = []; next = first }
+
 -- Whether a fragment goes with those of its message that were taken.
 abbrev pub agreed : List Fragment → Fragment → Result Unit FragmentError
 agreed [] f = inside f
-agreed (g ∷ gs) f = agrees g.msg_type g.length f
+agreed (g ∷ gs) f = agrees g.length f
 
 -- Whether a fragment is taken.
 abbrev pub verdict : Limits → Heard → Fragment → Result Unit FragmentError

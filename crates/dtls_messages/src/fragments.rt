@@ -22,7 +22,7 @@ pub enum FragmentError {
     TooLarge,
     /// It is of a message of another number.
     OtherMessage,
-    /// Its message's type is another than was said before.
+    /// Its message's type is another than was said before. No call answers it: the first type stands, and the bytes are taken.
     OtherType,
     /// Its message's length is another than was said before.
     OtherLength,
@@ -192,9 +192,9 @@ impl Fragments {
         Ok(())
     }
 
-    /// Adds the bytes of a fragment where none are there yet; the first stand.
+    /// Adds the bytes of a fragment where none are there yet; the first stand, and so does the first type that was said.
     ///
-    /// It is refused, and nothing changes, where it says another number, type or length of its message than was said
+    /// It is refused, and nothing changes, where it says another number or length of its message than was said
     /// before, or reaches behind its end; or where memory runs out for its bytes.
     pub fn add(&mut self, fragment: &Fragment) -> Result<(), FragmentError>
         ensures answer { (result ≡ Err fragment_error.OutOfMemory) ⊎ (result ≡ judged self.old (view_fragment fragment.now)) }
@@ -203,9 +203,6 @@ impl Fragments {
     {
         if self.message_seq != fragment.message_seq {
             return Err(FragmentError::OtherMessage);
-        }
-        if self.msg_type.0 != fragment.msg_type.0 {
-            return Err(FragmentError::OtherType);
         }
         if self.size != fragment.length as usize {
             return Err(FragmentError::OtherLength);

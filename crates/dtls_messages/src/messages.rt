@@ -2,7 +2,7 @@
 ghost use Rattle.std.specs.Prelude.{◌≡◌, ◌+◌, ◌≤◌, ◌<◌, ℕ, length, take, max, Err, None, IsErr, IsOk, IfOk, OnOk, is_some, get_or, if◌then◌else◌};
 ghost use Rattle.std.specs.Option.{option_map};
 ghost use Rattle.dtls_messages.specs.Fragments.{view_fragment};
-ghost use Rattle.dtls_messages.specs.Messages.{Heard, IsChangedAt, IsOrMemory, IsSlotAdded, Kept, Limits as Allowed, Stands, message_of, nothing, of_message, slot, slot_judged, verdict, view_limits, view_message, with_taken};
+ghost use Rattle.dtls_messages.specs.Messages.{Heard, IsChangedAt, IsOrMemory, IsSlotAdded, Kept, Limits as Allowed, Stands, message_of, nothing, nothing_from, of_message, slot, slot_judged, verdict, view_limits, view_message, with_taken};
 
 use crate::event::Message;
 use crate::fragments::{Fragment, FragmentError, Fragments};
@@ -90,6 +90,25 @@ impl Messages {
             next: 0,
             slots: Vec::new(alloc),
         }
+    }
+
+    /// Holds nothing, and takes no memory. The next message is that of this number: those in front of it came where nobody heard them.
+    pub fn beginning_at(alloc: Global, limits: Limits, first: u16) -> Messages
+        ensures { Stands (view_limits limits) (nothing_from first) result }
+    {
+        Messages {
+            alloc,
+            limits,
+            next: first as u32,
+            slots: Vec::new(alloc),
+        }
+    }
+
+    /// The number of the next message.
+    pub fn next_number(&self) -> u32
+        ensures { (l : Allowed) (h : Heard) → Stands l h self.now → result ≡ h.next }
+    {
+        self.next
     }
 
     /// Adds a fragment in a place.

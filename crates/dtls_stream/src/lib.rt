@@ -12,4 +12,4 @@ pub use dtls_messages::{
     DEFAULT_LIMITS, EncryptedRecord, Event, Fragment, FragmentError, Fragments, Limits, Message,
     Messages, parse_dtls_fragment, read_all, read_fragments,
 };
-pub use records::fragment_of;
+pub use records::{fragment_of, hear_record, read_record};

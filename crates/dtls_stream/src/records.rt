@@ -58,9 +58,11 @@ fn content<'a>(i: &'a [u8], header: &DTLSRecordHeader) -> IResult<&'a [u8], &'a 
     block(i, header.length as usize)
 }
 
-/// Reads a record, and leaves its content as it stands.
+/// Reads a record of a datagram, and leaves its content as it stands (RFC 6347, section 4.1).
+///
+/// `Incomplete` where the datagram ends within it; `TooLarge` where its length is more than a record may have.
 #[tactic(auto, using(tls_fields::proofs::OneAnswerLemmas::read_allowed), unfolding(crate::specs::Datagrams::datagram_record))]
-pub(crate) fn read_record(i: &[u8]) -> IResult<&[u8], DTLSRawRecord>
+pub fn read_record(i: &[u8]) -> IResult<&[u8], DTLSRawRecord>
     ensures { Gives view_raw_record datagram_record i.now result }
 {
     let (i, header) = parse_dtls_record_header(i)?;
@@ -183,8 +185,10 @@ fn read_handshake(
     }
 }
 
-/// Takes a record.
-pub(crate) fn hear_record<'a>(
+/// Takes a record of one direction, and puts what it says behind the events. `messages` holds what came of that direction.
+///
+/// `OutOfMemory` where what comes could not be held, or not be told, as [`read_datagram`](crate::read_datagram) says.
+pub fn hear_record<'a>(
     alloc: Global,
     raw: DTLSRawRecord<'a>,
     messages: &mut Messages,

@@ -8,7 +8,7 @@ use Rattle.connections.specs.Connection.{side_of}
 use Rattle.connections.specs.Datagram.{ends_of_datagram}
 use Rattle.connections.specs.Ends.{are_ends}
 use Rattle.connections.specs.Segment.{ends_of}
-use Rattle.connections.specs.Table.{IsPut, Puts, Table, TakesDatagram, TakesSegment, at, others}
+use Rattle.connections.specs.Table.{IsPut, Puts, Table, TakesDatagram, TakesSegment, at, closed_behind, others}
 use Rattle.connections.specs.declared.connection.Connection.{Connection}
 use Rattle.connections.specs.declared.datagram.Datagram.{Datagram}
 use Rattle.connections.specs.declared.ends.Ends.{Ends}
@@ -54,7 +54,7 @@ module _ {K : Type 0} where
   put_where_true false s old mid is put = cc
 
   pub segment_heard : (b : Bool) (s : Segment) (old mid : Table (Heard K)) (c d : Connection (Heard K)) → b ≡ true
-      → Puts b s old mid → mid.closed ≡ old.closed → Some c ≡ at (ends_of s) mid.live
+      → Puts b s old mid → mid.closed ≡ closed_behind b s old → Some c ≡ at (ends_of s) mid.live
       → HearsSide (side_of c s.source) c d
       → HearsSegment s old (record mid { live = set_value (are_ends (ends_of s)) mid.live d })
   segment_heard b s old mid c d is puts closed found hears =
@@ -66,7 +66,7 @@ module _ {K : Type 0} where
             subst (λ z. HearsSide (side_of z s.source) z d)
             (lent (ends_of s) (TakesSegment s) old.live mid.live put c found) hears;
         stands = written_first (ends_of s) (TakesSegment s) old.live mid.live put d;
-        closed = closed;
+        closed = closed ∙ ap (λ x. closed_behind x s old) is;
       }
 
   pub segment_lent : (b : Bool) (s : Segment) (old mid : Table (Heard K)) → b ≡ true → Puts b s old mid

@@ -3,30 +3,23 @@ use Rattle.std.specs.Prelude.{◌≡◌, Bool, true, false, ◌∷◌}
 use Rattle.connections.specs.Connection.{side_of}
 use Rattle.connections.specs.Datagram.{ends_of_datagram}
 use Rattle.connections.specs.Segment.{ends_of}
-use Rattle.connections.specs.Table.{Table, TakesDatagram, TakesSegment, at, others}
+use Rattle.connections.specs.Table.{Table, TakesDatagram, TakesSegment, at, closed_behind, others}
 use Rattle.connections.specs.declared.connection.Connection.{Connection}
 use Rattle.connections.specs.declared.connection.Side.{Side}
 use Rattle.connections.specs.declared.connection.Side.TheVariants.{Originator, Responder}
 use Rattle.connections.specs.declared.datagram.Datagram.{Datagram}
 use Rattle.connections.specs.declared.segment.Segment.{Segment}
-use Rattle.tls_flow.specs.declared.letter.Direction.{Direction}
-use Rattle.tls_flow.specs.declared.letter.Direction.TheVariants.{ToServer, FromServer}
-use Rattle.log_connections.specs.Heard.{HearsDatagram, HearsStream}
+use Rattle.log_connections.specs.Heard.{HearsDatagram, HearsStream, direction_of}
 use Rattle.log_connections.specs.declared.heard.Heard.{Heard}
-
--- The originator is the client.
-abbrev pub direction_of : Side → Direction
-direction_of Originator = ToServer
-direction_of Responder = FromServer
 
 module _ {K : Type 0} where
   -- The listener hears what a side's stream has next; all else of the connection stays, the other side's stream with it.
   abbrev pub HearsSide : Side → Connection (Heard K) → Connection (Heard K) → Type 0
   HearsSide Originator c c' =
-      HearsStream ToServer c.from_originator.reading c'.from_originator.reading c.listener.said c'.listener.said
+      HearsStream (direction_of c'.listener.is_turned Originator) c.from_originator.reading c'.from_originator.reading c.listener.said c'.listener.said
       × (c' ≡ record c { from_originator = c'.from_originator; listener = c'.listener })
   HearsSide Responder c c' =
-      HearsStream FromServer c.from_responder.reading c'.from_responder.reading c.listener.said c'.listener.said
+      HearsStream (direction_of c'.listener.is_turned Responder) c.from_responder.reading c'.from_responder.reading c.listener.said c'.listener.said
       × (c' ≡ record c { from_responder = c'.from_responder; listener = c'.listener })
 
   -- The segment's own connection takes it, and its listener hears what its sender's stream has then. All others stay.
@@ -36,7 +29,7 @@ module _ {K : Type 0} where
     pub takes : TakesSegment s (at (ends_of s) old.live) put
     pub hears : HearsSide (side_of put s.source) put its
     pub stands : new.live ≡ (ends_of s, its) ∷ others (ends_of s) old.live
-    pub closed : new.closed ≡ old.closed
+    pub closed : new.closed ≡ closed_behind true s old
 
   -- A segment that belongs to no connection changes none.
   abbrev pub Logs : Bool → Segment → Table (Heard K) → Table (Heard K) → Type 0
@@ -46,7 +39,7 @@ module _ {K : Type 0} where
   -- The listener hears a datagram of its sender's; all else of the exchange stays.
   abbrev pub HearsFrom : Datagram → Connection (Heard K) → Connection (Heard K) → Type 0
   HearsFrom d c c' =
-      HearsDatagram (direction_of (side_of c d.source)) d.payload.now c.listener.said c'.listener.said
+      HearsDatagram (direction_of c.listener.is_turned (side_of c d.source)) d.payload.now c.listener.said c'.listener.said
       × (c' ≡ record c { listener = c'.listener })
 
   -- The datagram's own exchange takes it, and its listener hears it. All others stay.

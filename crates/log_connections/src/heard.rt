@@ -1,15 +1,18 @@
 //! What is heard of a connection, by what carries it.
 ghost use Rattle.std.specs.Prelude.{◌≡◌, OnOk};
-ghost use Rattle.log_connections.specs.Heard.{HearsDatagram, HearsStream};
+ghost use Rattle.log_connections.specs.Heard.{HearsDatagram, HearsStream, direction_of};
 
 use connections::{Listener, Protocol, Side, Stream};
 use std::alloc::{AllocError, Global};
+use tls_detection::{HEADER_LEN, first_message};
 use tls_facts::Facts;
 use tls_flow::{Direction, Outcome, Stop};
 use tls_talks::{DatagramRecords, DatagramTalk, Records, Talk};
 
-/// How many bytes tell whether a side speaks TLS: the header of a record (RFC 8446, section 5.1).
-const HEADER_LEN: usize = 5;
+/// The types of the messages with which a handshake begins, of the client and of the server (RFC 8446, section 4).
+const CLIENT_HELLO: u8 = 1;
+
+const SERVER_HELLO: u8 = 2;
 
 /// Who keeps the messages of a connection that is TLS or DTLS, where these are to be had one by one.
 pub trait Keeper: Drop {
@@ -35,6 +38,8 @@ pub struct Heard<K> {
     alloc: Global,
     protocol: Protocol,
     said: Said,
+    // Whether the originator is the server of TLS.
+    is_turned: bool,
     // Who keeps the messages, where they are kept.
     keeper: Option<K>,
     // Over TCP, the records of each side, encrypted ones too.
@@ -55,6 +60,7 @@ impl<K: Keeper> Listener for Heard<K> {
             alloc,
             protocol,
             said,
+            is_turned: false,
             keeper: None,
             from_originator: Records::new(),
             from_responder: Records::new(),
@@ -121,6 +127,24 @@ impl<K: Keeper> Heard<K> {
         }
     }
 
+    /// Whether the first messages of a side weren't captured, as the numbers of those of DTLS tell.
+    pub fn lacks_front(&self, side: Side) -> bool {
+        match &self.said {
+            Said::Stream(_) => false,
+            Said::Datagrams(talk) => talk.lacks_front(self.direction(side)),
+        }
+    }
+
+    /// Whether a side's datagram begins another association of DTLS.
+    pub(crate) fn begins_another(&self, side: Side, payload: &[u8]) -> bool {
+        match &self.said {
+            Said::Stream(_) => false,
+            Said::Datagrams(talk) => {
+                self.direction(side) == Direction::ToServer && talk.begins_another(payload)
+            }
+        }
+    }
+
     /// Keeps the messages that come from here on.
     pub(crate) fn keep_messages(&mut self)
         ensures { self.new.said ≡ self.old.said }
@@ -145,37 +169,68 @@ impl<K: Keeper> Heard<K> {
         }
     }
 
+    /// Which way a side speaks: the originator is the client, unless its first message is that of a server.
+    pub(crate) fn direction(&self, side: Side) -> Direction
+        ensures { result ≡ direction_of self.now.is_turned side }
+    {
+        match (side, self.is_turned) {
+            (Side::Originator, false) | (Side::Responder, true) => Direction::ToServer,
+            (Side::Responder, false) | (Side::Originator, true) => Direction::FromServer,
+        }
+    }
+
     /// Whether no byte of that side's stream was heard.
-    fn has_said_nothing(&self, direction: Direction) -> bool {
-        let records = match direction {
-            Direction::ToServer => self.from_originator,
-            Direction::FromServer => self.from_responder,
+    fn has_said_nothing(&self, side: Side) -> bool {
+        let records = match side {
+            Side::Originator => self.from_originator,
+            Side::Responder => self.from_responder,
         };
         records == Records::new()
     }
 
-    /// Counts the records in the bytes that a side says next.
-    pub(crate) fn count_records(&mut self, direction: Direction, bytes: &[u8])
-        ensures { self.new.said ≡ self.old.said }
+    /// Sees which side is the client by the first bytes that are heard of the connection. A ServerHello tells where the opening wasn't captured: a
+    /// server that opens the connection waits for the client's hello.
+    fn see_client(&mut self, side: Side, bytes: &[u8], is_opened: bool)
+        ensures { self.new ≡ record self.old { is_turned = self.new.is_turned } }
     {
-        match direction {
-            Direction::ToServer => self.from_originator.add(bytes),
-            Direction::FromServer => self.from_responder.add(bytes),
+        if !self.has_said_nothing(Side::Originator) || !self.has_said_nothing(Side::Responder) {
+            return;
+        }
+        self.is_turned = match first_message(bytes) {
+            Some(CLIENT_HELLO) => side == Side::Responder,
+            Some(SERVER_HELLO) => side == Side::Originator && !is_opened,
+            _ => false,
+        };
+    }
+
+    /// Counts the records in the bytes that a side says next.
+    pub(crate) fn count_records(&mut self, side: Side, bytes: &[u8])
+        ensures { self.new ≡ record self.old { from_originator = self.new.from_originator; from_responder = self.new.from_responder } }
+    {
+        match side {
+            Side::Originator => self.from_originator.add(bytes),
+            Side::Responder => self.from_responder.add(bytes),
         }
     }
 
-    /// Hears what a side's stream says next; its first bytes once they tell whether it speaks TLS.
+    /// Hears what a side's stream says next; its first bytes once they tell whether it speaks TLS and as which end, or where they are its last.
+    /// The opening of the connection was captured where it `is_opened`.
     pub(crate) fn hear_stream(
         &mut self,
         stream: &mut Stream,
-        direction: Direction,
+        side: Side,
+        is_opened: bool,
+        are_last: bool,
     ) -> Result<(), AllocError>
-        ensures { OnOk result (HearsStream direction stream.old.reading stream.new.reading self.old.said self.new.said) }
+        ensures { OnOk result (HearsStream (direction_of self.new.is_turned side) stream.old.reading stream.new.reading self.old.said self.new.said) }
     {
         let bytes = stream.available();
-        if bytes.len() < HEADER_LEN && self.has_said_nothing(direction) {
+        let is_early = bytes.len() <= HEADER_LEN && !are_last;
+        if is_early && self.has_said_nothing(side) {
             return Ok(());
         }
+        self.see_client(side, bytes, is_opened);
+        let direction = self.direction(side);
         let Said::Stream(talk) = &mut self.said else {
             return Ok(());
         };
@@ -187,7 +242,7 @@ impl<K: Keeper> Heard<K> {
                 keeper.hear(direction, bytes)?;
             }
         }
-        self.count_records(direction, bytes);
+        self.count_records(side, bytes);
         let n = bytes.len();
         stream.take(n);
         if is_over {

@@ -11,4 +11,4 @@ mod log;
 
 pub use counts::{Counts, add_one};
 pub use heard::{Heard, Keeper};
-pub use log::{Arrival, Log};
+pub use log::{Arrival, Checksums, Log};

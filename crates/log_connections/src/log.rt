@@ -1,18 +1,43 @@
 //! What a capture's packets add to the log.
 ghost use Rattle.std.specs.Prelude.{◌≡◌, IfOk, OnOk, is_some};
 ghost use Rattle.connections.specs.Connection.{side_of};
-ghost use Rattle.log_connections.specs.Heard.{HearsStream};
-ghost use Rattle.log_connections.specs.Log.{HearsFrom, HearsSide, Logs, LogsDatagram, direction_of as direction};
+ghost use Rattle.log_connections.specs.Heard.{HearsStream, direction_of as direction};
+ghost use Rattle.log_connections.specs.Log.{HearsFrom, HearsSide, Logs, LogsDatagram};
 
 use crate::counts::{Counts, add_one};
 use crate::heard::{Heard, Keeper};
-use capture::{Address, Content, TcpSegment, UdpDatagram, parse_packet};
-use connections::{Connection, Connections, Datagram, End, Ends, Segment, Side, Stream};
+use capture::{
+    Address, Content, TcpSegment, UdpDatagram, maximum_segment_size, option_of, parse_packet,
+    timestamp, window_scale,
+};
+use connections::{
+    Checksum, Connection, Connections, Datagram, End, Ends, Judgement, Kept, MAX_WAITING, Options,
+    Segment, Side, Stream, Told,
+};
 use packets::Packet;
 use std::alloc::{AllocError, Global};
 use std::hash::RandomState;
 use std::net::{IpAddr, Ipv4Addr, Ipv6Addr};
 use tls_flow::Direction;
+
+/// The kind of the option by which an end takes selective acknowledgements (RFC 2018, section 2).
+const SACK_PERMITTED: u8 = 4;
+
+/// The kinds of the options by which a segment is signed (RFC 2385, section 3; RFC 5925, section 2.2).
+const MD5_SIGNATURE: u8 = 19;
+
+const AUTHENTICATION: u8 = 29;
+
+/// Which checksums of packets count.
+#[derive(Clone, Copy, Debug, PartialEq, Eq)]
+pub enum Checksums {
+    /// Those of a sender of whose first packets one had a right one, or the sum of the pseudo-header.
+    Auto,
+    /// All.
+    Check,
+    /// None.
+    Ignore,
+}
 
 /// The log of one capture: its open connections.
 #[derive(Drop)]
@@ -20,6 +45,7 @@ pub struct Log<K> {
     connections: Connections<Heard<K>>,
     // Whether the messages of connections are kept.
     keeps_messages: bool,
+    checksums: Checksums,
     /// What was read, and what was left out.
     pub counts: Counts,
 }
@@ -34,11 +60,37 @@ fn address(address: Address) -> IpAddr {
     }
 }
 
+/// What the options of a segment say.
+fn options_of(options: &[u8]) -> Options {
+    Options {
+        scale: window_scale(options),
+        clock: timestamp(options),
+        size: maximum_segment_size(options),
+        selects: option_of(options, SACK_PERMITTED).is_some(),
+        is_signed: option_of(options, MD5_SIGNATURE).is_some()
+            || option_of(options, AUTHENTICATION).is_some(),
+    }
+}
+
+/// What the checksums of a packet are, as far as they count.
+fn checksum_of(datagram: &capture::Datagram<'_>, checksums: Checksums) -> Checksum {
+    if checksums == Checksums::Ignore {
+        return Checksum::Right;
+    }
+    match (datagram.checksum(), checksums) {
+        (capture::Checksum::Right, _) => Checksum::Right,
+        (_, Checksums::Check) => Checksum::Refused,
+        (capture::Checksum::Partial, _) => Checksum::Partial,
+        (capture::Checksum::Wrong, _) => Checksum::Wrong,
+    }
+}
+
 /// A segment with its ends and its time.
 fn segment_of<'a>(
     time: u64,
     datagram: &capture::Datagram<'a>,
     tcp: &TcpSegment<'a>,
+    checksum: Checksum,
 ) -> Segment<'a> {
     Segment {
         time,
@@ -51,7 +103,12 @@ fn segment_of<'a>(
             port: tcp.destination,
         },
         sequence: tcp.sequence,
+        acknowledgment: tcp.acknowledgment,
         flags: tcp.flags,
+        window: tcp.window,
+        urgent_pointer: tcp.urgent_pointer,
+        options: options_of(tcp.options),
+        checksum,
         payload: tcp.payload,
     }
 }
@@ -61,6 +118,7 @@ fn datagram_of<'a>(
     time: u64,
     datagram: &capture::Datagram<'a>,
     udp: &UdpDatagram<'a>,
+    checksum: Checksum,
 ) -> Datagram<'a> {
     Datagram {
         time,
@@ -72,6 +130,7 @@ fn datagram_of<'a>(
             address: address(datagram.destination),
             port: udp.destination,
         },
+        checksum,
         payload: udp.payload,
     }
 }
@@ -103,13 +162,26 @@ impl<'a> Arrival<'a> {
     }
 }
 
-/// The direction of what a side says; the originator is the client.
-fn direction_of(side: Side) -> Direction
-    ensures { result ≡ direction side }
-{
-    match side {
-        Side::Originator => Direction::ToServer,
-        Side::Responder => Direction::FromServer,
+/// Lets the listener hear the last bytes of both streams, of which it waited for more.
+fn hear_last<K: Keeper>(connection: &mut Connection<Heard<K>>) -> Result<(), AllocError> {
+    let is_opened = connection.has_opening();
+    let heard = &mut connection.listener;
+    let stream = &mut connection.from_originator;
+    heard.hear_stream(stream, Side::Originator, is_opened, true)?;
+    let stream = &mut connection.from_responder;
+    heard.hear_stream(stream, Side::Responder, is_opened, true)
+}
+
+/// The same of a connection that is taken out, if one is.
+fn with_last<K: Keeper>(
+    taken: Option<Connection<Heard<K>>>,
+) -> Result<Option<Connection<Heard<K>>>, AllocError> {
+    match taken {
+        Some(mut connection) => {
+            hear_last(&mut connection)?;
+            Ok(Some(connection))
+        }
+        None => Ok(None),
     }
 }
 
@@ -117,13 +189,16 @@ fn direction_of(side: Side) -> Direction
 fn hear_side<K: Keeper>(
     heard: &mut Heard<K>,
     stream: &mut Stream,
-    direction: Direction,
+    side: Side,
+    is_opened: bool,
     segment: &Segment<'_>,
 ) -> Result<(), AllocError>
-    ensures { OnOk result (HearsStream direction stream.old.reading stream.new.reading heard.old.said heard.new.said) }
+    ensures { OnOk result (HearsStream (direction heard.new.is_turned side) stream.old.reading stream.new.reading heard.old.said heard.new.said) }
 {
-    heard.hear_stream(stream, direction)?;
-    heard.count_records(direction, stream.pass(segment));
+    heard.hear_stream(stream, side, is_opened, false)?;
+    if segment.has_data() {
+        heard.count_records(side, stream.pass(segment));
+    }
     Ok(())
 }
 
@@ -135,7 +210,7 @@ fn hear<K: Keeper>(
 ) -> Result<(), AllocError>
     ensures { OnOk result (HearsSide (side_of connection.old segment.now.source) connection.old connection.new) }
 {
-    let side = connection.side_of(segment.source);
+    let (side, is_opened) = (connection.side_of(segment.source), connection.has_opening());
     let heard = &mut connection.listener;
     if keeps_messages {
         heard.keep_messages();
@@ -143,11 +218,11 @@ fn hear<K: Keeper>(
     match side {
         Side::Originator => {
             let stream = &mut connection.from_originator;
-            hear_side(heard, stream, Direction::ToServer, segment)
+            hear_side(heard, stream, side, is_opened, segment)
         }
         Side::Responder => {
             let stream = &mut connection.from_responder;
-            hear_side(heard, stream, Direction::FromServer, segment)
+            hear_side(heard, stream, side, is_opened, segment)
         }
     }
 }
@@ -160,8 +235,9 @@ fn hear_from<K: Keeper>(
 ) -> Result<(), AllocError>
     ensures { OnOk result (HearsFrom datagram.now exchange.old exchange.new) }
 {
-    let direction = direction_of(exchange.side_of(datagram.source));
+    let side = exchange.side_of(datagram.source);
     let heard = &mut exchange.listener;
+    let direction = heard.direction(side);
     if keeps_messages {
         heard.keep_messages();
     }
@@ -179,8 +255,14 @@ impl<K: Keeper> Log<K> {
         Ok(Log {
             connections: Connections::new(alloc, keys)?,
             keeps_messages,
+            checksums: Checksums::Auto,
             counts: Counts::new(),
         })
+    }
+
+    /// Lets these checksums count; at first it is [`Checksums::Auto`].
+    pub fn set_checksums(&mut self, checksums: Checksums) {
+        self.checksums = checksums;
     }
 
     /// The segment or the datagram that a packet holds; `None` where it holds none that can be read, which is counted.
@@ -197,9 +279,18 @@ impl<K: Keeper> Log<K> {
                 return None;
             }
         };
+        let time = packet.time;
         match &datagram.content {
-            Content::Tcp(tcp) => Some(Arrival::Segment(segment_of(packet.time, &datagram, tcp))),
-            Content::Udp(udp) => Some(Arrival::Datagram(datagram_of(packet.time, &datagram, udp))),
+            Content::Tcp(tcp) => {
+                let checksum = checksum_of(&datagram, self.checksums);
+                let segment = segment_of(time, &datagram, tcp, checksum);
+                Some(Arrival::Segment(segment))
+            }
+            Content::Udp(udp) => {
+                let checksum = checksum_of(&datagram, self.checksums);
+                let datagram = datagram_of(time, &datagram, udp, checksum);
+                Some(Arrival::Datagram(datagram))
+            }
             Content::Other(_) => {
                 add_one(&mut self.counts.other_protocols);
                 None
@@ -212,14 +303,11 @@ impl<K: Keeper> Log<K> {
     }
 
     /// Takes out a connection that is over before the arrival. To be called until there is none.
-    pub fn take_over(&mut self, arrival: &Arrival<'_>) -> Option<Connection<Heard<K>>> {
-        if let Some(connection) = self.connections.take_idle(arrival.time()) {
-            return Some(connection);
-        }
-        match arrival {
-            Arrival::Segment(segment) => self.connections.take_replaced(segment),
-            Arrival::Datagram(_) => None,
-        }
+    pub fn take_over(
+        &mut self,
+        arrival: &Arrival<'_>,
+    ) -> Result<Option<Connection<Heard<K>>>, AllocError> {
+        with_last(self.connections.take_idle(arrival.time()))
     }
 
     /// Puts what arrives into its connection, lets that hear what is there then, and takes the connection out where it is over.
@@ -230,8 +318,12 @@ impl<K: Keeper> Log<K> {
         match arrival {
             Arrival::Segment(segment) => self.accept_segment(segment),
             Arrival::Datagram(datagram) => {
+                if self.connections.drop_damaged(datagram) {
+                    return Ok(None);
+                }
+                let over = self.take_association(datagram);
                 self.accept_datagram(datagram)?;
-                Ok(None)
+                Ok(over)
             }
         }
     }
@@ -254,13 +346,35 @@ impl<K: Keeper> Log<K> {
         }
     }
 
-    /// The same of a segment of TCP.
-    fn accept_segment(
+    /// Hears a segment that waited, and whether both sides of its connection said their last then.
+    fn hear_kept(&mut self, kept: &Kept) -> Result<(), AllocError> {
+        self.connections.accept_kept(kept)?;
+        let (segment, keeps_messages) = (kept.segment(), self.keeps_messages);
+        match self.connections.get_mut(&segment.between()) {
+            Some(connection) => hear(connection, &segment, keeps_messages),
+            None => Ok(()),
+        }
+    }
+
+    /// Hears the segments that waited until the sender of this one acknowledged them.
+    fn hear_waiting(&mut self, segment: &Segment<'_>) -> Result<(), AllocError> {
+        'waiting: for _ in 0..MAX_WAITING {
+            match self.connections.take_waiting(segment) {
+                Some(Told::Taken(kept)) => self.hear_kept(&kept)?,
+                Some(Told::Had) => {}
+                None => break,
+            }
+        }
+        Ok(())
+    }
+
+    /// Puts a segment that its receiver takes into its connection, and takes that out where it is over then.
+    fn take_segment(
         &mut self,
         segment: &Segment<'_>,
     ) -> Result<Option<Connection<Heard<K>>>, AllocError> {
         match self.hear_segment(segment)? {
-            Some(true) => self.connections.take_closed(segment),
+            Some(true) => with_last(self.connections.take_closed(segment)?),
             Some(false) => Ok(None),
             None => {
                 // (the last acknowledgement of a connection that is over loses nothing)
@@ -270,6 +384,52 @@ impl<K: Keeper> Log<K> {
                 Ok(None)
             }
         }
+    }
+
+    /// The same of a segment of TCP, by what its receiver does with it.
+    fn accept_segment(
+        &mut self,
+        segment: &Segment<'_>,
+    ) -> Result<Option<Connection<Heard<K>>>, AllocError> {
+        let Some(verdict) = self.connections.verdict(segment) else {
+            return self.take_segment(segment);
+        };
+        if verdict.shows_damage {
+            self.connections.restart(segment);
+            return self.take_segment(segment);
+        }
+        if verdict.begins_another {
+            let over = self.connections.take_replaced(segment)?;
+            self.hear_segment(segment)?;
+            return with_last(over);
+        }
+        match verdict.judgement {
+            Judgement::Dropped(reason) => {
+                self.connections.drop_segment(segment, reason)?;
+                Ok(None)
+            }
+            Judgement::Waiting(reason) => {
+                self.connections.wait(segment, reason)?;
+                Ok(None)
+            }
+            Judgement::Taken | Judgement::Again => {
+                if verdict.tells {
+                    self.hear_waiting(segment)?;
+                }
+                self.take_segment(segment)
+            }
+        }
+    }
+
+    /// Takes out the exchange of a datagram that begins another association of DTLS between its ends.
+    fn take_association(&mut self, datagram: &Datagram<'_>) -> Option<Connection<Heard<K>>> {
+        let ends = datagram.between();
+        let exchange = self.connections.get(&ends)?;
+        let side = exchange.side_of(datagram.source);
+        if !exchange.listener.begins_another(side, datagram.payload) {
+            return None;
+        }
+        self.connections.take(&ends)
     }
 
     /// The same of a datagram of UDP, which ends no exchange.
@@ -290,7 +450,7 @@ impl<K: Keeper> Log<K> {
     }
 
     /// Takes out a connection that is left. To be called at the capture's end, until there is none.
-    pub fn take_left(&mut self) -> Option<Connection<Heard<K>>> {
-        self.connections.take_left()
+    pub fn take_left(&mut self) -> Result<Option<Connection<Heard<K>>>, AllocError> {
+        with_last(self.connections.take_left())
     }
 }

@@ -95,6 +95,8 @@ pub enum Sent {
     Records,
     Repeated,
     Disagreeing,
+    Dropped,
+    DroppedFor,
 }
 
 /// A field of a connection's line.
@@ -166,6 +168,22 @@ pub static FIELDS: &[Column<Field>] = &[
     (
         "resp_disagreeing_bytes",
         Field::Sent(Side::Responder, Sent::Disagreeing),
+    ),
+    (
+        "orig_dropped_pkts",
+        Field::Sent(Side::Originator, Sent::Dropped),
+    ),
+    (
+        "resp_dropped_pkts",
+        Field::Sent(Side::Responder, Sent::Dropped),
+    ),
+    (
+        "orig_dropped_for",
+        Field::Sent(Side::Originator, Sent::DroppedFor),
+    ),
+    (
+        "resp_dropped_for",
+        Field::Sent(Side::Responder, Sent::DroppedFor),
     ),
     ("client_version", Field::Offer(Offer::Version)),
     ("client_supported_versions", Field::Offer(Offer::Versions)),

@@ -2,14 +2,14 @@
 use crate::cell::{Cell, Row, StopCell};
 use crate::columns::{Course, End, FIELDS, Field, Named, Sent};
 use crate::hellos::{answer_cell, chain_cell, offer_cell, other_names_cell};
-use crate::names::{kind_name, outcome_name, sender_name};
+use crate::names::{REASONS, kind_name, outcome_name, reason_name, sender_name};
 use crate::prints::print_cell;
 use crate::suites::Suites;
-use crate::summary::Summary;
+use crate::summary::{Party, Summary};
 use crate::text::{
-    escaped, name_or_number, some_escaped, some_group, some_mark, some_text, some_version,
+    add_text, escaped, name_or_number, some_escaped, some_group, some_mark, some_text, some_version,
 };
-use connections::{Protocol, Side};
+use connections::{Dropped, Protocol, Side};
 use std::alloc::{AllocError, Global};
 use std::num::nearest_u64_to_f64;
 use tls_base::TlsAlertDescription;
@@ -130,18 +130,44 @@ fn some_count(count: u64) -> Option<Cell> {
     Some(Cell::Number(count))
 }
 
+/// Why the other side took nothing of packets, each reason once; nothing where there are none.
+fn reasons_cell(alloc: Global, dropped: &Dropped) -> Result<Option<Cell>, AllocError> {
+    if dropped.packets == 0 {
+        return Ok(None);
+    }
+    let mut reasons = Vec::new(alloc);
+    for reason in REASONS {
+        if dropped.has(reason) {
+            add_text(&mut reasons, String::from_str(alloc, reason_name(reason)))?;
+        }
+    }
+    Ok(Some(Cell::Texts(reasons)))
+}
+
+/// How many bytes a side sent: over TCP by the numbers of its segments.
+fn bytes_of(summary: &Summary<'_>, party: &Party<'_>) -> u64 {
+    match summary.protocol {
+        Protocol::Tcp => party.stream.length(),
+        Protocol::Udp => party.sent.bytes,
+    }
+}
+
 /// What a side sent.
-fn sent_cell(summary: &Summary<'_>, side: Side, field: &Sent) -> Option<Cell> {
+fn sent_cell(
+    alloc: Global,
+    summary: &Summary<'_>,
+    side: Side,
+    field: &Sent,
+) -> Result<Option<Cell>, AllocError> {
     let party = summary.party(side);
     match field {
-        Sent::Packets => Some(Cell::Number(party.sent.packets)),
-        Sent::Bytes => Some(Cell::Number(match summary.protocol {
-            Protocol::Tcp => party.stream.length(),
-            Protocol::Udp => party.sent.bytes,
-        })),
-        Sent::Records => Some(Cell::Number(party.records)),
-        Sent::Repeated => some_count(party.stream.repeated()),
-        Sent::Disagreeing => some_count(party.stream.disagreeing()),
+        Sent::Packets => Ok(Some(Cell::Number(party.sent.packets))),
+        Sent::Bytes => Ok(Some(Cell::Number(bytes_of(summary, party)))),
+        Sent::Records => Ok(Some(Cell::Number(party.records))),
+        Sent::Repeated => Ok(some_count(party.stream.repeated())),
+        Sent::Disagreeing => Ok(some_count(party.stream.disagreeing())),
+        Sent::Dropped => Ok(some_count(party.dropped.packets)),
+        Sent::DroppedFor => reasons_cell(alloc, &party.dropped),
     }
 }
 
@@ -161,7 +187,7 @@ fn cell_of(
         Field::Answer(field) => answer_cell(alloc, facts, field),
         Field::Chain(field) => chain_cell(alloc, facts, field),
         Field::Print(field) => print_cell(alloc, facts, summary.protocol, field),
-        Field::Sent(side, field) => Ok(sent_cell(summary, *side, field)),
+        Field::Sent(side, field) => sent_cell(alloc, summary, *side, field),
     }
 }
 

@@ -1,4 +1,5 @@
 //! The names that are printed.
+use connections::Reason;
 use tls_base::TlsVersion;
 use tls_flow::{Direction, Kind, Outcome};
 
@@ -130,5 +131,33 @@ pub fn kind_name(kind: Kind) -> &'static str {
         Kind::Heartbeat => "heartbeat",
         Kind::Unknown => "unknown",
         Kind::Other => "other",
+    }
+}
+
+/// Why a receiver takes nothing of a packet, in the order in which reasons are printed.
+pub static REASONS: [Reason; 9] = [
+    Reason::Checksum,
+    Reason::NoAck,
+    Reason::Acknowledgment,
+    Reason::Window,
+    Reason::Clock,
+    Reason::Signature,
+    Reason::Syn,
+    Reason::Reset,
+    Reason::Fin,
+];
+
+/// A reason by its name.
+pub fn reason_name(reason: Reason) -> &'static str {
+    match reason {
+        Reason::Checksum => "checksum",
+        Reason::NoAck => "no_ack",
+        Reason::Acknowledgment => "ack",
+        Reason::Window => "window",
+        Reason::Clock => "paws",
+        Reason::Signature => "signature",
+        Reason::Syn => "syn",
+        Reason::Reset => "rst",
+        Reason::Fin => "fin",
     }
 }

@@ -1,5 +1,5 @@
 //! What is told of a connection.
-use connections::{End, Protocol, Side, Stream, Traffic};
+use connections::{Dropped, End, Protocol, Side, Stream, Traffic};
 use tls_facts::Facts;
 use tls_flow::{Outcome, Stop};
 
@@ -12,8 +12,19 @@ pub struct Party<'a> {
     pub stream: &'a Stream,
     /// What it sent.
     pub sent: Traffic,
+    /// What it sent over TCP besides, of which the other side took nothing.
+    pub dropped: Dropped,
     /// How many records it said.
     pub records: u64,
+    /// Whether its first messages weren't captured, as those of DTLS tell by their numbers.
+    pub lacks_front: bool,
+}
+
+impl Party<'_> {
+    /// Whether bytes of its stream, or its first messages, are missing.
+    fn has_gap(&self) -> bool {
+        self.lacks_front || self.stream.has_gap()
+    }
 }
 
 /// A connection, as it is told.
@@ -54,8 +65,7 @@ impl<'a> Summary<'a> {
 
     /// Which sides have lost bytes, if any has.
     pub fn gap(&self) -> Option<&'static str> {
-        let (originator, responder) = (self.originator.stream, self.responder.stream);
-        match (originator.has_gap(), responder.has_gap()) {
+        match (self.originator.has_gap(), self.responder.has_gap()) {
             (true, true) => Some("both"),
             (true, false) => Some("orig"),
             (false, true) => Some("resp"),

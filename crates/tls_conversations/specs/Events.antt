@@ -2,8 +2,6 @@
 use Rattle.std.specs.Prelude.{Bool, true, false, ◌&&◌, Option, Some, None}
 use Rattle.tls_events.specs.Item.{Event as Said, Handshake, ChangeCipherSpec, Alert, Heartbeat, ApplicationData, Encrypted, Failed, view_event}
 use Rattle.dtls_messages.specs.Messages as datagrams
-use Rattle.dtls_messages.specs.declared.fragments.FragmentError.{FragmentError}
-use Rattle.dtls_messages.specs.declared.fragments.FragmentError.TheVariants.{Old}
 use Rattle.tls_base.specs.Alert as alerts
 use Rattle.tls_flow.specs.Letters.{letter}
 use Rattle.tls_flow.specs.Bytes.{kind_of_bytes, kind_of_type}
@@ -37,19 +35,15 @@ abbrev pub view_said : rust.Said → Said
 view_said (said.Event e) = view_event e
 view_said (said.Fault f) = Failed f
 
--- A fragment of a message that was handed out is sent again, which says nothing (RFC 6347, section 4.2.4).
-abbrev pub of_refused : FragmentError → Side → Option Event
-of_refused Old s = None
-of_refused e s = Some (plain kind.Unknown s)
-
--- The same of a direction of DTLS up to 1.2.
+-- The same of a direction of DTLS up to 1.2. What a peer drops says nothing: a record that can't be read, or the rest of one (RFC 6347,
+-- section 4.1.2.7), and a fragment that isn't taken, as one that is sent again (section 4.2.4).
 abbrev pub event_in_datagram : Side → datagrams.Event → Option Event
 event_in_datagram s (datagrams.Handshake m) = Some (plain (kind_of_type m.msg_type) s)
 event_in_datagram s datagrams.ChangeCipherSpec = Some (plain kind.ChangeCipherSpec s)
 event_in_datagram s (datagrams.Alert a) = Some (of_alert a s)
 event_in_datagram s (datagrams.Encrypted r) = Some (plain kind.Encrypted s)
-event_in_datagram s (datagrams.Refused n e) = of_refused e s
-event_in_datagram s (datagrams.Failed k) = Some (plain kind.Unknown s)
+event_in_datagram s (datagrams.Refused n e) = None
+event_in_datagram s (datagrams.Failed k) = None
 
 -- The server chooses TLS 1.3 by its ServerHello, or asks for a second ClientHello, which no other version does.
 abbrev pub kind_chooses : Kind → Bool

@@ -5,7 +5,6 @@ ghost use Rattle.tls_events.specs.Item.{view_event};
 ghost use Rattle.tls_conversations.specs.Events.{chooses_tls13 as chooses, event_in_datagram, event_of, view_said};
 
 use crate::said::Said;
-use dtls_stream::FragmentError;
 use tls_flow::{Direction, Event, Kind};
 
 /// The event that a side of TLS says. Application data counts as encrypted: a handshake has none in the clear.
@@ -22,9 +21,9 @@ pub fn tls_event(event: &tls_events::Event<'_>, side: Direction) -> Event
     }
 }
 
-/// The event that a side of DTLS up to 1.2 says, from its datagrams. `None` for a fragment of a message that was handed out
-/// before: it is sent again, and says nothing (RFC 6347, section 4.2.4). A ChangeCipherSpec that is sent again is to be left
-/// out before. [`Kind::Unknown`] for a record or fragment that is refused.
+/// The event that a side of DTLS up to 1.2 says, from its datagrams. `None` for what its peer drops, which says nothing: a record, or the
+/// rest of one, that can't be read (RFC 6347, section 4.1.2.7), and a fragment that isn't taken, as one of a message that was handed out
+/// before and is sent again (section 4.2.4). A ChangeCipherSpec that is sent again is to be left out before.
 pub fn dtls_event(event: &dtls_stream::Event<'_>, side: Direction) -> Option<Event>
     ensures { result ≡ event_in_datagram side (view_in_datagram event.now) }
 {
@@ -35,9 +34,7 @@ pub fn dtls_event(event: &dtls_stream::Event<'_>, side: Direction) -> Option<Eve
         dtls_stream::Event::ChangeCipherSpec => Some(Event::new(Kind::ChangeCipherSpec, side)),
         dtls_stream::Event::Alert(alert) => Some(Event::of_alert(alert, side)),
         dtls_stream::Event::Encrypted(_) => Some(Event::new(Kind::Encrypted, side)),
-        dtls_stream::Event::Refused(_, FragmentError::Old) => None,
-        dtls_stream::Event::Refused(_, _) => Some(Event::new(Kind::Unknown, side)),
-        dtls_stream::Event::Fault(_) => Some(Event::new(Kind::Unknown, side)),
+        dtls_stream::Event::Refused(_, _) | dtls_stream::Event::Fault(_) => None,
     }
 }
 

@@ -1,5 +1,5 @@
 -- How TLS and DTLS begin.
-use Rattle.std.specs.Prelude.{ℕ, Bool, false, ◌&&◌, ◌||◌, ◌==◌, nat_le, nat_lt, if◌then◌else◌, Option, Some, None, Ok, Err, length}
+use Rattle.std.specs.Prelude.{ℕ, Bool, false, ◌&&◌, ◌==◌, nat_le, nat_lt, if◌then◌else◌, Option, Some, None, Ok, Err, [], ◌∷◌, length}
 use Rattle.tls_fields.specs.Bytes.{Bytes}
 use Rattle.tls_fields.specs.Meaning.{Answer}
 use Rattle.tls_fields.specs.Reading.{reading}
@@ -10,9 +10,10 @@ use Rattle.tls_parser.specs.DtlsRecord as datagram
 abbrev pub is_within : ℕ → ℕ → ℕ → Bool
 is_within least most n = nat_le least n && nat_le n most
 
--- The header of a record of TLS (RFC 8446, section 5.1): a type that there is, a version 3.0 to 3.4, and a length within the limit.
+-- The header of a record of TLS (RFC 8446, section 5.1): a type that there is, the major version 3, and a length within the limit. The
+-- version is otherwise to be ignored for all purposes; of a ClientHello any value 03 XX is accepted (RFC 5246, appendix E.1).
 abbrev pub is_front : stream.RecordHeader → Bool
-is_front h = is_within 20 24 h.content_type && is_within 0x0300 0x0304 h.version && nat_le h.length max_fragment_length
+is_front h = is_within 20 24 h.content_type && is_within 0x0300 0x03ff h.version && nat_le h.length max_fragment_length
 
 abbrev pub is_front_in : Answer stream.RecordHeader → Bool
 is_front_in (Ok x) = is_front x.0
@@ -26,10 +27,20 @@ begins_tls b = is_front_in (reading stream.record_header b)
 abbrev pub looks_like_tls : Bytes → Option Bool
 looks_like_tls b = if nat_lt (length b) 5 then None else Some (begins_tls b)
 
--- The header of a record of DTLS (RFC 6347, section 4.1) in front of these bytes of its datagram: a type that there is, the version of
--- DTLS 1.0 or 1.2, and a length that the datagram has.
+-- The type of the handshake message that a stream begins with.
+abbrev pub first_message_in : Answer stream.RecordHeader → Option ℕ
+first_message_in (Ok (h, [])) = None
+first_message_in (Ok (h, kind ∷ b)) = if is_front h && h.content_type == 22 then Some kind else None
+first_message_in (Err e) = None
+
+abbrev pub first_message : Bytes → Option ℕ
+first_message b = first_message_in (reading stream.record_header b)
+
+-- The header of a record of DTLS (RFC 6347, section 4.1) in front of these bytes of its datagram: a type that there is, the major version
+-- 254, and a length that the datagram has. Where an association begins the version says how packets are laid out, and not which version is
+-- spoken (section 4.2.1).
 abbrev pub is_front_of_datagram : datagram.RecordHeader → Bytes → Bool
-is_front_of_datagram h b = is_within 20 24 h.content_type && (h.version == 0xfeff || h.version == 0xfefd) && nat_le h.length (length b)
+is_front_of_datagram h b = is_within 20 24 h.content_type && is_within 0xfe00 0xfeff h.version && nat_le h.length (length b)
 
 abbrev pub epoch_in : Answer datagram.RecordHeader → Option ℕ
 epoch_in (Ok x) = if is_front_of_datagram x.0 x.1 then Some x.0.epoch else None

@@ -3,7 +3,7 @@ ghost use Rattle.std.specs.Prelude.{◌≡◌};
 ghost use Rattle.tls_fields.specs.Reading.{reading};
 ghost use Rattle.tls_parser.specs.DtlsRecord as datagram;
 ghost use Rattle.tls_parser.specs.Record as stream;
-ghost use Rattle.tls_detection.specs.Front.{begins_tls as begins, epoch_in, is_front, is_front_of_datagram, looks_like_tls as looks};
+ghost use Rattle.tls_detection.specs.Front.{begins_tls as begins, epoch_in, is_front, is_front_of_datagram, first_message as first, looks_like_tls as looks};
 
 use tls_parser::{
     DTLSRecordHeader, MAX_RECORD_LEN, TlsRecordHeader, parse_dtls_record_header,
@@ -13,14 +13,17 @@ use tls_parser::{
 /// How many bytes tell whether a side speaks TLS: the header of a record (RFC 8446, section 5.1).
 pub const HEADER_LEN: usize = 5;
 
-/// A type of records that there is, a version 3.0 to 3.4, and a length within the limit.
+/// The type of the records that hold handshake messages.
+const HANDSHAKE: u8 = 22;
+
+/// A type of records that there is, the major version 3, and a length within the limit. The minor version is ignored (RFC 8446, section 5.1).
 fn is_header(header: &TlsRecordHeader) -> bool
     ensures { result ≡ is_front (stream.view_header header.now) }
 {
     header.record_type.0 >= 20
         && header.record_type.0 <= 24
         && header.version.0 >= 0x0300
-        && header.version.0 <= 0x0304
+        && header.version.0 <= 0x03ff
         && header.len <= MAX_RECORD_LEN
 }
 
@@ -35,7 +38,8 @@ pub fn begins_tls(bytes: &[u8]) -> bool
 }
 
 /// Whether these are the first bytes of a stream of TLS: they begin with the header of a record (RFC 8446, section 5.1), with a type from 20
-/// to 24, a version from 0x0300 to 0x0304, and a length of at most 16,640 bytes. `None` where there are fewer than 5 bytes, which don't tell.
+/// to 24, the major version 3, whatever the minor one, and a length of at most 16,640 bytes. `None` where there are fewer than 5 bytes, which
+/// don't tell.
 ///
 /// By this rule `tlslog` takes a side of a connection for TLS.
 pub fn looks_like_tls(bytes: &[u8]) -> Option<bool>
@@ -47,13 +51,28 @@ pub fn looks_like_tls(bytes: &[u8]) -> Option<bool>
     Some(begins_tls(bytes))
 }
 
-/// A type of records that there is, the version of DTLS 1.0 or 1.2, and a length that the datagram has.
+/// The type of the handshake message that a stream begins with (RFC 8446, sections 4 and 5.1): 1 is that of a client, 2 that of a server.
+/// `None` where it begins otherwise, or has fewer than 6 bytes.
+pub fn first_message(bytes: &[u8]) -> Option<u8>
+    ensures { result ≡ first bytes.now }
+{
+    match parse_tls_record_header(bytes) {
+        Ok((rest, header)) if is_header(&header) && header.record_type.0 == HANDSHAKE => {
+            rest.first().copied()
+        }
+        _ => None,
+    }
+}
+
+/// A type of records that there is, the major version of DTLS, and a length that the datagram has. The minor version is ignored: where an
+/// association begins it says how records are laid out, and not which version is spoken (RFC 6347, section 4.2.1).
 fn is_header_of_datagram(header: &DTLSRecordHeader, rest: &[u8]) -> bool
     ensures { result ≡ is_front_of_datagram (datagram.view_header header.now) rest.now }
 {
     header.content_type.0 >= 20
         && header.content_type.0 <= 24
-        && (header.version.0 == 0xfeff || header.version.0 == 0xfefd)
+        && header.version.0 >= 0xfe00
+        && header.version.0 <= 0xfeff
         && header.length as usize <= rest.len()
 }
 

@@ -6,4 +6,4 @@
 
 mod front;
 
-pub use front::{HEADER_LEN, begins_tls, front_epoch, looks_like_tls};
+pub use front::{HEADER_LEN, begins_tls, first_message, front_epoch, looks_like_tls};

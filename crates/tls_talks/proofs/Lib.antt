@@ -6,3 +6,5 @@ mod FirstLemmas
 mod TurnLemmas
 mod DatagramLemmas
 mod RecordLemmas
+mod ChangeLemmas
+mod HeardLemmas

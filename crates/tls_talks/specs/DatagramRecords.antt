@@ -1,5 +1,5 @@
 -- How many records datagrams have (RFC 6347, section 4.1).
-use Rattle.std.specs.Prelude.{Bool, ◌+◌, ◌-◌, ◌^◌, ◌&&◌, ◌||◌, ◌==◌, min, if◌then◌else◌, List, [], ◌∷◌}
+use Rattle.std.specs.Prelude.{Bool, ◌+◌, ◌-◌, ◌^◌, ◌&&◌, min, if◌then◌else◌, List, [], ◌∷◌}
 use Rattle.tls_fields.specs.Bytes.{Bytes}
 use Rattle.tls_fields.specs.Items.{items_in}
 use Rattle.tls_fields.specs.Layout.{Layout, block, done, ◌>>=◌}
@@ -14,9 +14,10 @@ whole_record = do
   fragment ← block h.length
   done h
 
--- A type of records that there is, and the version of DTLS 1.0 or 1.2.
+-- A type of records that there is, and the major version of DTLS, 254. Where an association begins the version says how packets are laid
+-- out, and not which version is spoken (section 4.2.1).
 abbrev pub is_known : RecordHeader → Bool
-is_known h = is_within 20 24 h.content_type && (h.version == 0xfeff || h.version == 0xfefd)
+is_known h = is_within 20 24 h.content_type && is_within 0xfe00 0xfeff h.version
 
 -- No datagram came.
 abbrev pub no_datagrams : DatagramRecords

@@ -1,21 +1,28 @@
--- What a talk over datagrams comes to, datagram by datagram (RFC 6347).
-use Rattle.std.specs.Prelude.{◌≡◌, ℕ, Bool, true, false, not, ◌&&◌, ◌||◌, ◌==◌, if◌then◌else◌, Option, Some, None, List, [], ◌∷◌}
+-- What a talk over datagrams comes to, record by record (RFC 6347): what its peers take. What an association drops changes nothing.
+use Rattle.std.specs.Prelude.{◌≡◌, ℕ, zero, suc, Bool, true, false, not, ◌&&◌, ◌||◌, ◌==◌, nat_lt, is_some, if◌then◌else◌, Option, Some, None, Ok, Err, List, [], ◌∷◌, length}
+use Rattle.std.specs.Str.{bytes_eq}
 use Rattle.tls_fields.specs.Bytes.{Bytes}
-use Rattle.dtls_messages.specs.Messages.{Alert, ChangeCipherSpec, Encrypted, Event, Handshake, Heard, Kept, Limits, Stands, nothing as none_heard}
-use Rattle.dtls_stream.specs.Datagrams.{Step, datagram}
+use Rattle.tls_fields.specs.Meaning.{Answer}
+use Rattle.tls_fields.specs.Reading.{reading}
+use Rattle.tls_parser.specs.DtlsRecord.{RawRecord}
+use Rattle.dtls_messages.specs.Fragments.{Fragment, fragment}
+use Rattle.dtls_messages.specs.Messages.{Alert, ChangeCipherSpec, Encrypted, Event, Handshake, Heard, Kept, Limits, Stands, nothing as none_heard, nothing_from}
+use Rattle.dtls_stream.specs.Datagrams.{Step, datagram_record, record_step}
 use Rattle.tls_flow.specs.Steps.{follow, silence}
-use Rattle.tls_flow.specs.Table.{is_waiting, outcome_at}
+use Rattle.tls_flow.specs.Table.{is_failed, is_waiting, outcome_at}
 use Rattle.tls_flow.specs.declared.event.Event.{Event as Followed}
 use Rattle.tls_flow.specs.declared.flow.Flow.{Flow}
 use Rattle.tls_flow.specs.declared.letter.Direction.{Direction as Side}
 use Rattle.tls_flow.specs.declared.letter.Direction.TheVariants.{ToServer, FromServer}
 use Rattle.tls_conversations.specs.Events.{event_in_datagram}
+use Rattle.tls_flow.specs.declared.state.Outcome.{Outcome}
 use Rattle.tls_facts.specs.Facts.{Facts, nothing, of_alert, of_datagram_message, view_facts}
-use Rattle.tls_detection.specs.Front.{front_epoch}
+use Rattle.tls_facts.specs.Told.{client_session_id, offers_ticket, server_session_id}
+use Rattle.tls_talks.specs.DatagramRecords.{is_known}
 use Rattle.tls_talks.specs.History.{letter_in_datagram, with_letter}
 use Rattle.tls_talks.specs.declared.account.Account.{Account}
 use Rattle.tls_talks.specs.declared.account.Progress.{Progress}
-use Rattle.tls_talks.specs.declared.datagram_talk.Speaker.{Speaker}
+use Rattle.tls_talks.specs.declared.speaker.Speaker.{Speaker}
 use Rattle.tls_talks.specs.declared.datagram_talk.DatagramTalk.{DatagramTalk}
 
 -- What an event of that side adds to what is known.
@@ -31,6 +38,10 @@ is_change e = false
 abbrev pub is_sealed : Event → Bool
 is_sealed (Encrypted r) = true
 is_sealed e = false
+
+abbrev pub is_client : Side → Bool
+is_client ToServer = true
+is_client FromServer = false
 
 abbrev pub followed_by : Flow → Option Followed → Flow
 followed_by f (Some e) = follow f e
@@ -57,15 +68,44 @@ told_of a p = record {
   is_encrypted = p.is_encrypted;
 }
 
--- The side says an event. A ChangeCipherSpec that it says again is sent again (RFC 6347, section 4.2.4).
-abbrev pub said : Side → Told → Event → Told
-said s t e = record {
-  flow = if t.has_changed && is_change e then t.flow else followed s t.flow e;
+-- The server's hello says that a session is taken up, by the session id of the client. Where the client's is empty, what follows tells whether
+-- the ticket is taken up that it offers (RFC 5077, section 3.4).
+abbrev pub takes_up : Option Bytes → Option Bytes → Bool → Bool
+takes_up None server ticket = ticket
+takes_up (Some id) None ticket = false
+takes_up (Some id) (Some same) ticket = bytes_eq id same
+
+abbrev pub may_resume : Facts → Bool
+may_resume f = takes_up (client_session_id f) (server_session_id f) (offers_ticket f)
+
+-- How the handshake stands behind a ChangeCipherSpec of that side.
+abbrev pub behind_change : Side → Flow → Outcome
+behind_change s f = outcome_at (followed s f ChangeCipherSpec).state
+
+-- The handshake comes to that side's ChangeCipherSpec: it is still one behind it. That of a server, behind which the client's is to come, needs a
+-- session that is taken up (RFC 5246, section 7.3).
+abbrev pub has_come_to_change : Side → Flow → Facts → Bool
+has_come_to_change s f a =
+    not (is_waiting (outcome_at f.state) && is_failed (behind_change s f))
+    && (is_client s || not (is_waiting (behind_change s f)) || may_resume a)
+
+-- A ChangeCipherSpec counts once of each side, and where the handshake has come to it, which is behind the ServerHello. Any other is dropped: it
+-- was sent again (RFC 6347, section 4.2.4), or has nothing to change to.
+abbrev pub awaits_change : Side → Told → Bool
+awaits_change s t = not t.has_changed && is_some t.facts.server && has_come_to_change s t.flow t.facts
+
+abbrev pub saying : Side → Told → Event → Told
+saying s t e = record {
+  flow = followed s t.flow e;
   facts = noted_in_datagram s t.facts e;
-  history = if t.has_changed && is_change e then t.history else with_letter s t.history (letter_in_datagram e);
+  history = with_letter s t.history (letter_in_datagram e);
   has_changed = t.has_changed || is_change e;
   is_encrypted = t.is_encrypted || is_sealed e;
 }
+
+-- The side says an event.
+abbrev pub said : Side → Told → Event → Told
+said s t e = if is_change e && not (awaits_change s t) then t else saying s t e
 
 -- It says these, the first of them in front.
 abbrev pub said_all : Side → Told → List Event → Told
@@ -79,6 +119,9 @@ allowed = record { message = 131072; ahead = 16 }
 -- What one side said so far: what was heard of its messages, and how far it has come.
 pub record Spoken : Type 0 where
   pub heard : Heard
+  -- whether a fragment of it was taken, and whether the messages in front of it are missing
+  pub is_begun : Bool
+  pub lacks_front : Bool
   pub has_changed : Bool
   pub is_encrypted : Bool
 
@@ -93,7 +136,7 @@ pub record Talk : Type 0 where
   pub is_dtls : Bool
 
 abbrev pub none_spoken : Spoken
-none_spoken = record { heard = none_heard; has_changed = false; is_encrypted = false }
+none_spoken = record { heard = none_heard; is_begun = false; lacks_front = false; has_changed = false; is_encrypted = false }
 
 -- Nothing came.
 abbrev pub untold : Talk
@@ -110,28 +153,91 @@ is_over k s = (spoken k s).is_encrypted && not (is_waiting (outcome_at k.flow.st
 abbrev pub told_to : Talk → Spoken → Told
 told_to k p = record { flow = k.flow; facts = k.facts; history = k.history; has_changed = p.has_changed; is_encrypted = p.is_encrypted }
 
-abbrev pub spoken_by : Heard → Told → Spoken
-spoken_by h t = record { heard = h; has_changed = t.has_changed; is_encrypted = t.is_encrypted }
+abbrev pub spoken_by : Spoken → Heard → Told → Spoken
+spoken_by p h t = record p { heard = h; has_changed = t.has_changed; is_encrypted = t.is_encrypted }
 
 abbrev pub with_told : Talk → Side → Heard → Told → Talk
-with_told k ToServer h t = record k { client = spoken_by h t; flow = t.flow; facts = t.facts; history = t.history }
-with_told k FromServer h t = record k { server = spoken_by h t; flow = t.flow; facts = t.facts; history = t.history }
+with_told k ToServer h t = record k { client = spoken_by k.client h t; flow = t.flow; facts = t.facts; history = t.history }
+with_told k FromServer h t = record k { server = spoken_by k.server h t; flow = t.flow; facts = t.facts; history = t.history }
 
 -- A side's messages and other records are followed and noted.
 abbrev pub stepped : Talk → Side → Step → Talk
 stepped k s x = with_told k s x.0 (said_all s (told_to k (spoken k s)) x.1)
 
-abbrev pub further : Talk → Side → Bytes → Talk
-further k s d = if k.is_dtls && not (is_over k s) then stepped k s (datagram allowed (spoken k s).heard d) else k
+abbrev pub fragment_in : Answer Fragment → Option Fragment
+fragment_in (Ok x) = Some x.0
+fragment_in (Err e) = None
 
--- A datagram that begins with no record of DTLS is left out: other protocols may use the same ports (RFC 7983). The first of epoch 0
--- tells that the talk is one of DTLS.
-abbrev pub heard_by : Option ℕ → Talk → Side → Bytes → Talk
-heard_by None k s d = k
-heard_by (Some epoch) k s d = further (record k { is_dtls = k.is_dtls || epoch == 0 }) s d
+-- The fragment of a handshake message that stands first in a record.
+abbrev pub first_fragment : RawRecord → Option Fragment
+first_fragment r = if r.header.content_type == 22 then fragment_in (reading fragment r.fragment) else None
 
+-- The message behind those that are missing: a second ClientHello, or the ServerHello behind a HelloVerifyRequest (RFC 6347, section 4.2.2,
+-- where the first messages have the number 0).
+abbrev pub hello_type : Side → ℕ
+hello_type ToServer = 1
+hello_type FromServer = 2
+
+abbrev pub is_behind_front : Side → Fragment → Bool
+is_behind_front s f = f.msg_type == hello_type s && f.message_seq == 1
+
+-- The first fragment of a side tells at which number its messages begin.
+abbrev pub begun : Side → Fragment → Spoken → Spoken
+begun s f p =
+    if p.is_begun then p
+    else if is_behind_front s f then record p { heard = nothing_from 1; is_begun = true; lacks_front = true }
+    else record p { is_begun = true }
+
+abbrev pub with_spoken : Talk → Side → Spoken → Talk
+with_spoken k ToServer p = record k { client = p }
+with_spoken k FromServer p = record k { server = p }
+
+abbrev pub begun_by : Option Fragment → Talk → Side → Talk
+begun_by None k s = k
+begun_by (Some f) k s = with_spoken k s (begun s f (spoken k s))
+
+-- The epoch of the records that a side's peer takes (section 4.1): 1 behind its ChangeCipherSpec. Those of an epoch that hasn't begun, or
+-- that is over, are dropped. A further one begins behind the handshake, by a ChangeCipherSpec that is encrypted.
+abbrev pub epoch_of : Spoken → ℕ
+epoch_of p = if p.has_changed then 1 else 0
+
+-- A ClientHello, ServerHello or HelloVerifyRequest.
+abbrev pub is_hello : Fragment → Bool
+is_hello f = f.msg_type == 1 || f.msg_type == 2 || f.msg_type == 3
+
+-- Behind the ServerHello no hello is awaited (RFC 5246, section 7.3; RFC 6347, section 4.2.4, figure 1). One that wasn't heard is dropped.
+abbrev pub is_late : Option Fragment → Talk → Side → Bool
+is_late None k s = false
+is_late (Some f) k s = is_some k.facts.server && is_hello f && not (nat_lt f.message_seq (spoken k s).heard.next)
+
+-- Whether a record of that side is taken.
+abbrev pub takes : Talk → Side → RawRecord → Bool
+takes k s r =
+    k.is_dtls && not (is_over k s) && r.header.epoch == epoch_of (spoken k s) && not (is_late (first_fragment r) k s)
+
+abbrev pub taken : Talk → Side → RawRecord → Talk
+taken k s r = stepped k s (record_step allowed (spoken k s).heard r)
+
+abbrev pub record_heard_in : Talk → Side → RawRecord → Talk
+record_heard_in k s r = if takes k s r then taken (begun_by (first_fragment r) k s) s r else k
+
+-- A record of that side comes. The first of epoch 0 tells that the talk is one of DTLS.
+abbrev pub record_heard : Talk → Side → RawRecord → Talk
+record_heard k s r = record_heard_in (record k { is_dtls = k.is_dtls || r.header.epoch == 0 }) s r
+
+abbrev pub next_heard : Answer RawRecord → Talk → Side → (Talk → Bytes → Talk) → Talk
+next_heard (Err e) k s more = k
+next_heard (Ok x) k s more = if is_known x.0.header then more (record_heard k s x.0) x.1 else k
+
+-- At most n records of a datagram, one after the other. What is no whole record of DTLS is dropped, and what stands behind it (section
+-- 4.1.2.7): so is a datagram that begins with none, since other protocols may use the same ports (RFC 7983).
+unfoldable pub records_heard : ℕ → Talk → Side → Bytes → Talk
+records_heard zero k s b = k
+records_heard (suc n) k s b = next_heard (reading datagram_record b) k s (λ k b. records_heard n k s b)
+
+-- A datagram of that side comes. A record takes bytes, so there are no more of them than bytes.
 abbrev pub heard : Talk → Side → Bytes → Talk
-heard k s d = heard_by (front_epoch d) k s d
+heard k s d = records_heard (length d) k s d
 
 -- All of these come, one after the other.
 abbrev pub heard_all : Talk → List (Side × Bytes) → Talk
@@ -141,6 +247,8 @@ heard_all k (d ∷ ds) = heard_all (heard k d.0 d.1) ds
 -- What the program holds of one side, and of the talk.
 pub record IsSpoken (p : Spoken) (t : Speaker) : Type 0 where
   pub stands : Stands allowed p.heard t.messages
+  pub is_begun : t.is_begun ≡ p.is_begun
+  pub lacks_front : t.lacks_front ≡ p.lacks_front
   pub has_changed : t.progress.has_changed ≡ p.has_changed
   pub is_encrypted : t.progress.is_encrypted ≡ p.is_encrypted
 
@@ -152,12 +260,20 @@ pub record IsKnown (k : Talk) (t : DatagramTalk) : Type 0 where
   pub history : t.account.history.items ≡ k.history
   pub is_dtls : t.is_dtls ≡ k.is_dtls
 
+abbrev pub speaker_of : DatagramTalk → Side → Speaker
+speaker_of t ToServer = t.client
+speaker_of t FromServer = t.server
+
 -- A side was heard.
 pub record IsStepped (s : Side) (x : Step) (t u : Told) (n : Kept) : Type 0 where
   pub stands : Stands allowed x.0 n
   pub told : u ≡ said_all s t x.1
 
--- A speaker heard a datagram: what its side said then is told, by the account and the progress before and after.
-abbrev pub SpeakerHears : Side → Heard → Bytes → Account → Account → Speaker → Speaker → Type 0
-SpeakerHears s h d a b t u =
-    IsStepped s (datagram allowed h d) (told_of a t.progress) (told_of b u.progress) u.messages
+-- A speaker heard a record: what its side said then is told, by the account and the progress before and after.
+abbrev pub SpeakerHears : Side → Heard → RawRecord → Account → Account → Speaker → Speaker → Type 0
+SpeakerHears s h r a b t u =
+    IsStepped s (record_step allowed h r) (told_of a t.progress) (told_of b u.progress) u.messages
+
+-- The same side, as far as its messages go.
+abbrev pub IsSameSide : Speaker → Speaker → Type 0
+IsSameSide t u = (u.is_begun ≡ t.is_begun) × (u.lacks_front ≡ t.lacks_front)

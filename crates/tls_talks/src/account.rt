@@ -2,12 +2,13 @@
 ghost use Rattle.std.specs.Prelude.{◌≡◌, OnOk};
 ghost use Rattle.dtls_messages.specs.Messages.{view_event, view_events};
 ghost use Rattle.tls_facts.specs.Facts.{view_facts};
-ghost use Rattle.tls_talks.specs.Datagrams.{followed, is_change as changes, is_sealed as seals, noted_in_datagram, said, said_all, told_of};
+ghost use Rattle.tls_flow.specs.Table.{is_failed as is_failure, is_waiting as is_still};
+ghost use Rattle.tls_talks.specs.Datagrams.{awaits_change as awaits, behind_change as stands_behind_change, followed, has_come_to_change as comes_to_change, is_change as changes, is_sealed as seals, may_resume as takes_session, noted_in_datagram, said, said_all, saying, told_of};
 
 use crate::history::{add_letter, datagram_letter};
 use dtls_stream::Event;
 use std::alloc::{AllocError, Global};
-use tls_conversations::{Direction, Flow, dtls_event};
+use tls_conversations::{Direction, Flow, Outcome, dtls_event};
 use tls_facts::Facts;
 
 /// How far a side has come.
@@ -68,9 +69,85 @@ fn follow(flow: &mut Flow, event: &Event<'_>, side: Direction)
     }
 }
 
+/// The handshake is still to end.
+fn is_waiting(outcome: Outcome) -> bool
+    ensures { result ≡ is_still outcome }
+{
+    matches!(outcome, Outcome::Waiting)
+}
+
+/// The handshake ended without success.
+fn is_failed(outcome: Outcome) -> bool
+    ensures { result ≡ is_failure outcome }
+{
+    matches!(
+        outcome,
+        Outcome::BrokenOff | Outcome::Unknown | Outcome::NoHandshake
+    )
+}
+
+/// How the handshake stands behind a ChangeCipherSpec of that side.
+#[tactic(auto, using(crate::proofs::ChangeLemmas::state_alone))]
+fn behind_change(flow: &Flow, side: Direction) -> Outcome
+    ensures { result ≡ stands_behind_change side flow.now }
+{
+    let mut next = Flow::at(flow.state());
+    follow(&mut next, &Event::ChangeCipherSpec, side);
+    next.outcome()
+}
+
+/// Whether the server's hello says that a session is taken up, or may be.
+fn may_resume(facts: &Facts) -> bool
+    ensures { result ≡ takes_session (view_facts facts.now) }
+{
+    match (facts.client_session_id(), facts.server_session_id()) {
+        (None, _) => facts.offers_ticket(),
+        (Some(_), None) => false,
+        (Some(id), Some(same)) => id == same,
+    }
+}
+
+/// Whether the handshake comes to that side's ChangeCipherSpec.
+fn has_come_to_change(flow: &Flow, facts: &Facts, side: Direction) -> bool
+    ensures { result ≡ comes_to_change side flow.now (view_facts facts.now) }
+{
+    let behind = behind_change(flow, side);
+    if is_waiting(flow.outcome()) && is_failed(behind) {
+        return false;
+    }
+    matches!(side, Direction::ToServer) || !is_waiting(behind) || may_resume(facts)
+}
+
 impl Account {
-    /// Follows and notes an event of a side, and puts its letter behind the others. A ChangeCipherSpec that it says again is sent again, and says nothing
-    /// (RFC 6347, section 4.2.4).
+    /// Whether the handshake has come to that side's ChangeCipherSpec.
+    fn awaits_change(&self, side: Direction, progress: &Progress) -> bool
+        ensures { result ≡ awaits side (told_of self.now progress.now) }
+    {
+        !progress.has_changed
+            && self.facts.server.is_some()
+            && has_come_to_change(&self.flow, &self.facts, side)
+    }
+
+    /// Follows and notes an event of a side, and puts its letter behind the others.
+    fn say(
+        &mut self,
+        alloc: Global,
+        side: Direction,
+        progress: &mut Progress,
+        event: &Event<'_>,
+    ) -> Result<(), AllocError>
+        ensures { OnOk result (told_of self.new progress.new ≡ saying side (told_of self.old progress.old) (view_event event.now)) }
+    {
+        note(&mut self.facts, alloc, side, event)?;
+        follow(&mut self.flow, event, side);
+        add_letter(&mut self.history, side, datagram_letter(event))?;
+        progress.has_changed = progress.has_changed || is_change(event);
+        progress.is_encrypted = progress.is_encrypted || is_sealed(event);
+        Ok(())
+    }
+
+    /// Takes an event of a side. A ChangeCipherSpec is dropped where the handshake hasn't come to it, and where it was sent again (RFC 6347,
+    /// section 4.2.4).
     fn add(
         &mut self,
         alloc: Global,
@@ -80,17 +157,13 @@ impl Account {
     ) -> Result<(), AllocError>
         ensures { OnOk result (told_of self.new progress.new ≡ said side (told_of self.old progress.old) (view_event event.now)) }
     {
-        note(&mut self.facts, alloc, side, event)?;
-        if !(progress.has_changed && is_change(event)) {
-            follow(&mut self.flow, event, side);
-            add_letter(&mut self.history, side, datagram_letter(event))?;
+        if is_change(event) && !self.awaits_change(side, progress) {
+            return Ok(());
         }
-        progress.has_changed = progress.has_changed || is_change(event);
-        progress.is_encrypted = progress.is_encrypted || is_sealed(event);
-        Ok(())
+        self.say(alloc, side, progress, event)
     }
 
-    /// Follows and notes all events of a side, one after the other.
+    /// Takes all events of a side, one after the other.
     pub(crate) fn add_all(
         &mut self,
         alloc: Global,

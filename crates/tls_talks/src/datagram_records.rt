@@ -26,13 +26,14 @@ impl<'a> InPlace<'a> for WholeRecord {
     }
 }
 
-/// A type of records that there is, and the version of DTLS 1.0 or 1.2.
-fn is_known(header: &DTLSRecordHeader) -> bool
+/// A type of records that there is, and the major version of DTLS, whatever the minor one.
+pub(crate) fn is_known(header: &DTLSRecordHeader) -> bool
     ensures { result ≡ is_known_header (view_header header.now) }
 {
     header.content_type.0 >= 20
         && header.content_type.0 <= 24
-        && (header.version.0 == 0xfeff || header.version.0 == 0xfefd)
+        && header.version.0 >= 0xfe00
+        && header.version.0 <= 0xfeff
 }
 
 /// How many records the datagrams of a side have, of which no byte is kept.

@@ -1,65 +1,33 @@
 //! What both sides of a conversation in DTLS say, datagram by datagram.
 ghost use Rattle.std.specs.Prelude.{◌≡◌, IfOk, OnOk};
-ghost use Rattle.dtls_messages.specs.Messages.{Heard, Stands};
-ghost use Rattle.dtls_stream.specs.Datagrams.{datagram as datagram_step};
+ghost use Rattle.tls_parser.specs.DtlsRecord.{view_raw_record};
+ghost use Rattle.dtls_messages.specs.Fragments.{view_fragment};
 ghost use Rattle.tls_conversations.specs.Conversations.{views};
 ghost use Rattle.tls_facts.specs.Facts.{view_facts};
 ghost use Rattle.tls_flow.specs.Table.{outcome_at};
-ghost use Rattle.tls_talks.specs.Datagrams.{IsKnown, IsSpoken, SpeakerHears, Talk, allowed, heard, heard_all, is_over as is_over_in, none_spoken, spoken, stepped, untold};
+ghost use Rattle.tls_talks.specs.Another.{begins_another as another_begins};
+ghost use Rattle.tls_talks.specs.Datagrams.{IsKnown, Talk, begun, first_fragment as first, heard, heard_all, is_late as is_late_in, is_over as is_over_in, record_heard, speaker_of, spoken, taken, takes as is_taken, untold, with_spoken};
 ghost use Rattle.tls_talks.specs.Ends.{is_established as established_by, is_resumed as resumed_by};
 
-use crate::account::{Account, Progress};
+use crate::account::Account;
+use crate::another::{has_ended, has_other_hello};
+use crate::datagram_records::is_known;
 use crate::ends;
-use dtls_stream::{DEFAULT_LIMITS, Messages, read_datagram};
+use crate::speaker::{Speaker, first_fragment, is_hello};
+use dtls_stream::{Fragment, read_record};
 use std::alloc::{AllocError, Global};
 use tls_conversations::{Direction, Flow, Outcome, Stop};
-use tls_detection::front_epoch;
 use tls_facts::Facts;
+use tls_parser::DTLSRawRecord;
 
-/// One side.
-#[derive(Drop)]
-struct Speaker {
-    messages: Messages,
-    progress: Progress,
-}
-
-/// What both sides of a conversation in DTLS up to 1.2 say (RFC 6347), and whether they speak DTLS.
+/// What both sides of a conversation in DTLS up to 1.2 say (RFC 6347), and whether they speak DTLS: what their peers take. What an
+/// association drops changes nothing.
 #[derive(Drop)]
 pub struct DatagramTalk {
     client: Speaker,
     server: Speaker,
     account: Account,
     is_dtls: bool,
-}
-
-impl Speaker {
-    fn new(alloc: Global) -> Speaker
-        ensures { IsSpoken none_spoken result }
-    {
-        Speaker {
-            messages: Messages::new(alloc, DEFAULT_LIMITS),
-            progress: Progress {
-                has_changed: false,
-                is_encrypted: false,
-            },
-        }
-    }
-
-    /// Takes a datagram of this side, and follows and notes what it says.
-    fn hear(
-        &mut self,
-        account: &mut Account,
-        alloc: Global,
-        side: Direction,
-        datagram: &[u8],
-    ) -> Result<(), AllocError>
-        ensures { (h : Heard) → Stands allowed h self.old.messages
-            → OnOk result (SpeakerHears side h datagram.now account.old account.new self.old self.new) }
-    {
-        let mut events = Vec::new(alloc);
-        read_datagram(alloc, &mut self.messages, datagram, &mut events).map_err(|_e| AllocError)?;
-        account.add_all(alloc, side, &mut self.progress, events.as_slice())
-    }
 }
 
 impl DatagramTalk {
@@ -128,29 +96,119 @@ impl DatagramTalk {
         ends::is_resumed(self.outcome(), &self.account.facts)
     }
 
+    /// Whether the first messages of a side are missing: it begins with a second ClientHello, or with the ServerHello behind a
+    /// HelloVerifyRequest, by its number (RFC 6347, section 4.2.2).
+    pub fn lacks_front(&self, side: Direction) -> bool
+        ensures { (k : Talk) → IsKnown k self.now → result ≡ (spoken k side).lacks_front }
+    {
+        self.speaker(side).lacks_front
+    }
+
+    /// Whether a datagram of the client begins another association (RFC 6347, section 4.2.8): the handshake of this one ended, with success or
+    /// by an alert, and the datagram begins with a ClientHello in the clear, whole, of number 0, and of another random than its own. So neither
+    /// a hello that is sent again, nor the one with a cookie, nor one in an unfinished handshake begins another.
+    pub fn begins_another(&self, datagram: &[u8]) -> bool
+        ensures { (k : Talk) → IsKnown k self.now → result ≡ another_begins k datagram.now }
+    {
+        has_ended(self.outcome()) && has_other_hello(&self.account.facts, datagram)
+    }
+
+    /// One of the sides.
+    fn speaker(&self, side: Direction) -> &Speaker
+        ensures { result.now ≡ speaker_of self.now side }
+    {
+        match side {
+            Direction::ToServer => &self.client,
+            Direction::FromServer => &self.server,
+        }
+    }
+
     /// Whether the side is heard no further: it is encrypted, and the handshake ended.
     pub fn is_over(&self, side: Direction) -> bool
         ensures { (k : Talk) → IsKnown k self.now → result ≡ is_over_in k side }
     {
-        let is_encrypted = match side {
-            Direction::ToServer => self.client.progress.is_encrypted,
-            Direction::FromServer => self.server.progress.is_encrypted,
-        };
-        is_encrypted && !matches!(self.account.flow.outcome(), Outcome::Waiting)
+        self.speaker(side).progress.is_encrypted
+            && !matches!(self.account.flow.outcome(), Outcome::Waiting)
     }
 
-    /// Follows and notes what a side's datagram says.
-    fn follow(&mut self, alloc: Global, side: Direction, datagram: &[u8]) -> Result<(), AllocError>
-        ensures { (k : Talk) → IsKnown k self.old → OnOk result (IsKnown (stepped k side (datagram_step allowed (spoken k side).heard datagram.now)) self.new) }
+    /// Whether a record's first fragment is of a hello that isn't awaited, and wasn't heard: the server has said its ServerHello.
+    fn is_late(&self, side: Direction, record: &DTLSRawRecord<'_>) -> bool
+        ensures { (k : Talk) → IsKnown k self.now → result ≡ is_late_in (first (view_raw_record record.now)) k side }
     {
-        match side {
-            Direction::ToServer => { self.client.hear(&mut self.account, alloc, side, datagram) }
-            Direction::FromServer => { self.server.hear(&mut self.account, alloc, side, datagram) }
+        match first_fragment(record) {
+            Some(fragment) => {
+                self.account.facts.server.is_some()
+                    && is_hello(&fragment)
+                    && self.speaker(side).is_new(&fragment)
+            }
+            None => false,
         }
     }
 
-    /// Hears a datagram of a side. One that doesn't begin with a record of DTLS is left out: other protocols may use the same ports
-    /// (RFC 7983). So is each of a side that is over, and all in front of the first of epoch 0.
+    /// Whether a record of that side is taken.
+    fn takes(&self, side: Direction, record: &DTLSRawRecord<'_>) -> bool
+        ensures { (k : Talk) → IsKnown k self.now → result ≡ is_taken k side (view_raw_record record.now) }
+    {
+        self.is_dtls
+            && !self.is_over(side)
+            && record.header.epoch == self.speaker(side).epoch()
+            && !self.is_late(side, record)
+    }
+
+    /// Begins a side with its first fragment.
+    fn begin(&mut self, alloc: Global, side: Direction, fragment: &Fragment<'_>)
+        ensures { (k : Talk) → IsKnown k self.old
+            → IsKnown (with_spoken k side (begun side (view_fragment fragment.now) (spoken k side))) self.new }
+    {
+        match side {
+            Direction::ToServer => self.client.begin(alloc, side, fragment),
+            Direction::FromServer => self.server.begin(alloc, side, fragment),
+        }
+    }
+
+    /// Follows and notes what a side's record says.
+    fn follow(
+        &mut self,
+        alloc: Global,
+        side: Direction,
+        record: DTLSRawRecord<'_>,
+    ) -> Result<(), AllocError>
+        ensures { (k : Talk) → IsKnown k self.old → OnOk result (IsKnown (taken k side (view_raw_record record.entry)) self.new) }
+    {
+        match side {
+            Direction::ToServer => self.client.hear(&mut self.account, alloc, side, record),
+            Direction::FromServer => self.server.hear(&mut self.account, alloc, side, record),
+        }
+    }
+
+    /// Hears a record of a side.
+    fn hear_record(
+        &mut self,
+        alloc: Global,
+        side: Direction,
+        record: DTLSRawRecord<'_>,
+    ) -> Result<(), AllocError>
+        ensures { (k : Talk) → IsKnown k self.old → OnOk result (IsKnown (record_heard k side (view_raw_record record.entry)) self.new) }
+    {
+        self.is_dtls = self.is_dtls || record.header.epoch == 0;
+        if !self.takes(side, &record) {
+            return Ok(());
+        }
+        if let Some(fragment) = first_fragment(&record) {
+            self.begin(alloc, side, &fragment);
+        }
+        self.follow(alloc, side, record)
+    }
+
+    /// Hears a datagram of a side, record by record. What its peer drops changes nothing:
+    ///
+    /// - what is no whole record of DTLS, and what stands behind it in the datagram (RFC 6347, section 4.1.2.7): a datagram that begins with none
+    ///   is left out, since other protocols may use the same ports (RFC 7983). Its version is 254 and any second byte;
+    /// - a record of an epoch that hasn't begun, or is over (section 4.1), and all records of a side that is over;
+    /// - a record whose content can't be read, as an empty one;
+    /// - a fragment that goes beyond its message, says another length of it, or is of a message that was handed out or is too far ahead
+    ///   (sections 4.2.2 and 4.2.3); of bytes that disagree the first stand;
+    /// - a ChangeCipherSpec to which the handshake hasn't come, or that is sent again, and a hello behind the ServerHello.
     ///
     /// `AllocError` where what it says could not be held. The talk is then of no further use.
     pub fn hear(
@@ -161,12 +219,16 @@ impl DatagramTalk {
     ) -> Result<(), AllocError>
         ensures { (k : Talk) → IsKnown k self.old → OnOk result (IsKnown (heard k side datagram.now) self.new) }
     {
-        let Some(epoch) = front_epoch(datagram) else {
-            return Ok(());
-        };
-        self.is_dtls = self.is_dtls || epoch == 0;
-        if self.is_dtls && !self.is_over(side) {
-            return self.follow(alloc, side, datagram);
+        let mut left = datagram;
+        'records: for read in 0..datagram.len() {
+            let Ok((rest, record)) = read_record(left) else {
+                return Ok(());
+            };
+            if !is_known(&record.header) {
+                return Ok(());
+            }
+            self.hear_record(alloc, side, record)?;
+            left = rest;
         }
         Ok(())
     }

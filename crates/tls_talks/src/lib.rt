@@ -13,12 +13,14 @@
 #![tactic(auto)]
 
 mod account;
+mod another;
 mod datagram_records;
 mod datagram_talk;
 mod ends;
 mod hearer;
 mod history;
 mod records;
+mod speaker;
 mod talk;
 
 pub use datagram_records::DatagramRecords;

@@ -1,6 +1,7 @@
 //! The arguments of the command line.
 use crate::failure::Reason;
 use clap::{Arg, ArgAction, ArgMatches, Command};
+use log_connections::Checksums;
 use log_lines::{Format, Lines, Style, StyleError, Suites};
 use std::alloc::{AllocError, Global};
 use std::fmt::{self, Display, Formatter};
@@ -56,6 +57,9 @@ impl Refusal<'_> {
 /// The names of formats.
 static FORMATS: [&str; 2] = ["json", "csv"];
 
+/// The names of what checksums count, the default first.
+static CHECKSUMS: [&str; 3] = ["auto", "check", "ignore"];
+
 /// The captures.
 fn captures<'a>(alloc: Global) -> Arg<'a> {
     Arg::new(alloc, "captures")
@@ -100,6 +104,15 @@ fn ciphers<'a>(alloc: Global) -> Arg<'a> {
     option(alloc, "ciphers", "FILE", help)
 }
 
+/// Which checksums count.
+fn checksums<'a>(alloc: Global) -> Arg<'a> {
+    let help =
+        "Whether packets with wrong checksums are dropped: not those of a sender whose first packets are all wrong; all; none";
+    option(alloc, "checksums", "WHICH", help)
+        .value_parser(CHECKSUMS.as_slice())
+        .default_value("auto")
+}
+
 /// The matches of the command line.
 pub fn matches<'a>(alloc: Global, words: &'a [String]) -> Result<ArgMatches<'a>, clap::Error> {
     Command::new(alloc, "tlslog")
@@ -110,6 +123,7 @@ pub fn matches<'a>(alloc: Global, words: &'a [String]) -> Result<ArgMatches<'a>,
         .arg(format(alloc))?
         .arg(fields(alloc))?
         .arg(ciphers(alloc))?
+        .arg(checksums(alloc))?
         .try_get_matches_from(words)
 }
 
@@ -130,6 +144,15 @@ fn format_of(matches: &ArgMatches<'_>) -> Format {
     match matches.get_str("format") {
         Some("csv") => Format::Csv,
         _ => Format::Json,
+    }
+}
+
+/// Which checksums count.
+pub fn checksums_of(matches: &ArgMatches<'_>) -> Checksums {
+    match matches.get_str("checksums") {
+        Some("check") => Checksums::Check,
+        Some("ignore") => Checksums::Ignore,
+        _ => Checksums::Auto,
     }
 }
 

@@ -43,7 +43,9 @@ fn party(connection: &Connection<Listener>, side: Side) -> Party<'_> {
         },
         stream: connection.stream(side),
         sent: connection.sent(side),
+        dropped: connection.dropped(side),
         records: connection.listener.records(side),
+        lacks_front: connection.listener.lacks_front(side),
     }
 }
 

@@ -15,10 +15,10 @@ mod progress;
 ghost use Rattle.tlslog.specs.Output.{Tells};
 ghost use Rattle.tlslog.specs.Run.{HasWritten};
 
-use crate::arguments::{Refusal, matches, style_of};
+use crate::arguments::{Refusal, checksums_of, matches, style_of};
 use crate::failure::{Exit, Failure};
 use crate::output::{LineError, Output};
-use crate::program::{STANDARD_OUTPUT, log_file, log_standard_input, tell};
+use crate::program::{Asked, STANDARD_OUTPUT, log_file, log_standard_input, tell};
 use clap::ArgMatches;
 use clap::error::ErrorKind;
 use log_lines::Style;
@@ -48,38 +48,38 @@ fn write_header<W: Write>(
 /// Logs the capture of that name.
 fn log_one<R: Runtime + AllocGlobal + RandomSource, W: Write>(
     rt: &R,
-    style: &Style,
+    asked: &Asked,
     path: &str,
     out: Output<W>,
 ) -> (Exit, Output<W>)
     ensures { HasWritten out.has_failed result.0 result.1.has_failed }
 {
     if path == DASH {
-        log_standard_input(rt, style, out)
+        log_standard_input(rt, asked, out)
     } else {
-        log_file(rt, style, path, out)
+        log_file(rt, asked, path, out)
     }
 }
 
 /// Logs each capture that is named, or standard input, behind the line in front of all, as long as somebody reads on what is printed.
 fn log_all<R: Runtime + AllocGlobal + RandomSource, W: Write>(
     rt: &R,
-    style: &Style,
+    asked: &Asked,
     matches: &ArgMatches<'_>,
     out: Output<W>,
 ) -> (Exit, Output<W>)
     ensures { HasWritten out.has_failed result.0 result.1.has_failed }
 {
     let mut out = out;
-    if let Err(e) = write_header(rt.alloc(), style, &mut out) {
+    if let Err(e) = write_header(rt.alloc(), &asked.style, &mut out) {
         return (tell(rt, STANDARD_OUTPUT, Failure::from(e), 0), out);
     }
     let Some(paths) = matches.get_strs("captures") else {
-        return log_standard_input(rt, style, out);
+        return log_standard_input(rt, asked, out);
     };
     let mut exit = Exit::Clean;
     'paths: for path in paths {
-        let (of_path, behind) = log_one(rt, style, path, out);
+        let (of_path, behind) = log_one(rt, asked, path, out);
         exit = exit.and(of_path);
         out = behind;
         if matches!(exit, Exit::Closed) {
@@ -112,7 +112,11 @@ fn tell_error<R: Runtime + AllocGlobal>(rt: &R, error: &clap::Error) -> u8 {
 fn run_by<R: Runtime + AllocGlobal + RandomSource>(rt: &R, matches: &ArgMatches<'_>) -> u8 {
     match style_of(rt, matches) {
         Ok(style) => {
-            let (exit, _out) = log_all(rt, &style, matches, Output::new(io::writer(rt)));
+            let asked = Asked {
+                style,
+                checksums: checksums_of(matches),
+            };
+            let (exit, _out) = log_all(rt, &asked, matches, Output::new(io::writer(rt)));
             u8::from(exit)
         }
         Err(refusal) => refuse(rt, refusal),

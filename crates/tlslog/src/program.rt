@@ -8,7 +8,7 @@ use crate::listener::{Listener, Messages, summary, take_messages};
 use crate::output::{LineError, Output};
 use crate::progress::{STANDARD_INPUT, Source, Watched};
 use connections::Connection;
-use log_connections::{Counts, Log, add_one};
+use log_connections::{Checksums, Counts, Log, add_one};
 use log_lines::{Lines, Spoken, Style, Summary, message_row, row_of};
 use packets::{Packet, PacketVisitor, visit_packets};
 use std::alloc::Global;
@@ -159,7 +159,7 @@ fn log_packet<W: Write>(
         return Ok(());
     };
     'over: for _ in 0..u64::MAX {
-        match log.take_over(&arrival) {
+        match log.take_over(&arrival)? {
             Some(connection) => print_one(alloc, style, &mut log.counts, connection, out)?,
             None => break,
         }
@@ -223,7 +223,7 @@ fn print_left<W: Write>(
     ensures { Tells out.old.has_failed out.new.has_failed result }
 {
     'left: for _ in 0..u64::MAX {
-        match log.take_left() {
+        match log.take_left()? {
             Some(connection) => print_one(alloc, style, &mut log.counts, connection, out)?,
             None => break,
         }
@@ -293,6 +293,15 @@ fn tell_counts<R: Runtime>(rt: &R, name: &str, counts: &Counts, exit: Exit) -> E
     }
 }
 
+/// What the arguments ask for.
+#[derive(Drop)]
+pub struct Asked {
+    /// How lines are written.
+    pub style: Style,
+    /// Which checksums count.
+    pub checksums: Checksums,
+}
+
 /// Logs a capture that is read from there, under that name, and hands back where its lines go.
 ///
 /// The run is clean where the reader has a whole capture, which was read to its end, and every line was written; it is broken where
@@ -300,7 +309,7 @@ fn tell_counts<R: Runtime>(rt: &R, name: &str, counts: &Counts, exit: Exit) -> E
 /// or a write failed, it failed.
 pub fn log_input<R: Runtime + AllocGlobal + RandomSource, I: Read + Source, W: Write>(
     rt: &R,
-    style: &Style,
+    asked: &Asked,
     name: &str,
     reader: &mut I,
     out: Output<W>,
@@ -315,15 +324,16 @@ pub fn log_input<R: Runtime + AllocGlobal + RandomSource, I: Read + Source, W: W
             out,
         ),
     };
-    let keeps_messages = matches!(style.lines, Lines::Messages(_));
-    let log = match Log::new(rt.alloc(), keys, keeps_messages) {
+    let keeps_messages = matches!(asked.style.lines, Lines::Messages(_));
+    let mut log = match Log::new(rt.alloc(), keys, keeps_messages) {
         Ok(log) => log,
         Err(_) => return (tell(rt, name, Failure::OutOfMemory, 0), out),
     };
+    log.set_checksums(asked.checksums);
     let alloc = rt.alloc();
     let mut logger = Logger {
         alloc,
-        style,
+        style: &asked.style,
         log,
         out,
     };
@@ -337,7 +347,7 @@ pub fn log_input<R: Runtime + AllocGlobal + RandomSource, I: Read + Source, W: W
 /// Logs the capture in a file, of which the progress is told where someone looks.
 pub fn log_file<R: Runtime + AllocGlobal + RandomSource, W: Write>(
     rt: &R,
-    style: &Style,
+    asked: &Asked,
     path: &str,
     out: Output<W>,
 ) -> (Exit, Output<W>)
@@ -346,7 +356,7 @@ pub fn log_file<R: Runtime + AllocGlobal + RandomSource, W: Write>(
     match fs::open(rt, path) {
         Ok(file) => {
             let mut reader = Watched::new(rt, path, path, file);
-            log_input(rt, style, path, &mut reader, out)
+            log_input(rt, asked, path, &mut reader, out)
         }
         Err(e) => (tell(rt, path, Failure::Opening(e), 0), out),
     }
@@ -355,12 +365,12 @@ pub fn log_file<R: Runtime + AllocGlobal + RandomSource, W: Write>(
 /// The same of the capture that is standard input.
 pub fn log_standard_input<R: Runtime + AllocGlobal + RandomSource, W: Write>(
     rt: &R,
-    style: &Style,
+    asked: &Asked,
     out: Output<W>,
 ) -> (Exit, Output<W>)
     ensures { HasWritten out.has_failed result.0 result.1.has_failed }
 {
     let name = "standard input";
     let mut reader = Watched::new(rt, name, STANDARD_INPUT, rt.reader());
-    log_input(rt, style, name, &mut reader, out)
+    log_input(rt, asked, name, &mut reader, out)
 }

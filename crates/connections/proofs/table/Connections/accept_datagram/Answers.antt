@@ -7,12 +7,12 @@ pub returns-in-Some-clause-put : goal.returns-in-Some-clause-put
 returns-in-Some-clause-put g c =
     let d = c.args.datagram.now in let e = ends_of_datagram d in let xs = c.self.inside.live.entries in
     rw (c.between-ends.ensures, ← c.self.view_is)
-    (put_in e (TakesDatagram d) xs c.accept_datagram.new.self c.in-Some.exchange.now
-    (rw c.between-ends.ensures at c.in-Some.ensures.value) c.accept_datagram.ensures)
+    (put_in e (TakesDatagram d) xs c.take_datagram.new.self c.in-Some.exchange.now
+    (rw c.between-ends.ensures at c.in-Some.ensures.value) c.take_datagram.ensures)
 
 pub returns-clause-put : goal.returns-clause-put
 returns-clause-put g c =
     let d = c.args.datagram.now in let e = ends_of_datagram d in let xs = c.self.inside.live.entries in
     rw (← c.self.view_is) (put_new e (TakesDatagram d) xs c.of_datagram-exchange.result c.put_under.new.table.entries
     (rw c.between-ends.ensures at c.in_default.ensures.value)
-    c.of_datagram-exchange.ensures (rw c.between-ends.ensures at c.in_ok-put_under.ensures.put))
+    (c.of_datagram-exchange.ensures.begun, c.of_datagram-exchange.ensures.waits) (rw c.between-ends.ensures at c.in_ok-put_under.ensures.put))

@@ -1,0 +1,43 @@
+-- The options of a segment of TCP (RFC 9293, section 3.1; RFC 7323).
+use Rattle.std.specs.Prelude.{ℕ, zero, suc, ◌+◌, ◌-◌, ◌*◌, ◌^◌, ◌==◌, ◌||◌, nat_lt, if◌then◌else◌, Option, Some, None, min, [], ◌∷◌, length, take, drop}
+use Rattle.tls_fields.specs.Bytes.{Bytes}
+
+-- The content of the first option of a kind, among so many: kind 0 ends them, kind 1 is a byte of padding, and any other has its length behind
+-- its kind, which counts both. Of one that isn't whole nothing is read, and nothing behind it.
+unfoldable pub option_in : ℕ → ℕ → Bytes → Option Bytes
+option_in zero kind b = None
+option_in (suc n) kind [] = None
+option_in (suc n) kind (k ∷ []) = None
+option_in (suc n) kind (k ∷ len ∷ b) =
+    if k == 0 then None
+    else if k == 1 then option_in n kind (len ∷ b)
+    else if nat_lt len 2 || nat_lt (length b) (len - 2) then None
+    else if k == kind then Some (take (len - 2) b) else option_in n kind (drop (len - 2) b)
+
+-- Options have at most 40 bytes, and so at most 40 options are among them.
+abbrev pub option_of : ℕ → Bytes → Option Bytes
+option_of = option_in 40
+
+-- The most data that the sender takes in a segment (RFC 9293, section 3.7.1).
+abbrev pub size_in : Option Bytes → Option ℕ
+size_in (Some (a ∷ b ∷ [])) = Some (a * 2 ^ 8 + b)
+size_in o = None
+
+abbrev pub maximum_segment_size : Bytes → Option ℕ
+maximum_segment_size b = size_in (option_of 2 b)
+
+-- By how many bits a window is shifted: at most 14 (RFC 7323, section 2.3).
+abbrev pub shift_in : Option Bytes → Option ℕ
+shift_in (Some (shift ∷ [])) = Some (min shift 14)
+shift_in o = None
+
+abbrev pub window_scale : Bytes → Option ℕ
+window_scale b = shift_in (option_of 3 b)
+
+-- The sender's clock (RFC 7323, section 3.2).
+abbrev pub clock_in : Option Bytes → Option ℕ
+clock_in (Some (a ∷ b ∷ c ∷ d ∷ e ∷ f ∷ g ∷ h ∷ [])) = Some (a * 2 ^ 24 + b * 2 ^ 16 + c * 2 ^ 8 + d)
+clock_in o = None
+
+abbrev pub timestamp : Bytes → Option ℕ
+timestamp b = clock_in (option_of 8 b)

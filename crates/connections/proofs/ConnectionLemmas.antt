@@ -1,0 +1,58 @@
+-- What a connection comes to by a segment.
+use Rattle.std.proofs.Common.{◌≡◌, ◌∙◌, ap, subst, sym, true, false, Option, Result, Ok, Err}
+use Rattle.std.specs.Prelude.{OnErr, OnOk}
+use Rattle.connections.specs.Segment.{begins}
+use Rattle.connections.specs.Connection.{counted, fin_by, judgement_of, noting, without_bytes, Accepts, AcceptsAnswer, Begins, IsBegunBy, LeavesOut, LeavesOutPart, LeavesOutSyn, Puts, PutsPart, PutsSyn}
+use Rattle.connections.specs.declared.connection.Beginning.{Beginning}
+use Rattle.connections.specs.declared.connection.Connection.{Connection}
+use Rattle.connections.specs.declared.receiver.Judgement.{Judgement}
+use Rattle.connections.specs.declared.segment.Segment.{Segment}
+
+-- What follows from an answer's value or its error holds where there is one.
+
+pub where_ok : {A E P Q : Type 0} → (r : Result A E) → (P → Q) → OnOk r P → OnOk r Q
+where_ok (Ok a) f h = f h
+where_ok (Err e) f h = _
+
+pub where_err : {A E P Q : Type 0} → (r : Result A E) → (P → Q) → OnErr r P → OnErr r Q
+where_err (Ok a) f h = _
+where_err (Err e) f h = f h
+
+module _ {T : Type 0} (s : Segment) (old : Connection T) (j : Judgement) (mid noted new : Connection T)
+    (judged : j ≡ judgement_of s old) (counts : mid ≡ counted s old) (notes : noted ≡ noting j s mid) where
+  behind : noted ≡ noting (judgement_of s old) s (counted s old)
+  behind = notes ∙ ap (λ x. noting x s mid) judged ∙ ap (noting (judgement_of s old) s) counts
+
+  pub syn_accepted : begins s ≡ true → PutsSyn s noted new → Accepts s old new
+  syn_accepted b p =
+      subst (λ x. PutsPart x (judgement_of s old) s (noting (judgement_of s old) s (counted s old)) new) (sym b)
+      (subst (λ m. PutsSyn s m new) behind p)
+
+  pub syn_left_out : begins s ≡ true → LeavesOutSyn s noted new → LeavesOut s old new
+  syn_left_out b p =
+      subst (λ x. LeavesOutPart x (judgement_of s old) s (noting (judgement_of s old) s (counted s old)) new) (sym b)
+      (subst (λ m. LeavesOutSyn s m new) behind p)
+
+  pub part_accepted : (part : Segment) → begins s ≡ false → part ≡ fin_by j s → Puts part noted new → Accepts s old new
+  part_accepted part b is p =
+      subst (λ x. PutsPart x (judgement_of s old) s (noting (judgement_of s old) s (counted s old)) new) (sym b)
+      (subst (λ m. Puts (fin_by (judgement_of s old) s) m new) behind
+      (subst (λ x. Puts x noted new) (is ∙ ap (λ x. fin_by x s) judged) p))
+
+  pub part_left_out : (part : Segment) → begins s ≡ false → part ≡ fin_by j s → new ≡ without_bytes part noted
+      → LeavesOut s old new
+  part_left_out part b is p =
+      subst (λ x. LeavesOutPart x (judgement_of s old) s (noting (judgement_of s old) s (counted s old)) new) (sym b)
+      (p ∙ ap (λ x. without_bytes x noted) (is ∙ ap (λ x. fin_by x s) judged)
+      ∙ ap (without_bytes (fin_by (judgement_of s old) s)) behind)
+
+module _ {T : Type 0} where
+  pub began : (b : Beginning) (silent begun its : Connection T) → IsBegunBy b.first silent → Accepts b.first silent begun
+      → (o : Option Segment) → o ≡ b.answer → AcceptsAnswer o begun its → Begins b its
+  began b silent begun its i f o h a = record {
+    silent = silent;
+    begun = begun;
+    is_silent = i;
+    first = f;
+    answer = subst (λ x. AcceptsAnswer x begun its) h a;
+  }

@@ -1,0 +1,31 @@
+use Rattle.std.proofs.Common.{◌∙◌, sym}
+use Rattle.connections.proofs.ConnectionLemmas.{part_accepted, part_left_out, syn_accepted, syn_left_out, where_err, where_ok}
+use Rattle.connections.proofs.connection.Connection.accept.Goals as goal
+
+pub returns-then-begins-clause-taken : goal.returns-then-begins-clause-taken
+returns-then-begins-clause-taken g c =
+    where_ok c.put_syn.result
+    (syn_accepted c.args.segment.now c.args.self.now c.judge-judgement.result c.count.new.self c.note.new.self c.put_syn.new.self
+    c.judge-judgement.ensures c.count.ensures c.note.ensures (sym c.begins.ensures ∙ c.if-begins.true))
+    c.put_syn.ensures.taken
+
+pub returns-then-begins-clause-left_out : goal.returns-then-begins-clause-left_out
+returns-then-begins-clause-left_out g c =
+    where_err c.put_syn.result
+    (syn_left_out c.args.segment.now c.args.self.now c.judge-judgement.result c.count.new.self c.note.new.self c.put_syn.new.self
+    c.judge-judgement.ensures c.count.ensures c.note.ensures (sym c.begins.ensures ∙ c.if-begins.true))
+    c.put_syn.ensures.left_out
+
+pub returns-clause-taken : goal.returns-clause-taken
+returns-clause-taken g c =
+    where_ok c.put.result
+    (part_accepted c.args.segment.now c.args.self.now c.judge-judgement.result c.count.new.self c.note.new.self c.put.new.self
+    c.judge-judgement.ensures c.count.ensures c.note.ensures c.part_of.result (sym c.begins.ensures ∙ c.if-begins.false) c.part_of.ensures)
+    c.put.ensures.taken
+
+pub returns-clause-left_out : goal.returns-clause-left_out
+returns-clause-left_out g c =
+    where_err c.put.result
+    (part_left_out c.args.segment.now c.args.self.now c.judge-judgement.result c.count.new.self c.note.new.self c.put.new.self
+    c.judge-judgement.ensures c.count.ensures c.note.ensures c.part_of.result (sym c.begins.ensures ∙ c.if-begins.false) c.part_of.ensures)
+    c.put.ensures.left_out

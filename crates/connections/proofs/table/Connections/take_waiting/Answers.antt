@@ -1,0 +1,10 @@
+use Rattle.connections.specs.Segment.{ends_of}
+use Rattle.connections.proofs.TableLemmas.{counts_at}
+use Rattle.connections.proofs.table.Connections.take_waiting.Goals as goal
+
+pub returns-in-Some : goal.returns-in-Some
+returns-in-Some g c =
+    rw (c.between-ends.ensures, ← c.self.view_is)
+    (counts_at (ends_of c.args.segment.now)
+    (record { live = c.self.inside.live.entries; closed = c.self.inside.closed.entries })
+    c.in-Some.connection.now c.take_waiting.new.self (rw c.between-ends.ensures at c.in-Some.ensures.value) c.take_waiting.ensures)

@@ -1,0 +1,185 @@
+-- TCP as the receiver of a segment sees it (RFC 9293, section 3.10.7.4; RFC 5961; RFC 7323), as far as a monitor knows it: by what was captured
+-- of both ends.
+use Rattle.std.specs.Prelude.{ℕ, ◌+◌, ◌%◌, ◌^◌, ◌==◌, Bool, true, false, ◌&&◌, ◌||◌, not, nat_lt, nat_le, is_some, if◌then◌else◌, Option, Some, None, length, max}
+use Rattle.connections.specs.Segment.{acknowledges, answers, begins, behind_of, breaks, end_with_fin, ends, first_of, has_data, takes_numbers}
+use Rattle.connections.specs.Numbers.{advance, is_behind}
+use Rattle.connections.specs.Hosts.{is_ahead, is_clock_behind, later}
+use Rattle.connections.specs.declared.segment.Segment.{Segment}
+use Rattle.connections.specs.declared.host.Host.{Host}
+use Rattle.connections.specs.declared.stream.Front.{Front}
+use Rattle.connections.specs.declared.stream.TheConstants.{HELD_LIMIT}
+use Rattle.connections.specs.declared.receiver.Judgement.{Judgement}
+use Rattle.connections.specs.declared.receiver.Judgement.TheVariants.{Taken, Again, Waiting, Dropped}
+use Rattle.connections.specs.declared.receiver.Reason.TheVariants as reason
+use Rattle.connections.specs.declared.segment.Checksum.{Checksum}
+use Rattle.connections.specs.declared.segment.Checksum.TheVariants.{Right, Partial, Wrong, Refused}
+use Rattle.connections.specs.declared.receiver.Reason.TheVariants.{NoAck, Acknowledgment, Window, Clock, Signature, Syn, Reset, Fin}
+
+abbrev pub number_or : ℕ → Option ℕ → ℕ
+number_or n None = n
+number_or n (Some m) = m
+
+-- A number that is known is ahead of another, by more than so many.
+abbrev pub is_ahead_by : ℕ → Option ℕ → ℕ → Bool
+is_ahead_by least None n = false
+is_ahead_by least (Some m) n = nat_lt least (advance m n)
+
+-- A checksum that isn't right is wrong as it arrives, unless its sender's were so from its first packet on: then the capture is one of the
+-- sender's own machine, whose network card writes the checksums behind it. A partial one is none where the packet has more data than its receiver
+-- takes in one (536 bytes, if it doesn't say so): several were joined.
+abbrev pub is_damaged_by : Checksum → Option Checksum → Host → ℕ → Bool
+is_damaged_by Right known y len = false
+is_damaged_by Partial None y len = false
+is_damaged_by Partial (Some Wrong) y len = false
+is_damaged_by Partial (Some Partial) y len = false
+is_damaged_by Partial (Some Refused) y len = true
+is_damaged_by Partial (Some Right) y len = nat_le len (number_or 536 y.offers.size)
+is_damaged_by Wrong None y len = false
+is_damaged_by Wrong (Some Wrong) y len = false
+is_damaged_by Wrong (Some Right) y len = true
+is_damaged_by Wrong (Some Partial) y len = true
+is_damaged_by Wrong (Some Refused) y len = true
+is_damaged_by Refused known y len = true
+
+abbrev pub is_damaged : Host → Host → Checksum → ℕ → Bool
+is_damaged x y c len = is_damaged_by c x.checksums y len
+
+-- It is signed, and its sender's SYN isn't (RFC 2385, section 2).
+abbrev pub is_signed_apart : Host → Segment → Bool
+is_signed_apart x s = s.options.is_signed && (is_some x.first && not x.offers.is_signed)
+
+-- Both SYNs have a clock, and this segment's is behind that of one that its receiver took (RFC 7323, section 5.3); hosts let it be behind by 1.
+abbrev pub has_old_clock : Host → Host → Segment → Bool
+has_old_clock x y s = is_some x.offers.clock && (is_some y.offers.clock && is_clock_behind 1 x.clock s.options.clock)
+
+-- The number that the receiver y waits for, and that behind its window, as it said; behind the SYNs, its own counts from the first number of the
+-- sender x on.
+abbrev pub awaited_of : Option ℕ → Option ℕ → Option ℕ → Option ℕ
+awaited_of (Some n) y x = Some n
+awaited_of None (Some y) x = x
+awaited_of None None x = None
+
+abbrev pub awaited : Host → Host → Option ℕ
+awaited x y = awaited_of y.acknowledged y.first x.first
+
+abbrev pub edge_from : Option ℕ → Option ℕ → Option ℕ → ℕ → Option ℕ
+edge_from (Some edge) y x window = Some edge
+edge_from None (Some y) (Some x) window = Some ((x + window) % 2 ^ 32)
+edge_from None (Some y) None window = None
+edge_from None None x window = None
+
+abbrev pub edge_of : Host → Host → Option ℕ
+edge_of x y = edge_from y.edge y.first x.first y.widest
+
+-- Data begins at the end of the receiver's window or behind it; without data, only behind it (RFC 9293, section 3.10.7.4, first).
+abbrev pub is_beyond : Option ℕ → Segment → Bool
+is_beyond None s = false
+is_beyond (Some edge) s = if has_data s then not (is_behind edge (first_of s)) else is_behind (first_of s) edge
+
+-- It ends behind that window. Where no window is known, or its scale isn't, it ends too far behind what came in order to be held.
+abbrev pub is_too_far : Option ℕ → Bool → Segment → Bool
+is_too_far None r s = false
+is_too_far (Some reached) r s = r && nat_lt HELD_LIMIT (advance (end_with_fin s) reached)
+
+abbrev pub is_past : Option ℕ → Option ℕ → Option ℕ → Front → Segment → Bool
+is_past (Some x) (Some y) (Some edge) f s = is_behind (behind_of s) edge
+is_past (Some x) (Some y) None f s = is_too_far f.reached f.is_read s
+is_past (Some x) None e f s = is_too_far f.reached f.is_read s
+is_past None y e f s = is_too_far f.reached f.is_read s
+
+abbrev pub is_past_edge : Host → Host → Front → Segment → Bool
+is_past_edge x y f s = is_past x.first y.first (edge_of x y) f s
+
+-- It ends in front of what its receiver acknowledged last, and by more than a window.
+abbrev pub is_far_before : Host → Host → Segment → Bool
+is_far_before x y s = is_ahead_by (max y.widest 65535) (awaited x y) (end_with_fin s)
+
+-- It ends in front of what its receiver acknowledged last: that has these bytes.
+abbrev pub is_known : Host → Host → Segment → Bool
+is_known x y s = is_ahead_by 0 (awaited x y) (end_with_fin s)
+
+-- It has data behind its sender's FIN, or a FIN that is behind it.
+abbrev pub is_behind_fin : Option ℕ → Segment → Bool
+is_behind_fin None s = false
+is_behind_fin (Some fin) s = if has_data s then not (is_behind fin (first_of s)) else ends s && is_behind (behind_of s) fin
+
+-- It acknowledges less than its receiver's SYN; or less than what its sender acknowledged before, by more than a window (RFC 5961, section
+-- 5.2).
+abbrev pub is_stale : Host → Host → Segment → Bool
+is_stale x y s = is_ahead_by 0 y.first s.acknowledgment || is_ahead_by (max x.widest 65535) x.acknowledged s.acknowledgment
+
+-- It acknowledges what its receiver isn't known to have sent.
+abbrev pub is_of_unsent : Host → Segment → Bool
+is_of_unsent y s = is_ahead s.acknowledgment y.next
+
+-- A segment without SYN and RST in the receiver's window.
+abbrev pub judge_data : Host → Host → Front → Segment → Judgement
+judge_data x y f s =
+    if is_behind_fin x.fin s then Dropped Fin
+    else if is_known x y s then Again
+    else if is_stale x y s then Dropped Acknowledgment
+    else if is_of_unsent y s then (if takes_numbers s then Waiting Acknowledgment else Again)
+    else if has_data s && is_past_edge x y f s then Waiting Window
+    else Taken
+
+-- A segment without SYN and RST.
+abbrev pub judge_open : Host → Host → Front → Segment → Judgement
+judge_open x y f s =
+    if not (acknowledges s) then Dropped NoAck
+    else if is_signed_apart x s then Dropped Signature
+    else if has_old_clock x y s then Dropped Clock
+    else if is_far_before x y s then Dropped Window
+    else if is_beyond (edge_of x y) s then (if has_data s then Waiting Window else Dropped Window)
+    else judge_data x y f s
+
+-- RST breaks a connection off only with the number that its receiver waits for next (RFC 5961, section 3.2), or where both take selective
+-- acknowledgements, with that behind all that came; of one that sent nothing else, as the answer to what the other end sent.
+abbrev pub is_answer_to : Option ℕ → Segment → Bool
+is_answer_to None s = true
+is_answer_to (Some next) s = acknowledges s && s.acknowledgment == next
+
+abbrev pub is_reset_of : Option ℕ → Host → Host → Front → Segment → Bool
+is_reset_of None x y f s = is_answer_to y.next s
+is_reset_of (Some next) x y f s =
+    first_of s == later y.acknowledged (number_or next f.reached) || (x.offers.selects && y.offers.selects && first_of s == next)
+
+abbrev pub is_reset_taken : Host → Host → Front → Segment → Bool
+is_reset_taken x y f s = is_reset_of x.next x y f s
+
+-- A SYN of one that sent none before: it asks for the connection, also at the same time as the other (RFC 9293, section 3.5), or it answers the
+-- other's SYN. Behind the opening, or where something else of its sender was captured, it is in the middle of a connection (RFC 5961, section
+-- 4.2).
+abbrev pub answers_to : Host → Segment → Bool
+answers_to y s = not (is_ahead_by 0 y.first s.acknowledgment) && not (is_of_unsent y s)
+
+abbrev pub is_late_syn : Host → Host → Segment → Bool
+is_late_syn x y s = if is_some y.first then y.is_open else is_some x.next || (is_some y.next && not (answers s))
+
+abbrev pub judge_first_syn : Host → Host → Segment → Judgement
+judge_first_syn x y s =
+    if is_late_syn x y s then Dropped Syn
+    else if answers s && not (answers_to y s) then Dropped Acknowledgment
+    else Taken
+
+-- The same SYN again, until the connection is open; with ACK for the first time it is the answer of one that asked at the same time.
+abbrev pub judge_syn_again : Host → Host → Segment → Judgement
+judge_syn_again x y s =
+    if x.is_open || y.is_open then Dropped Syn
+    else if answers s && not (is_some x.acknowledged) then Taken
+    else Again
+
+-- Any other is in the middle of a connection.
+abbrev pub judge_syn_by : Option ℕ → Host → Host → Segment → Judgement
+judge_syn_by None x y s = judge_first_syn x y s
+judge_syn_by (Some first) x y s = if first_of s == first then judge_syn_again x y s else Dropped Syn
+
+abbrev pub judge_syn : Host → Host → Segment → Judgement
+judge_syn x y s = judge_syn_by x.first x y s
+
+-- What the receiver y does with a segment of the sender x, whose stream came so far.
+abbrev pub judge : Host → Host → Front → Segment → Judgement
+judge x y f s =
+    if is_damaged x y s.checksum (length s.payload.now) then Dropped reason.Checksum
+    else if breaks s then (if is_reset_taken x y f s then Taken else Dropped Reset)
+    else if begins s then judge_syn x y s
+    else judge_open x y f s

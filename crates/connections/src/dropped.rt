@@ -1,0 +1,86 @@
+//! The packets of which their receiver took nothing, counted.
+ghost use Rattle.std.specs.Prelude.{◌≡◌};
+ghost use Rattle.connections.specs.Dropped.{none_dropped, has_reason, with_damaged, with_dropped};
+
+use crate::receiver::Reason;
+
+/// How many packets of a side its receiver dropped, and why.
+#[derive(Clone, Copy, Debug, PartialEq, Eq)]
+pub struct Dropped {
+    /// How many; a count that can't be held in 64 bits stays at the most that can.
+    pub packets: u64,
+    checksum: bool,
+    no_ack: bool,
+    acknowledgment: bool,
+    window: bool,
+    clock: bool,
+    signature: bool,
+    syn: bool,
+    reset: bool,
+    fin: bool,
+}
+
+impl Dropped {
+    /// None.
+    pub(crate) fn new() -> Dropped
+        ensures { result ≡ none_dropped }
+    {
+        Dropped {
+            packets: 0,
+            checksum: false,
+            no_ack: false,
+            acknowledgment: false,
+            window: false,
+            clock: false,
+            signature: false,
+            syn: false,
+            reset: false,
+            fin: false,
+        }
+    }
+
+    /// One more, for that reason.
+    pub(crate) fn add(&mut self, reason: Reason)
+        ensures { self.new ≡ with_dropped reason self.old }
+    {
+        self.packets = self.packets.saturating_add(1);
+        match reason {
+            Reason::Checksum => self.checksum = true,
+            Reason::NoAck => self.no_ack = true,
+            Reason::Acknowledgment => self.acknowledgment = true,
+            Reason::Window => self.window = true,
+            Reason::Clock => self.clock = true,
+            Reason::Signature => self.signature = true,
+            Reason::Syn => self.syn = true,
+            Reason::Reset => self.reset = true,
+            Reason::Fin => self.fin = true,
+        }
+    }
+
+    /// So many more with a wrong checksum.
+    pub(crate) fn add_damaged(&mut self, packets: u64)
+        ensures { self.new ≡ with_damaged packets self.old }
+    {
+        if packets > 0 {
+            self.packets = self.packets.saturating_add(packets);
+            self.checksum = true;
+        }
+    }
+
+    /// Whether one was dropped for that reason.
+    pub fn has(&self, reason: Reason) -> bool
+        ensures { result ≡ has_reason self.now reason }
+    {
+        match reason {
+            Reason::Checksum => self.checksum,
+            Reason::NoAck => self.no_ack,
+            Reason::Acknowledgment => self.acknowledgment,
+            Reason::Window => self.window,
+            Reason::Clock => self.clock,
+            Reason::Signature => self.signature,
+            Reason::Syn => self.syn,
+            Reason::Reset => self.reset,
+            Reason::Fin => self.fin,
+        }
+    }
+}

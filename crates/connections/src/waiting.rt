@@ -1,0 +1,232 @@
+//! Segments of which their receivers' next acknowledgements tell whether they were taken.
+//!
+//! Where bytes were lost on the way to the capture, a receiver takes a segment that acknowledges them, or that lies behind its window as that is
+//! known; where they were never sent, it drops it (RFC 9293, section 3.10.7.4). So the segment waits until the receiver acknowledges its bytes:
+//! where no others came at their places before, it took these. The data of a SYN waits so too (RFC 7413, section 3).
+ghost use Rattle.std.specs.Prelude.{◌≡◌, []};
+
+use crate::dropped::Dropped;
+use crate::ends::End;
+use crate::host::later;
+use crate::numbers::{advance, is_behind};
+use crate::receiver::Reason;
+use crate::segment::{Header, Segment};
+use std::alloc::{AllocError, AllocFailed, Global};
+
+/// How many segments of a connection wait; no more are kept.
+pub const MAX_WAITING: usize = 32;
+
+/// How many bytes of data they have together, at most.
+const MAX_BYTES: usize = 0x1_0000;
+
+/// A segment that waits.
+#[derive(Drop)]
+pub struct Kept {
+    header: Header,
+    payload: Vec<u8>,
+    // Why it was dropped, if it isn't taken; of the data of a SYN, which was counted with it, nothing.
+    reason: Option<Reason>,
+}
+
+impl Kept {
+    /// The segment.
+    pub fn segment(&self) -> Segment<'_> {
+        self.header.with_data(self.payload.as_slice())
+    }
+
+    /// Why it was dropped, if it isn't taken.
+    pub(crate) fn reason(&self) -> Option<Reason> {
+        self.reason
+    }
+
+    /// Whether it is the data of a SYN, which was counted with it.
+    pub(crate) fn is_of_syn(&self) -> bool {
+        self.reason.is_none()
+    }
+
+    /// Whether it is a SYN.
+    fn begins(&self) -> bool {
+        self.segment().begins()
+    }
+
+    /// Whether it is a SYN that asks, or one that answers.
+    fn is_syn(&self, answers: bool) -> bool {
+        let segment = self.segment();
+        segment.begins() && segment.answers() == answers
+    }
+
+    /// Whether a segment shows that its sender took bytes of this one: it acknowledges them, and nothing behind all that was sent; and it comes
+    /// behind what this one acknowledges, if that wasn't known to be sent.
+    fn is_told_by(&self, teller: &Segment<'_>, sent: Option<u32>) -> bool {
+        let (number, segment) = (teller.acknowledgment, self.segment());
+        segment.destination == teller.source
+            && segment.takes_numbers()
+            && !segment.begins()
+            && is_behind(number, segment.first())
+            && !is_behind(number, later(sent, segment.end()))
+            && self.fits_to(teller, sent)
+    }
+
+    /// Where it acknowledges what wasn't known to be sent: whether a segment comes behind that, and acknowledges it whole, or not more than was
+    /// known to be sent.
+    fn fits_to(&self, teller: &Segment<'_>, sent: Option<u32>) -> bool {
+        if self.reason != Some(Reason::Acknowledgment) {
+            return true;
+        }
+        let is_sent = match sent {
+            Some(next) => !is_behind(teller.acknowledgment, next),
+            None => false,
+        };
+        let is_whole = teller.acknowledgment == self.segment().end();
+        (is_sent || is_whole) && !is_behind(self.header.acknowledgment, teller.first())
+    }
+
+    /// Cuts off what stands behind this number; a FIN there too.
+    fn cut(&mut self, number: u32) {
+        if is_behind(self.segment().end(), number) {
+            let len = advance(number, self.header.sequence) as usize;
+            self.payload.truncate(len);
+            self.header = self.header.without_fin();
+        }
+    }
+}
+
+/// What came of a segment that waited.
+#[derive(Drop)]
+pub enum Told {
+    /// Its receiver took it.
+    Taken(Kept),
+    /// Its receiver has its bytes otherwise.
+    Had,
+}
+
+/// The segments of a connection that wait, in the order in which they came.
+#[derive(Drop)]
+pub(crate) struct Waiting {
+    kept: Vec<Kept>,
+}
+
+impl Waiting {
+    /// None.
+    pub(crate) fn new(alloc: Global) -> Waiting
+        ensures { result.kept.items ≡ [] }
+    {
+        Waiting {
+            kept: Vec::new(alloc),
+        }
+    }
+
+    /// Whether there is none.
+    pub(crate) fn is_empty(&self) -> bool {
+        self.kept.is_empty()
+    }
+
+    /// How many bytes of data they have.
+    fn bytes(&self) -> usize {
+        let mut bytes = 0_usize;
+        for kept in &self.kept {
+            bytes = bytes.saturating_add(kept.payload.len());
+        }
+        bytes
+    }
+
+    /// Keeps a segment, and says whether there was room for it.
+    pub(crate) fn keep(
+        &mut self,
+        alloc: Global,
+        segment: &Segment<'_>,
+        reason: Option<Reason>,
+    ) -> Result<bool, AllocError> {
+        let bytes = self.bytes().saturating_add(segment.payload.len());
+        if self.kept.len() >= MAX_WAITING || bytes > MAX_BYTES {
+            return Ok(false);
+        }
+        self.push(alloc, segment, reason)?;
+        Ok(true)
+    }
+
+    /// Keeps a SYN, without its data.
+    pub(crate) fn keep_syn(
+        &mut self,
+        alloc: Global,
+        segment: &Segment<'_>,
+        reason: Reason,
+    ) -> Result<(), AllocError> {
+        self.push(alloc, &segment.without_data(), Some(reason))
+    }
+
+    /// Puts a segment behind those that wait.
+    fn push(
+        &mut self,
+        alloc: Global,
+        segment: &Segment<'_>,
+        reason: Option<Reason>,
+    ) -> Result<(), AllocError> {
+        let mut payload = Vec::new(alloc);
+        payload.extend_from_slice(segment.payload)?;
+        let kept = Kept {
+            header: segment.header(),
+            payload,
+            reason,
+        };
+        match self.kept.push(kept) {
+            Ok(()) => Ok(()),
+            Err(_) => Err(AllocError),
+        }
+    }
+
+    /// Takes out the first segment of which this one shows that its sender took bytes, without what stands behind these, or behind the other end's
+    /// FIN. The number behind all that this end sent is `sent`.
+    pub(crate) fn take(
+        &mut self,
+        teller: &Segment<'_>,
+        sent: Option<u32>,
+        fin: Option<u32>,
+    ) -> Option<Kept> {
+        let place = self
+            .kept
+            .iter()
+            .position(|kept| kept.is_told_by(teller, sent))?;
+        let mut kept = self.kept.remove(place);
+        kept.cut(teller.acknowledgment);
+        if let Some(number) = fin {
+            kept.cut(number);
+        }
+        Some(kept)
+    }
+
+    /// Lets the data of a SYN to that end go, which its receiver didn't acknowledge with the SYN.
+    pub(crate) fn forget_data_of_syn(&mut self, receiver: End) {
+        self.kept.retain(|kept| !(kept.is_of_syn() && kept.header.destination == receiver));
+    }
+
+    /// Takes out the SYN that waits: one that asks, or one that answers.
+    pub(crate) fn take_syn(&mut self, answers: bool) -> Option<Kept> {
+        let place = self.kept.iter().position(|kept| kept.is_syn(answers))?;
+        Some(self.kept.remove(place))
+    }
+
+    /// Lets both go.
+    pub(crate) fn forget_syns(&mut self) {
+        self.kept.retain(|kept| !kept.begins());
+    }
+
+    /// Counts those of that end as dropped.
+    pub(crate) fn count(&self, sender: End, dropped: &mut Dropped) {
+        for kept in &self.kept {
+            if let (true, Some(reason)) = (kept.header.source == sender, kept.reason) {
+                dropped.add(reason);
+            }
+        }
+    }
+
+    /// The SYN that waits: one that asks, or one that answers.
+    pub(crate) fn syn(&self, answers: bool) -> Option<Segment<'static>> {
+        for kept in &self.kept {
+            if kept.is_syn(answers) {
+                return Some(kept.segment().without_data());
+            }
+        }
+        None
+    }
+}
