@@ -111,10 +111,11 @@ fn numbers_are_read() {
 
 #[test]
 fn detection() {
-    for first in [b"\x14\x03\x00\x00\x00", b"\x18\x03\x04\x41\x00"] {
+    // The minor version is ignored (RFC 8446, section 5.1).
+    for first in [b"\x14\x03\x00\x00\x00", b"\x18\x03\x04\x41\x00", b"\x16\x03\x05\x00\x01"] {
         assert_eq!((looks_like_tls(first), looks_like_tls(&first[..4])), (Some(true), None));
     }
-    for first in [&b"\x18\x03\x04\x41\x01"[..], b"\x13\x03\x03\x00\x01", b"\x19\x03\x03\x00\x01", b"\x16\x03\x05\x00\x01", b"GET / HTTP/1.0"] {
+    for first in [&b"\x18\x03\x04\x41\x01"[..], b"\x13\x03\x03\x00\x01", b"\x19\x03\x03\x00\x01", b"\x16\x04\x00\x00\x01", b"GET / HTTP/1.0"] {
         assert_eq!(looks_like_tls(first), Some(false));
     }
     assert_eq!(looks_like_tls(b""), None);
