@@ -34,7 +34,7 @@ pub enum Course {
     Retried,
 }
 
-/// What the client offers, by its last ClientHello.
+/// What the client offers, by its ClientHello.
 pub enum Offer {
     Version,
     Versions,

@@ -1,5 +1,5 @@
 -- What both sides' messages and alerts say of a connection.
-use Rattle.std.specs.Prelude.{ℕ, Bool, true, false, ◌==◌, if◌then◌else◌, List, [], ◌∷◌, Option, Some, None, option_map, Ok, Err}
+use Rattle.std.specs.Prelude.{◌≡◌, ℕ, Bool, true, false, not, ◌&&◌, ◌||◌, ◌==◌, if◌then◌else◌, List, [], ◌∷◌, Option, Some, None, is_some, option_map, Ok, Err, length}
 use Rattle.std.specs.Str.{bytes_eq}
 use Rattle.tls_fields.specs.Bytes.{Bytes}
 use Rattle.tls_fields.specs.Framed.{Framed}
@@ -14,6 +14,8 @@ use Rattle.tls_hs.specs.ServerHello as server
 use Rattle.tls_parser.specs.DtlsHello as datagram
 use Rattle.tls_flow.specs.declared.letter.Direction.{Direction as Side}
 use Rattle.tls_flow.specs.declared.letter.Direction.TheVariants.{ToServer, FromServer}
+use Rattle.tls_flow.specs.declared.letter.Kind.{Kind}
+use Rattle.tls_flow.specs.declared.letter.Kind.TheVariants as kind
 use Rattle.tls_facts.specs.Exchange.{curve_by}
 use Rattle.tls_facts.specs.Hellos.{share_group_in}
 use Rattle.tls_facts.specs.Parts.{facts_of_all, view_client, view_server}
@@ -21,7 +23,7 @@ use Rattle.tls_facts.specs.declared.facts.Facts as rust
 use Rattle.tls_facts.specs.declared.parts.CertificateFacts.{CertificateFacts}
 
 pub record Facts : Type 0 where
-  -- the last ClientHello, and the last ServerHello that is no HelloRetryRequest
+  -- the ClientHello that was answered, or is to be, and the ServerHello that answers it
   pub client : Option client.ClientHello
   pub server : Option server.ServerHello
   -- the group of the key exchange: of the server's key share, or of its ServerKeyExchange
@@ -29,6 +31,8 @@ pub record Facts : Type 0 where
   -- the last Certificate of each side
   pub client_certificates : Option (List CertificateFacts)
   pub server_certificates : Option (List CertificateFacts)
+  -- whether the server asked for another ClientHello, which didn't come yet
+  pub is_asked_again : Bool
   -- whether a HelloRetryRequest came, a CertificateRequest, a CertificateStatus, a NewSessionTicket
   pub is_retried : Bool
   pub requests_certificate : Bool
@@ -44,6 +48,7 @@ view_facts f = record {
   curve = option_map (λ g. g.0) f.curve;
   client_certificates = option_map (λ v. v.items) f.client_certificates;
   server_certificates = option_map (λ v. v.items) f.server_certificates;
+  is_asked_again = f.is_asked_again;
   is_retried = f.is_retried;
   requests_certificate = f.requests_certificate;
   has_status = f.has_status;
@@ -59,6 +64,7 @@ nothing = record {
   curve = None;
   client_certificates = None;
   server_certificates = None;
+  is_asked_again = false;
   is_retried = false;
   requests_certificate = false;
   has_status = false;
@@ -72,15 +78,50 @@ retry_random =
     0xcf ∷ 0x21 ∷ 0xad ∷ 0x74 ∷ 0xe5 ∷ 0x9a ∷ 0x61 ∷ 0x11 ∷ 0xbe ∷ 0x1d ∷ 0x8c ∷ 0x02 ∷ 0x1e ∷ 0x65 ∷ 0xb8 ∷ 0x91 ∷
     0xc2 ∷ 0xa2 ∷ 0x11 ∷ 0x16 ∷ 0x7a ∷ 0xbb ∷ 0x8c ∷ 0x5e ∷ 0x07 ∷ 0x9e ∷ 0x09 ∷ 0xe2 ∷ 0xc8 ∷ 0xa8 ∷ 0x33 ∷ 0x9c ∷ []
 
--- A ClientHello stands until the next, which replaces it whole.
-abbrev pub asked : client.ClientHello → Facts → Facts
-asked h f = record f { client = Some h }
+-- The client said its hello, and was not asked for another.
+abbrev pub has_asked : Facts → Bool
+has_asked f = is_some f.client && not f.is_asked_again
 
--- So does a ServerHello, with the group of its key share; but a HelloRetryRequest chooses nothing yet.
-abbrev pub chosen : server.ServerHello → Facts → Facts
-chosen h f =
-    if bytes_eq h.random retry_random then record f { is_retried = true }
+-- The client's first ClientHello stands, until the one for which it is asked (RFC 8446, section 4.1.2; RFC 6347, section 4.2.1), which replaces it
+-- whole. One that nobody asked for changes nothing (RFC 5246, section 7.4.1.2), and none of the server.
+abbrev pub asked : Side → client.ClientHello → Facts → Facts
+asked ToServer h f =
+    if has_asked f then f
+    else record f { client = Some h; is_asked_again = not (is_some f.client) && f.is_asked_again }
+asked FromServer h f = f
+
+-- The server asks for another ClientHello by a HelloRetryRequest (RFC 8446, section 4.1.4): once, and in front of its ServerHello.
+abbrev pub retried : Side → Facts → Facts
+retried ToServer f = f
+retried FromServer f =
+    if is_some f.server || f.is_retried then f else record f { is_asked_again = true; is_retried = true }
+
+-- Or by a HelloVerifyRequest of DTLS (RFC 6347, section 4.2.1), which it may do again.
+abbrev pub verified : Side → Facts → Facts
+verified ToServer f = f
+verified FromServer f = if is_some f.server then f else record f { is_asked_again = true }
+
+-- The server's first ServerHello stands (RFC 8446, section 4.1.3), with the group of its key share; but a HelloRetryRequest chooses nothing yet. A
+-- second one changes nothing, and none of the client.
+abbrev pub chosen : Side → server.ServerHello → Facts → Facts
+chosen ToServer h f = f
+chosen FromServer h f =
+    if bytes_eq h.random retry_random then retried FromServer f
+    else if is_some f.server then f
     else record f { server = Some h; curve = share_group_in (held h.extensions) }
+
+-- A hello that is none of the handshake: its reader didn't ask for it, or it is by the wrong side. It ends the handshake by an alert
+-- unexpected_message or is dropped (RFC 8446, sections 4.1.2 and 4.1.4), and changes nothing that is known.
+abbrev pub is_stray : Side → Kind → Facts → Bool
+is_stray ToServer kind.ClientHello f = has_asked f
+is_stray FromServer kind.ClientHello f = true
+is_stray ToServer kind.ServerHello f = true
+is_stray ToServer kind.ServerHello13 f = true
+is_stray ToServer kind.HelloRetryRequest f = true
+is_stray FromServer kind.ServerHello f = is_some f.server
+is_stray FromServer kind.ServerHello13 f = is_some f.server
+is_stray FromServer kind.HelloRetryRequest f = is_some f.server || f.is_retried
+is_stray s k f = false
 
 -- What draft 18 of TLS 1.3 leaves out of a ServerHello is empty (draft-ietf-tls-tls13-18, section 4.1.3).
 abbrev pub of_draft : server.ServerHelloDraft18 → server.ServerHello
@@ -112,27 +153,27 @@ certified s (Err e) f = f
 abbrev pub of_other : Side → ℕ → Bytes → Facts → Facts
 of_other s n b f =
     if n == 4 then record f { has_ticket = true }
-    else if n == 6 then record f { is_retried = true }
+    else if n == 6 then retried s f
     else if n == 11 then certified s (reading certificate b) f
     else if n == 12 then exchanged b f
     else if n == 13 then record f { requests_certificate = true }
     else if n == 22 then record f { has_status = true }
     else f
 
-abbrev pub of_client_hello : Answer client.ClientHello → Facts → Facts
-of_client_hello (Ok x) f = asked x.0 f
-of_client_hello (Err e) f = f
+abbrev pub of_client_hello : Side → Answer client.ClientHello → Facts → Facts
+of_client_hello s (Ok x) f = asked s x.0 f
+of_client_hello s (Err e) f = f
 
-abbrev pub of_server_hello : Answer handshakes.Handshake → Facts → Facts
-of_server_hello (Ok (handshakes.ServerHello h, rest)) f = chosen h f
-of_server_hello (Ok (handshakes.ServerHelloV13Draft18 h, rest)) f = chosen (of_draft h) f
-of_server_hello _ f = f
+abbrev pub of_server_hello : Side → Answer handshakes.Handshake → Facts → Facts
+of_server_hello s (Ok (handshakes.ServerHello h, rest)) f = chosen s h f
+of_server_hello s (Ok (handshakes.ServerHelloV13Draft18 h, rest)) f = chosen s (of_draft h) f
+of_server_hello s _ f = f
 
 -- What a message of TLS adds, by its type and its body; one whose body is refused, as far as it is read, adds nothing.
 abbrev pub of_message : Side → ℕ → Bytes → Facts → Facts
 of_message s n b f =
-    if n == 1 then of_client_hello (reading client.client_hello b) f
-    else if n == 2 then of_server_hello (reading handshakes.server_hello_body b) f
+    if n == 1 then of_client_hello s (reading client.client_hello b) f
+    else if n == 2 then of_server_hello s (reading handshakes.server_hello_body b) f
     else of_other s n b f
 
 abbrev pub of_raw : Side → Answer Framed → Facts → Facts
@@ -143,22 +184,33 @@ of_raw s (Err e) f = f
 abbrev pub of_bytes : Side → Bytes → Facts → Facts
 of_bytes s b f = of_raw s (reading raw_handshake b) f
 
-abbrev pub of_datagram_client_hello : Answer datagram.ClientHello → Facts → Facts
-of_datagram_client_hello (Ok x) f = asked x.0.hello f
-of_datagram_client_hello (Err e) f = f
+-- A second hello stands only if it is read to its end: its reader ends the handshake at one with more (RFC 5246, section 7.4.1.2).
+abbrev pub is_behind_first : Bytes → Facts → Bool
+is_behind_first rest f = is_some f.client && not (length rest == 0)
 
-abbrev pub of_datagram_server_hello : Answer server.ServerHello → Facts → Facts
-of_datagram_server_hello (Ok x) f = chosen x.0 f
-of_datagram_server_hello (Err e) f = f
+abbrev pub of_datagram_client_hello : Side → Answer datagram.ClientHello → Facts → Facts
+of_datagram_client_hello s (Ok x) f = if is_behind_first x.1 f then f else asked s x.0.hello f
+of_datagram_client_hello s (Err e) f = f
 
--- What a whole handshake message of DTLS adds, by its type and its body (RFC 6347, section 4.2): its ClientHello has a cookie, and its
--- versions are numbers of their own.
+abbrev pub of_datagram_server_hello : Side → Answer server.ServerHello → Facts → Facts
+of_datagram_server_hello s (Ok x) f = chosen s x.0 f
+of_datagram_server_hello s (Err e) f = f
+
+-- What a whole handshake message of DTLS adds, by its type and its body (RFC 6347, section 4.2): its ClientHello has a cookie, which a
+-- HelloVerifyRequest gives, and its versions are numbers of their own.
 abbrev pub of_datagram_message : Side → ℕ → Bytes → Facts → Facts
 of_datagram_message s n b f =
-    if n == 1 then of_datagram_client_hello (reading datagram.client_hello b) f
-    else if n == 2 then of_datagram_server_hello (reading server.server_hello_any b) f
+    if n == 1 then of_datagram_client_hello s (reading datagram.client_hello b) f
+    else if n == 2 then of_datagram_server_hello s (reading server.server_hello_any b) f
+    else if n == 3 then verified s f
     else of_other s n b f
 
 -- What an alert adds.
 abbrev pub of_alert : ℕ → Facts → Facts
 of_alert n f = record f { last_alert = Some n }
+
+-- What a side says changes nothing of the other's hello; and nothing of its own once that was said, unless the server asks for another.
+abbrev pub KeepsHellos : Side → Facts → Facts → Type 0
+KeepsHellos ToServer f g =
+    (g.server ≡ f.server) × (has_asked f ≡ true → (g.client ≡ f.client) × (g.is_asked_again ≡ f.is_asked_again))
+KeepsHellos FromServer f g = (g.client ≡ f.client) × (is_some f.server ≡ true → g.server ≡ f.server)

@@ -2,7 +2,7 @@
 ghost use Rattle.std.specs.Prelude.{◌≡◌, OnOk};
 ghost use Rattle.tls_hs.specs.InPlace.{view_client_hello_in_place};
 ghost use Rattle.tls_hs.specs.ServerHello.{view_server_hello, view_server_hello_draft18};
-ghost use Rattle.tls_facts.specs.Facts.{asked, certified, chosen, exchanged, nothing, of_alert, of_bytes, of_datagram_client_hello, of_datagram_message, of_draft, of_message, of_other, of_server_hello, view_facts};
+ghost use Rattle.tls_facts.specs.Facts.{asked, certified, chosen, exchanged, has_asked as has_asked_in, is_stray as is_stray_in, nothing, of_alert, of_bytes, of_datagram_client_hello, of_datagram_message, of_draft, of_message, of_other, of_server_hello, retried, verified, view_facts};
 ghost use Rattle.tls_fields.specs.Reading.{reading};
 ghost use Rattle.tls_hs.specs.Certificate.{certificate};
 ghost use Rattle.tls_hs.specs.Handshake.{server_hello_body};
@@ -17,7 +17,7 @@ use tls_base::{
     parse_ec_parameters,
 };
 use tls_fields::InPlace;
-use tls_flow::Direction;
+use tls_flow::{Direction, Kind};
 use tls_hs::parts::server_hello_any;
 use tls_hs::{
     ClientHelloView, RawHandshake, TlsMessageHandshake, TlsServerHelloContents,
@@ -34,15 +34,18 @@ static RETRY_RANDOM: [u8; 32] = [
 /// What is known of a connection by what both sides said in the clear.
 #[derive(Debug, PartialEq, Drop)]
 pub struct Facts {
-    /// The last ClientHello.
+    /// The ClientHello that was answered, or is to be: the client's first, or the one for which the server asked by a HelloRetryRequest (RFC 8446,
+    /// section 4.1.2) or a HelloVerifyRequest (RFC 6347, section 4.2.1).
     pub client: Option<ClientParts>,
-    /// The last ServerHello that is no HelloRetryRequest.
+    /// The server's first ServerHello that is no HelloRetryRequest.
     pub server: Option<ServerParts>,
     pub(crate) curve: Option<NamedGroup>,
     /// The certificates of the client's last Certificate, its own first (RFC 5246, section 7.4.6). TLS 1.3 encrypts it.
     pub client_certificates: Option<Vec<CertificateFacts>>,
     /// Those of the server's (RFC 5246, section 7.4.2).
     pub server_certificates: Option<Vec<CertificateFacts>>,
+    // Whether the server asked for another ClientHello, which didn't come yet.
+    is_asked_again: bool,
     /// Whether the server asked for another ClientHello by a HelloRetryRequest (RFC 8446, section 4.1.4).
     pub is_retried: bool,
     /// Whether a CertificateRequest came (RFC 5246, section 7.4.4).
@@ -80,6 +83,7 @@ impl Facts {
             curve: None,
             client_certificates: None,
             server_certificates: None,
+            is_asked_again: false,
             is_retried: false,
             requests_certificate: false,
             has_status: false,
@@ -88,24 +92,86 @@ impl Facts {
         }
     }
 
-    /// What a client asks for.
-    fn ask(&mut self, alloc: Global, hello: &ClientHelloView<'_>) -> Result<(), AllocError>
-        ensures { OnOk result (view_facts self.new ≡ asked (view_client_hello_in_place hello.now) (view_facts self.old)) }
+    /// Whether the client said its hello, and was not asked for another.
+    fn has_asked(&self) -> bool
+        ensures { result ≡ has_asked_in (view_facts self.now) }
     {
-        self.client = Some(ClientParts::of(alloc, hello)?);
+        self.client.is_some() && !self.is_asked_again
+    }
+
+    /// Whether a message of that kind and side is a hello that is none of the handshake: a ClientHello that nobody asked for (RFC 8446, section
+    /// 4.1.2; RFC 5246, section 7.4.1.2), a second ServerHello or HelloRetryRequest, or a hello by the wrong side. Its reader ends the handshake by an
+    /// alert, or drops it. It changes nothing that is known.
+    pub fn is_stray(&self, side: Direction, kind: Kind) -> bool
+        ensures { result ≡ is_stray_in side kind (view_facts self.now) }
+    {
+        match (side, kind) {
+            (Direction::ToServer, Kind::ClientHello) => self.has_asked(),
+            (Direction::FromServer, Kind::ClientHello) => true,
+            (
+                Direction::ToServer,
+                Kind::ServerHello | Kind::ServerHello13 | Kind::HelloRetryRequest,
+            ) => true,
+            (Direction::FromServer, Kind::ServerHello | Kind::ServerHello13) => self
+                .server
+                .is_some(),
+            (Direction::FromServer, Kind::HelloRetryRequest) => self.server.is_some()
+                || self.is_retried,
+            _ => false,
+        }
+    }
+
+    /// What a client asks for.
+    fn ask(
+        &mut self,
+        alloc: Global,
+        side: Direction,
+        hello: &ClientHelloView<'_>,
+    ) -> Result<(), AllocError>
+        ensures { OnOk result (view_facts self.new ≡ asked side (view_client_hello_in_place hello.now) (view_facts self.old)) }
+    {
+        if side == Direction::FromServer || self.has_asked() {
+            return Ok(());
+        }
+        let parts = ClientParts::of(alloc, hello)?;
+        self.is_asked_again = self.client.is_none() && self.is_asked_again;
+        self.client = Some(parts);
         Ok(())
+    }
+
+    /// The server asks for another ClientHello by a HelloRetryRequest.
+    fn retry(&mut self, side: Direction)
+        ensures { view_facts self.new ≡ retried side (view_facts self.old) }
+    {
+        if side == Direction::FromServer && self.server.is_none() && !self.is_retried {
+            self.is_asked_again = true;
+            self.is_retried = true;
+        }
+    }
+
+    /// It does by a HelloVerifyRequest.
+    fn verify(&mut self, side: Direction)
+        ensures { view_facts self.new ≡ verified side (view_facts self.old) }
+    {
+        if side == Direction::FromServer && self.server.is_none() {
+            self.is_asked_again = true;
+        }
     }
 
     /// What a server chooses.
     fn choose(
         &mut self,
         alloc: Global,
+        side: Direction,
         hello: &TlsServerHelloContents<'_>,
     ) -> Result<(), AllocError>
-        ensures { OnOk result (view_facts self.new ≡ chosen (view_server_hello hello.now) (view_facts self.old)) }
+        ensures { OnOk result (view_facts self.new ≡ chosen side (view_server_hello hello.now) (view_facts self.old)) }
     {
         if hello.random == RETRY_RANDOM.as_slice() {
-            self.is_retried = true;
+            self.retry(side);
+            return Ok(());
+        }
+        if side == Direction::ToServer || self.server.is_some() {
             return Ok(());
         }
         self.server = Some(ServerParts::of(alloc, hello)?);
@@ -114,13 +180,18 @@ impl Facts {
     }
 
     /// What a ServerHello says, by its body.
-    fn note_server_hello(&mut self, alloc: Global, body: &[u8]) -> Result<(), AllocError>
-        ensures { OnOk result (view_facts self.new ≡ of_server_hello (reading server_hello_body body.now) (view_facts self.old)) }
+    fn note_server_hello(
+        &mut self,
+        alloc: Global,
+        side: Direction,
+        body: &[u8],
+    ) -> Result<(), AllocError>
+        ensures { OnOk result (view_facts self.new ≡ of_server_hello side (reading server_hello_body body.now) (view_facts self.old)) }
     {
         match parse_tls_handshake_msg_server_hello(body) {
-            Ok((_, TlsMessageHandshake::ServerHello(hello))) => self.choose(alloc, &hello),
+            Ok((_, TlsMessageHandshake::ServerHello(hello))) => self.choose(alloc, side, &hello),
             Ok((_, TlsMessageHandshake::ServerHelloV13Draft18(hello))) => {
-                self.choose(alloc, &as_later(hello))
+                self.choose(alloc, side, &as_later(hello))
             }
             _ => Ok(()),
         }
@@ -173,7 +244,7 @@ impl Facts {
     {
         match msg_type {
             TlsHandshakeType::NewSessionTicket => self.has_ticket = true,
-            TlsHandshakeType::HelloRetryRequest => self.is_retried = true,
+            TlsHandshakeType::HelloRetryRequest => self.retry(side),
             TlsHandshakeType::Certificate => self.note_certificates(alloc, side, body)?,
             TlsHandshakeType::ServerKeyExchange => self.note_key_exchange(body),
             TlsHandshakeType::CertificateRequest => self.requests_certificate = true,
@@ -195,16 +266,16 @@ impl Facts {
     {
         match msg_type {
             TlsHandshakeType::ClientHello => match ClientHelloView::parse(body) {
-                Ok((_, hello)) => self.ask(alloc, &hello),
+                Ok((_, hello)) => self.ask(alloc, side, &hello),
                 Err(_) => Ok(()),
             },
-            TlsHandshakeType::ServerHello => self.note_server_hello(alloc, body),
+            TlsHandshakeType::ServerHello => self.note_server_hello(alloc, side, body),
             _ => self.note_other(alloc, side, msg_type, body),
         }
     }
 
-    /// Notes what a whole handshake message of a side says, its header of 4 bytes first (RFC 8446, section 4). A hello stands until
-    /// the next of its side, which replaces all of it; a HelloRetryRequest is none. One that is refused says nothing.
+    /// Notes what a whole handshake message of a side says, its header of 4 bytes first (RFC 8446, section 4). The first hello of a side stands; the
+    /// ClientHello for which a HelloRetryRequest asks replaces the first whole. One that is refused says nothing, and no [stray](Facts::is_stray) one.
     ///
     /// `AllocError` where it could not be held.
     pub fn note_message(
@@ -222,12 +293,21 @@ impl Facts {
     }
 
     /// What a ClientHello of DTLS says, by its body.
-    fn note_datagram_client_hello(&mut self, alloc: Global, body: &[u8]) -> Result<(), AllocError>
-        ensures { OnOk result (view_facts self.new ≡ of_datagram_client_hello (reading datagram_client_hello body.now) (view_facts self.old)) }
+    fn note_datagram_client_hello(
+        &mut self,
+        alloc: Global,
+        side: Direction,
+        body: &[u8],
+    ) -> Result<(), AllocError>
+        ensures { OnOk result (view_facts self.new ≡ of_datagram_client_hello side (reading datagram_client_hello body.now) (view_facts self.old)) }
     {
-        let Ok((_, hello)) = DTLSClientHelloView::parse(body) else {
+        let Ok((rest, hello)) = DTLSClientHelloView::parse(body) else {
             return Ok(());
         };
+        // (its reader ends the handshake by decode_error, and the first one is the one that was answered)
+        if self.client.is_some() && !rest.is_empty() {
+            return Ok(());
+        }
         let hello = ClientHelloView {
             version: hello.version,
             random: hello.random,
@@ -236,11 +316,11 @@ impl Facts {
             comp: hello.comp,
             ext: hello.ext,
         };
-        self.ask(alloc, &hello)
+        self.ask(alloc, side, &hello)
     }
 
-    /// The same of a whole handshake message of DTLS, by its type and its body (RFC 6347, section 4.2.2). A HelloVerifyRequest
-    /// says nothing; the ClientHello that answers it stands.
+    /// The same of a whole handshake message of DTLS, by its type and its body (RFC 6347, section 4.2.2). A HelloVerifyRequest asks for
+    /// another ClientHello too.
     ///
     /// `AllocError` where it could not be held.
     pub fn note_datagram_message(
@@ -253,11 +333,15 @@ impl Facts {
         ensures { OnOk result (view_facts self.new ≡ of_datagram_message side msg_type.0 body.now (view_facts self.old)) }
     {
         match msg_type {
-            TlsHandshakeType::ClientHello => self.note_datagram_client_hello(alloc, body),
+            TlsHandshakeType::ClientHello => self.note_datagram_client_hello(alloc, side, body),
             TlsHandshakeType::ServerHello => match server_hello_any(body) {
-                Ok((_, hello)) => self.choose(alloc, &hello),
+                Ok((_, hello)) => self.choose(alloc, side, &hello),
                 Err(_) => Ok(()),
             },
+            TlsHandshakeType::HelloVerifyRequest => {
+                self.verify(side);
+                Ok(())
+            }
             _ => self.note_other(alloc, side, msg_type, body),
         }
     }

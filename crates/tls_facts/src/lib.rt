@@ -7,6 +7,7 @@
 mod exchange;
 mod facts;
 mod hellos;
+pub mod laws;
 mod parts;
 mod told;
 

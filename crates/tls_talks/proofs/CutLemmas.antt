@@ -56,11 +56,11 @@ use Rattle.tls_conversations.specs.declared.conversation.Conversation.{Conversat
 use Rattle.tls_conversations.specs.declared.ear.Ear.{Ear}
 use Rattle.tls_conversations.specs.declared.ear.Standing.{Standing}
 use Rattle.tls_conversations.specs.declared.ear.Standing.TheVariants.{Speaks, AtFault, Over}
-use Rattle.tls_facts.specs.Facts.{Facts, view_facts}
 use Rattle.tls_talks.specs.History.{history, letter_of, with_letter}
-use Rattle.tls_talks.specs.Noting.{facts, has_sealed, is_sealed, noted}
-use Rattle.tls_talks.specs.Hearing.{AreHeard, IsHeard, onto, turns}
+use Rattle.tls_talks.specs.Noting.{has_sealed, is_sealed, known}
+use Rattle.tls_talks.specs.Hearing.{AreHeard, IsHeard, known_of, onto, turns}
 use Rattle.tls_talks.specs.declared.hearer.Hearer.{Hearer}
+use Rattle.tls_talks.proofs.KnownLemmas.{known_on}
 
 -- The side with a further piece.
 abbrev pub with_piece : Ear → Bytes → Ear
@@ -245,10 +245,6 @@ joined c a m b d s p q (v ∷ vs) [] fed past fed_again past_again = record {
   );
 }
 
-pub facts_on : (s : Side) (f : Facts) (vs ws : List Said) → facts s (facts s f vs) ws ≡ facts s f (ws ++ vs)
-facts_on s f vs [] = refl
-facts_on s f vs (w ∷ ws) = ap (λ g. noted s g w) (facts_on s f vs ws)
-
 pub history_on : (s : Side) (h : List ℕ) (vs ws : List Said) → history s (history s h vs) ws ≡ history s h (ws ++ vs)
 history_on s h vs [] = refl
 history_on s h vs (w ∷ ws) = ap (λ g. with_letter s g (letter_of w)) (history_on s h vs ws)
@@ -285,8 +281,8 @@ both_heard h m i s p q a b first last =
       said = last.said ++ first.said;
       fed = whole.fed;
       past = whole.past;
-      facts = last.facts ∙ ap (λ f. facts s f last.said) first.facts
-          ∙ facts_on s (view_facts h.facts) first.said last.said;
+      known = last.known ∙ ap (λ k. known s k last.said) first.known
+          ∙ known_on s (known_of h) first.said last.said;
       history = last.history ∙ ap (λ g. history s g last.said) first.history
           ∙ history_on s h.history.items first.said last.said;
       all = all_on first.said last.said (2 ^ 64 - 1) last.all;

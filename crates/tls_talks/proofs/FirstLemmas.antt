@@ -186,7 +186,7 @@ first_again false false t m u s w p q waits same heard = (
 )
 
 over_other : (t : Talk) (s : Side) → hearing t s ≡ Other → is_over t s ≡ true
-over_other t s other = ap (λ h. over_by h (outcome_at t.hearer.conversation.flow.state)) other
+over_other t s other = ap (λ h. over_by h (outcome_at t.hearer.flow.state)) other
 
 -- A side of which nothing is known gets a piece, and then another.
 both_short : (t m u : Talk) (s : Side) (p q : Bytes) → hearing t s ≡ Unknown → length p < 5 - length (waiting t s).items

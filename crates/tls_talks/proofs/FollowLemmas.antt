@@ -31,16 +31,14 @@ use Rattle.std.specs.Global.{Vec}
 use Rattle.tls_fields.specs.Bytes.{Bytes}
 use Rattle.tls_events.specs.Item.{Event as Said}
 use Rattle.tls_flow.specs.Table.{outcome_at}
-use Rattle.tls_flow.specs.declared.flow.Flow.{Flow}
 use Rattle.tls_flow.specs.declared.letter.Direction.{Direction as Side}
 use Rattle.tls_flow.specs.declared.letter.Direction.TheVariants.{ToServer, FromServer}
 use Rattle.tls_conversations.specs.Conversations.{IsFedBy, IsPast, ear}
 use Rattle.tls_conversations.specs.Ears.{IsReady, first_in, front_of, says}
 use Rattle.tls_conversations.specs.declared.conversation.Conversation.{Conversation}
-use Rattle.tls_facts.specs.Facts.{view_facts}
-use Rattle.tls_talks.specs.Hearing.{IsFed, IsNextTaken, IsNoted}
+use Rattle.tls_talks.specs.Hearing.{IsFed, IsNextTaken, IsNoted, known_of}
 use Rattle.tls_talks.specs.History.{history, letter_of, with_letter}
-use Rattle.tls_talks.specs.Noting.{facts, has_sealed, is_sealed, noted}
+use Rattle.tls_talks.specs.Noting.{Known, has_sealed, is_sealed, known}
 use Rattle.tls_talks.specs.Talks.{
   AreHeard,
   IsFollowed,
@@ -48,7 +46,6 @@ use Rattle.tls_talks.specs.Talks.{
   IsNext,
   IsNextBy,
   IsTaken,
-  flow_behind,
   hearing,
   hearing_behind,
   is_over,
@@ -61,7 +58,8 @@ use Rattle.tls_talks.specs.declared.hearer.Hearer.{Hearer}
 use Rattle.tls_talks.specs.declared.talk.Hearing.{Hearing}
 use Rattle.tls_talks.specs.declared.talk.Hearing.TheVariants.{Encrypted}
 use Rattle.tls_talks.specs.declared.talk.Talk.{Talk}
-use Rattle.tls_talks.proofs.TalkLemmas.{flow_is, hearing_is, sealed_twice, with_again}
+use Rattle.tls_talks.proofs.KnownLemmas.{known_next, known_same}
+use Rattle.tls_talks.proofs.TalkLemmas.{hearing_is, sealed_twice, with_again}
 
 -- It was fed, and n events were taken off, in front of none of which it was over.
 pub record IsOn (t : Talk) (s : Side) (p : Bytes) (u : Talk) (n : ℕ) : Type 0 where
@@ -69,8 +67,8 @@ pub record IsOn (t : Talk) (s : Side) (p : Bytes) (u : Talk) (n : ℕ) : Type 0 
   pub said : List Said
   pub fed : IsFedBy t.hearer.conversation s p begun
   pub past : IsPast begun s said u.hearer.conversation
-  pub heard : AreHeard (hearing t s) s t.hearer.conversation.flow said
-  pub facts : view_facts u.hearer.facts ≡ facts s (view_facts t.hearer.facts) said
+  pub heard : AreHeard (hearing t s) s (known_of t.hearer) said
+  pub known : known_of u.hearer ≡ known s (known_of t.hearer) said
   pub history : u.hearer.history.items ≡ history s t.hearer.history.items said
   pub same : u ≡ with_hearing (record t { hearer = u.hearer }) s (hearing_behind (hearing t s) said)
   pub count : length said ≡ n
@@ -89,7 +87,7 @@ on_begun t h s p fed ready = record {
   fed = fed.conversation;
   past = refl;
   heard = tt;
-  facts = ap view_facts fed.facts;
+  known = known_same t.hearer h fed.flow fed.facts;
   history = ap (λ (v : Vec ℕ). v.items) fed.history;
   same = with_same t s h;
   count = refl;
@@ -98,12 +96,10 @@ on_begun t h s p fed ready = record {
 
 -- Whether it is over is told by what was said.
 over_is : (t u : Talk) (s : Side) (p : Bytes) (n : ℕ) (on : IsOn t s p u n)
-    → is_over u s ≡ over_behind (hearing t s) s t.hearer.conversation.flow on.said
+    → is_over u s ≡ over_behind (hearing t s) s (known_of t.hearer) on.said
 over_is t u s p n on =
-    ap (λ h. over_by h (outcome_at u.hearer.conversation.flow.state)) (hearing_is t u s (hearing_behind (hearing t s)
-    on.said) on.same)
-    ∙ ap (λ (f : Flow). over_by (hearing_behind (hearing t s) on.said) (outcome_at f.state))
-    (flow_is on.begun u.hearer.conversation s on.said on.past ∙ ap (λ f. flow_behind s f on.said) on.fed.flow)
+    ap (λ h. over_by h (outcome_at u.hearer.flow.state)) (hearing_is t u s (hearing_behind (hearing t s) on.said) on.same)
+    ∙ ap (λ (k : Known). over_by (hearing_behind (hearing t s) on.said) (outcome_at k.flow.state)) on.known
 
 -- The talk behind an event, by whether that is encrypted.
 abbrev pub next_talk : Talk → Side → Hearer → Bool → Talk
@@ -163,7 +159,7 @@ on_some t u w s p n v on clear noted_it kept same = record {
   fed = on.fed;
   past = (u.hearer.conversation, on.past, noted_it.behind);
   heard = (sym (over_is t u s p n on) ∙ clear, on.heard);
-  facts = noted_it.facts ∙ ap (λ f. noted s f v) on.facts;
+  known = known_next s u.hearer w.hearer (known s (known_of t.hearer) on.said) v noted_it on.known;
   history = noted_it.history ∙ ap (λ x. with_letter s x (letter_of v)) on.history;
   same = same ∙ next_same t u w.hearer s p n (is_sealed v) on;
   count = omega (arith, on.count);
@@ -192,7 +188,7 @@ over_left : (b : Bool) (s : Side) (vs : List Said) (c : Conversation) → b ≡ 
 over_left b s vs c over = subst (λ b. IsLeft b s vs c c) (sym over) (refl, refl, refl)
 
 on_left : (t u : Talk) (s : Side) (p : Bytes) (n : ℕ) (on : IsOn t s p u n)
-    → IsLeft (over_behind (hearing t s) s t.hearer.conversation.flow on.said) s on.said u.hearer.conversation
+    → IsLeft (over_behind (hearing t s) s (known_of t.hearer) on.said) s on.said u.hearer.conversation
     u.hearer.conversation
     → IsFollowed t s p u
 on_left t u s p n on left = record {
@@ -203,7 +199,7 @@ on_left t u s p n on left = record {
   past = on.past;
   heard = on.heard;
   left = left;
-  facts = on.facts;
+  known = on.known;
   history = on.history;
   same = on.same;
 }
@@ -211,13 +207,13 @@ on_left t u s p n on left = record {
 -- The side is over.
 pub on_over : (t u : Talk) (s : Side) (p : Bytes) (n : ℕ) → IsOn t s p u n → is_over u s ≡ true → IsFollowed t s p u
 on_over t u s p n on over = on_left t u s p n on
-    (over_left (over_behind (hearing t s) s t.hearer.conversation.flow on.said) s on.said u.hearer.conversation
+    (over_left (over_behind (hearing t s) s (known_of t.hearer) on.said) s on.said u.hearer.conversation
     (sym (over_is t u s p n on) ∙ over))
 
 on_clear : (t u : Talk) (s : Side) (p : Bytes) (n : ℕ) (on : IsOn t s p u n) → is_over u s ≡ false
     → (says (ear u.hearer.conversation s) [] ≡ []) ⊎ (2 ^ 64 - 1 ≤ length on.said) → IsFollowed t s p u
 on_clear t u s p n on clear all = on_left t u s p n on
-    (left_by (over_behind (hearing t s) s t.hearer.conversation.flow on.said) s on.said u.hearer.conversation
+    (left_by (over_behind (hearing t s) s (known_of t.hearer) on.said) s on.said u.hearer.conversation
     (sym (over_is t u s p n on) ∙ clear) all)
 
 -- It says no more for now.

@@ -31,11 +31,11 @@ use Rattle.tls_flow.specs.declared.letter.Direction.{Direction as Side}
 use Rattle.tls_conversations.specs.Conversations.{IsPast, IsFedBy, ear}
 use Rattle.tls_conversations.specs.Ears.{IsReady, first_in, front_of, says}
 use Rattle.tls_conversations.specs.declared.conversation.Conversation.{Conversation}
-use Rattle.tls_facts.specs.Facts.{view_facts}
 use Rattle.tls_talks.specs.History.{history, letter_of, with_letter}
-use Rattle.tls_talks.specs.Noting.{facts, has_sealed, is_sealed, noted}
-use Rattle.tls_talks.specs.Hearing.{IsFed, IsHeard, IsNextTaken, IsNoted}
+use Rattle.tls_talks.specs.Noting.{has_sealed, is_sealed, known}
+use Rattle.tls_talks.specs.Hearing.{IsFed, IsHeard, IsNextTaken, IsNoted, known_of}
 use Rattle.tls_talks.specs.declared.hearer.Hearer.{Hearer}
+use Rattle.tls_talks.proofs.KnownLemmas.{known_next, known_same}
 
 -- It was fed, and n events were taken off, followed and noted.
 pub record IsOn (h : Hearer) (s : Side) (p : Bytes) (i : Hearer) (n : ℕ) (b : Bool) : Type 0 where
@@ -43,7 +43,7 @@ pub record IsOn (h : Hearer) (s : Side) (p : Bytes) (i : Hearer) (n : ℕ) (b : 
   pub said : List Said
   pub fed : IsFedBy h.conversation s p begun
   pub past : IsPast begun s said i.conversation
-  pub facts : view_facts i.facts ≡ facts s (view_facts h.facts) said
+  pub known : known_of i ≡ known s (known_of h) said
   pub history : i.history.items ≡ history s h.history.items said
   pub count : length said ≡ n
   pub sealed : b ≡ has_sealed said
@@ -56,7 +56,7 @@ on_begun h i s p fed ready = record {
   said = [];
   fed = fed.conversation;
   past = refl;
-  facts = ap view_facts fed.facts;
+  known = known_same h i fed.flow fed.facts;
   history = ap (λ (v : Vec ℕ). v.items) fed.history;
   count = refl;
   sealed = refl;
@@ -70,7 +70,7 @@ on_some h i j s p n v b on noted_it kept = record {
   said = v ∷ on.said;
   fed = on.fed;
   past = (i.conversation, on.past, noted_it.behind);
-  facts = noted_it.facts ∙ ap (λ f. noted s f v) on.facts;
+  known = known_next s i j (known s (known_of h) on.said) v noted_it on.known;
   history = noted_it.history ∙ ap (λ h. with_letter s h (letter_of v)) on.history;
   count = omega (arith, on.count);
   sealed = ap (λ x. x || is_sealed v) on.sealed;
@@ -106,7 +106,7 @@ on_none h i j s p n b on taken = go (front_of (ear i.conversation s)) refl taken
       said = on.said;
       fed = on.fed;
       past = on.past;
-      facts = on.facts;
+      known = on.known;
       history = on.history;
       all = inl (silent (says (ear i.conversation s) []) (on.ready ∙ sym front));
       sealed = on.sealed;
@@ -123,7 +123,7 @@ on_end h i s p n b on end = record {
   said = on.said;
   fed = on.fed;
   past = on.past;
-  facts = on.facts;
+  known = on.known;
   history = on.history;
   all = inr (omega (arith, on.count, end));
   sealed = on.sealed;

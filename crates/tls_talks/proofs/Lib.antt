@@ -1,9 +1,11 @@
+mod KnownLemmas
 mod CutLemmas
 mod HearerLemmas
 mod TalkLemmas
 mod FollowLemmas
 mod FirstLemmas
 mod TurnLemmas
+mod HelloLemmas
 mod DatagramLemmas
 mod RecordLemmas
 mod ChangeLemmas

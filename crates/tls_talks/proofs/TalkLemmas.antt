@@ -21,17 +21,14 @@ use Rattle.std.proofs.Common.{
 }
 use Rattle.tls_fields.specs.Bytes.{Bytes}
 use Rattle.tls_events.specs.Item.{Event as Said}
-use Rattle.tls_flow.specs.Steps.{follow}
 use Rattle.tls_flow.specs.Table.{outcome_at}
-use Rattle.tls_flow.specs.declared.flow.Flow.{Flow}
 use Rattle.tls_flow.specs.declared.letter.Direction.{Direction as Side}
 use Rattle.tls_flow.specs.declared.letter.Direction.TheVariants.{ToServer, FromServer}
 use Rattle.tls_conversations.specs.Conversations.{IsPast}
-use Rattle.tls_conversations.specs.Events.{event_of}
 use Rattle.tls_conversations.specs.declared.conversation.Conversation.{Conversation}
-use Rattle.tls_facts.specs.Facts.{view_facts}
 use Rattle.tls_talks.specs.History.{history}
-use Rattle.tls_talks.specs.Noting.{facts, has_sealed}
+use Rattle.tls_talks.specs.Hearing.{known_of}
+use Rattle.tls_talks.specs.Noting.{Known, has_sealed, known}
 use Rattle.tls_talks.specs.Talks.{
   AreHeard,
   IsFollowed,
@@ -40,7 +37,6 @@ use Rattle.tls_talks.specs.Talks.{
   IsLeft,
   IsNext,
   IsNextBy,
-  flow_behind,
   hearing,
   hearing_behind,
   is_over,
@@ -53,8 +49,8 @@ use Rattle.tls_talks.specs.declared.hearer.Hearer.{Hearer}
 use Rattle.tls_talks.specs.declared.talk.Hearing.{Hearing}
 use Rattle.tls_talks.specs.declared.talk.Hearing.TheVariants.{Unknown, Clear, Encrypted, Other}
 use Rattle.tls_talks.specs.declared.talk.Talk.{Talk}
+use Rattle.tls_talks.proofs.KnownLemmas.{known_on}
 use Rattle.tls_talks.proofs.CutLemmas.{
-  facts_on,
   fed_further,
   further,
   history_on,
@@ -64,14 +60,6 @@ use Rattle.tls_talks.proofs.CutLemmas.{
   sealed_on,
 }
 
-pub flow_is : (c d : Conversation) (s : Side) (vs : List Said) → IsPast c s vs d → d.flow ≡ flow_behind s c.flow vs
-flow_is c d s [] past = ap (λ (x : Conversation). x.flow) past
-flow_is c d s (v ∷ vs) past = past.2.flow ∙ ap (λ f. follow f (event_of s v)) (flow_is c past.0 s vs past.1)
-
-flow_on : (s : Side) (f : Flow) (vs ws : List Said) → flow_behind s (flow_behind s f vs) ws ≡ flow_behind s f (ws ++ vs)
-flow_on s f vs [] = refl
-flow_on s f vs (w ∷ ws) = ap (λ g. follow g (event_of s w)) (flow_on s f vs ws)
-
 pub sealed_twice : (a b : Bool) (h : Hearing) → sealed_if b (sealed_if a h) ≡ sealed_if (a || b) h
 sealed_twice true true h = refl
 sealed_twice true false h = refl
@@ -80,16 +68,16 @@ sealed_twice false b h = refl
 hearing_on : (h : Hearing) (vs ws : List Said) → hearing_behind (hearing_behind h vs) ws ≡ hearing_behind h (ws ++ vs)
 hearing_on h vs ws = sealed_twice (has_sealed vs) (has_sealed ws) h ∙ ap (λ b. sealed_if b h) (sym (sealed_on vs ws))
 
-over_on : (h : Hearing) (s : Side) (f : Flow) (vs ws : List Said)
-    → over_behind (hearing_behind h vs) s (flow_behind s f vs) ws ≡ over_behind h s f (ws ++ vs)
-over_on h s f vs ws =
-    ap (λ x. over_by x (outcome_at (flow_behind s (flow_behind s f vs) ws).state)) (hearing_on h vs ws)
-    ∙ ap (λ (x : Flow). over_by (hearing_behind h (ws ++ vs)) (outcome_at x.state)) (flow_on s f vs ws)
+over_on : (h : Hearing) (s : Side) (k : Known) (vs ws : List Said)
+    → over_behind (hearing_behind h vs) s (known s k vs) ws ≡ over_behind h s k (ws ++ vs)
+over_on h s k vs ws =
+    ap (λ x. over_by x (outcome_at (known s (known s k vs) ws).flow.state)) (hearing_on h vs ws)
+    ∙ ap (λ (x : Known). over_by (hearing_behind h (ws ++ vs)) (outcome_at x.flow.state)) (known_on s k vs ws)
 
-heard_on : (h : Hearing) (s : Side) (f : Flow) (vs ws : List Said) → AreHeard h s f vs
-    → AreHeard (hearing_behind h vs) s (flow_behind s f vs) ws → AreHeard h s f (ws ++ vs)
-heard_on h s f vs [] first last = first
-heard_on h s f vs (w ∷ ws) first last = (sym (over_on h s f vs ws) ∙ last.0, heard_on h s f vs ws first last.1)
+heard_on : (h : Hearing) (s : Side) (k : Known) (vs ws : List Said) → AreHeard h s k vs
+    → AreHeard (hearing_behind h vs) s (known s k vs) ws → AreHeard h s k (ws ++ vs)
+heard_on h s k vs [] first last = first
+heard_on h s k vs (w ∷ ws) first last = (sym (over_on h s k vs ws) ∙ last.0, heard_on h s k vs ws first last.1)
 
 -- What a talk is but for how a side is heard, and that.
 pub hearing_with : (t : Talk) (s : Side) (h : Hearing) → hearing (with_hearing t s h) s ≡ h
@@ -107,27 +95,16 @@ pub hearing_is : (t u : Talk) (s : Side) (h : Hearing) → u ≡ with_hearing (r
     → hearing u s ≡ h
 hearing_is t u s h same = ap (λ x. hearing x s) same ∙ hearing_with (record t { hearer = u.hearer }) s h
 
-left_flow : (b : Bool) (s : Side) (vs : List Said) (c d : Conversation) → IsLeft b s vs c d → d.flow ≡ c.flow
-left_flow true s vs c d left = left.2
-left_flow false s vs c d left = ap (λ (x : Conversation). x.flow) left.0
-
--- The flow and the hearing behind a piece are those behind what was said by it.
-flow_of : (t u : Talk) (s : Side) (p : Bytes) (heard : IsFollowed t s p u)
-    → u.hearer.conversation.flow ≡ flow_behind s t.hearer.conversation.flow heard.said
-flow_of t u s p heard =
-    left_flow (over_behind (hearing t s) s t.hearer.conversation.flow heard.said) s heard.said heard.behind
-    u.hearer.conversation heard.left
-    ∙ flow_is heard.begun heard.behind s heard.said heard.past ∙ ap (λ f. flow_behind s f heard.said) heard.fed.flow
-
+-- The hearing behind a piece is that behind what was said by it.
 hearing_of : (t u : Talk) (s : Side) (p : Bytes) (heard : IsFollowed t s p u)
     → hearing u s ≡ hearing_behind (hearing t s) heard.said
 hearing_of t u s p heard = hearing_is t u s (hearing_behind (hearing t s) heard.said) heard.same
 
 over_of : (t u : Talk) (s : Side) (p : Bytes) (heard : IsFollowed t s p u)
-    → is_over u s ≡ over_behind (hearing t s) s t.hearer.conversation.flow heard.said
+    → is_over u s ≡ over_behind (hearing t s) s (known_of t.hearer) heard.said
 over_of t u s p heard =
-    ap (λ h. over_by h (outcome_at u.hearer.conversation.flow.state)) (hearing_of t u s p heard)
-    ∙ ap (λ (f : Flow). over_by (hearing_behind (hearing t s) heard.said) (outcome_at f.state)) (flow_of t u s p heard)
+    ap (λ h. over_by h (outcome_at u.hearer.flow.state)) (hearing_of t u s p heard)
+    ∙ ap (λ (k : Known). over_by (hearing_behind (hearing t s) heard.said) (outcome_at k.flow.state)) heard.known
 
 left_further : (s : Side) (vs : List Said) (q : Bytes) (c d : Conversation) → IsLeft true s vs c d
     → IsLeft true s vs (further c s q) d
@@ -142,7 +119,7 @@ left_longer false s vs ws c d (same, inr few) = (same, inr (longer vs ws (2 ^ 64
 
 -- Behind the event by which the side is over nothing more is heard.
 over_still : (t m : Talk) (s : Side) (p q : Bytes) (first : IsFollowed t s p m)
-    → over_behind (hearing t s) s t.hearer.conversation.flow first.said ≡ true → IsFollowed t s (p ++ q) m
+    → over_behind (hearing t s) s (known_of t.hearer) first.said ≡ true → IsFollowed t s (p ++ q) m
 over_still t m s p q first over = record {
   begun = further first.begun s q;
   behind = further first.behind s q;
@@ -153,13 +130,13 @@ over_still t m s p q first over = record {
   left = subst (λ b. IsLeft b s first.said (further first.behind s q) m.hearer.conversation) (sym over)
       (left_further s first.said q first.behind m.hearer.conversation
       (subst (λ b. IsLeft b s first.said first.behind m.hearer.conversation) over first.left));
-  facts = first.facts;
+  known = first.known;
   history = first.history;
   same = first.same;
 }
 
 both_followed : (t m u : Talk) (s : Side) (p q : Bytes) (first : IsFollowed t s p m)
-    → over_behind (hearing t s) s t.hearer.conversation.flow first.said ≡ false → IsFollowed m s q u
+    → over_behind (hearing t s) s (known_of t.hearer) first.said ≡ false → IsFollowed m s q u
     → IsFollowed t s (p ++ q) u
 both_followed t m u s p q first over last =
     let left : IsLeft false s first.said first.behind m.hearer.conversation =
@@ -167,8 +144,6 @@ both_followed t m u s p q first over last =
     let whole = joined t.hearer.conversation first.begun m.hearer.conversation last.begun last.behind s p q first.said
     last.said first.fed
     (subst (λ c. IsPast first.begun s first.said c) (sym left.0) first.past) last.fed last.past in
-    let at_flow : m.hearer.conversation.flow ≡ flow_behind s t.hearer.conversation.flow first.said = flow_of t m s p
-    first in
     let at_hearing : hearing m s ≡ hearing_behind (hearing t s) first.said = hearing_of t m s p first in
     record {
       begun = whole.begun;
@@ -176,17 +151,17 @@ both_followed t m u s p q first over last =
       said = last.said ++ first.said;
       fed = whole.fed;
       past = whole.past;
-      heard = heard_on (hearing t s) s t.hearer.conversation.flow first.said last.said first.heard
-          (subst (λ h. AreHeard h s (flow_behind s t.hearer.conversation.flow first.said) last.said) at_hearing
-          (subst (λ f. AreHeard (hearing m s) s f last.said) at_flow last.heard));
-      left = left_longer (over_behind (hearing t s) s t.hearer.conversation.flow (last.said ++ first.said)) s first.said
+      heard = heard_on (hearing t s) s (known_of t.hearer) first.said last.said first.heard
+          (subst (λ h. AreHeard h s (known s (known_of t.hearer) first.said) last.said) at_hearing
+          (subst (λ k. AreHeard (hearing m s) s k last.said) first.known last.heard));
+      left = left_longer (over_behind (hearing t s) s (known_of t.hearer) (last.said ++ first.said)) s first.said
           last.said last.behind
           u.hearer.conversation (subst (λ b. IsLeft b s last.said last.behind u.hearer.conversation)
-          (ap (λ h. over_behind h s m.hearer.conversation.flow last.said) at_hearing
-          ∙ ap (λ f. over_behind (hearing_behind (hearing t s) first.said) s f last.said) at_flow
-          ∙ over_on (hearing t s) s t.hearer.conversation.flow first.said last.said) last.left);
-      facts = last.facts ∙ ap (λ f. facts s f last.said) first.facts
-          ∙ facts_on s (view_facts t.hearer.facts) first.said last.said;
+          (ap (λ h. over_behind h s (known_of m.hearer) last.said) at_hearing
+          ∙ ap (λ k. over_behind (hearing_behind (hearing t s) first.said) s k last.said) first.known
+          ∙ over_on (hearing t s) s (known_of t.hearer) first.said last.said) last.left);
+      known = last.known ∙ ap (λ k. known s k last.said) first.known
+          ∙ known_on s (known_of t.hearer) first.said last.said;
       history = last.history ∙ ap (λ h. history s h last.said) first.history
           ∙ history_on s t.hearer.history.items first.said last.said;
       same = last.same ∙ ap (λ x. with_hearing (record x { hearer = u.hearer }) s (hearing_behind (hearing m s)
@@ -200,10 +175,10 @@ both_followed t m u s p q first over last =
 pub followed_on : (t m u : Talk) (s : Side) (p q : Bytes) → IsFollowed t s p m → IsNext m s q u
     → IsFollowed t s (p ++ q) u
 followed_on t m u s p q first last =
-    go (over_behind (hearing t s) s t.hearer.conversation.flow first.said) refl
+    go (over_behind (hearing t s) s (known_of t.hearer) first.said) refl
     (subst (λ b. IsNextBy b m s q u) (over_of t m s p first) last)
   where
-    go : (b : Bool) → over_behind (hearing t s) s t.hearer.conversation.flow first.said ≡ b → IsNextBy b m s q u
+    go : (b : Bool) → over_behind (hearing t s) s (known_of t.hearer) first.said ≡ b → IsNextBy b m s q u
         → IsFollowed t s (p ++ q) u
     go true over next = subst (λ x. IsFollowed t s (p ++ q) x) (sym next) (over_still t m s p q first over)
     go false over next = both_followed t m u s p q first over next

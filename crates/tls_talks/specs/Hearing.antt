@@ -7,20 +7,26 @@ use Rattle.tls_flow.specs.declared.letter.Direction.TheVariants.{ToServer, FromS
 use Rattle.tls_conversations.specs.Conversations.{IsBegun, IsBehind, IsPast, IsFedBy, ear}
 use Rattle.tls_conversations.specs.Ears.{says}
 use Rattle.tls_conversations.specs.declared.conversation.Conversation.{Conversation}
+use Rattle.tls_flow.specs.Steps.{silence}
 use Rattle.tls_facts.specs.Facts.{nothing, view_facts}
 use Rattle.tls_talks.specs.History.{history, letter_of, with_letter}
-use Rattle.tls_talks.specs.Noting.{facts, has_sealed, is_sealed, noted}
+use Rattle.tls_talks.specs.Noting.{Known, followed, has_sealed, is_sealed, known, noted}
 use Rattle.tls_talks.specs.declared.hearer.Hearer.{Hearer}
+
+abbrev pub known_of : Hearer → Known
+known_of h = record { flow = h.flow; facts = view_facts h.facts }
 
 -- The side gets a further piece, and nothing is noted.
 pub record IsFed (h : Hearer) (s : Side) (p : Bytes) (i : Hearer) : Type 0 where
   pub conversation : IsFedBy h.conversation s p i.conversation
+  pub flow : i.flow ≡ h.flow
   pub facts : i.facts ≡ h.facts
   pub history : i.history ≡ h.history
 
 -- The side says v next, which is followed and noted.
 pub record IsNoted (h : Hearer) (s : Side) (v : Said) (i : Hearer) : Type 0 where
   pub behind : IsBehind h.conversation s v i.conversation
+  pub flow : i.flow ≡ followed s h.flow (view_facts h.facts) v
   pub facts : view_facts i.facts ≡ noted s (view_facts h.facts) v
   pub history : i.history.items ≡ with_letter s h.history.items (letter_of v)
 
@@ -36,7 +42,7 @@ pub record IsHeard (h : Hearer) (s : Side) (p : Bytes) (i : Hearer) (found : Boo
   pub said : List Said
   pub fed : IsFedBy h.conversation s p begun
   pub past : IsPast begun s said i.conversation
-  pub facts : view_facts i.facts ≡ facts s (view_facts h.facts) said
+  pub known : known_of i ≡ known s (known_of h) said
   pub history : i.history.items ≡ history s h.history.items said
   pub all : (says (ear i.conversation s) [] ≡ []) ⊎ (2 ^ 64 - 1 ≤ length said)
   pub sealed : found ≡ has_sealed said
@@ -66,6 +72,7 @@ turns (p ∷ ps) = onto p (turns ps)
 pub record IsHeardOf (limit : ℕ) (ps : List (Side × Bytes)) (i : Hearer) : Type 0 where
   pub begun : Hearer
   pub silent : IsBegun limit begun.conversation
+  pub unfollowed : begun.flow ≡ silence
   pub unknown : view_facts begun.facts ≡ nothing
   pub unlettered : begun.history.items ≡ []
   pub heard : AreHeard begun (turns ps) i

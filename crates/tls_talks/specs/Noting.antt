@@ -1,8 +1,12 @@
 -- What a connection's events say of it, in all.
-use Rattle.std.specs.Prelude.{Bool, true, false, ◌||◌, List, [], ◌∷◌}
+use Rattle.std.specs.Prelude.{Bool, true, false, ◌||◌, if◌then◌else◌, List, [], ◌∷◌}
 use Rattle.tls_events.specs.Item.{Event as Said, Handshake, Alert, ApplicationData, Encrypted}
 use Rattle.tls_flow.specs.declared.letter.Direction.{Direction as Side}
-use Rattle.tls_facts.specs.Facts.{Facts, of_alert, of_bytes}
+use Rattle.tls_flow.specs.Steps.{follow}
+use Rattle.tls_flow.specs.declared.event.Event.{Event}
+use Rattle.tls_flow.specs.declared.flow.Flow.{Flow}
+use Rattle.tls_conversations.specs.Events.{event_of}
+use Rattle.tls_facts.specs.Facts.{Facts, is_stray, of_alert, of_bytes}
 
 -- One step: what an event of that side adds.
 abbrev pub noted : Side → Facts → Said → Facts
@@ -10,10 +14,25 @@ noted s f (Handshake m) = of_bytes s m f
 noted s f (Alert a) = of_alert a.description f
 noted s f _ = f
 
--- What these events of that side say in all, the latest of them in front.
-abbrev pub facts : Side → Facts → List Said → Facts
-facts s f [] = f
-facts s f (v ∷ vs) = noted s (facts s f vs) v
+-- The handshake behind an event of that side, by what was known in front of it: a hello that is none of the handshake is no step of it.
+abbrev pub stepped : Side → Flow → Facts → Event → Flow
+stepped s w f e = if is_stray s e.letter.kind f then w else follow w e
+
+abbrev pub followed : Side → Flow → Facts → Said → Flow
+followed s w f v = stepped s w f (event_of s v)
+
+-- What is known of a connection: where its handshake stands, and what both sides said.
+pub record Known : Type 0 where
+  pub flow : Flow
+  pub facts : Facts
+
+abbrev pub known_by : Side → Known → Said → Known
+known_by s k v = record { flow = followed s k.flow k.facts v; facts = noted s k.facts v }
+
+-- What is known behind these events of that side, the latest of them in front.
+abbrev pub known : Side → Known → List Said → Known
+known s k [] = k
+known s k (v ∷ vs) = known_by s (known s k vs) v
 
 -- Whether what follows in its direction can't be read.
 abbrev pub is_sealed : Said → Bool

@@ -3,21 +3,19 @@ use Rattle.std.specs.Prelude.{◌≡◌, ◌^◌, ◌-◌, ◌⊎◌, ◌≤◌,
 use Rattle.std.specs.Global.{Vec}
 use Rattle.tls_fields.specs.Bytes.{Bytes}
 use Rattle.tls_events.specs.Item.{Event as Said}
-use Rattle.tls_flow.specs.Steps.{follow}
+use Rattle.tls_flow.specs.Steps.{silence}
 use Rattle.tls_flow.specs.Table.{is_waiting, outcome_at}
-use Rattle.tls_flow.specs.declared.flow.Flow.{Flow}
 use Rattle.tls_flow.specs.declared.letter.Direction.{Direction as Side}
 use Rattle.tls_flow.specs.declared.letter.Direction.TheVariants.{ToServer, FromServer}
 use Rattle.tls_flow.specs.declared.state.Outcome.{Outcome}
 use Rattle.tls_conversations.specs.Conversations.{IsBegun, IsFedBy, IsPast, ear, other}
 use Rattle.tls_conversations.specs.Ears.{says}
-use Rattle.tls_conversations.specs.Events.{event_of}
 use Rattle.tls_conversations.specs.declared.conversation.Conversation.{Conversation}
 use Rattle.tls_facts.specs.Facts.{nothing, view_facts}
 use Rattle.tls_detection.specs.Front.{begins_tls}
-use Rattle.tls_talks.specs.Hearing.{IsNoted, turns}
+use Rattle.tls_talks.specs.Hearing.{IsNoted, known_of, turns}
 use Rattle.tls_talks.specs.History.{history}
-use Rattle.tls_talks.specs.Noting.{facts, has_sealed, is_sealed}
+use Rattle.tls_talks.specs.Noting.{Known, has_sealed, is_sealed, known}
 use Rattle.tls_talks.specs.declared.talk.Hearing.{Hearing}
 use Rattle.tls_talks.specs.declared.talk.Hearing.TheVariants.{Unknown, Clear, Encrypted, Other}
 use Rattle.tls_talks.specs.declared.talk.Talk.{Talk}
@@ -47,6 +45,7 @@ Waits t s w u = (v : Vec ℕ) × (v.items ≡ w) × (u ≡ with_waiting t s v)
 -- Nothing came.
 pub record IsNew (t : Talk) : Type 0 where
   pub begun : IsBegun 131072 t.hearer.conversation
+  pub flow : t.hearer.flow ≡ silence
   pub facts : view_facts t.hearer.facts ≡ nothing
   pub history : t.hearer.history.items ≡ []
   pub is_tls : t.is_tls ≡ false
@@ -62,7 +61,7 @@ over_by _ o = false
 
 -- A side is heard no further once it is encrypted and the handshake ended, or where it doesn't speak TLS.
 abbrev pub is_over : Talk → Side → Bool
-is_over t s = over_by (hearing t s) (outcome_at t.hearer.conversation.flow.state)
+is_over t s = over_by (hearing t s) (outcome_at t.hearer.flow.state)
 
 -- The side is encrypted from here on, where one of its events was.
 abbrev pub sealed_if : Bool → Hearing → Hearing
@@ -76,21 +75,17 @@ IsTaken (Some v) t s taken u =
     × (u ≡ with_hearing (record t { hearer = u.hearer }) s (sealed_if (is_sealed v) (hearing t s)))
 IsTaken None t s taken u = (taken ≡ false) × (u ≡ t)
 
--- The flow behind these events of a side, the latest of them in front; how the side is heard then, and whether it is over.
-abbrev pub flow_behind : Side → Flow → List Said → Flow
-flow_behind s f [] = f
-flow_behind s f (v ∷ vs) = follow (flow_behind s f vs) (event_of s v)
-
+-- How a side is heard behind these events of it, the latest of them in front, and whether it is over.
 abbrev pub hearing_behind : Hearing → List Said → Hearing
 hearing_behind h vs = sealed_if (has_sealed vs) h
 
-abbrev pub over_behind : Hearing → Side → Flow → List Said → Bool
-over_behind h s f vs = over_by (hearing_behind h vs) (outcome_at (flow_behind s f vs).state)
+abbrev pub over_behind : Hearing → Side → Known → List Said → Bool
+over_behind h s k vs = over_by (hearing_behind h vs) (outcome_at (known s k vs).flow.state)
 
 -- The side wasn't over in front of any of these.
-abbrev pub AreHeard : Hearing → Side → Flow → List Said → Type 0
-AreHeard h s f [] = ⊤
-AreHeard h s f (v ∷ vs) = (over_behind h s f vs ≡ false) × AreHeard h s f vs
+abbrev pub AreHeard : Hearing → Side → Known → List Said → Type 0
+AreHeard h s k [] = ⊤
+AreHeard h s k (v ∷ vs) = (over_behind h s k vs ≡ false) × AreHeard h s k vs
 
 -- What is left: of a side that is over whatever it says; of another nothing for now, unless as many events were taken as a u64
 -- counts.
@@ -106,9 +101,9 @@ pub record IsFollowed (t : Talk) (s : Side) (p : Bytes) (u : Talk) : Type 0 wher
   pub said : List Said
   pub fed : IsFedBy t.hearer.conversation s p begun
   pub past : IsPast begun s said behind
-  pub heard : AreHeard (hearing t s) s t.hearer.conversation.flow said
-  pub left : IsLeft (over_behind (hearing t s) s t.hearer.conversation.flow said) s said behind u.hearer.conversation
-  pub facts : view_facts u.hearer.facts ≡ facts s (view_facts t.hearer.facts) said
+  pub heard : AreHeard (hearing t s) s (known_of t.hearer) said
+  pub left : IsLeft (over_behind (hearing t s) s (known_of t.hearer) said) s said behind u.hearer.conversation
+  pub known : known_of u.hearer ≡ known s (known_of t.hearer) said
   pub history : u.hearer.history.items ≡ history s t.hearer.history.items said
   pub same : u ≡ with_hearing (record t { hearer = u.hearer }) s (hearing_behind (hearing t s) said)
 

@@ -2,22 +2,25 @@
 ghost use Rattle.std.specs.Prelude.{◌≡◌, [], IfOk, OnOk};
 ghost use Rattle.tls_conversations.specs.Conversations.{IsBegun, ear, views};
 ghost use Rattle.tls_conversations.specs.Ears.{IsReady, front_of};
-ghost use Rattle.tls_conversations.specs.Events.{view_said};
+ghost use Rattle.tls_conversations.specs.Events.{event_of, view_said};
 ghost use Rattle.tls_facts.specs.Facts.{nothing, view_facts};
-ghost use Rattle.tls_talks.specs.Noting.{is_sealed, noted};
+ghost use Rattle.tls_flow.specs.Steps.{silence};
+ghost use Rattle.tls_talks.specs.Noting.{is_sealed, noted, stepped};
 ghost use Rattle.tls_talks.specs.Hearing.{IsFed, IsHeard, IsHeardOf, IsNextTaken};
 
 use crate::history::{add_letter, said_letter};
 use std::alloc::{AllocError, Global};
-use tls_conversations::{Conversation, Direction, Event, Said};
+use tls_conversations::{Conversation, Direction, Event, Flow, Kind, Said, tls_event};
 use tls_events::DEFAULT_LIMIT;
 use tls_facts::Facts;
 
 /// A conversation, and what its events say of it.
 #[derive(Drop)]
 pub struct Hearer {
-    /// Both sides, as far as they were followed.
+    /// Both sides, as far as they were followed. Its flow follows each hello; that of [`Hearer::flow`] leaves those out that are none of the handshake.
     pub conversation: Conversation,
+    // The handshake.
+    pub(crate) flow: Flow,
     /// What they said.
     pub facts: Facts,
     // A letter for each event.
@@ -31,6 +34,25 @@ fn is_encrypted(said: &Said<'_>) -> bool
     match said {
         Said::Event(Event::Encrypted(_)) | Said::Event(Event::ApplicationData(_)) => true,
         Said::Event(_) | Said::Fault(_) => false,
+    }
+}
+
+/// What is said, as an event of a handshake.
+fn flow_event(said: &Said<'_>, side: Direction) -> tls_flow::Event
+    ensures { result ≡ event_of side (view_said said.now) }
+{
+    match said {
+        Said::Event(event) => tls_event(event, side),
+        Said::Fault(_) => tls_flow::Event::new(Kind::Unknown, side),
+    }
+}
+
+/// Follows an event of a side, unless it is a hello that is none of the handshake by what was known in front of it.
+pub(crate) fn step(flow: &mut Flow, facts: &Facts, side: Direction, event: tls_flow::Event)
+    ensures { flow.new ≡ stepped side flow.old (view_facts facts.now) event }
+{
+    if !facts.is_stray(side, event.letter.kind) {
+        flow.update(event);
     }
 }
 
@@ -59,14 +81,23 @@ impl Hearer {
     /// One of which nothing came. It takes no memory.
     pub fn new(alloc: Global) -> Hearer
         ensures begun { IsBegun DEFAULT_LIMIT result.conversation }
+        ensures unfollowed { result.flow ≡ silence }
         ensures unknown { view_facts result.facts ≡ nothing }
         ensures unlettered { result.history.items ≡ [] }
     {
         Hearer {
             conversation: Conversation::new(alloc),
+            flow: Flow::new(),
             facts: Facts::new(),
             history: Vec::new(alloc),
         }
+    }
+
+    /// The handshake: what both sides said, but for hellos that are [none of it](Facts::is_stray).
+    pub fn flow(&self) -> &Flow
+        ensures { result.now ≡ self.now.flow }
+    {
+        &self.flow
     }
 
     /// Puts a piece behind what came of that side's stream.
@@ -88,6 +119,7 @@ impl Hearer {
     {
         let is_encrypted = match self.conversation.front(side) {
             Some(said) => {
+                step(&mut self.flow, &self.facts, side, flow_event(&said, side));
                 note(&mut self.facts, alloc, side, &said)?;
                 add_letter(&mut self.history, side, said_letter(&said))?;
                 is_encrypted(&said)

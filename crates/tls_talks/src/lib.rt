@@ -19,6 +19,7 @@ mod datagram_talk;
 mod ends;
 mod hearer;
 mod history;
+pub mod laws;
 mod records;
 mod speaker;
 mod talk;

@@ -79,29 +79,29 @@ impl Talk {
 
     /// How the handshake stands.
     pub fn outcome(&self) -> Outcome
-        ensures { result ≡ outcome_at self.now.hearer.conversation.flow.state }
+        ensures { result ≡ outcome_at self.now.hearer.flow.state }
     {
-        self.hearer.conversation.outcome()
+        self.hearer.flow.outcome()
     }
 
     /// The event that ended the handshake without success, if one did.
     pub fn stop(&self) -> Option<Stop>
-        ensures { result ≡ self.now.hearer.conversation.flow.stop }
+        ensures { result ≡ self.now.hearer.flow.stop }
     {
-        self.hearer.conversation.flow().stop()
+        self.hearer.flow.stop()
     }
 
     /// Whether the part of the handshake that can be read came to its end. In TLS 1.3 that is the ServerHello: what follows is
     /// encrypted.
     pub fn is_established(&self) -> bool
-        ensures { result ≡ established_by (outcome_at self.now.hearer.conversation.flow.state) }
+        ensures { result ≡ established_by (outcome_at self.now.hearer.flow.state) }
     {
         ends::is_established(self.outcome())
     }
 
     /// Whether a session, or a key known before, was taken up.
     pub fn is_resumed(&self) -> bool
-        ensures { result ≡ resumed_by (outcome_at self.now.hearer.conversation.flow.state) (view_facts self.now.hearer.facts) }
+        ensures { result ≡ resumed_by (outcome_at self.now.hearer.flow.state) (view_facts self.now.hearer.facts) }
     {
         ends::is_resumed(self.outcome(), &self.hearer.facts)
     }

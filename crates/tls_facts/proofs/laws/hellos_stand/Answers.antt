@@ -1,0 +1,8 @@
+use Rattle.tls_facts.proofs.HelloLemmas.{bytes_keep, datagram_message_keeps}
+use Rattle.tls_facts.proofs.laws.hellos_stand.Goals as goal
+
+pub returns-clause-messages : goal.returns-clause-messages
+returns-clause-messages c = bytes_keep
+
+pub returns-clause-datagram_messages : goal.returns-clause-datagram_messages
+returns-clause-datagram_messages c = datagram_message_keeps
