@@ -158,12 +158,18 @@ def sent(end, other, packet):
     shift = 0 if flags & SYN or end.scale is None or other.scale is None else end.scale
     clock = options.get(8, end.clock)
     is_noted = other.acknowledged is None or ahead(packet.first, other.acknowledged) <= 0
+    # (of a SYN that comes again nothing is noted)
+    is_noted &= not (flags & SYN and end.first == packet.first)
     recent = later(end.recent, clock) if is_noted and 8 in options else end.recent
     found = replace(found, next=later(end.next, behind), clock=clock, recent=recent)
     if flags & ACK:
         edge = (packet.acknowledgment + (packet.window << shift)) % ALL
         return replace(found, acknowledged=later(end.acknowledged, packet.acknowledgment), edge=later(end.edge, edge))
-    return replace(found, edge=packet.window) if flags & SYN and end.acknowledged is None else found
+    if not flags & SYN:
+        return found
+    if end.acknowledged is None:
+        return replace(found, edge=packet.window)
+    return replace(found, edge=later(end.edge, (end.acknowledged + packet.window) % ALL))
 
 
 def checksums(end, packet):
@@ -209,6 +215,11 @@ class Connection:
             return
         self.ends[packet.source], self.ends[packet.destination] = sent(end, other, packet), heard(other, packet)
         self.is_over |= bool(packet.flags & RST) or all(end.fin is not None for end in self.ends.values())
+
+    def note_sent(self, source, numbers):
+        for number in numbers:
+            end = self.ends[source]
+            self.ends[source] = replace(end, next=later(end.next, number))
 
     def stands(self):
         """Each side acknowledged the other's SYN."""
@@ -537,6 +548,11 @@ class Capture:
             packets.append(packet_of(self.times[-1], data[at + PACKET_HEADER : end]) if length == whole else None)
             at = end
         taken = [None if number in dropped else packet for number, packet in enumerate(packets, 1)]
+        # What a SYN has is sent, also where its receiver drops it: it may be acknowledged.
+        self.sent_by_syns = {}
+        for packet in packets:
+            if packet and not packet.is_udp and packet.flags & SYN:
+                self.sent_by_syns.setdefault((packet.ends, packet.source, packet.first), []).append(packet.behind)
         self.slots = [slot.in_the_end() for slot in list(self.slots_of(taken))]
 
     def slots_of(self, taken):
@@ -552,6 +568,8 @@ class Capture:
                     yield from connection.slots_at(place)
             if packet:
                 put(connections, packet)
+                sent = self.sent_by_syns.get((packet.ends, packet.source, None if packet.is_udp else packet.first), ())
+                connections[packet.ends].note_sent(packet.source, sent)
 
     def with_forged(self, forged):
         """The capture with these frames, each with its place, in the order of their places."""

@@ -1,10 +1,13 @@
 -- The next number of a stream is that of the place from which on it holds bytes.
-use Rattle.std.proofs.Common.{if◌then◌else◌, ◌≡◌, ℕ, ◌+◌, ◌%◌, ◌<◌, ◌^◌, true, false, Bool, Some, refl, sym, ap, ◌∙◌, arith, subst, length, take}
+use Rattle.std.proofs.Common.{if◌then◌else◌, ◌≡◌, ℕ, ◌+◌, ◌%◌, ◌<◌, ◌≤◌, ◌^◌, true, false, Bool, Some, None, Option, [], ◌∷◌, refl, sym, ap, ◌∙◌, arith, subst, length, min, take, drop, ltb}
+use Rattle.std.proofs.lemmas.Bool.{ltb-true, ltb-false}
+use Rattle.std.proofs.lemmas.List.{drop_all}
 use Rattle.std.proofs.Math.Nat.{mod-add-mod}
 use Rattle.segments.specs.Cells.{Bytes, run}
 use Rattle.connections.specs.Segment.{breaks, first_of}
-use Rattle.connections.specs.Stream.{begun, begun_at, is_begun, noted, number_begun, behind_front, next_behind, put, stopped, with_numbers, HasPut, HasTaken, IsNumberOf}
+use Rattle.connections.specs.Stream.{begun, begun_at, is_begun, noted, number_begun, behind_front, next_behind, forgetting, forgotten, has_urgent_next, passing_urgent, put, stopped, unlike, with_numbers, with_urgent, HasPut, HasTaken, IsNumberOf}
 use Rattle.connections.specs.Stream.HasPut.{left_out, taken}
+use Rattle.connections.specs.Traffic.{plus}
 use Rattle.connections.specs.declared.segment.Segment.{Segment}
 use Rattle.connections.specs.declared.stream.TheConstants.{HELD_LIMIT}
 use Rattle.connections.specs.declared.stream.Stream.{Stream}
@@ -31,7 +34,7 @@ put_number seq next b (Open held) h = h
 put_number seq next b Over h = h
 
 noted_by : (s : Segment) (t : Stream) (b : Bool) → is_begun t.reading ≡ b → IsNumberOf t.next t.reading
-    → IsNumberOf (if b then with_numbers s t else t).next (if b then with_numbers s t else t).reading
+    → IsNumberOf (if b then with_urgent s (with_numbers s t) else t).next (if b then with_urgent s (with_numbers s t) else t).reading
 noted_by s t true e h = h
 noted_by s t false e h = h
 
@@ -53,11 +56,24 @@ pub accepted : (s : Segment) (old new : Stream) → HasTaken s old new
     → IsNumberOf old.next old.reading → IsNumberOf new.next new.reading
 accepted s old new t h = by_break s old new (breaks s) refl t h
 
-pub handed : (n next : ℕ) (r : Reading) → IsNumberOf next r → IsNumberOf (next_behind n r next) (behind_front n r)
+handed : (n next : ℕ) (r : Reading) → IsNumberOf next r → IsNumberOf (next_behind n r next) (behind_front n r)
 handed n next Unbegun h = h
 handed n next (Open held) h = let k = length (take n (run held.cells)) in
     (rw h.0 (remainder_of_sum held.first held.taken k (2 ^ 32)), h.1)
 handed n next Over h = h
+
+-- Bytes that were handed on are let go.
+pub forgotten_number : (a : Option ℕ) (t : Stream) → IsNumberOf t.next t.reading
+    → IsNumberOf (forgetting a t).next (forgetting a t).reading
+forgotten_number a t h = handed (forgotten a t) t.next t.reading h
+
+passed_by : (t u : Stream) (b : Bool) → u.next ≡ t.next → u.reading ≡ t.reading → IsNumberOf t.next t.reading
+    → IsNumberOf (if b then u else t).next (if b then u else t).reading
+passed_by t u true n r h = rw (n, r) h
+passed_by t u false n r h = h
+
+pub urgent_number : (t : Stream) → IsNumberOf t.next t.reading → IsNumberOf (passing_urgent t).next (passing_urgent t).reading
+urgent_number t h = passed_by t (record t { heard = plus t.heard 1; urgent = None }) (has_urgent_next t) refl refl h
 
 by_reading : (t : Stream) (r : Reading) → t.reading ≡ r → IsNumberOf t.next r
     → IsNumberOf (stopped t r).next (stopped t r).reading
@@ -68,3 +84,16 @@ by_reading t Over e h = subst (λ x. IsNumberOf t.next x) (sym e) h
 pub stopped_number : (t : Stream) → IsNumberOf t.next t.reading
     → IsNumberOf (stopped t t.reading).next (stopped t t.reading).reading
 stopped_number t h = by_reading t t.reading refl h
+
+-- Behind the end of one of two byte strings none differ.
+none_unlike : (xs : Bytes) → unlike xs [] ≡ 0
+none_unlike [] = refl
+none_unlike (x ∷ xs) = refl
+
+pub unlike_rest : (xs ys : Bytes) (i : ℕ) → min (length xs) (length ys) ≤ i → unlike (drop i xs) (drop i ys) ≡ 0
+unlike_rest xs ys i h = go (ltb i (length xs)) refl
+  where
+    go : (t : Bool) → ltb i (length xs) ≡ t → unlike (drop i xs) (drop i ys) ≡ 0
+    go true e = let more = ltb-true i (length xs) e in
+        ap (unlike (drop i xs)) (drop_all i ys (omega (arith, h, more))) ∙ none_unlike (drop i xs)
+    go false e = ap (λ l. unlike l (drop i ys)) (drop_all i xs (ltb-false i (length xs) e))

@@ -5,10 +5,12 @@ use Rattle.std.specs.Prelude.{IfSome, OnErr, Result, Ok, Err}
 use Rattle.std.specs.Map.{lookup_entry, set_value}
 use Rattle.lru.specs.LruCache.{LruCache, promoted, put_entries, last_entry}
 use Rattle.connections.specs.Ends.{are_ends}
+use Rattle.connections.specs.Datagram.{ends_of_datagram}
 use Rattle.connections.specs.Segment.{ends_of}
-use Rattle.connections.specs.Connection.{Begins, ChangesCountsAlone, IsAnew, LeavesOut, Shows}
-use Rattle.connections.specs.Table.{at, others, with_other, ChangesCountsAt, IsAnewAt, LeavesOutAt, Replaces, Table, WasLast, IsOver, IsForgotten, IsPut}
+use Rattle.connections.specs.Connection.{Begins, ChangesCountsAlone, IsAfter, IsAnew, LeavesOut, Shows}
+use Rattle.connections.specs.Table.{at, others, with_other, BeginsAfter, ChangesCountsAt, IsAnewAt, LeavesOutAt, Replaces, Table, WasLast, IsOver, IsForgotten, IsPut}
 use Rattle.connections.specs.Table.IsForgotten.{one}
+use Rattle.connections.specs.declared.datagram.Datagram.{Datagram}
 use Rattle.connections.specs.declared.ends.Ends.{Ends}
 use Rattle.connections.specs.declared.connection.Beginning.{Beginning}
 use Rattle.connections.specs.declared.connection.Connection.{Connection}
@@ -155,6 +157,14 @@ module _ {T : Type 0} where
   pub none_anew : (time : ℕ) (e : Ends) (old new : Table T) → None ≡ at e old.live → new ≡ old
       → IsAnewAt time e (at e old.live) old new
   none_anew time e old new h same = subst (λ o. IsAnewAt time e o old new) h same
+
+  pub after_at : (d : Datagram) (old : Table T) (c w : Connection T) → Some c ≡ at (ends_of_datagram d) old.live → IsAfter d c w
+      → BeginsAfter d (at (ends_of_datagram d) old.live) old (with_other (ends_of_datagram d) w old)
+  after_at d old c w h after = subst (λ o. BeginsAfter d o old (with_other (ends_of_datagram d) w old)) h (w, after, refl)
+
+  pub none_after : (d : Datagram) (old new : Table T) → None ≡ at (ends_of_datagram d) old.live → new ≡ old
+      → BeginsAfter d (at (ends_of_datagram d) old.live) old new
+  none_after d old new h same = subst (λ o. BeginsAfter d o old new) h same
 
   -- Another stands first, in the place of the one that is found.
   pub replaced_by : (s : Segment) (old : Table T) (b : Beginning) (its was over : Connection T) → Shows s b → Begins b its

@@ -1,11 +1,11 @@
 -- What is held of a connection.
 use Rattle.std.specs.Prelude.{◌≡◌, ◌⊎◌, ℕ, ◌==◌, Bool, true, false, ◌&&◌, ◌||◌, not, is_some, Option, Some, None, if◌then◌else◌, [], length}
 use Rattle.connections.specs.Ends.{is_end}
-use Rattle.connections.specs.Segment.{acknowledges, answers, begins, begins_stream, first_of, without_fin, IsWithoutData}
-use Rattle.connections.specs.Hosts.{damaged_before, has_fin_of, later, silent_host, with_checksum, with_taken}
+use Rattle.connections.specs.Segment.{acknowledges, answers, begins, begins_stream, first_of, bytes_alone, IsWithoutData}
+use Rattle.connections.specs.Hosts.{damaged_before, has_fin_of, host_after, later, silent_host, with_checksum, with_taken}
 use Rattle.connections.specs.Receiver.{is_damaged, judge}
 use Rattle.connections.specs.Dropped.{none_dropped, with_damaged, with_dropped}
-use Rattle.connections.specs.Stream.{begun_at, front_of, silent_stream, noted, HasTaken, is_over}
+use Rattle.connections.specs.Stream.{begun_at, forgetting, front_of, silent_stream, noted, HasTaken, is_over}
 use Rattle.connections.specs.Traffic.{nothing_sent, with_packet}
 use Rattle.connections.specs.declared.datagram.Datagram.{Datagram}
 use Rattle.connections.specs.declared.ends.Protocol.{Protocol}
@@ -41,6 +41,10 @@ start_without_syn (Some n) s = Some (later (Some n) (first_of s))
 abbrev pub start_of : Host → Segment → Option ℕ
 start_of y s = if begins s then Some (first_of s) else start_without_syn y.acknowledged s
 
+-- The stream as a segment is put into it: it began, and what its receiver y acknowledged is kept no further.
+abbrev pub begun_for : Host → Segment → Stream → Stream
+begun_for y s t = forgetting y.acknowledged (begun_at (start_of y s) t)
+
 -- What is known of a sender x behind a segment that is put into its stream: of one that its receiver y had, no more than its checksum.
 abbrev pub host_by : Judgement → Host → Host → Segment → Host
 host_by judgement.Again x y s = with_checksum s.checksum x
@@ -48,13 +52,13 @@ host_by judgement.Taken x y s = with_taken (with_checksum s.checksum x) y s
 host_by (judgement.Waiting r) x y s = with_taken (with_checksum s.checksum x) y s
 host_by (judgement.Dropped r) x y s = with_taken (with_checksum s.checksum x) y s
 
--- What of a segment is put into its sender's stream: of one that its receiver has, no FIN. Of a SYN no bytes are, which wait until its receiver
+-- What of a segment is put into its sender's stream: of one that its receiver has, its bytes alone. Of a SYN no bytes are, which wait until its receiver
 -- acknowledges them (RFC 7413, section 3).
-abbrev pub fin_by : Judgement → Segment → Segment
-fin_by judgement.Again s = without_fin s
-fin_by judgement.Taken s = s
-fin_by (judgement.Waiting r) s = s
-fin_by (judgement.Dropped r) s = s
+abbrev pub part_by : Judgement → Segment → Segment
+part_by judgement.Again s = bytes_alone s
+part_by judgement.Taken s = s
+part_by (judgement.Waiting r) s = s
+part_by (judgement.Dropped r) s = s
 
 -- A segment goes on behind a SYN of its sender's, or it shows that its sender takes the answer to its SYN.
 abbrev pub goes_on : Segment → Bool
@@ -163,10 +167,10 @@ module _ {T : Type 0} where
   -- Its bytes are put into its sender's stream, and nothing else changes.
   abbrev pub PutsFrom : Side → Segment → Connection T → Connection T → Type 0
   PutsFrom Originator s old new =
-      HasTaken s (begun_at (start_of old.responder_host s) old.from_originator) new.from_originator
+      HasTaken s (begun_for old.responder_host s old.from_originator) new.from_originator
       × (new ≡ record old { from_originator = new.from_originator })
   PutsFrom Responder s old new =
-      HasTaken s (begun_at (start_of old.originator_host s) old.from_responder) new.from_responder
+      HasTaken s (begun_for old.originator_host s old.from_responder) new.from_responder
       × (new ≡ record old { from_responder = new.from_responder })
 
   abbrev pub Puts : Segment → Connection T → Connection T → Type 0
@@ -175,9 +179,9 @@ module _ {T : Type 0} where
   -- Where they are left out, its numbers are noted.
   abbrev pub left_out_from : Side → Segment → Connection T → Connection T
   left_out_from Originator s c =
-      record c { from_originator = noted s (begun_at (start_of c.responder_host s) c.from_originator) }
+      record c { from_originator = noted s (begun_for c.responder_host s c.from_originator) }
   left_out_from Responder s c =
-      record c { from_responder = noted s (begun_at (start_of c.originator_host s) c.from_responder) }
+      record c { from_responder = noted s (begun_for c.originator_host s c.from_responder) }
 
   abbrev pub without_bytes : Segment → Connection T → Connection T
   without_bytes s c = left_out_from (side_of c s.source) s c
@@ -211,7 +215,7 @@ module _ {T : Type 0} where
   -- side, the ends and the caller's value stay.
   abbrev pub PutsPart : Bool → Judgement → Segment → Connection T → Connection T → Type 0
   PutsPart true j s old new = PutsSyn s old new
-  PutsPart false j s old new = Puts (fin_by j s) old new
+  PutsPart false j s old new = Puts (part_by j s) old new
 
   abbrev pub Accepts : Segment → Connection T → Connection T → Type 0
   Accepts s old new = PutsPart (begins s) (judgement_of s old) s (noting (judgement_of s old) s (counted s old)) new
@@ -219,7 +223,7 @@ module _ {T : Type 0} where
   -- Where memory is refused, its bytes are left out, and its numbers noted.
   abbrev pub LeavesOutPart : Bool → Judgement → Segment → Connection T → Connection T → Type 0
   LeavesOutPart true j s old new = LeavesOutSyn s old new
-  LeavesOutPart false j s old new = new ≡ without_bytes (fin_by j s) old
+  LeavesOutPart false j s old new = new ≡ without_bytes (part_by j s) old
 
   abbrev pub LeavesOut : Segment → Connection T → Connection T → Type 0
   LeavesOut s old new = LeavesOutPart (begins s) (judgement_of s old) s (noting (judgement_of s old) s (counted s old)) new
@@ -270,6 +274,14 @@ module _ {T : Type 0} where
     pub is_silent : new ≡ record (silent old.protocol old.originator old.responder time new.waiting new.listener) {
       originator_dropped = with_damaged originator_damaged none_dropped;
       responder_dropped = with_damaged responder_damaged none_dropped;
+    }
+    pub waits : NoneWaits new
+
+  -- Another exchange between the same ends, which a datagram begins. What the checksums of both ends are stays known.
+  pub record IsAfter (d : Datagram) (old new : Connection T) : Type 0 where
+    pub is_silent : new ≡ record (silent Udp d.source d.destination d.time new.waiting new.listener) {
+      originator_host = host_after (hosts_from (side_of old d.source) old).0;
+      responder_host = host_after (hosts_from (side_of old d.source) old).1;
     }
     pub waits : NoneWaits new
 

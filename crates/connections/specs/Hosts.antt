@@ -30,6 +30,10 @@ silent_host = record {
   unchecked = 0;
 }
 
+-- One of which nothing was captured since another exchange, of which what its checksums are is known.
+abbrev pub host_after : Host → Host
+host_after x = record silent_host { checksums = x.checksums }
+
 -- The later of two numbers, of which one may not be known.
 abbrev pub later : Option ℕ → ℕ → ℕ
 later None n = n
@@ -101,14 +105,21 @@ damaged_by Refused n = n
 abbrev pub damaged_before : Checksum → Host → ℕ
 damaged_before c x = damaged_by (checksums_behind x c) x.unchecked
 
+-- Its window in front of a segment: its SYN is the first that says how that is scaled (RFC 7323, section 2.2).
+abbrev pub edge_before : Host → Segment → Option ℕ
+edge_before x s = if begins s then None else x.edge
+
+abbrev pub widest_before : Host → Segment → ℕ
+widest_before x s = if begins s then 0 else x.widest
+
 -- What is known of the sender x behind a segment that its receiver y took.
 abbrev pub with_taken : Host → Host → Segment → Host
 with_taken x y s = record {
   first = if begins s then Some (first_of s) else x.first;
   next = Some (later x.next (end_with_fin s));
   acknowledged = if acknowledges s then Some (later x.acknowledged s.acknowledgment) else x.acknowledged;
-  edge = if acknowledges s then Some (later x.edge ((s.acknowledgment + window_of x y s) % 2 ^ 32)) else x.edge;
-  widest = max x.widest (window_of x y s);
+  edge = if acknowledges s then Some (later (edge_before x s) ((s.acknowledgment + window_of x y s) % 2 ^ 32)) else edge_before x s;
+  widest = max (widest_before x s) (window_of x y s);
   offers = if begins s then s.options else x.offers;
   is_open = x.is_open || (acknowledges s && (is_some x.first && not (begins s)));
   clock = clock_behind x y s;

@@ -91,9 +91,12 @@ takes_numbers s = has_data s || ends s
 abbrev pub urgent_of : Segment → Option ℕ
 urgent_of s = if has_flag 32 s then Some ((first_of s + (s.urgent_pointer - 1)) % 2 ^ 32) else None
 
--- The same without FIN, whose flag weighs 1.
-abbrev pub without_fin : Segment → Segment
-without_fin s = record s { flags = s.flags - s.flags % 2 }
+-- The same without FIN and URG, whose flags weigh 1 and 32.
+abbrev pub without_flag : ℕ → ℕ → ℕ
+without_flag weight flags = if (flags / weight) % 2 == 1 then flags - weight else flags
+
+abbrev pub bytes_alone : Segment → Segment
+bytes_alone s = record s { flags = without_flag 32 (without_flag 1 s.flags) }
 
 -- The data of a SYN, in a segment of its own.
 abbrev pub data_of_syn : Segment → Segment

@@ -1,11 +1,11 @@
 -- What is read of a direction.
-use Rattle.std.specs.Prelude.{◌≡◌, ℕ, ◌+◌, ◌-◌, ◌%◌, ◌^◌, ◌==◌, ⊤, Bool, true, false, nat_lt, ◌||◌, if◌then◌else◌, Option, Some, None, [], length, min, take, drop}
+use Rattle.std.specs.Prelude.{◌≡◌, ℕ, ◌+◌, ◌-◌, ◌%◌, ◌^◌, ◌==◌, ⊤, Bool, true, false, not, nat_lt, ◌&&◌, ◌||◌, if◌then◌else◌, Option, Some, None, [], ◌∷◌, length, max, min, take, drop}
 use Rattle.segments.specs.Cells.{Bytes, Held, differing_in, known_behind, run, with_segment, without_front, IsTooMuch}
 use Rattle.connections.specs.Numbers.{advance, ahead_of, is_behind}
-use Rattle.connections.specs.Segment.{breaks, ends, first_of, behind_of}
+use Rattle.connections.specs.Segment.{breaks, ends, first_of, behind_of, urgent_of}
 use Rattle.connections.specs.Traffic.{plus}
 use Rattle.connections.specs.declared.segment.Segment.{Segment}
-use Rattle.connections.specs.declared.stream.TheConstants.{HELD_LIMIT}
+use Rattle.connections.specs.declared.stream.TheConstants.{HELD_LIMIT, KEPT_LIMIT}
 use Rattle.connections.specs.declared.stream.Front.{Front}
 use Rattle.connections.specs.declared.stream.Stream.{Stream}
 use Rattle.connections.specs.declared.stream.Reading.{Reading}
@@ -33,13 +33,7 @@ put seq b (Open h) = Open (with_segment seq b h)
 put seq b Unbegun = Unbegun
 put seq b Over = Over
 
--- The bytes that come next.
-abbrev pub next_bytes : Reading → Bytes
-next_bytes (Open h) = run h.cells
-next_bytes Unbegun = []
-next_bytes Over = []
-
--- The first bytes are handed out; all where fewer are there.
+-- The first bytes are let go; all where fewer are there.
 abbrev pub behind_front : ℕ → Reading → Reading
 behind_front n (Open h) = Open (without_front (length (take n (run h.cells))) h)
 behind_front n Unbegun = Unbegun
@@ -50,6 +44,8 @@ abbrev pub silent_stream : Stream
 silent_stream = record {
   reading = Unbegun;
   next = 0;
+  heard = 0;
+  urgent = None;
   last = 0;
   fin = None;
   is_broken = false;
@@ -59,11 +55,74 @@ silent_stream = record {
   passing = None;
 }
 
--- The number of the first byte that was not handed out, when more are.
+-- The number of the first byte that is kept, when more are let go.
 abbrev pub next_behind : ℕ → Reading → ℕ → ℕ
 next_behind n (Open h) next = (next + length (take n (run h.cells))) % 2 ^ 32
 next_behind n Unbegun next = next
 next_behind n Over next = next
+
+-- The number of the first byte that was not handed on.
+abbrev pub unheard_from : Stream → ℕ
+unheard_from t = (t.next + t.heard % 2 ^ 32) % 2 ^ 32
+
+-- Bytes from that number on, up to the urgent one, which is none of the stream (RFC 9293, section 3.8.5; RFC 6093, section 3).
+abbrev pub up_to_urgent : Option ℕ → ℕ → Bytes → Bytes
+up_to_urgent None n b = b
+up_to_urgent (Some urgent) n b = take (ahead_of urgent n) b
+
+-- The bytes that come next: those that were handed on are kept in front of them.
+abbrev pub next_bytes : Stream → Reading → Bytes
+next_bytes t (Open h) = up_to_urgent t.urgent (unheard_from t) (drop t.heard (run h.cells))
+next_bytes t Unbegun = []
+next_bytes t Over = []
+
+-- So many of them are handed on; all where fewer are there.
+abbrev pub handed_on : ℕ → Stream → ℕ
+handed_on n t = plus t.heard (length (take n (next_bytes t t.reading)))
+
+abbrev pub handing_on : ℕ → Stream → Stream
+handing_on n t = record t { heard = handed_on n t }
+
+-- The urgent byte came, and none behind it was handed on.
+abbrev pub is_urgent_there : Option ℕ → ℕ → ℕ → Bool
+is_urgent_there None n reached = false
+is_urgent_there (Some urgent) n reached = is_behind reached urgent && not (is_behind n urgent)
+
+abbrev pub is_cut_short : Stream → Reading → Bool
+is_cut_short t (Open h) = is_urgent_there t.urgent (unheard_from t) ((t.next + length (run h.cells)) % 2 ^ 32)
+is_cut_short t Unbegun = false
+is_cut_short t Over = false
+
+-- It comes next, and is passed over.
+abbrev pub is_number : Option ℕ → ℕ → Bool
+is_number None n = false
+is_number (Some m) n = m == n
+
+abbrev pub has_urgent_next : Stream → Bool
+has_urgent_next t = is_number t.urgent (unheard_from t) && is_cut_short t t.reading
+
+abbrev pub passing_urgent : Stream → Stream
+passing_urgent t = if has_urgent_next t then record t { heard = plus t.heard 1; urgent = None } else t
+
+-- Bytes that were handed on are let go: those in front of the number that is acknowledged, and those of which so many were handed on behind them.
+abbrev pub acknowledged_from : ℕ → Option ℕ → ℕ
+acknowledged_from next None = 0
+acknowledged_from next (Some n) = advance n next
+
+abbrev pub forgotten : Option ℕ → Stream → ℕ
+forgotten acknowledged t = min t.heard (max (acknowledged_from t.next acknowledged) (t.heard - KEPT_LIMIT))
+
+abbrev pub kept_of : ℕ → Reading → ℕ → ℕ
+kept_of n (Open h) heard = heard - length (take n (run h.cells))
+kept_of n Unbegun heard = heard
+kept_of n Over heard = heard
+
+abbrev pub forgetting : Option ℕ → Stream → Stream
+forgetting acknowledged t = record t {
+  reading = behind_front (forgotten acknowledged t) t.reading;
+  next = next_behind (forgotten acknowledged t) t.reading t.next;
+  heard = kept_of (forgotten acknowledged t) t.reading t.heard;
+}
 
 -- A number of the stream, which begins with its first segment.
 abbrev pub number_begun : Reading → ℕ → ℕ → ℕ
@@ -75,17 +134,30 @@ number_begun Over first n = n
 abbrev pub came : Held → ℕ
 came h = plus (length (run h.cells)) (known_behind h.cells)
 
--- At so many places another byte was held: they are added to a count. Of a stream that isn't read none are known.
-abbrev pub with_disagreeing : ℕ → Bytes → Reading → Reading → ℕ → ℕ
-with_disagreeing seq b (Open h) (Open k) count = plus count (differing_in seq b h)
-with_disagreeing seq b (Open h) Unbegun count = count
-with_disagreeing seq b (Open h) Over count = count
-with_disagreeing seq b Unbegun r count = count
-with_disagreeing seq b Over r count = count
+-- At how many places bytes differ, as far as both go.
+abbrev pub unlike : Bytes → Bytes → ℕ
+unlike [] ys = 0
+unlike (x ∷ xs) [] = 0
+unlike (x ∷ xs) (y ∷ ys) = (if x == y then 0 else 1) + unlike xs ys
+
+-- At how many places a segment has other bytes than those in order, the first of which has that number.
+abbrev pub differing_in_order : ℕ → Bytes → Segment → ℕ
+differing_in_order next standing s =
+    if nat_lt (ahead_of (first_of s) next) (2 ^ 31) then unlike (drop (ahead_of (first_of s) next) standing) s.payload.now
+    else unlike standing (drop (ahead_of next (first_of s)) s.payload.now)
+
+-- At so many places another byte is kept or held: they are added to a count. Of a stream that isn't read none are known.
+abbrev pub with_disagreeing : ℕ → Segment → Reading → Reading → ℕ → ℕ
+with_disagreeing next s (Open h) (Open k) count =
+    plus (plus count (differing_in_order next (run h.cells) s)) (differing_in (first_of s) s.payload.now h)
+with_disagreeing next s (Open h) Unbegun count = count
+with_disagreeing next s (Open h) Over count = count
+with_disagreeing next s Unbegun r count = count
+with_disagreeing next s Over r count = count
 
 -- It is read no further; where it was read, its next byte is the next that is passed on.
 abbrev pub stopped : Stream → Reading → Stream
-stopped t (Open h) = record t { reading = Over; passing = Some t.next }
+stopped t (Open h) = record t { reading = Over; passing = Some (unheard_from t) }
 stopped t Unbegun = record t { reading = Over }
 stopped t Over = t
 
@@ -138,7 +210,7 @@ abbrev pub with_bytes : Segment → Reading → Stream → Stream
 with_bytes s r t = record t {
   reading = r;
   repeated = with_repeated s t.passing t.reading r t.repeated;
-  disagreeing = with_disagreeing (first_of s) s.payload.now t.reading r t.disagreeing;
+  disagreeing = with_disagreeing t.next s t.reading r t.disagreeing;
 }
 
 pub data HasPut (s : Segment) (old new : Stream) : Type 0 where
@@ -156,14 +228,31 @@ begun_at (Some start) t = record t {
   last = number_begun t.reading start t.last;
 }
 
--- What is noted of a segment without RST, before its bytes are taken: the numbers of a stream that began.
+-- With URG it tells which byte is urgent: one that didn't come yet, and comes behind the one that was known.
+abbrev pub is_newer : Option ℕ → ℕ → Bool
+is_newer None n = true
+is_newer (Some known) n = is_behind n known
+
+abbrev pub urgent_by : Option ℕ → ℕ → Option ℕ → Option ℕ
+urgent_by None reached known = known
+urgent_by (Some n) reached known = if is_newer known n && not (is_behind reached n) then Some n else known
+
+abbrev pub urgent_in : Segment → Stream → Reading → Option ℕ
+urgent_in s t (Open h) = urgent_by (urgent_of s) ((t.next + length (run h.cells)) % 2 ^ 32) t.urgent
+urgent_in s t Unbegun = t.urgent
+urgent_in s t Over = t.urgent
+
+abbrev pub with_urgent : Segment → Stream → Stream
+with_urgent s t = record t { urgent = urgent_in s t t.reading }
+
+-- What is noted of a segment without RST, before its bytes are taken: the numbers of a stream that began, and which byte is urgent.
 abbrev pub is_begun : Reading → Bool
 is_begun Unbegun = false
 is_begun (Open h) = true
 is_begun Over = true
 
 abbrev pub noted : Segment → Stream → Stream
-noted s t = if is_begun t.reading then with_numbers s t else t
+noted s t = if is_begun t.reading then with_urgent s (with_numbers s t) else t
 
 -- A segment with RST breaks the stream off, and its bytes are not read; of any other the numbers are noted and the bytes taken.
 pub record HasTaken (s : Segment) (old new : Stream) : Type 0 where

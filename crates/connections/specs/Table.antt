@@ -6,7 +6,7 @@ use Rattle.lru.specs.LruCache.{last_entry}
 use Rattle.connections.specs.Ends.{are_ends}
 use Rattle.connections.specs.Datagram.{ends_of_datagram}
 use Rattle.connections.specs.Segment.{begins, begins_one, ends_of, is_refused}
-use Rattle.connections.specs.Connection.{begun_by_datagram, dropped_from, is_closed, is_datagram_damaged, judgement_of, side_of, Accepts, Begins, ChangesCountsAlone, IsAnew, IsBegunBy, LeavesOut, NoneWaits, Shows, TakesDatagramIn}
+use Rattle.connections.specs.Connection.{begun_by_datagram, dropped_from, is_closed, is_datagram_damaged, judgement_of, side_of, Accepts, Begins, ChangesCountsAlone, IsAfter, IsAnew, IsBegunBy, LeavesOut, NoneWaits, Shows, TakesDatagramIn}
 use Rattle.connections.specs.declared.datagram.Datagram.{Datagram}
 use Rattle.connections.specs.declared.ends.Ends.{Ends}
 use Rattle.connections.specs.declared.segment.Segment.{Segment}
@@ -144,6 +144,11 @@ module _ {T : Type 0} where
 
   abbrev pub Restarts : Segment → Table T → Table T → Type 0
   Restarts s old new = IsAnewAt s.time (ends_of s) (at (ends_of s) old.live) old new
+
+  -- Another exchange stands in the place of the one between a datagram's ends.
+  abbrev pub BeginsAfter : Datagram → Option (Connection T) → Table T → Table T → Type 0
+  BeginsAfter d None old new = new ≡ old
+  BeginsAfter d (Some c) old new = (c' : Connection T) × IsAfter d c c' × (new ≡ with_other (ends_of_datagram d) c' old)
 
   -- It stands among those that were closed from then on.
   abbrev pub without_ended : Ends → ℕ → Table T → Table T

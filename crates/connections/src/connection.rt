@@ -1,13 +1,15 @@
 //! A connection of TCP, or an exchange over UDP.
 ghost use Rattle.std.specs.Prelude.{◌≡◌, IfOk, IfSome, OnOk, OnErr, Some, true};
 ghost use Rattle.connections.specs.declared.receiver.Reason.TheVariants as reason;
-ghost use Rattle.connections.specs.Connection.{begun_by_datagram, confirms as confirms_answer, counted as counting, dropped_from, fin_by, goes_on_behind, has_opening, hosts_of, is_closed, is_datagram_damaged, last_of, judgement_of, noting, sent_by, side_of, silent, start_of, stream_of, with_datagram, without_bytes, Accepts, Begins, ChangesCountsAlone, IsAnew, IsBegunBy, LeavesOut, LeavesOutSyn, NoneWaits, Puts, PutsSyn, Shows, TakesDatagramIn};
+ghost use Rattle.connections.specs.Connection.{begun_by_datagram, confirms as confirms_answer, counted as counting, dropped_from, part_by, goes_on_behind, has_opening, hosts_of, is_closed, is_datagram_damaged, last_of, judgement_of, noting, sent_by, side_of, silent, start_of, stream_of, with_datagram, without_bytes, Accepts, Begins, ChangesCountsAlone, IsAfter, IsAnew, IsBegunBy, LeavesOut, LeavesOutSyn, NoneWaits, Puts, PutsSyn, Shows, TakesDatagramIn};
 
 use crate::datagram::Datagram;
 use crate::dropped::Dropped;
 use crate::ends::{End, Protocol};
 use crate::host::{Host, later};
-use crate::receiver::{Judgement, Reason, is_behind_fin, is_damaged, judge};
+use crate::receiver::{
+    Judgement, Reason, edge, is_behind_fin, is_beyond, is_damaged, is_known, judge,
+};
 use crate::segment::{Checksum, Segment};
 use crate::stream::Stream;
 use crate::traffic::Traffic;
@@ -84,12 +86,12 @@ fn is_far(known: Option<u32>, number: u32) -> bool {
     }
 }
 
-/// What of a segment is put into its sender's stream: where the receiver has its bytes, no FIN.
+/// What of a segment is put into its sender's stream: where the receiver has its bytes, these alone.
 fn part_of<'a>(segment: &Segment<'a>, judgement: Judgement) -> Segment<'a>
-    ensures { result ≡ fin_by judgement segment.now }
+    ensures { result ≡ part_by judgement segment.now }
 {
     match judgement {
-        Judgement::Again => segment.without_fin(),
+        Judgement::Again => segment.bytes_alone(),
         Judgement::Taken | Judgement::Waiting(_) | Judgement::Dropped(_) => *segment,
     }
 }
@@ -210,6 +212,26 @@ impl<T: Listener> Connection<T> {
         exchange
     }
 
+    /// Another exchange between the same ends, which this datagram begins; it is not counted. What the checksums of both ends are stays known.
+    pub(crate) fn after(&self, alloc: Global, datagram: &Datagram<'_>) -> Connection<T>
+        ensures { IsAfter datagram.now self.now result }
+    {
+        let (sender, receiver) = match self.side_of(datagram.source) {
+            Side::Originator => (&self.originator_host, &self.responder_host),
+            Side::Responder => (&self.responder_host, &self.originator_host),
+        };
+        let mut exchange = Connection::new(
+            alloc,
+            Protocol::Udp,
+            datagram.source,
+            datagram.destination,
+            datagram.time,
+        );
+        exchange.originator_host = Host::after(sender);
+        exchange.responder_host = Host::after(receiver);
+        exchange
+    }
+
     /// Whether a SYN of it was captured.
     pub fn has_opening(&self) -> bool
         ensures { result ≡ has_opening self.now }
@@ -267,15 +289,27 @@ impl<T: Listener> Connection<T> {
         judge(sender, receiver, front, segment)
     }
 
+    /// Whether what a segment acknowledges counts: its receiver takes it; or it acknowledges, without data, what its receiver isn't known to have sent, and is
+    /// no old one.
+    fn is_heeded(&self, segment: &Segment<'_>, judgement: Judgement) -> bool {
+        let (sender, receiver) = self.hosts(segment);
+        let is_new = judgement == Judgement::Taken
+            || (judgement == Judgement::Again
+                && !segment.begins()
+                && !is_known(sender, receiver, segment));
+        segment.acknowledges() && is_new
+    }
+
     /// What the connection is to a segment.
     pub(crate) fn verdict(&self, segment: &Segment<'_>) -> Verdict
         ensures judgement { result.judgement ≡ judgement_of segment.now self.now }
     {
         let has_waiting = !self.waiting.is_empty();
+        let judgement = self.judge(segment);
         Verdict {
-            judgement: self.judge(segment),
+            judgement,
             begins_another: has_waiting && self.another(segment).is_some(),
-            tells: has_waiting && segment.acknowledges(),
+            tells: has_waiting && self.is_heeded(segment, judgement),
             shows_damage: self.shows_damage(segment.source, segment.checksum),
         }
     }
@@ -408,20 +442,47 @@ impl<T: Listener> Connection<T> {
     ) -> Result<(), AllocError>
         ensures { ChangesCountsAlone self.old self.new }
     {
-        if !self.waiting.keep(alloc, segment, Some(reason))? {
+        let (sender, receiver) = self.hosts(segment);
+        let is_beyond = is_beyond(edge(sender, receiver), segment);
+        if !self.waiting.keep(alloc, segment, Some(reason), is_beyond)? {
             self.count_dropped(self.side_of(segment.source), reason);
         }
         Ok(())
     }
 
-    /// Keeps the data of a SYN that its receiver took, until that tells whether it took these too.
-    fn keep_data_of_syn(&mut self, alloc: Global, segment: &Segment<'_>) -> Result<(), AllocError>
+    /// Keeps the data of a SYN that its receiver took, until that tells whether it took these too. That of a SYN that it had isn't asked for.
+    fn keep_data_of_syn(
+        &mut self,
+        alloc: Global,
+        segment: &Segment<'_>,
+        judgement: Judgement,
+    ) -> Result<(), AllocError>
         ensures { self.new ≡ record self.old { waiting = self.new.waiting } }
     {
-        if segment.begins() && segment.has_data() {
-            self.waiting.keep(alloc, &segment.data_of_syn(), None)?;
+        if judgement == Judgement::Taken && segment.has_data() {
+            self.waiting
+                .keep(alloc, &segment.data_of_syn(), None, false)?;
         }
         Ok(())
+    }
+
+    /// Lets those go that wait and that a segment shows to be forged, if its receiver takes it.
+    fn forget_belied(&mut self, segment: &Segment<'_>)
+        ensures { ChangesCountsAlone self.old self.new }
+    {
+        if self.judge(segment) != Judgement::Taken {
+            return;
+        }
+        match self.side_of(segment.source) {
+            Side::Originator => {
+                self.waiting
+                    .forget_belied(segment, &mut self.responder_dropped)
+            }
+            Side::Responder => {
+                self.waiting
+                    .forget_belied(segment, &mut self.originator_dropped)
+            }
+        }
     }
 
     /// Takes out a segment that waited until its receiver, the sender of this one, acknowledged it. One of which all bytes came otherwise counts as
@@ -429,6 +490,7 @@ impl<T: Listener> Connection<T> {
     pub(crate) fn take_waiting(&mut self, segment: &Segment<'_>) -> Option<Told>
         ensures { ChangesCountsAlone self.old self.new }
     {
+        self.forget_belied(segment);
         let other = self.hosts(segment).1;
         let (sent, fin) = (other.next, other.fin);
         let Some(kept) = self.waiting.take(segment, sent, fin) else {
@@ -510,11 +572,15 @@ impl<T: Listener> Connection<T> {
             Side::Originator => {
                 let start = Self::start(&self.responder_host, segment);
                 self.from_originator.begin(alloc, start);
+                self.from_originator
+                    .forget(self.responder_host.acknowledged);
                 self.from_originator.accept(segment)
             }
             Side::Responder => {
                 let start = Self::start(&self.originator_host, segment);
                 self.from_responder.begin(alloc, start);
+                self.from_responder
+                    .forget(self.originator_host.acknowledged);
                 self.from_responder.accept(segment)
             }
         }
@@ -541,17 +607,22 @@ impl<T: Listener> Connection<T> {
         self.count(segment);
         self.note(segment, judgement);
         if segment.begins() {
-            return self.put_syn(alloc, segment);
+            return self.put_syn(alloc, segment, judgement);
         }
         self.put(alloc, &part_of(segment, judgement))
     }
 
     /// Begins the sender's stream behind its SYN, and keeps the SYN's data.
-    fn put_syn(&mut self, alloc: Global, segment: &Segment<'_>) -> Result<(), AllocError>
+    fn put_syn(
+        &mut self,
+        alloc: Global,
+        segment: &Segment<'_>,
+        judgement: Judgement,
+    ) -> Result<(), AllocError>
         ensures taken { OnOk result (PutsSyn segment.now self.old self.new) }
         ensures left_out { OnErr result (LeavesOutSyn segment.now self.old self.new) }
     {
-        self.keep_data_of_syn(alloc, segment)?;
+        self.keep_data_of_syn(alloc, segment, judgement)?;
         self.put(alloc, &segment.without_data())
     }
 

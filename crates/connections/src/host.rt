@@ -1,7 +1,7 @@
 //! What is known of an end of a connection over TCP.
-ghost use Rattle.std.specs.Prelude.{◌≡◌, Some};
+ghost use Rattle.std.specs.Prelude.{◌≡◌, Some, None};
 ghost use Rattle.connections.specs.Segment.{first_of};
-ghost use Rattle.connections.specs.Hosts.{checksums_behind as checksums_behind_of, clock_behind as clock_behind_of, damaged_before, has_fin_of, later as later_of, shift_of, silent_host, with_checksum, with_taken as taken_by, window_of};
+ghost use Rattle.connections.specs.Hosts.{checksums_behind as checksums_behind_of, clock_behind as clock_behind_of, damaged_before, has_fin_of, host_after, later as later_of, shift_of, silent_host, with_checksum, with_taken as taken_by, window_of};
 
 use crate::numbers::is_behind;
 use crate::segment::{Checksum, Options, Segment};
@@ -72,6 +72,16 @@ impl Host {
             fin: None,
             checksums: None,
             unchecked: 0,
+        }
+    }
+
+    /// One of which nothing was captured since another exchange, of which what its checksums are is known.
+    pub(crate) fn after(known: &Host) -> Host
+        ensures { result ≡ host_after known.now }
+    {
+        Host {
+            checksums: known.checksums,
+            ..Host::new()
         }
     }
 
@@ -160,11 +170,22 @@ impl Host {
         self.offers = segment.options;
     }
 
+    /// Forgets its window in front of its SYN, whose scale wasn't known.
+    fn forget_window(&mut self)
+        ensures { self.new ≡ record self.old { edge = None; widest = 0 } }
+    {
+        self.edge = None;
+        self.widest = 0;
+    }
+
     /// Notes a segment of this end that its receiver took.
     pub(crate) fn note(&mut self, receiver: &Host, segment: &Segment<'_>)
         ensures { self.new ≡ taken_by self.old receiver.now segment.now }
     {
         let window = self.window(receiver, segment);
+        if segment.begins() {
+            self.forget_window();
+        }
         self.clock = self.clock_behind(receiver, segment);
         self.next = Some(later(self.next, segment.end()));
         self.widest = self.widest.max(window);

@@ -1,5 +1,5 @@
 //! What stands of the two ends of a connection, and of the numbers of a stream. Each function's contract is one law.
-ghost use Rattle.std.specs.Prelude.{◌≡◌, ◌⊎◌, ◌<◌, ◌^◌, ℕ, List, Some};
+ghost use Rattle.std.specs.Prelude.{◌≡◌, ◌⊎◌, ◌<◌, ◌^◌, ℕ, List, Option, Some};
 ghost use Rattle.std.specs.Cmp.{IsPartialOrder, IsTotalOrder, Agrees};
 ghost use Rattle.connections.specs.Ends.{ends_between};
 ghost use Rattle.connections.specs.declared.ends.Protocol.{Protocol};
@@ -12,7 +12,7 @@ ghost use Rattle.connections.specs.declared.connection.Side.{Side};
 ghost use Rattle.connections.specs.declared.segment.Segment.{Segment};
 ghost use Rattle.connections.specs.declared.stream.Stream.{Stream};
 ghost use Rattle.connections.specs.declared.stream.Reading.{Reading};
-ghost use Rattle.connections.specs.Stream.{begun_at, silent_stream, noted, behind_front, next_behind, stopped, HasTaken, IsNumberOf};
+ghost use Rattle.connections.specs.Stream.{begun_at, forgetting, handing_on, passing_urgent, silent_stream, noted, stopped, HasTaken, IsNumberOf};
 
 use crate::ends::End;
 
@@ -47,7 +47,10 @@ pub fn the_next_number_is_that_of_what_is_held()
         → IsNumberOf (begun_at (Some n) t).next (begun_at (Some n) t).reading }
     ensures accepted { (s : Segment) (old new : Stream) → HasTaken s old new → IsNumberOf old.next old.reading → IsNumberOf new.next new.reading }
     ensures noted { (s : Segment) (t : Stream) → IsNumberOf t.next t.reading → IsNumberOf (noted s t).next (noted s t).reading }
-    ensures taken { (n next : ℕ) (r : Reading) → IsNumberOf next r → IsNumberOf (next_behind n r next) (behind_front n r) }
+    ensures handed_on { (n : ℕ) (t : Stream) → IsNumberOf t.next t.reading → IsNumberOf (handing_on n t).next (handing_on n t).reading }
+    ensures urgent { (t : Stream) → IsNumberOf t.next t.reading → IsNumberOf (passing_urgent t).next (passing_urgent t).reading }
+    ensures forgotten { (acknowledged : Option ℕ) (t : Stream) → IsNumberOf t.next t.reading
+        → IsNumberOf (forgetting acknowledged t).next (forgetting acknowledged t).reading }
     ensures stopped { (t : Stream) → IsNumberOf t.next t.reading → IsNumberOf (stopped t t.reading).next (stopped t t.reading).reading }
 {}
 

@@ -107,7 +107,7 @@ fn awaited(sender: &Host, receiver: &Host) -> Option<u32>
 }
 
 /// The number behind the receiver's window, as it said; behind the SYNs, that of its SYN counts from the sender's first number on.
-fn edge(sender: &Host, receiver: &Host) -> Option<u32>
+pub(crate) fn edge(sender: &Host, receiver: &Host) -> Option<u32>
     ensures { result ≡ edge_for sender.now receiver.now }
 {
     match (receiver.edge, receiver.first, sender.first) {
@@ -117,7 +117,7 @@ fn edge(sender: &Host, receiver: &Host) -> Option<u32>
 }
 
 /// Whether the segment begins at the end of the receiver's window, or behind it.
-fn is_beyond(edge: Option<u32>, segment: &Segment<'_>) -> bool
+pub(crate) fn is_beyond(edge: Option<u32>, segment: &Segment<'_>) -> bool
     ensures { result ≡ is_beyond_edge edge segment.now }
 {
     match edge {
@@ -149,7 +149,7 @@ fn is_far_before(sender: &Host, receiver: &Host, segment: &Segment<'_>) -> bool
 }
 
 /// Whether the segment ends in front of what its receiver acknowledged last.
-fn is_known(sender: &Host, receiver: &Host, segment: &Segment<'_>) -> bool
+pub(crate) fn is_known(sender: &Host, receiver: &Host, segment: &Segment<'_>) -> bool
     ensures { result ≡ is_known_to sender.now receiver.now segment.now }
 {
     is_ahead_by(0, awaited(sender, receiver), segment.end())

@@ -1,6 +1,6 @@
 //! A segment of TCP.
 ghost use Rattle.std.specs.Prelude.{◌≡◌, ◌<◌};
-ghost use Rattle.connections.specs.Segment.{has_flag as is_set, ends, begins, breaks, acknowledges, asks, answers, first_of, behind_of, end_with_fin, ends_of, begins_stream, begins_one, has_data, takes_numbers, urgent_of, data_of_syn, without_fin, header_of, IsWithoutData};
+ghost use Rattle.connections.specs.Segment.{has_flag as is_set, ends, begins, breaks, acknowledges, asks, answers, first_of, behind_of, end_with_fin, ends_of, begins_stream, begins_one, has_data, takes_numbers, urgent_of, data_of_syn, bytes_alone, without_flag as without_flag_of, header_of, IsWithoutData};
 
 use crate::ends::{End, Ends, Protocol};
 
@@ -128,6 +128,18 @@ fn has_flag(segment: &Segment<'_>, weight: u8) -> bool
     segment.flags / weight % 2 == 1
 }
 
+/// Flags without that of the weight.
+fn without_flag(flags: u8, weight: u8) -> u8
+    requires { 0 < weight }
+    ensures { result ≡ without_flag_of weight flags }
+{
+    if flags / weight % 2 == 1 {
+        flags.saturating_sub(weight)
+    } else {
+        flags
+    }
+}
+
 impl<'a> Segment<'a> {
     /// Between whom it goes.
     pub fn between(&self) -> Ends
@@ -247,12 +259,12 @@ impl<'a> Segment<'a> {
         Some(self.first().wrapping_add(ahead))
     }
 
-    /// The same without FIN.
-    pub(crate) fn without_fin(&self) -> Segment<'a>
-        ensures { result ≡ without_fin self.now }
+    /// The same without FIN and URG.
+    pub(crate) fn bytes_alone(&self) -> Segment<'a>
+        ensures { result ≡ bytes_alone self.now }
     {
         Segment {
-            flags: self.flags - self.flags % 2,
+            flags: without_flag(without_flag(self.flags, FIN), URG),
             ..*self
         }
     }

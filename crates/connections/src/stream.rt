@@ -1,7 +1,7 @@
 //! One direction of a connection.
-ghost use Rattle.std.specs.Prelude.{◌≡◌, ◌%◌, ◌^◌, length, false, OnOk, OnErr};
+ghost use Rattle.std.specs.Prelude.{◌≡◌, ◌≤◌, ◌%◌, ◌^◌, length, false, OnOk, OnErr};
 ghost use Rattle.connections.specs.Segment.{breaks, first_of};
-ghost use Rattle.connections.specs.Stream.{begun_at, behind_front, came, end_of, front_of, is_missing, is_over, lacks, next_behind, next_bytes, noted, passed, passed_before, passing_behind, silent_stream, stopped, with_numbers, HasPut, HasTaken};
+ghost use Rattle.connections.specs.Stream.{begun_at, came, differing_in_order, end_of, forgetting, front_of, handed_on, handing_on, has_urgent_next, is_cut_short, is_missing, is_over, lacks, next_bytes, noted, passed, passed_before, passing_behind, passing_urgent, silent_stream, stopped, unheard_from, unlike, with_numbers, with_urgent, HasPut, HasTaken};
 
 use crate::numbers::{HALF, advance, is_behind};
 use crate::segment::Segment;
@@ -10,6 +10,9 @@ use std::alloc::{AllocError, Global};
 
 /// How many bytes a segment may end behind the first that is missing. The bytes of one that ends further are left out.
 pub const HELD_LIMIT: u32 = 262_144;
+
+/// How many bytes are kept that were handed on and aren't acknowledged.
+pub const KEPT_LIMIT: usize = 16_384;
 
 /// How a direction is read.
 #[derive(Drop)]
@@ -35,8 +38,12 @@ pub struct Front {
 #[derive(Drop)]
 pub struct Stream {
     reading: Reading,
-    // The number of the first byte that was not yet taken.
+    // The number of the first byte that is kept, in order.
     next: u32,
+    // How many bytes were handed on, of those that are kept: others may still come at their places until they are acknowledged.
+    heard: usize,
+    // The number of the urgent byte, which is none of the stream.
+    urgent: Option<u32>,
     // The number behind the last byte that came.
     last: u32,
     fin: Option<u32>,
@@ -59,6 +66,40 @@ fn held(segments: &Segments) -> u64
     in_order.saturating_add(segments.held_behind() as u64)
 }
 
+/// At how many places two slices differ, as far as both go.
+fn count_unlike(bytes: &[u8], others: &[u8]) -> usize
+    ensures is { result ≡ unlike bytes.now others.now }
+    ensures within { result ≤ length bytes.now }
+{
+    let common = bytes.len().min(others.len());
+    let mut count = 0;
+    for i in 0..common {
+        if bytes[i] != others[i] {
+            count += 1;
+        }
+    }
+    count
+}
+
+/// At how many places a segment has other bytes than those that stand there in order, the first of which has that number.
+fn count_differing(next: u32, standing: &[u8], segment: &Segment<'_>) -> usize
+    ensures { result ≡ differing_in_order next standing.now segment.now }
+{
+    let first = segment.first();
+    let ahead = first.wrapping_sub(next);
+    if ahead < HALF {
+        return count_unlike(
+            &standing[standing.len().min(ahead as usize)..],
+            segment.payload,
+        );
+    }
+    let behind = next.wrapping_sub(first) as usize;
+    count_unlike(
+        standing,
+        &segment.payload[segment.payload.len().min(behind)..],
+    )
+}
+
 /// The count of a slice's bytes as a number of sequence.
 fn count(bytes: &[u8]) -> u32
     ensures { result ≡ length bytes.now % 2 ^ 32 }
@@ -74,6 +115,8 @@ impl Stream {
         Stream {
             reading: Reading::Unbegun,
             next: 0,
+            heard: 0,
+            urgent: None,
             last: 0,
             fin: None,
             is_broken: false,
@@ -120,6 +163,46 @@ impl Stream {
         }
     }
 
+    /// Notes which byte is urgent by a segment with URG: one that didn't come yet, and that is behind the last one of which this is known. It is the
+    /// one in front of the number to which the pointer points, as in Linux (RFC 6093, section 3).
+    fn note_urgent(&mut self, segment: &Segment<'_>)
+        ensures { self.new ≡ with_urgent segment.now self.old }
+    {
+        let Reading::Open(segments) = &self.reading else {
+            return;
+        };
+        let Some(number) = segment.urgent() else {
+            return;
+        };
+        let reached = self.next.wrapping_add(count(segments.available()));
+        let is_newer = match self.urgent {
+            Some(other) => is_behind(number, other),
+            None => true,
+        };
+        if is_newer && !is_behind(reached, number) {
+            self.urgent = Some(number);
+        }
+    }
+
+    /// Lets bytes go that were handed on: those in front of the number that is acknowledged, and those of which [`KEPT_LIMIT`] or more were handed on
+    /// behind them.
+    pub(crate) fn forget(&mut self, acknowledged: Option<u32>)
+        ensures { self.new ≡ forgetting acknowledged self.old }
+    {
+        let known = match acknowledged {
+            Some(number) => advance(number, self.next) as usize,
+            None => 0,
+        };
+        let many = self.heard.saturating_sub(KEPT_LIMIT);
+        let n = self.heard.min(known.max(many));
+        if let Reading::Open(segments) = &mut self.reading {
+            let n = n.min(segments.available().len());
+            self.next = self.next.wrapping_add((n % 0x1_0000_0000) as u32);
+            self.heard = self.heard.saturating_sub(n);
+            segments.take(n);
+        }
+    }
+
     /// Counts the bytes of the segment that stand in front of the next that is passed on.
     fn count_passed(&mut self, segment: &Segment<'_>)
         ensures { self.new ≡ record self.old { repeated = passed_before self.old.passing segment.now self.old.repeated } }
@@ -144,12 +227,14 @@ impl Stream {
         match &mut self.reading {
             Reading::Open(segments) => {
                 let before = held(segments);
+                let in_order = count_differing(self.next, segments.available(), segment);
                 let differing = segments.differing(segment.first(), segment.payload);
                 match segments.segment(segment.first(), segment.payload) {
                     Ok(()) => {
                         let new = held(segments).saturating_sub(before);
                         let again = (segment.payload.len() as u64).saturating_sub(new);
                         self.repeated = self.repeated.saturating_add(again);
+                        self.disagreeing = self.disagreeing.saturating_add(in_order as u64);
                         self.disagreeing = self.disagreeing.saturating_add(differing as u64);
                     }
                     Err(SegmentError::TooMuch) => {}
@@ -176,28 +261,68 @@ impl Stream {
             return Ok(());
         }
         self.note_numbers(segment);
+        self.note_urgent(segment);
         self.put(segment)
     }
 
-    /// The bytes that come next, up to the first that is missing; none where it is not read any more.
-    pub fn available(&self) -> &[u8]
-        ensures { result.now ≡ next_bytes self.now.reading }
+    /// The number of the first byte that was not yet handed on.
+    fn unheard(&self) -> u32
+        ensures { result ≡ unheard_from self.now }
     {
-        match &self.reading {
-            Reading::Open(segments) => segments.available(),
-            Reading::Unbegun | Reading::Over => &[],
+        self.next.wrapping_add((self.heard % 0x1_0000_0000) as u32)
+    }
+
+    /// The bytes that come next, up to the first that is missing, or to the urgent one; none where it is not read any more.
+    pub fn available(&self) -> &[u8]
+        ensures { result.now ≡ next_bytes self.now self.now.reading }
+    {
+        let Reading::Open(segments) = &self.reading else {
+            return &[];
+        };
+        let bytes = segments.available();
+        let rest = &bytes[bytes.len().min(self.heard)..];
+        match self.urgent {
+            Some(number) => {
+                let ahead = number.wrapping_sub(self.unheard()) as usize;
+                &rest[..rest.len().min(ahead)]
+            }
+            None => rest,
         }
     }
 
-    /// Takes bytes off the front; all where fewer are there.
+    /// Takes bytes off what comes next; all where fewer are there. They are kept until they are acknowledged, so that others that come at their places
+    /// are told of.
     pub fn take(&mut self, n: usize)
-        ensures { self.new ≡ record self.old { reading = behind_front n self.old.reading; next = next_behind n self.old.reading self.old.next } }
+        ensures { self.new ≡ handing_on n self.old }
     {
-        if let Reading::Open(segments) = &mut self.reading {
-            let n = n.min(segments.available().len());
-            self.next = self.next.wrapping_add((n % 0x1_0000_0000) as u32);
-            segments.take(n);
+        let n = n.min(self.available().len());
+        self.heard = self.heard.saturating_add(n);
+    }
+
+    /// Whether what comes next ends in front of the urgent byte, and that is there.
+    pub fn is_cut(&self) -> bool
+        ensures { result ≡ is_cut_short self.now self.now.reading }
+    {
+        match (&self.reading, self.urgent) {
+            (Reading::Open(segments), Some(number)) => {
+                let reached = self.next.wrapping_add(count(segments.available()));
+                is_behind(reached, number) && !is_behind(self.unheard(), number)
+            }
+            _ => false,
         }
+    }
+
+    /// Passes over the urgent byte, if it comes next: whether it did.
+    pub fn pass_urgent(&mut self) -> bool
+        ensures next { result ≡ has_urgent_next self.old }
+        ensures passed { self.new ≡ passing_urgent self.old }
+    {
+        if self.urgent != Some(self.unheard()) || !self.is_cut() {
+            return false;
+        }
+        self.heard = self.heard.saturating_add(1);
+        self.urgent = None;
+        true
     }
 
     /// How many bytes its sender said, by the numbers of its segments: those that are missing count, and those that were sent again
@@ -215,8 +340,8 @@ impl Stream {
         self.repeated
     }
 
-    /// How many bytes came that aren't those that stood at their places, behind others that are missing. Those that came first stay. It is
-    /// known of bytes that wait alone.
+    /// How many bytes came that aren't those that stood at their places: those that wait behind others that are missing, and those that were handed on
+    /// and aren't acknowledged, [`KEPT_LIMIT`] of them. Those that came first stay.
     pub fn disagreeing(&self) -> u64
         ensures { result ≡ self.now.disagreeing }
     {
@@ -229,7 +354,7 @@ impl Stream {
         ensures { self.new ≡ stopped self.old self.old.reading }
     {
         match &self.reading {
-            Reading::Open(_) => self.passing = Some(self.next),
+            Reading::Open(_) => self.passing = Some(self.unheard()),
             Reading::Unbegun => {}
             Reading::Over => return,
         }

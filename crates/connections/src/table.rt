@@ -3,7 +3,7 @@ ghost use Rattle.std.specs.Prelude.{◌≡◌, ◌-◌, ◌^◌, ◌≤◌, leng
 ghost use Rattle.std.specs.Borrow.{sem};
 ghost use Rattle.std.specs.Option.{option_copied_mut, option_map};
 ghost use Rattle.connections.specs.Segment.{ends_of};
-ghost use Rattle.connections.specs.Table.{at, belongs, closed_behind, ended, is_damaged_in, judgement_in, others, without_ended, Drops, DropsDatagram, IsForgotten, IsOver, IsPut, LeavesOutAt, NoneIsOver, NoneToForget, Puts, Replaced, Restarts, TakesDatagram, WasLast};
+ghost use Rattle.connections.specs.Table.{at, belongs, closed_behind, ended, is_damaged_in, judgement_in, others, without_ended, BeginsAfter, Drops, DropsDatagram, IsForgotten, IsOver, IsPut, LeavesOutAt, NoneIsOver, NoneToForget, Puts, Replaced, Restarts, TakesDatagram, WasLast};
 ghost use Rattle.connections.specs.Datagram.{ends_of_datagram};
 ghost use Rattle.connections.specs.Lends.{lends_connection};
 
@@ -237,12 +237,16 @@ impl<T: Listener> Connections<T> {
         self.live.peek(ends)
     }
 
-    /// Takes out the connection between these ends.
-    pub fn take(&mut self, ends: &Ends) -> Option<Connection<T>>
-        ensures taken { result ≡ at ends.now self.old.live }
-        ensures left { self.new ≡ record self.old { live = others ends.now self.old.live } }
+    /// Takes out the exchange between a datagram's ends, in whose place another begins with that. Nothing of it came; what the checksums of both ends
+    /// are stays known.
+    pub fn take_exchange(&mut self, datagram: &Datagram<'_>) -> Option<Connection<T>>
+        ensures taken { result ≡ at (ends_of_datagram datagram.now) self.old.live }
+        ensures left { BeginsAfter datagram.now (at (ends_of_datagram datagram.now) self.old.live) self.old self.new }
     {
-        self.live.pop(ends)
+        let (alloc, ends) = (self.alloc, datagram.between());
+        let exchange = self.live.peek_mut(&ends)?;
+        let another = exchange.after(alloc, datagram);
+        Some(mem::replace(exchange, another))
     }
 
     /// Whether both sides ended the last connection between these ends, so that what still comes of it is left out. It is known up to

@@ -3,7 +3,7 @@
 //! Where bytes were lost on the way to the capture, a receiver takes a segment that acknowledges them, or that lies behind its window as that is
 //! known; where they were never sent, it drops it (RFC 9293, section 3.10.7.4). So the segment waits until the receiver acknowledges its bytes:
 //! where no others came at their places before, it took these. The data of a SYN waits so too (RFC 7413, section 3).
-ghost use Rattle.std.specs.Prelude.{◌≡◌, []};
+ghost use Rattle.std.specs.Prelude.{◌≡◌, ◌<◌, length, IfSome, []};
 
 use crate::dropped::Dropped;
 use crate::ends::End;
@@ -26,6 +26,8 @@ pub struct Kept {
     payload: Vec<u8>,
     // Why it was dropped, if it isn't taken; of the data of a SYN, which was counted with it, nothing.
     reason: Option<Reason>,
+    // Whether it begins behind its receiver's window, as that is known.
+    is_beyond: bool,
 }
 
 impl Kept {
@@ -67,18 +69,32 @@ impl Kept {
             && self.fits_to(teller, sent)
     }
 
-    /// Where it acknowledges what wasn't known to be sent: whether a segment comes behind that, and acknowledges it whole, or not more than was
-    /// known to be sent.
+    /// Where it acknowledges what wasn't known to be sent, or begins behind the window: whether a segment acknowledges it whole, or not more than was
+    /// known to be sent; and, of the former, whether that comes behind what this one acknowledges.
     fn fits_to(&self, teller: &Segment<'_>, sent: Option<u32>) -> bool {
-        if self.reason != Some(Reason::Acknowledgment) {
+        let is_of_unsent = self.reason == Some(Reason::Acknowledgment);
+        if !is_of_unsent && !self.is_beyond {
             return true;
         }
-        let is_sent = match sent {
-            Some(next) => !is_behind(teller.acknowledgment, next),
-            None => false,
-        };
         let is_whole = teller.acknowledgment == self.segment().end();
-        (is_sent || is_whole) && !is_behind(self.header.acknowledgment, teller.first())
+        (is_sent(teller, sent) || is_whole)
+            && !(is_of_unsent && is_behind(self.header.acknowledgment, teller.first()))
+    }
+
+    /// Whether it goes on where another one ends, or the other where it does.
+    fn is_beside(&self, other: &Kept) -> bool {
+        let (segment, beside) = (self.segment(), other.segment());
+        segment.source == beside.source
+            && (segment.first() == beside.end() || beside.first() == segment.end())
+    }
+
+    /// Whether a segment of its receiver's shows that it is forged: it has bytes on both sides of what this one acknowledged before they came.
+    fn is_belied_by(&self, segment: &Segment<'_>) -> bool {
+        let number = self.header.acknowledgment;
+        self.reason == Some(Reason::Acknowledgment)
+            && self.header.destination == segment.source
+            && is_behind(number, segment.first())
+            && is_behind(segment.behind(), number)
     }
 
     /// Cuts off what stands behind this number; a FIN there too.
@@ -88,6 +104,14 @@ impl Kept {
             self.payload.truncate(len);
             self.header = self.header.without_fin();
         }
+    }
+}
+
+/// Whether a segment acknowledges no more than is known to be sent.
+fn is_sent(teller: &Segment<'_>, sent: Option<u32>) -> bool {
+    match sent {
+        Some(next) => !is_behind(teller.acknowledgment, next),
+        None => false,
     }
 }
 
@@ -130,18 +154,19 @@ impl Waiting {
         bytes
     }
 
-    /// Keeps a segment, and says whether there was room for it.
+    /// Keeps a segment, which may begin behind its receiver's window, and says whether there was room for it.
     pub(crate) fn keep(
         &mut self,
         alloc: Global,
         segment: &Segment<'_>,
         reason: Option<Reason>,
+        is_beyond: bool,
     ) -> Result<bool, AllocError> {
         let bytes = self.bytes().saturating_add(segment.payload.len());
         if self.kept.len() >= MAX_WAITING || bytes > MAX_BYTES {
             return Ok(false);
         }
-        self.push(alloc, segment, reason)?;
+        self.push(alloc, segment, reason, is_beyond)?;
         Ok(true)
     }
 
@@ -152,7 +177,7 @@ impl Waiting {
         segment: &Segment<'_>,
         reason: Reason,
     ) -> Result<(), AllocError> {
-        self.push(alloc, &segment.without_data(), Some(reason))
+        self.push(alloc, &segment.without_data(), Some(reason), false)
     }
 
     /// Puts a segment behind those that wait.
@@ -161,6 +186,7 @@ impl Waiting {
         alloc: Global,
         segment: &Segment<'_>,
         reason: Option<Reason>,
+        is_beyond: bool,
     ) -> Result<(), AllocError> {
         let mut payload = Vec::new(alloc);
         payload.extend_from_slice(segment.payload)?;
@@ -168,11 +194,44 @@ impl Waiting {
             header: segment.header(),
             payload,
             reason,
+            is_beyond,
         };
         match self.kept.push(kept) {
             Ok(()) => Ok(()),
             Err(_) => Err(AllocError),
         }
+    }
+
+    /// Whether a segment that begins behind the window, and of which another one acknowledges more than is known to be sent, stands in a row with what
+    /// was sent, or with one that waits too: a forged one stands alone.
+    fn is_in_row(&self, kept: &Kept, teller: &Segment<'_>, sent: Option<u32>) -> bool {
+        !kept.is_beyond
+            || is_sent(teller, sent)
+            || sent == Some(kept.segment().first())
+            || self.kept.iter().any(|other| kept.is_beside(other))
+    }
+
+    /// Lets those go that a segment shows to be forged, and counts them as dropped.
+    pub(crate) fn forget_belied(&mut self, segment: &Segment<'_>, dropped: &mut Dropped) {
+        for kept in &self.kept {
+            if kept.is_belied_by(segment) {
+                dropped.add(Reason::Acknowledgment);
+            }
+        }
+        self.kept.retain(|kept| !kept.is_belied_by(segment));
+    }
+
+    /// Where the first one waits of which a segment shows that its sender took bytes.
+    fn place_told(&self, teller: &Segment<'_>, sent: Option<u32>) -> Option<usize>
+        ensures { IfSome result (λ place. place < length self.now.kept.items) }
+    {
+        for place in 0..self.kept.len() {
+            let kept = &self.kept[place];
+            if kept.is_told_by(teller, sent) && self.is_in_row(kept, teller, sent) {
+                return Some(place);
+            }
+        }
+        None
     }
 
     /// Takes out the first segment of which this one shows that its sender took bytes, without what stands behind these, or behind the other end's
@@ -183,10 +242,7 @@ impl Waiting {
         sent: Option<u32>,
         fin: Option<u32>,
     ) -> Option<Kept> {
-        let place = self
-            .kept
-            .iter()
-            .position(|kept| kept.is_told_by(teller, sent))?;
+        let place = self.place_told(teller, sent)?;
         let mut kept = self.kept.remove(place);
         kept.cut(teller.acknowledgment);
         if let Some(number) = fin {

@@ -9,17 +9,17 @@ use Rattle.connections.specs.declared.connection.Side.{Side}
 use Rattle.connections.specs.declared.connection.Side.TheVariants.{Originator, Responder}
 use Rattle.connections.specs.declared.datagram.Datagram.{Datagram}
 use Rattle.connections.specs.declared.segment.Segment.{Segment}
-use Rattle.log_connections.specs.Heard.{HearsDatagram, HearsStream, direction_of}
+use Rattle.log_connections.specs.Heard.{HearsDatagram, HearsOn, direction_of}
 use Rattle.log_connections.specs.declared.heard.Heard.{Heard}
 
 module _ {K : Type 0} where
   -- The listener hears what a side's stream has next; all else of the connection stays, the other side's stream with it.
   abbrev pub HearsSide : Side → Connection (Heard K) → Connection (Heard K) → Type 0
   HearsSide Originator c c' =
-      HearsStream (direction_of c'.listener.is_turned Originator) c.from_originator.reading c'.from_originator.reading c.listener.said c'.listener.said
+      HearsOn Originator (direction_of c'.listener.is_turned Originator) c.from_originator c'.from_originator c.listener.said c'.listener.said
       × (c' ≡ record c { from_originator = c'.from_originator; listener = c'.listener })
   HearsSide Responder c c' =
-      HearsStream (direction_of c'.listener.is_turned Responder) c.from_responder.reading c'.from_responder.reading c.listener.said c'.listener.said
+      HearsOn Responder (direction_of c'.listener.is_turned Responder) c.from_responder c'.from_responder c.listener.said c'.listener.said
       × (c' ≡ record c { from_responder = c'.from_responder; listener = c'.listener })
 
   -- The segment's own connection takes it, and its listener hears what its sender's stream has then. All others stay.

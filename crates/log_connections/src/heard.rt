@@ -213,7 +213,8 @@ impl<K: Keeper> Heard<K> {
         }
     }
 
-    /// Hears what a side's stream says next; its first bytes once they tell whether it speaks TLS and as which end, or where they are its last.
+    /// Hears what a side's stream says next; its first bytes once they tell whether it speaks TLS and as which end, or where they are its last, or those
+    /// in front of an urgent one.
     /// The opening of the connection was captured where it `is_opened`.
     pub(crate) fn hear_stream(
         &mut self,
@@ -222,10 +223,10 @@ impl<K: Keeper> Heard<K> {
         is_opened: bool,
         are_last: bool,
     ) -> Result<(), AllocError>
-        ensures { OnOk result (HearsStream (direction_of self.new.is_turned side) stream.old.reading stream.new.reading self.old.said self.new.said) }
+        ensures { OnOk result (HearsStream (direction_of self.new.is_turned side) stream.old stream.new self.old.said self.new.said) }
     {
         let bytes = stream.available();
-        let is_early = bytes.len() <= HEADER_LEN && !are_last;
+        let is_early = bytes.len() <= HEADER_LEN && !are_last && !stream.is_cut();
         if is_early && self.has_said_nothing(side) {
             return Ok(());
         }

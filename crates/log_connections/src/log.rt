@@ -1,7 +1,7 @@
 //! What a capture's packets add to the log.
 ghost use Rattle.std.specs.Prelude.{◌≡◌, IfOk, OnOk, is_some};
 ghost use Rattle.connections.specs.Connection.{side_of};
-ghost use Rattle.log_connections.specs.Heard.{HearsStream, direction_of as direction};
+ghost use Rattle.log_connections.specs.Heard.{HearsNext, HearsOn, direction_of as direction};
 ghost use Rattle.log_connections.specs.Log.{HearsFrom, HearsSide, Logs, LogsDatagram};
 
 use crate::counts::{Counts, add_one};
@@ -185,7 +185,23 @@ fn with_last<K: Keeper>(
     }
 }
 
-/// Lets the listener hear what a side's stream says next, and count what the segment adds to one that it hears no further.
+/// Lets the listener hear what a side's stream says next, on both sides of an urgent byte.
+fn hear_next<K: Keeper>(
+    heard: &mut Heard<K>,
+    stream: &mut Stream,
+    side: Side,
+    is_opened: bool,
+) -> Result<(), AllocError>
+    ensures { OnOk result (HearsNext side (direction heard.new.is_turned side) stream.old stream.new heard.old.said heard.new.said) }
+{
+    heard.hear_stream(stream, side, is_opened, false)?;
+    if stream.pass_urgent() {
+        heard.hear_stream(stream, side, is_opened, false)?;
+    }
+    Ok(())
+}
+
+/// The same, and lets it count what the segment adds to a stream that it hears no further.
 fn hear_side<K: Keeper>(
     heard: &mut Heard<K>,
     stream: &mut Stream,
@@ -193,9 +209,9 @@ fn hear_side<K: Keeper>(
     is_opened: bool,
     segment: &Segment<'_>,
 ) -> Result<(), AllocError>
-    ensures { OnOk result (HearsStream (direction heard.new.is_turned side) stream.old.reading stream.new.reading heard.old.said heard.new.said) }
+    ensures { OnOk result (HearsOn side (direction heard.new.is_turned side) stream.old stream.new heard.old.said heard.new.said) }
 {
-    heard.hear_stream(stream, side, is_opened, false)?;
+    hear_next(heard, stream, side, is_opened)?;
     if segment.has_data() {
         heard.count_records(side, stream.pass(segment));
     }
@@ -429,7 +445,7 @@ impl<K: Keeper> Log<K> {
         if !exchange.listener.begins_another(side, datagram.payload) {
             return None;
         }
-        self.connections.take(&ends)
+        self.connections.take_exchange(datagram)
     }
 
     /// The same of a datagram of UDP, which ends no exchange.

@@ -1,4 +1,4 @@
-use Rattle.connections.proofs.StreamLemmas.{accepted, begun_at_number, handed, noted_number, stopped_number}
+use Rattle.connections.proofs.StreamLemmas.{accepted, begun_at_number, forgotten_number, noted_number, stopped_number, urgent_number}
 use Rattle.connections.proofs.laws.the_next_number_is_that_of_what_is_held.Goals as goal
 
 pub returns-clause-accepted : goal.returns-clause-accepted
@@ -7,8 +7,11 @@ returns-clause-accepted c = accepted
 pub returns-clause-noted : goal.returns-clause-noted
 returns-clause-noted c = noted_number
 
-pub returns-clause-taken : goal.returns-clause-taken
-returns-clause-taken c = handed
+pub returns-clause-urgent : goal.returns-clause-urgent
+returns-clause-urgent c = urgent_number
+
+pub returns-clause-forgotten : goal.returns-clause-forgotten
+returns-clause-forgotten c = forgotten_number
 
 pub returns-clause-stopped : goal.returns-clause-stopped
 returns-clause-stopped c = stopped_number
