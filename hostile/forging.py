@@ -14,6 +14,8 @@ ACK, URG = 16, 32
 TCP, TCP_HEADER = 6, 20
 ALL = 2**32
 QUARTER = 2**30
+# What a host dropped and begins so far in front of the number behind all that was sent goes on with it, or repeats it.
+NEAR = 65536
 # A connection ends by so many seconds without packets.
 IDLE = 299 * 1_000_000
 # The most data that an end takes in a segment if it doesn't say so (RFC 9293, section 3.7.1).
@@ -158,13 +160,15 @@ def sent(end, other, packet):
     shift = 0 if flags & SYN or end.scale is None or other.scale is None else end.scale
     clock = options.get(8, end.clock)
     is_noted = other.acknowledged is None or ahead(packet.first, other.acknowledged) <= 0
-    # (of a SYN that comes again nothing is noted)
+    # (nothing is noted of a SYN that comes again, nor of what ends in front of what the other acknowledged)
     is_noted &= not (flags & SYN and end.first == packet.first)
+    is_noted &= other.acknowledged is None or ahead(other.acknowledged, packet.behind + bool(flags & FIN)) <= 0
     recent = later(end.recent, clock) if is_noted and 8 in options else end.recent
     found = replace(found, next=later(end.next, behind), clock=clock, recent=recent)
     if flags & ACK:
         edge = (packet.acknowledgment + (packet.window << shift)) % ALL
-        return replace(found, acknowledged=later(end.acknowledged, packet.acknowledgment), edge=later(end.edge, edge))
+        known = expecting(end, other).edge
+        return replace(found, acknowledged=later(end.acknowledged, packet.acknowledgment), edge=later(known, edge))
     if not flags & SYN:
         return found
     if end.acknowledged is None:
@@ -192,7 +196,7 @@ def heard(other, packet):
 
 def expecting(end, other):
     """An end that only asked for the connection waits for what follows the other's SYN, within the window of its own."""
-    if end.acknowledged is not None:
+    if end.acknowledged is not None or other.first is None or end.edge is None:
         return end
     return replace(end, acknowledged=other.first, edge=(other.first + end.edge) % ALL)
 
@@ -220,6 +224,12 @@ class Connection:
         for number in numbers:
             end = self.ends[source]
             self.ends[source] = replace(end, next=later(end.next, number))
+
+    def note_dropped(self, packet):
+        """What goes on behind what was sent, or repeats it, was sent too: it may be acknowledged."""
+        end = self.ends.get(packet.source)
+        if end and not packet.is_udp and end.next is not None and 0 <= ahead(end.next, packet.first) < NEAR:
+            self.note_sent(packet.source, [packet.behind])
 
     def stands(self):
         """Each side acknowledged the other's SYN."""
@@ -490,7 +500,7 @@ def checksum_as(kind, pseudo, data, chance):
     right = complement(pseudo + words(data))
     if kind == RIGHT:
         return right
-    if kind == PARTIAL:
+    if kind == PARTIAL and pseudo % 65535 != right % 65535:
         return pseudo % 65535
     return (right + chance.randrange(1, 65534)) % 65535
 
@@ -548,14 +558,15 @@ class Capture:
             packets.append(packet_of(self.times[-1], data[at + PACKET_HEADER : end]) if length == whole else None)
             at = end
         taken = [None if number in dropped else packet for number, packet in enumerate(packets, 1)]
+        left_out = [packet if number in dropped else None for number, packet in enumerate(packets, 1)]
         # What a SYN has is sent, also where its receiver drops it: it may be acknowledged.
         self.sent_by_syns = {}
         for packet in packets:
             if packet and not packet.is_udp and packet.flags & SYN:
                 self.sent_by_syns.setdefault((packet.ends, packet.source, packet.first), []).append(packet.behind)
-        self.slots = [slot.in_the_end() for slot in list(self.slots_of(taken))]
+        self.slots = [slot.in_the_end() for slot in list(self.slots_of(taken, left_out))]
 
-    def slots_of(self, taken):
+    def slots_of(self, taken, left_out):
         """Behind the opening of each connection, and in front of its end and its last packet."""
         connections, last = {}, {}
         for place, packet in enumerate(taken):
@@ -570,6 +581,8 @@ class Capture:
                 put(connections, packet)
                 sent = self.sent_by_syns.get((packet.ends, packet.source, None if packet.is_udp else packet.first), ())
                 connections[packet.ends].note_sent(packet.source, sent)
+            elif left_out[place] and left_out[place].ends in connections:
+                connections[left_out[place].ends].note_dropped(left_out[place])
 
     def with_forged(self, forged):
         """The capture with these frames, each with its place, in the order of their places."""

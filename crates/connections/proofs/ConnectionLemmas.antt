@@ -2,7 +2,7 @@
 use Rattle.std.proofs.Common.{◌≡◌, ◌∙◌, ap, subst, sym, true, false, Option, Result, Ok, Err}
 use Rattle.std.specs.Prelude.{OnErr, OnOk}
 use Rattle.connections.specs.Segment.{begins}
-use Rattle.connections.specs.Connection.{counted, part_by, judgement_of, noting, without_bytes, Accepts, AcceptsAnswer, Begins, IsBegunBy, LeavesOut, LeavesOutPart, LeavesOutSyn, Puts, PutsPart, PutsSyn}
+use Rattle.connections.specs.Connection.{adds_nothing, counted, part_by, judgement_of, noting, without_bytes, Accepts, AcceptsAnswer, Begins, IsBegunBy, LeavesOut, LeavesOutPart, LeavesOutSyn, PutsData, PutsPart, PutsSyn}
 use Rattle.connections.specs.declared.connection.Beginning.{Beginning}
 use Rattle.connections.specs.declared.connection.Connection.{Connection}
 use Rattle.connections.specs.declared.receiver.Judgement.{Judgement}
@@ -33,18 +33,16 @@ module _ {T : Type 0} (s : Segment) (old : Connection T) (j : Judgement) (mid no
       subst (λ x. LeavesOutPart x (judgement_of s old) s (noting (judgement_of s old) s (counted s old)) new) (sym b)
       (subst (λ m. LeavesOutSyn s m new) behind p)
 
-  pub part_accepted : (part : Segment) → begins s ≡ false → part ≡ part_by j s → Puts part noted new → Accepts s old new
-  part_accepted part b is p =
+  pub part_accepted : begins s ≡ false → PutsData (adds_nothing j s) (part_by j s) noted new → Accepts s old new
+  part_accepted b p =
       subst (λ x. PutsPart x (judgement_of s old) s (noting (judgement_of s old) s (counted s old)) new) (sym b)
-      (subst (λ m. Puts (part_by (judgement_of s old) s) m new) behind
-      (subst (λ x. Puts x noted new) (is ∙ ap (λ x. part_by x s) judged) p))
+      (subst (λ m. PutsData (adds_nothing (judgement_of s old) s) (part_by (judgement_of s old) s) m new) behind
+      (subst (λ x. PutsData (adds_nothing x s) (part_by x s) noted new) judged p))
 
-  pub part_left_out : (part : Segment) → begins s ≡ false → part ≡ part_by j s → new ≡ without_bytes part noted
-      → LeavesOut s old new
-  part_left_out part b is p =
+  pub part_left_out : begins s ≡ false → new ≡ without_bytes (part_by j s) noted → LeavesOut s old new
+  part_left_out b p =
       subst (λ x. LeavesOutPart x (judgement_of s old) s (noting (judgement_of s old) s (counted s old)) new) (sym b)
-      (p ∙ ap (λ x. without_bytes x noted) (is ∙ ap (λ x. part_by x s) judged)
-      ∙ ap (without_bytes (part_by (judgement_of s old) s)) behind)
+      (p ∙ ap (λ x. without_bytes (part_by x s) noted) judged ∙ ap (without_bytes (part_by (judgement_of s old) s)) behind)
 
 module _ {T : Type 0} where
   pub began : (b : Beginning) (silent begun its : Connection T) → IsBegunBy b.first silent → Accepts b.first silent begun

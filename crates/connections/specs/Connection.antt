@@ -1,7 +1,7 @@
 -- What is held of a connection.
 use Rattle.std.specs.Prelude.{◌≡◌, ◌⊎◌, ℕ, ◌==◌, Bool, true, false, ◌&&◌, ◌||◌, not, is_some, Option, Some, None, if◌then◌else◌, [], length}
 use Rattle.connections.specs.Ends.{is_end}
-use Rattle.connections.specs.Segment.{acknowledges, answers, begins, begins_stream, first_of, bytes_alone, IsWithoutData}
+use Rattle.connections.specs.Segment.{acknowledges, answers, begins, begins_stream, bytes_alone, first_of, has_data, IsWithoutData}
 use Rattle.connections.specs.Hosts.{damaged_before, has_fin_of, host_after, later, silent_host, with_checksum, with_taken}
 use Rattle.connections.specs.Receiver.{is_damaged, judge}
 use Rattle.connections.specs.Dropped.{none_dropped, with_damaged, with_dropped}
@@ -59,6 +59,13 @@ part_by judgement.Again s = bytes_alone s
 part_by judgement.Taken s = s
 part_by (judgement.Waiting r) s = s
 part_by (judgement.Dropped r) s = s
+
+-- One without data that its receiver has adds nothing: neither an old acknowledgement, nor one of what was never sent.
+abbrev pub adds_nothing : Judgement → Segment → Bool
+adds_nothing judgement.Again s = not (has_data s)
+adds_nothing judgement.Taken s = false
+adds_nothing (judgement.Waiting r) s = false
+adds_nothing (judgement.Dropped r) s = false
 
 -- A segment goes on behind a SYN of its sender's, or it shows that its sender takes the answer to its SYN.
 abbrev pub goes_on : Segment → Bool
@@ -213,9 +220,13 @@ module _ {T : Type 0} where
 
   -- A segment is counted, what it says of its sender is noted, and its bytes are put into its sender's stream; those of a SYN wait. The other
   -- side, the ends and the caller's value stay.
+  abbrev pub PutsData : Bool → Segment → Connection T → Connection T → Type 0
+  PutsData true part old new = new ≡ old
+  PutsData false part old new = Puts part old new
+
   abbrev pub PutsPart : Bool → Judgement → Segment → Connection T → Connection T → Type 0
   PutsPart true j s old new = PutsSyn s old new
-  PutsPart false j s old new = Puts (part_by j s) old new
+  PutsPart false j s old new = PutsData (adds_nothing j s) (part_by j s) old new
 
   abbrev pub Accepts : Segment → Connection T → Connection T → Type 0
   Accepts s old new = PutsPart (begins s) (judgement_of s old) s (noting (judgement_of s old) s (counted s old)) new

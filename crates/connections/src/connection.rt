@@ -1,7 +1,7 @@
 //! A connection of TCP, or an exchange over UDP.
 ghost use Rattle.std.specs.Prelude.{◌≡◌, IfOk, IfSome, OnOk, OnErr, Some, true};
 ghost use Rattle.connections.specs.declared.receiver.Reason.TheVariants as reason;
-ghost use Rattle.connections.specs.Connection.{begun_by_datagram, confirms as confirms_answer, counted as counting, dropped_from, part_by, goes_on_behind, has_opening, hosts_of, is_closed, is_datagram_damaged, last_of, judgement_of, noting, sent_by, side_of, silent, start_of, stream_of, with_datagram, without_bytes, Accepts, Begins, ChangesCountsAlone, IsAfter, IsAnew, IsBegunBy, LeavesOut, LeavesOutSyn, NoneWaits, Puts, PutsSyn, Shows, TakesDatagramIn};
+ghost use Rattle.connections.specs.Connection.{adds_nothing as adds_none, begun_by_datagram, confirms as confirms_answer, counted as counting, dropped_from, goes_on_behind, has_opening, hosts_of, is_closed, is_datagram_damaged, judgement_of, last_of, noting, part_by, sent_by, side_of, silent, start_of, stream_of, with_datagram, without_bytes, Accepts, Begins, ChangesCountsAlone, IsAfter, IsAnew, IsBegunBy, LeavesOut, LeavesOutSyn, NoneWaits, Puts, PutsData, PutsSyn, Shows, TakesDatagramIn};
 
 use crate::datagram::Datagram;
 use crate::dropped::Dropped;
@@ -94,6 +94,13 @@ fn part_of<'a>(segment: &Segment<'a>, judgement: Judgement) -> Segment<'a>
         Judgement::Again => segment.bytes_alone(),
         Judgement::Taken | Judgement::Waiting(_) | Judgement::Dropped(_) => *segment,
     }
+}
+
+/// Whether a segment adds nothing to its sender's stream: it has no data, and its receiver had it, or doesn't heed it.
+fn adds_nothing(segment: &Segment<'_>, judgement: Judgement) -> bool
+    ensures { result ≡ adds_none judgement segment.now }
+{
+    matches!(judgement, Judgement::Again) && !segment.has_data()
 }
 
 /// What a connection is to a segment between its ends.
@@ -466,22 +473,19 @@ impl<T: Listener> Connection<T> {
         Ok(())
     }
 
-    /// Lets those go that wait and that a segment shows to be forged, if its receiver takes it.
+    /// Lets those go that wait and that a segment shows to be forged, which its receiver takes.
     fn forget_belied(&mut self, segment: &Segment<'_>)
         ensures { ChangesCountsAlone self.old self.new }
     {
-        if self.judge(segment) != Judgement::Taken {
-            return;
-        }
-        match self.side_of(segment.source) {
-            Side::Originator => {
-                self.waiting
-                    .forget_belied(segment, &mut self.responder_dropped)
-            }
-            Side::Responder => {
-                self.waiting
-                    .forget_belied(segment, &mut self.originator_dropped)
-            }
+        let side = self.side_of(segment.source);
+        let reached = self.stream(side).front().reached.unwrap_or(segment.first());
+        match side {
+            Side::Originator => self
+                .waiting
+                .forget_belied(segment, reached, &mut self.responder_dropped),
+            Side::Responder => self
+                .waiting
+                .forget_belied(segment, reached, &mut self.originator_dropped),
         }
     }
 
@@ -490,7 +494,9 @@ impl<T: Listener> Connection<T> {
     pub(crate) fn take_waiting(&mut self, segment: &Segment<'_>) -> Option<Told>
         ensures { ChangesCountsAlone self.old self.new }
     {
-        self.forget_belied(segment);
+        if self.judge(segment) == Judgement::Taken {
+            self.forget_belied(segment);
+        }
         let other = self.hosts(segment).1;
         let (sent, fin) = (other.next, other.fin);
         let Some(kept) = self.waiting.take(segment, sent, fin) else {
@@ -609,6 +615,22 @@ impl<T: Listener> Connection<T> {
         if segment.begins() {
             return self.put_syn(alloc, segment, judgement);
         }
+        self.put_part(alloc, segment, judgement)
+    }
+
+    /// Puts what a segment adds into its sender's stream.
+    fn put_part(
+        &mut self,
+        alloc: Global,
+        segment: &Segment<'_>,
+        judgement: Judgement,
+    ) -> Result<(), AllocError>
+        ensures taken { OnOk result (PutsData (adds_none judgement segment.now) (part_by judgement segment.now) self.old self.new) }
+        ensures left_out { OnErr result (self.new ≡ without_bytes (part_by judgement segment.now) self.old) }
+    {
+        if adds_nothing(segment, judgement) {
+            return Ok(());
+        }
         self.put(alloc, &part_of(segment, judgement))
     }
 
@@ -628,6 +650,7 @@ impl<T: Listener> Connection<T> {
 
     /// Puts a segment that waited into its sender's stream; the data of a SYN was counted with it.
     pub(crate) fn accept_kept(&mut self, alloc: Global, kept: &Kept) -> Result<(), AllocError> {
+        self.forget_belied(&kept.segment());
         if kept.is_of_syn() {
             return self.put(alloc, &kept.segment());
         }

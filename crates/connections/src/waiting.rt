@@ -19,6 +19,11 @@ pub const MAX_WAITING: usize = 32;
 /// How many bytes of data they have together, at most.
 const MAX_BYTES: usize = 0x1_0000;
 
+/// So much of both is left to segments that begin in the window, and acknowledge what was sent: most that is forged does neither.
+const KEPT_FREE: usize = 8;
+
+const BYTES_FREE: usize = 0x4000;
+
 /// A segment that waits.
 #[derive(Drop)]
 pub struct Kept {
@@ -69,16 +74,16 @@ impl Kept {
             && self.fits_to(teller, sent)
     }
 
-    /// Where it acknowledges what wasn't known to be sent, or begins behind the window: whether a segment acknowledges it whole, or not more than was
-    /// known to be sent; and, of the former, whether that comes behind what this one acknowledges.
+    /// Of one that isn't the data of a SYN: whether a segment comes behind what this one acknowledges. Where that wasn't known to be sent, or where this one
+    /// begins behind the window: whether that segment acknowledges it whole, or not more than was known to be sent.
     fn fits_to(&self, teller: &Segment<'_>, sent: Option<u32>) -> bool {
-        let is_of_unsent = self.reason == Some(Reason::Acknowledgment);
-        if !is_of_unsent && !self.is_beyond {
+        if self.is_of_syn() {
             return true;
         }
+        let is_unsure = self.reason == Some(Reason::Acknowledgment) || self.is_beyond;
         let is_whole = teller.acknowledgment == self.segment().end();
-        (is_sent(teller, sent) || is_whole)
-            && !(is_of_unsent && is_behind(self.header.acknowledgment, teller.first()))
+        (!is_unsure || is_sent(teller, sent) || is_whole)
+            && !is_behind(self.header.acknowledgment, teller.first())
     }
 
     /// Whether it goes on where another one ends, or the other where it does.
@@ -88,15 +93,6 @@ impl Kept {
             && (segment.first() == beside.end() || beside.first() == segment.end())
     }
 
-    /// Whether a segment of its receiver's shows that it is forged: it has bytes on both sides of what this one acknowledged before they came.
-    fn is_belied_by(&self, segment: &Segment<'_>) -> bool {
-        let number = self.header.acknowledgment;
-        self.reason == Some(Reason::Acknowledgment)
-            && self.header.destination == segment.source
-            && is_behind(number, segment.first())
-            && is_behind(segment.behind(), number)
-    }
-
     /// Cuts off what stands behind this number; a FIN there too.
     fn cut(&mut self, number: u32) {
         if is_behind(self.segment().end(), number) {
@@ -104,6 +100,22 @@ impl Kept {
             self.payload.truncate(len);
             self.header = self.header.without_fin();
         }
+    }
+
+    /// Whether a segment of its receiver's, which comes behind that number, shows that it is forged: it acknowledges a part of what stands between the number
+    /// and the segment's end, and came before that.
+    fn is_belied_by(&self, segment: &Segment<'_>, reached: u32) -> bool {
+        let (number, first) = (self.header.acknowledgment, segment.first());
+        let begin = if is_behind(first, reached) {
+            reached
+        } else {
+            first
+        };
+        !self.is_of_syn()
+            && self.header.destination == segment.source
+            && is_behind(number, begin)
+            && is_behind(segment.behind(), number)
+            && number != first
     }
 }
 
@@ -162,8 +174,18 @@ impl Waiting {
         reason: Option<Reason>,
         is_beyond: bool,
     ) -> Result<bool, AllocError> {
-        let bytes = self.bytes().saturating_add(segment.payload.len());
-        if self.kept.len() >= MAX_WAITING || bytes > MAX_BYTES {
+        let is_unsure = reason == Some(Reason::Acknowledgment) || is_beyond;
+        let (count, bytes) = if is_unsure {
+            (KEPT_FREE, BYTES_FREE)
+        } else {
+            (0, 0)
+        };
+        let count = self.kept.len().saturating_add(count);
+        let bytes = self
+            .bytes()
+            .saturating_add(segment.payload.len())
+            .saturating_add(bytes);
+        if count >= MAX_WAITING || bytes > MAX_BYTES {
             return Ok(false);
         }
         self.push(alloc, segment, reason, is_beyond)?;
@@ -211,14 +233,20 @@ impl Waiting {
             || self.kept.iter().any(|other| kept.is_beside(other))
     }
 
-    /// Lets those go that a segment shows to be forged, and counts them as dropped.
-    pub(crate) fn forget_belied(&mut self, segment: &Segment<'_>, dropped: &mut Dropped) {
+    /// Lets those go that a segment shows to be forged, which comes behind that number, and counts them as dropped.
+    pub(crate) fn forget_belied(
+        &mut self,
+        segment: &Segment<'_>,
+        reached: u32,
+        dropped: &mut Dropped,
+    ) {
         for kept in &self.kept {
-            if kept.is_belied_by(segment) {
-                dropped.add(Reason::Acknowledgment);
+            if let (true, Some(reason)) = (kept.is_belied_by(segment, reached), kept.reason) {
+                dropped.add(reason);
             }
         }
-        self.kept.retain(|kept| !kept.is_belied_by(segment));
+        self.kept
+            .retain(|kept| !kept.is_belied_by(segment, reached));
     }
 
     /// Where the first one waits of which a segment shows that its sender took bytes.

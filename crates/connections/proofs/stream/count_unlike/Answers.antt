@@ -1,4 +1,4 @@
-use Rattle.std.proofs.Common.{◌≡◌, ◌≤◌, ◌+◌, length, min, subst, arith}
+use Rattle.std.proofs.Common.{◌≤◌, subst, arith}
 use Rattle.connections.proofs.StreamLemmas.{unlike_rest}
 use Rattle.connections.proofs.stream.count_unlike.Goals as goal
 

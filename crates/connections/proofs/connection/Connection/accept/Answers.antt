@@ -18,14 +18,14 @@ returns-then-begins-clause-left_out g c =
 
 pub returns-clause-taken : goal.returns-clause-taken
 returns-clause-taken g c =
-    where_ok c.put.result
-    (part_accepted c.args.segment.now c.args.self.now c.judge-judgement.result c.count.new.self c.note.new.self c.put.new.self
-    c.judge-judgement.ensures c.count.ensures c.note.ensures c.part_of.result (sym c.begins.ensures ∙ c.if-begins.false) c.part_of.ensures)
-    c.put.ensures.taken
+    where_ok c.put_part.result
+    (part_accepted c.args.segment.now c.args.self.now c.judge-judgement.result c.count.new.self c.note.new.self c.put_part.new.self
+    c.judge-judgement.ensures c.count.ensures c.note.ensures (sym c.begins.ensures ∙ c.if-begins.false))
+    c.put_part.ensures.taken
 
 pub returns-clause-left_out : goal.returns-clause-left_out
 returns-clause-left_out g c =
-    where_err c.put.result
-    (part_left_out c.args.segment.now c.args.self.now c.judge-judgement.result c.count.new.self c.note.new.self c.put.new.self
-    c.judge-judgement.ensures c.count.ensures c.note.ensures c.part_of.result (sym c.begins.ensures ∙ c.if-begins.false) c.part_of.ensures)
-    c.put.ensures.left_out
+    where_err c.put_part.result
+    (part_left_out c.args.segment.now c.args.self.now c.judge-judgement.result c.count.new.self c.note.new.self c.put_part.new.self
+    c.judge-judgement.ensures c.count.ensures c.note.ensures (sym c.begins.ensures ∙ c.if-begins.false))
+    c.put_part.ensures.left_out
