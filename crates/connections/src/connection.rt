@@ -13,7 +13,7 @@ use crate::receiver::{
 use crate::segment::{Checksum, Segment};
 use crate::stream::Stream;
 use crate::traffic::Traffic;
-use crate::waiting::{Kept, Told, Waiting};
+use crate::waiting::{Kept, Known, Told, Waiting};
 use std::alloc::{AllocError, Global};
 
 /// A value of a caller that goes with a connection.
@@ -473,13 +473,28 @@ impl<T: Listener> Connection<T> {
         Ok(())
     }
 
+    /// The number behind all that came in order of a segment's sender; that of the segment, where none is known.
+    fn reached_at(&self, segment: &Segment<'_>) -> u32 {
+        let front = self.stream(self.side_of(segment.source)).front();
+        front.reached.unwrap_or(segment.first())
+    }
+
+    /// What is known as a segment comes.
+    fn known_at(&self, segment: &Segment<'_>) -> Known {
+        let receiver = self.hosts(segment).1;
+        Known {
+            sent: receiver.next,
+            reached: self.reached_at(segment),
+            fin: receiver.fin,
+        }
+    }
+
     /// Lets those go that wait and that a segment shows to be forged, which its receiver takes.
     fn forget_belied(&mut self, segment: &Segment<'_>)
         ensures { ChangesCountsAlone self.old self.new }
     {
-        let side = self.side_of(segment.source);
-        let reached = self.stream(side).front().reached.unwrap_or(segment.first());
-        match side {
+        let reached = self.reached_at(segment);
+        match self.side_of(segment.source) {
             Side::Originator => self
                 .waiting
                 .forget_belied(segment, reached, &mut self.responder_dropped),
@@ -497,9 +512,8 @@ impl<T: Listener> Connection<T> {
         if self.judge(segment) == Judgement::Taken {
             self.forget_belied(segment);
         }
-        let other = self.hosts(segment).1;
-        let (sent, fin) = (other.next, other.fin);
-        let Some(kept) = self.waiting.take(segment, sent, fin) else {
+        let known = self.known_at(segment);
+        let Some(kept) = self.waiting.take(segment, known) else {
             self.waiting.forget_data_of_syn(segment.source);
             return None;
         };

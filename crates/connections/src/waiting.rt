@@ -64,26 +64,28 @@ impl Kept {
 
     /// Whether a segment shows that its sender took bytes of this one: it acknowledges them, and nothing behind all that was sent; and it comes
     /// behind what this one acknowledges, if that wasn't known to be sent.
-    fn is_told_by(&self, teller: &Segment<'_>, sent: Option<u32>) -> bool {
+    fn is_told_by(&self, teller: &Segment<'_>, known: Known) -> bool {
         let (number, segment) = (teller.acknowledgment, self.segment());
         segment.destination == teller.source
             && segment.takes_numbers()
             && !segment.begins()
             && is_behind(number, segment.first())
-            && !is_behind(number, later(sent, segment.end()))
-            && self.fits_to(teller, sent)
+            && !is_behind(number, later(known.sent, segment.end()))
+            && (self.is_of_syn() || (self.fits_to(teller, known) && self.stands(teller, known)))
     }
 
-    /// Of one that isn't the data of a SYN: whether a segment comes behind what this one acknowledges. Where that wasn't known to be sent, or where this one
-    /// begins behind the window: whether that segment acknowledges it whole, or not more than was known to be sent.
-    fn fits_to(&self, teller: &Segment<'_>, sent: Option<u32>) -> bool {
-        if self.is_of_syn() {
-            return true;
-        }
+    /// Where it acknowledges what wasn't known to be sent, or begins behind the window: whether a segment acknowledges it whole, or not more than was known
+    /// to be sent.
+    fn fits_to(&self, teller: &Segment<'_>, known: Known) -> bool {
         let is_unsure = self.reason == Some(Reason::Acknowledgment) || self.is_beyond;
         let is_whole = teller.acknowledgment == self.segment().end();
-        (!is_unsure || is_sent(teller, sent) || is_whole)
-            && !is_behind(self.header.acknowledgment, teller.first())
+        !is_unsure || known.covers(teller) || is_whole
+    }
+
+    /// Whether what it acknowledges was sent, where a segment came: all of that came, or that segment begins there.
+    fn stands(&self, teller: &Segment<'_>, known: Known) -> bool {
+        let number = self.header.acknowledgment;
+        !is_behind(number, known.reached) || number == teller.first()
     }
 
     /// Whether it goes on where another one ends, or the other where it does.
@@ -119,11 +121,24 @@ impl Kept {
     }
 }
 
-/// Whether a segment acknowledges no more than is known to be sent.
-fn is_sent(teller: &Segment<'_>, sent: Option<u32>) -> bool {
-    match sent {
-        Some(next) => !is_behind(teller.acknowledgment, next),
-        None => false,
+/// What is known as a segment comes that tells what was taken.
+#[derive(Clone, Copy)]
+pub(crate) struct Known {
+    /// The number behind all that its receiver sent.
+    pub(crate) sent: Option<u32>,
+    /// The number behind all that came in order of its sender.
+    pub(crate) reached: u32,
+    /// The number of its receiver's FIN.
+    pub(crate) fin: Option<u32>,
+}
+
+impl Known {
+    /// Whether the segment acknowledges no more than is known to be sent.
+    fn covers(self, teller: &Segment<'_>) -> bool {
+        match self.sent {
+            Some(next) => !is_behind(teller.acknowledgment, next),
+            None => false,
+        }
     }
 }
 
@@ -226,10 +241,10 @@ impl Waiting {
 
     /// Whether a segment that begins behind the window, and of which another one acknowledges more than is known to be sent, stands in a row with what
     /// was sent, or with one that waits too: a forged one stands alone.
-    fn is_in_row(&self, kept: &Kept, teller: &Segment<'_>, sent: Option<u32>) -> bool {
+    fn is_in_row(&self, kept: &Kept, teller: &Segment<'_>, known: Known) -> bool {
         !kept.is_beyond
-            || is_sent(teller, sent)
-            || sent == Some(kept.segment().first())
+            || known.covers(teller)
+            || known.sent == Some(kept.segment().first())
             || self.kept.iter().any(|other| kept.is_beside(other))
     }
 
@@ -250,12 +265,12 @@ impl Waiting {
     }
 
     /// Where the first one waits of which a segment shows that its sender took bytes.
-    fn place_told(&self, teller: &Segment<'_>, sent: Option<u32>) -> Option<usize>
+    fn place_told(&self, teller: &Segment<'_>, known: Known) -> Option<usize>
         ensures { IfSome result (λ place. place < length self.now.kept.items) }
     {
         for place in 0..self.kept.len() {
             let kept = &self.kept[place];
-            if kept.is_told_by(teller, sent) && self.is_in_row(kept, teller, sent) {
+            if kept.is_told_by(teller, known) && self.is_in_row(kept, teller, known) {
                 return Some(place);
             }
         }
@@ -263,17 +278,12 @@ impl Waiting {
     }
 
     /// Takes out the first segment of which this one shows that its sender took bytes, without what stands behind these, or behind the other end's
-    /// FIN. The number behind all that this end sent is `sent`.
-    pub(crate) fn take(
-        &mut self,
-        teller: &Segment<'_>,
-        sent: Option<u32>,
-        fin: Option<u32>,
-    ) -> Option<Kept> {
-        let place = self.place_told(teller, sent)?;
+    /// FIN.
+    pub(crate) fn take(&mut self, teller: &Segment<'_>, known: Known) -> Option<Kept> {
+        let place = self.place_told(teller, known)?;
         let mut kept = self.kept.remove(place);
         kept.cut(teller.acknowledgment);
-        if let Some(number) = fin {
+        if let Some(number) = known.fin {
             kept.cut(number);
         }
         Some(kept)
