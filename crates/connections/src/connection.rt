@@ -481,11 +481,12 @@ impl<T: Listener> Connection<T> {
 
     /// What is known as a segment comes.
     fn known_at(&self, segment: &Segment<'_>) -> Known {
-        let receiver = self.hosts(segment).1;
+        let (sender, receiver) = self.hosts(segment);
         Known {
             sent: receiver.next,
             reached: self.reached_at(segment),
             fin: receiver.fin,
+            edge: edge(receiver, sender),
         }
     }
 
@@ -493,14 +494,21 @@ impl<T: Listener> Connection<T> {
     fn forget_belied(&mut self, segment: &Segment<'_>)
         ensures { ChangesCountsAlone self.old self.new }
     {
-        let reached = self.reached_at(segment);
-        match self.side_of(segment.source) {
-            Side::Originator => self
-                .waiting
-                .forget_belied(segment, reached, &mut self.responder_dropped),
-            Side::Responder => self
-                .waiting
-                .forget_belied(segment, reached, &mut self.originator_dropped),
+        let (side, reached) = (self.side_of(segment.source), self.reached_at(segment));
+        let (waiting, by_originator, by_responder) = (
+            &mut self.waiting,
+            &mut self.originator_dropped,
+            &mut self.responder_dropped,
+        );
+        match side {
+            Side::Originator => {
+                waiting.forget_unsent(segment, by_originator);
+                waiting.forget_belied(segment, reached, by_responder);
+            }
+            Side::Responder => {
+                waiting.forget_unsent(segment, by_responder);
+                waiting.forget_belied(segment, reached, by_originator);
+            }
         }
     }
 

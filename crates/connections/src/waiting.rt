@@ -74,12 +74,14 @@ impl Kept {
             && (self.is_of_syn() || (self.fits_to(teller, known) && self.stands(teller, known)))
     }
 
-    /// Where it acknowledges what wasn't known to be sent, or begins behind the window: whether a segment acknowledges it whole, or not more than was known
-    /// to be sent.
+    /// Whether a segment acknowledges it whole, or not more than was known to be sent; or what the receiver's window had room for, where it acknowledges what
+    /// was sent, and begins in front of the window's end.
     fn fits_to(&self, teller: &Segment<'_>, known: Known) -> bool {
+        let number = teller.acknowledgment;
         let is_unsure = self.reason == Some(Reason::Acknowledgment) || self.is_beyond;
-        let is_whole = teller.acknowledgment == self.segment().end();
-        !is_unsure || known.covers(teller) || is_whole
+        known.covers(teller)
+            || number == self.segment().end()
+            || (!is_unsure && known.edge == Some(number))
     }
 
     /// Whether what it acknowledges was sent, where a segment came: all of that came, or that segment begins there.
@@ -93,6 +95,16 @@ impl Kept {
         let (segment, beside) = (self.segment(), other.segment());
         segment.source == beside.source
             && (segment.first() == beside.end() || beside.first() == segment.end())
+    }
+
+    /// Whether a segment of its sender's shows that it is forged: without data, that segment stands in front of it, and acknowledges more.
+    fn is_unsent_by(&self, segment: &Segment<'_>) -> bool {
+        !self.is_of_syn()
+            && !self.begins()
+            && self.header.source == segment.source
+            && !segment.takes_numbers()
+            && !is_behind(segment.first(), self.segment().first())
+            && is_behind(segment.acknowledgment, self.header.acknowledgment)
     }
 
     /// Cuts off what stands behind this number; a FIN there too.
@@ -130,6 +142,8 @@ pub(crate) struct Known {
     pub(crate) reached: u32,
     /// The number of its receiver's FIN.
     pub(crate) fin: Option<u32>,
+    /// The number behind its sender's window.
+    pub(crate) edge: Option<u32>,
 }
 
 impl Known {
@@ -248,7 +262,17 @@ impl Waiting {
             || self.kept.iter().any(|other| kept.is_beside(other))
     }
 
-    /// Lets those go that a segment shows to be forged, which comes behind that number, and counts them as dropped.
+    /// Lets those go that a segment of their sender's shows to be forged, and counts them as dropped.
+    pub(crate) fn forget_unsent(&mut self, segment: &Segment<'_>, dropped: &mut Dropped) {
+        for kept in &self.kept {
+            if let (true, Some(reason)) = (kept.is_unsent_by(segment), kept.reason) {
+                dropped.add(reason);
+            }
+        }
+        self.kept.retain(|kept| !kept.is_unsent_by(segment));
+    }
+
+    /// Lets those go that a segment of their receiver's shows to be forged, which comes behind that number, and counts them as dropped.
     pub(crate) fn forget_belied(
         &mut self,
         segment: &Segment<'_>,
