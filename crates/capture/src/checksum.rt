@@ -1,5 +1,5 @@
 //! The checksums of IPv4, TCP and UDP (RFC 1071).
-ghost use Rattle.std.specs.Prelude.{◌≡◌, ◌<◌, ◌%◌, ◌^◌};
+ghost use Rattle.std.specs.Prelude.{◌≡◌, ◌<◌, ◌⊎◌, ◌+◌, ◌*◌, ◌%◌, ◌^◌, length};
 ghost use Rattle.capture.specs.Words.{words as words_of, words4 as words4_of, words8 as words8_of, is_right as is_sum_right};
 ghost use Rattle.capture.specs.Checksum.{address_words as address_words_of, pseudo_words as pseudo_words_of, checksum_by as checksum_by_sums};
 ghost use Rattle.capture.specs.Checksum.{segment_words as segment_words_of, segment_length as segment_length_of, user_words as user_words_of};
@@ -26,18 +26,39 @@ fn folded(sum: u64) -> u64
     sum / 0x1_0000_0000 + sum % 0x1_0000_0000
 }
 
-/// The sum of the words of these bytes, or a number that leaves the same behind when divided by 65,535. Four words at once: 2^32 and 2^16
-/// leave 1 behind.
+/// So many times eight bytes are added up at once.
+const MOST_EIGHTS: u32 = 0x1_0000;
+
+/// The sum of the words of bytes in front, each with its bytes swapped (RFC 1071, section 2), and what stands behind those. Four words at once:
+/// 2^16 leaves 1 behind when divided by 65,535.
+fn sum_of_eights(bytes: &[u8]) -> (u64, &[u8])
+    ensures same { (result.0 * 256 + words_of result.1.now) % 65535 ≡ words_of bytes.now % 65535 }
+    ensures bound { result.0 < 2 ^ 50 }
+    ensures shorter { length result.1.now < 8 ⊎ length result.1.now < length bytes.now }
+{
+    let mut sum = 0_u64;
+    let mut rest = bytes;
+    'eights: for _ in 0..MOST_EIGHTS {
+        let [a, b, c, d, e, f, g, h, behind @ ..] = rest else {
+            break;
+        };
+        let eight = u64::from_le_bytes([*a, *b, *c, *d, *e, *f, *g, *h]);
+        sum += eight % 0x1_0000_0000 + eight / 0x1_0000_0000;
+        rest = behind;
+    }
+    (sum, rest)
+}
+
+/// The sum of the words of these bytes, or a number that leaves the same behind when divided by 65,535.
 pub(crate) fn sum_of(bytes: &[u8]) -> u64
     ensures same { result % 65535 ≡ words_of bytes.now % 65535 }
     ensures bound { result < 2 ^ 34 }
 {
     let mut total = 0_u64;
     let mut rest = bytes;
-    'eights: while let [a, b, c, d, e, f, g, h, behind @ ..] = rest {
-        let upper = u32::from_be_bytes([*a, *b, *c, *d]);
-        let lower = u32::from_be_bytes([*e, *f, *g, *h]);
-        total = folded(total + u64::from(upper) + u64::from(lower));
+    'blocks: while rest.len() >= 8 {
+        let (sum, behind) = sum_of_eights(rest);
+        total = folded(total + folded(sum) * 256);
         rest = behind;
     }
     'twos: while let [a, b, behind @ ..] = rest {

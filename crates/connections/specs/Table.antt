@@ -21,6 +21,10 @@ pub record Table (T : Type 0) : Type 0 where
   pub live : List (Ends × Connection T)
   pub closed : List (Ends × ℕ)
 
+-- One with this last time had no packet for more than the limit, or there are too many.
+abbrev pub IsOverAmong : ℕ → ℕ → ℕ → Type 0
+IsOverAmong count time last = (IDLE_LIMIT < time - last) ⊎ (MAX_CONNECTIONS < count)
+
 module _ {X : Type 0} where
   -- What stands under these ends, and what stands under others.
   abbrev pub at : Ends → List (Ends × X) → Option X
@@ -37,9 +41,9 @@ module _ {X : Type 0} where
     pub ends : Ends
     pub stood : xs ≡ ys ++ (ends, x) ∷ []
 
-  -- One with this last time had no packet for more than the limit, or there are too many.
+  -- One with this last time is over among these.
   abbrev pub IsOver : ℕ → List (Ends × X) → ℕ → Type 0
-  IsOver time xs last = (IDLE_LIMIT < time - last) ⊎ (MAX_CONNECTIONS < length xs)
+  IsOver time xs last = IsOverAmong (length xs) time last
 
 -- From the end on, those were taken out that were over then.
 pub data IsForgotten (time : ℕ) (xs : List (Ends × ℕ)) : List (Ends × ℕ) → Type 0 where
@@ -61,6 +65,12 @@ module _ {T : Type 0} where
   abbrev pub TakesSegment : Segment → Option (Connection T) → Connection T → Type 0
   TakesSegment s (Some c) its = Accepts s c its
   TakesSegment s None its = (c : Connection T) × IsBegunBy s c × Accepts s c its
+
+  -- One that the segment begins stands first, and is no more among those that were closed.
+  pub record BeginsFirst (s : Segment) (e : Ends) (old new : Table T) : Type 0 where
+    pub its : Connection T
+    pub takes : TakesSegment s None its
+    pub stands : new ≡ record { live = (e, its) ∷ others e old.live; closed = others e old.closed }
 
   -- A datagram is counted, and its time noted, in the exchange that is there, or in one that it begins.
   abbrev pub TakesDatagram : Datagram → Option (Connection T) → Connection T → Type 0

@@ -1,11 +1,15 @@
 //! The two ends of a connection.
-ghost use Rattle.std.specs.Prelude.{◌≡◌};
-ghost use Rattle.connections.specs.Ends.{ends_between};
+ghost use Rattle.std.specs.Prelude.{◌≡◌, ◌++◌};
+ghost use Rattle.std.proofs.Common.{rules};
+ghost use Rattle.std.specs.Hash as fed;
+ghost use Rattle.std.specs.Cmp.Rules.{hashing};
+ghost use Rattle.connections.specs.Ends.{address_number, addresses_fed, both_numbers, ends_between, ports_number};
 
+use std::hash::{Hash, Hasher};
 use std::net::IpAddr;
 
 /// What carries a connection.
-#[derive(Clone, Copy, Debug, PartialEq, Eq, Hash)]
+#[derive(Clone, Copy, Debug, PartialEq, Eq)]
 pub enum Protocol {
     /// TCP (RFC 9293).
     Tcp,
@@ -14,7 +18,7 @@ pub enum Protocol {
 }
 
 /// One end of a connection.
-#[derive(Clone, Copy, Debug, PartialEq, Eq, PartialOrd, Ord, Hash)]
+#[derive(Clone, Copy, Debug, PartialEq, Eq, PartialOrd, Ord)]
 pub struct End {
     /// Its address.
     pub address: IpAddr,
@@ -23,7 +27,7 @@ pub struct End {
 }
 
 /// Between whom packets go: both directions have the same.
-#[derive(Clone, Copy, Debug, PartialEq, Eq, Hash)]
+#[derive(Clone, Copy, Debug, PartialEq, Eq)]
 pub struct Ends {
     protocol: Protocol,
     lower: End,
@@ -48,5 +52,53 @@ impl Ends {
                 upper: one,
             }
         }
+    }
+}
+
+/// An address as a number, big-endian.
+fn address_bits(address: IpAddr) -> u128
+    ensures { result ≡ address_number address }
+{
+    match address {
+        IpAddr::V4(four) => u128::from(four.to_bits()),
+        IpAddr::V6(sixteen) => sixteen.to_bits(),
+    }
+}
+
+/// Two numbers of 32 bits as one.
+fn both_bits(upper: u32, lower: u32) -> u64
+    ensures { result ≡ both_numbers upper lower }
+{
+    u64::from(upper) * 0x1_0000_0000 + u64::from(lower)
+}
+
+/// Two ports and a protocol as one number.
+fn port_bits(one: u16, other: u16, protocol: Protocol) -> u64
+    ensures { result ≡ ports_number one other protocol }
+{
+    let ports = u64::from(one) * 0x1_0000 + u64::from(other);
+    match protocol {
+        Protocol::Tcp => ports * 2,
+        Protocol::Udp => ports * 2 + 1,
+    }
+}
+
+// In whole words, of which a hash is made fastest: few where both are of IPv4.
+impl Hash for Ends {
+    ghost hash_input = { λ e. addresses_fed e.lower.address e.upper.address ++ fed.u64 (ports_number e.lower.port e.upper.port e.protocol) };
+
+    ghost respects_eq = { Prim.search (hashing, rules) };
+
+    fn hash<H: Hasher>(&self, state: &mut H) {
+        match (self.lower.address, self.upper.address) {
+            (IpAddr::V4(lower), IpAddr::V4(upper)) => {
+                both_bits(lower.to_bits(), upper.to_bits()).hash(state);
+            }
+            (lower, upper) => {
+                address_bits(lower).hash(state);
+                address_bits(upper).hash(state);
+            }
+        }
+        port_bits(self.lower.port, self.upper.port, self.protocol).hash(state);
     }
 }

@@ -1,9 +1,9 @@
 //! The connections that are open.
-ghost use Rattle.std.specs.Prelude.{◌≡◌, ◌-◌, ◌^◌, ◌≤◌, length, is_some, true, IfOk, IfSome, IfNone, OnErr, OnOk, [], ◌∷◌};
+ghost use Rattle.std.specs.Prelude.{◌≡◌, ◌-◌, ◌^◌, ◌≤◌, length, is_some, true, false, IfOk, IfSome, IfNone, OnErr, OnOk, [], ◌∷◌};
 ghost use Rattle.std.specs.Borrow.{sem};
 ghost use Rattle.std.specs.Option.{option_copied_mut, option_map};
 ghost use Rattle.connections.specs.Segment.{ends_of};
-ghost use Rattle.connections.specs.Table.{at, belongs, closed_behind, ended, is_damaged_in, judgement_in, others, without_ended, BeginsAfter, Drops, DropsDatagram, IsForgotten, IsOver, IsPut, LeavesOutAt, NoneIsOver, NoneToForget, Puts, Replaced, Restarts, TakesDatagram, WasLast};
+ghost use Rattle.connections.specs.Table.{at, belongs, closed_behind, ended, is_damaged_in, judgement_in, others, without_ended, BeginsAfter, BeginsFirst, Drops, DropsDatagram, IsForgotten, IsOver, IsOverAmong, IsPut, LeavesOutAt, NoneIsOver, NoneToForget, Puts, Replaced, Restarts, TakesDatagram, WasLast};
 ghost use Rattle.connections.specs.Datagram.{ends_of_datagram};
 ghost use Rattle.connections.specs.Lends.{lends_connection};
 
@@ -61,6 +61,14 @@ fn put_under<X: Drop>(
     Ok(())
 }
 
+/// Whether one with this last time had no packet for more than [`IDLE_LIMIT`], or there are more than [`MAX_CONNECTIONS`].
+fn is_over(time: u64, last_time: u64, count: usize) -> bool
+    ensures over { result ≡ true → IsOverAmong count time last_time }
+    ensures not_over { result ≡ false → ¬ IsOverAmong count time last_time }
+{
+    time.saturating_sub(last_time) > IDLE_LIMIT || count > MAX_CONNECTIONS
+}
+
 /// Forgets those that had no packet for more than [`IDLE_LIMIT`], and the oldest where there are more than [`MAX_CONNECTIONS`].
 fn forget_idle(closed: &mut LruCache<Ends, u64, RandomState>, time: u64)
     ensures forgotten { IsForgotten time closed.old.entries closed.new.entries }
@@ -68,8 +76,7 @@ fn forget_idle(closed: &mut LruCache<Ends, u64, RandomState>, time: u64)
     ensures cap { closed.new.cap ≡ closed.old.cap }
 {
     while let Some((_, last_time)) = closed.peek_lru() {
-        let is_idle = time.saturating_sub(*last_time) > IDLE_LIMIT;
-        if !is_idle && closed.len() <= MAX_CONNECTIONS {
+        if !is_over(time, *last_time, closed.len()) {
             break;
         }
         closed.pop_lru();
@@ -159,6 +166,19 @@ impl<T: Listener> Connections<T> {
         }
     }
 
+    /// Puts a segment into a connection that it begins.
+    fn begin(&mut self, ends: Ends, segment: &Segment<'_>) -> Result<(), AllocError>
+        ensures begun { OnOk result (BeginsFirst segment.now ends self.old self.new) }
+        ensures err { OnErr result (self.new ≡ self.old) }
+    {
+        let alloc = self.alloc;
+        let mut connection = Connection::of_segment(alloc, segment);
+        connection.accept(alloc, segment)?;
+        put_under(&mut self.live, ends, connection)?;
+        self.closed.pop(&ends);
+        Ok(())
+    }
+
     /// Puts the segment into the connection between its ends, and says whether there is one. There is none where the segment
     /// neither begins one nor has data, or where the last one was closed.
     ///
@@ -180,10 +200,7 @@ impl<T: Listener> Connections<T> {
         if !segment.begins_one() || (!segment.begins() && self.closed.contains(&ends)) {
             return Ok(false);
         }
-        let mut connection = Connection::of_segment(alloc, segment);
-        connection.accept(alloc, segment)?;
-        put_under(&mut self.live, ends, connection)?;
-        self.closed.pop(&ends);
+        self.begin(ends, segment)?;
         Ok(true)
     }
 
@@ -257,6 +274,23 @@ impl<T: Listener> Connections<T> {
         self.closed.contains(ends)
     }
 
+    /// Whether one is over at this time, or is to be forgotten of those that were closed: where none is, [`Connections::take_idle`] changes
+    /// nothing.
+    pub fn has_idle(&self, time: u64) -> bool
+        ensures none { result ≡ false → NoneIsOver time self.now.live × NoneToForget time self.now.closed }
+        ensures one { NoneIsOver time self.now.live → NoneToForget time self.now.closed → result ≡ false }
+    {
+        let is_live_over = match self.live.peek_lru() {
+            Some((_, oldest)) => is_over(time, oldest.last_time, self.live.len()),
+            None => false,
+        };
+        let is_closed_over = match self.closed.peek_lru() {
+            Some((_, last_time)) => is_over(time, *last_time, self.closed.len()),
+            None => false,
+        };
+        is_live_over || is_closed_over
+    }
+
     /// Takes out the connection that was longest without a packet, where it is over at this time: it had none for more than
     /// [`IDLE_LIMIT`], or there are more than [`MAX_CONNECTIONS`]. To be called until there is none.
     pub fn take_idle(&mut self, time: u64) -> Option<Connection<T>>
@@ -267,8 +301,7 @@ impl<T: Listener> Connections<T> {
     {
         forget_idle(&mut self.closed, time);
         let (_, oldest) = self.live.peek_lru()?;
-        let is_idle = time.saturating_sub(oldest.last_time) > IDLE_LIMIT;
-        if !is_idle && self.live.len() <= MAX_CONNECTIONS {
+        if !is_over(time, oldest.last_time, self.live.len()) {
             return None;
         }
         let (_, connection) = self.live.pop_lru()?;

@@ -40,8 +40,8 @@ pub struct Heard<K> {
     said: Said,
     // Whether the originator is the server of TLS.
     is_turned: bool,
-    // Who keeps the messages, where they are kept.
-    keeper: Option<K>,
+    // Who keeps the messages, where they are kept: in a place of its own, since most logs keep none.
+    keeper: Option<Box<K>>,
     // Over TCP, the records of each side, encrypted ones too.
     from_originator: Records,
     from_responder: Records,
@@ -146,17 +146,22 @@ impl<K: Keeper> Heard<K> {
     }
 
     /// Keeps the messages that come from here on.
-    pub(crate) fn keep_messages(&mut self)
+    pub(crate) fn keep_messages(&mut self) -> Result<(), AllocError>
         ensures { self.new.said ≡ self.old.said }
     {
         if self.keeper.is_none() {
-            self.keeper = Some(K::begin(self.alloc, self.protocol));
+            let keeper = K::begin(self.alloc, self.protocol);
+            self.keeper = Some(Box::new(self.alloc, keeper)?);
         }
+        Ok(())
     }
 
     /// Who keeps the messages, where they are kept.
     pub fn keeper(&mut self) -> Option<&mut K> {
-        self.keeper.as_mut()
+        match &mut self.keeper {
+            Some(keeper) => Some(&mut **keeper),
+            None => None,
+        }
     }
 
     /// How many records a side said: over TCP up to the first bytes that are missing, over UDP those of all its datagrams.

@@ -20,6 +20,9 @@ use std::hash::RandomState;
 use std::net::{IpAddr, Ipv4Addr, Ipv6Addr};
 use tls_flow::Direction;
 
+/// The weight of the flag SYN (RFC 9293, section 3.1).
+const SYN: u8 = 2;
+
 /// The kind of the option by which an end takes selective acknowledgements (RFC 2018, section 2).
 const SACK_PERMITTED: u8 = 4;
 
@@ -42,6 +45,7 @@ pub enum Checksums {
 /// The log of one capture: its open connections.
 #[derive(Drop)]
 pub struct Log<K> {
+    alloc: Global,
     connections: Connections<Heard<K>>,
     // Whether the messages of connections are kept.
     keeps_messages: bool,
@@ -60,15 +64,27 @@ fn address(address: Address) -> IpAddr {
     }
 }
 
-/// What the options of a segment say.
-fn options_of(options: &[u8]) -> Options {
+/// What the options of a segment say. What a SYN alone may say isn't asked of another (RFC 9293, section 3.7.1; RFC 7323, section 2.2; RFC 2018,
+/// section 2).
+fn options_of(options: &[u8], is_syn: bool) -> Options {
+    let clock = timestamp(options);
+    let is_signed = option_of(options, MD5_SIGNATURE).is_some()
+        || option_of(options, AUTHENTICATION).is_some();
+    if !is_syn {
+        return Options {
+            scale: None,
+            clock,
+            size: None,
+            selects: false,
+            is_signed,
+        };
+    }
     Options {
         scale: window_scale(options),
-        clock: timestamp(options),
+        clock,
         size: maximum_segment_size(options),
         selects: option_of(options, SACK_PERMITTED).is_some(),
-        is_signed: option_of(options, MD5_SIGNATURE).is_some()
-            || option_of(options, AUTHENTICATION).is_some(),
+        is_signed,
     }
 }
 
@@ -107,7 +123,7 @@ fn segment_of<'a>(
         flags: tcp.flags,
         window: tcp.window,
         urgent_pointer: tcp.urgent_pointer,
-        options: options_of(tcp.options),
+        options: options_of(tcp.options, tcp.flags / SYN % 2 == 1),
         checksum,
         payload: tcp.payload,
     }
@@ -172,14 +188,15 @@ fn hear_last<K: Keeper>(connection: &mut Connection<Heard<K>>) -> Result<(), All
     heard.hear_stream(stream, Side::Responder, is_opened, true)
 }
 
-/// The same of a connection that is taken out, if one is.
+/// The same of a connection that was taken out, which is large: it is handed on in a place of its own.
 fn with_last<K: Keeper>(
+    alloc: Global,
     taken: Option<Connection<Heard<K>>>,
-) -> Result<Option<Connection<Heard<K>>>, AllocError> {
+) -> Result<Option<Box<Connection<Heard<K>>>>, AllocError> {
     match taken {
         Some(mut connection) => {
             hear_last(&mut connection)?;
-            Ok(Some(connection))
+            Ok(Some(Box::new(alloc, connection)?))
         }
         None => Ok(None),
     }
@@ -229,7 +246,7 @@ fn hear<K: Keeper>(
     let (side, is_opened) = (connection.side_of(segment.source), connection.has_opening());
     let heard = &mut connection.listener;
     if keeps_messages {
-        heard.keep_messages();
+        heard.keep_messages()?;
     }
     match side {
         Side::Originator => {
@@ -255,7 +272,7 @@ fn hear_from<K: Keeper>(
     let heard = &mut exchange.listener;
     let direction = heard.direction(side);
     if keeps_messages {
-        heard.keep_messages();
+        heard.keep_messages()?;
     }
     heard.hear_datagram(direction, datagram.payload)
 }
@@ -269,6 +286,7 @@ impl<K: Keeper> Log<K> {
         keeps_messages: bool,
     ) -> Result<Log<K>, AllocError> {
         Ok(Log {
+            alloc,
             connections: Connections::new(alloc, keys)?,
             keeps_messages,
             checksums: Checksums::Auto,
@@ -322,22 +340,30 @@ impl<K: Keeper> Log<K> {
     pub fn take_over(
         &mut self,
         arrival: &Arrival<'_>,
-    ) -> Result<Option<Connection<Heard<K>>>, AllocError> {
-        with_last(self.connections.take_idle(arrival.time()))
+    ) -> Result<Option<Box<Connection<Heard<K>>>>, AllocError> {
+        if !self.connections.has_idle(arrival.time()) {
+            return Ok(None);
+        }
+        self.take_idle(arrival.time())
+    }
+
+    /// The same, where there may be one.
+    fn take_idle(&mut self, time: u64) -> Result<Option<Box<Connection<Heard<K>>>>, AllocError> {
+        with_last(self.alloc, self.connections.take_idle(time))
     }
 
     /// Puts what arrives into its connection, lets that hear what is there then, and takes the connection out where it is over.
     pub fn accept(
         &mut self,
         arrival: &Arrival<'_>,
-    ) -> Result<Option<Connection<Heard<K>>>, AllocError> {
+    ) -> Result<Option<Box<Connection<Heard<K>>>>, AllocError> {
         match arrival {
             Arrival::Segment(segment) => self.accept_segment(segment),
             Arrival::Datagram(datagram) => {
                 if self.connections.drop_damaged(datagram) {
                     return Ok(None);
                 }
-                let over = self.take_association(datagram);
+                let over = self.take_association(datagram)?;
                 self.accept_datagram(datagram)?;
                 Ok(over)
             }
@@ -388,9 +414,9 @@ impl<K: Keeper> Log<K> {
     fn take_segment(
         &mut self,
         segment: &Segment<'_>,
-    ) -> Result<Option<Connection<Heard<K>>>, AllocError> {
+    ) -> Result<Option<Box<Connection<Heard<K>>>>, AllocError> {
         match self.hear_segment(segment)? {
-            Some(true) => with_last(self.connections.take_closed(segment)?),
+            Some(true) => self.take_closed(segment),
             Some(false) => Ok(None),
             None => {
                 // (the last acknowledgement of a connection that is over loses nothing)
@@ -402,11 +428,29 @@ impl<K: Keeper> Log<K> {
         }
     }
 
+    /// Takes out the connection that a segment closed.
+    fn take_closed(
+        &mut self,
+        segment: &Segment<'_>,
+    ) -> Result<Option<Box<Connection<Heard<K>>>>, AllocError> {
+        with_last(self.alloc, self.connections.take_closed(segment)?)
+    }
+
+    /// Takes out the connection in whose place another begins with a segment, which hears that.
+    fn take_replaced(
+        &mut self,
+        segment: &Segment<'_>,
+    ) -> Result<Option<Box<Connection<Heard<K>>>>, AllocError> {
+        let over = self.connections.take_replaced(segment)?;
+        self.hear_segment(segment)?;
+        with_last(self.alloc, over)
+    }
+
     /// The same of a segment of TCP, by what its receiver does with it.
     fn accept_segment(
         &mut self,
         segment: &Segment<'_>,
-    ) -> Result<Option<Connection<Heard<K>>>, AllocError> {
+    ) -> Result<Option<Box<Connection<Heard<K>>>>, AllocError> {
         let Some(verdict) = self.connections.verdict(segment) else {
             return self.take_segment(segment);
         };
@@ -415,9 +459,7 @@ impl<K: Keeper> Log<K> {
             return self.take_segment(segment);
         }
         if verdict.begins_another {
-            let over = self.connections.take_replaced(segment)?;
-            self.hear_segment(segment)?;
-            return with_last(over);
+            return self.take_replaced(segment);
         }
         match verdict.judgement {
             Judgement::Dropped(reason) => {
@@ -438,14 +480,30 @@ impl<K: Keeper> Log<K> {
     }
 
     /// Takes out the exchange of a datagram that begins another association of DTLS between its ends.
-    fn take_association(&mut self, datagram: &Datagram<'_>) -> Option<Connection<Heard<K>>> {
+    fn take_association(
+        &mut self,
+        datagram: &Datagram<'_>,
+    ) -> Result<Option<Box<Connection<Heard<K>>>>, AllocError> {
         let ends = datagram.between();
-        let exchange = self.connections.get(&ends)?;
+        let Some(exchange) = self.connections.get(&ends) else {
+            return Ok(None);
+        };
         let side = exchange.side_of(datagram.source);
         if !exchange.listener.begins_another(side, datagram.payload) {
-            return None;
+            return Ok(None);
         }
-        self.connections.take_exchange(datagram)
+        self.take_exchange(datagram)
+    }
+
+    /// The same, where it begins another.
+    fn take_exchange(
+        &mut self,
+        datagram: &Datagram<'_>,
+    ) -> Result<Option<Box<Connection<Heard<K>>>>, AllocError> {
+        match self.connections.take_exchange(datagram) {
+            Some(exchange) => Ok(Some(Box::new(self.alloc, exchange)?)),
+            None => Ok(None),
+        }
     }
 
     /// The same of a datagram of UDP, which ends no exchange.
@@ -466,7 +524,7 @@ impl<K: Keeper> Log<K> {
     }
 
     /// Takes out a connection that is left. To be called at the capture's end, until there is none.
-    pub fn take_left(&mut self) -> Result<Option<Connection<Heard<K>>>, AllocError> {
-        with_last(self.connections.take_left())
+    pub fn take_left(&mut self) -> Result<Option<Box<Connection<Heard<K>>>>, AllocError> {
+        with_last(self.alloc, self.connections.take_left())
     }
 }

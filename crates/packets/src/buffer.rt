@@ -1,5 +1,5 @@
 //! Bytes of a source that are not yet read.
-ghost use Rattle.std.specs.Prelude.{◌≡◌, ◌≤◌, ◌-◌, List, [], ℕ, drop, length, IfOk, OnErr};
+ghost use Rattle.std.specs.Prelude.{◌≡◌, ◌≤◌, ◌-◌, List, [], ℕ, drop, take, length, IfOk, OnErr};
 ghost use Rattle.std.specs.Io.KnownBytes.{Keeps};
 ghost use Rattle.packets.specs.Held.{Came};
 
@@ -14,16 +14,18 @@ const PIECE: usize = 262_144;
 /// Its value in a contract is what is left of them, in order.
 #[derive(Drop)]
 pub struct Buffer {
+    // What is held stands from `start` to `end`; what stands elsewhere is of no meaning.
     bytes: Vec<u8>,
     start: usize,
+    end: usize,
 }
 
 impl Model for Buffer {
     ghost Value = { List ℕ };
 
-    ghost view = { λ b. drop b.start b.bytes.items };
+    ghost view = { λ b. drop b.start (take b.end b.bytes.items) };
 
-    ghost invariant = { λ b. b.start ≤ length b.bytes.items };
+    ghost invariant = { λ b. (b.start ≤ b.end) × (b.end ≤ length b.bytes.items) };
 }
 
 impl Buffer {
@@ -34,6 +36,7 @@ impl Buffer {
         Buffer {
             bytes: Vec::new(alloc),
             start: 0,
+            end: 0,
         }
     }
 
@@ -41,26 +44,25 @@ impl Buffer {
     pub fn held(&self) -> &[u8]
         ensures { result.now ≡ self.now }
     {
-        &self.bytes[self.start..]
+        &self.bytes[self.start..self.end]
     }
 
     /// Takes bytes off the front until `n` are left; none where it holds fewer.
     pub fn keep_last(&mut self, n: usize)
         ensures { self.new ≡ drop (length self.old - n) self.old }
     {
-        let held = self.bytes.len() - self.start;
+        let held = self.end - self.start;
         self.start += held - n.min(held);
     }
 
-    /// Moves what is held to the front, so that what was taken off takes no memory.
+    /// Moves what is held to the front.
     fn make_room(&mut self)
         ensures { self.new ≡ self.old }
     {
         if self.start > 0 {
-            let held = self.bytes.len() - self.start;
-            self.bytes.copy_within(self.start.., 0);
+            self.bytes.copy_within(self.start..self.end, 0);
+            self.end -= self.start;
             self.start = 0;
-            self.bytes.truncate(held);
         }
     }
 
@@ -73,20 +75,13 @@ impl Buffer {
         ensures kept { OnErr result (Keeps (R.remaining reader.old) (R.remaining reader.new)) }
     {
         self.make_room();
-        let held = self.bytes.len();
-        let Some(whole) = held.checked_add(PIECE) else {
+        let Some(whole) = self.end.checked_add(PIECE) else {
             return Err(io::ErrorKind::OutOfMemory.into());
         };
-        self.bytes.resize(whole, 0)?;
-        match reader.read(&mut self.bytes[held..]) {
-            Ok(n) => {
-                self.bytes.truncate(held + n);
-                Ok(n)
-            }
-            Err(e) => {
-                self.bytes.truncate(held);
-                Err(e)
-            }
-        }
+        let len = self.bytes.len().max(whole);
+        self.bytes.resize(len, 0)?;
+        let n = reader.read(&mut self.bytes[self.end..])?;
+        self.end += n;
+        Ok(n)
     }
 }

@@ -8,7 +8,7 @@ use crate::listener::{Listener, Messages, summary, take_messages};
 use crate::output::{LineError, Output};
 use crate::progress::{STANDARD_INPUT, Source, Watched};
 use connections::Connection;
-use log_connections::{Checksums, Counts, Log, add_one};
+use log_connections::{Arrival, Checksums, Counts, Log, add_one};
 use log_lines::{Lines, Spoken, Style, Summary, message_row, row_of};
 use packets::{Packet, PacketVisitor, visit_packets};
 use std::alloc::Global;
@@ -65,7 +65,7 @@ fn print_one<W: Write>(
     alloc: Global,
     style: &Style,
     counts: &mut Counts,
-    connection: Connection<Listener>,
+    connection: Box<Connection<Listener>>,
     out: &mut Output<W>,
 ) -> Result<(), LineError>
     ensures { Tells out.old.has_failed out.new.has_failed result }
@@ -133,7 +133,7 @@ fn print_last<W: Write>(
     alloc: Global,
     style: &Style,
     counts: &mut Counts,
-    connection: Connection<Listener>,
+    connection: Box<Connection<Listener>>,
     time: u64,
     out: &mut Output<W>,
 ) -> Result<(), LineError>
@@ -143,6 +143,25 @@ fn print_last<W: Write>(
     let told = print_both(alloc, style, counts, &mut connection, time, out);
     drop(connection);
     told
+}
+
+/// Prints the messages that are whole with an arrival, if messages have lines.
+fn print_spoken<W: Write>(
+    alloc: Global,
+    style: &Style,
+    log: &mut Log<Messages>,
+    arrival: &Arrival<'_>,
+    out: &mut Output<W>,
+) -> Result<(), LineError>
+    ensures { Tells out.old.has_failed out.new.has_failed result }
+{
+    if matches!(style.lines, Lines::Connections(_)) {
+        return Ok(());
+    }
+    match log.connection(arrival) {
+        Some(connection) => print_messages(alloc, style, connection, arrival.time(), out),
+        None => Ok(()),
+    }
 }
 
 /// Logs one packet.
@@ -173,10 +192,7 @@ fn log_packet<W: Write>(
             arrival.time(),
             out,
         ),
-        None => match log.connection(&arrival) {
-            Some(connection) => print_messages(alloc, style, connection, arrival.time(), out),
-            None => Ok(()),
-        },
+        None => print_spoken(alloc, style, log, &arrival, out),
     }
 }
 

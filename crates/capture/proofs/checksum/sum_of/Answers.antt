@@ -1,10 +1,14 @@
 use Rattle.std.proofs.Common.{ℕ, ◌+◌, ◌*◌, ◌%◌, ◌∙◌, ap, arith}
-use Rattle.capture.proofs.SumLemmas.{eight_bytes, two_bytes, one_byte, no_byte}
+use Rattle.capture.specs.Words.{words}
+use Rattle.capture.proofs.SumLemmas.{one_block, two_bytes, one_byte, no_byte}
 use Rattle.capture.proofs.checksum.sum_of.Goals as goal
 
-pub eights-preserved : goal.eights-preserved
-eights-preserved c = record {
-  same = eight_bytes c.eights.total c.folded-total.result c.eights.rest.now (omega arith) (cc) ∙ c.eights.invariant.same;
+pub blocks-2-preserved : goal.blocks-2-preserved
+blocks-2-preserved c = record {
+  same =
+      one_block c.blocks-2.total c.sum_of_eights-sum.result.0 c.folded.result c.folded-total.result
+      (words c.sum_of_eights-sum.result.1.now) (words c.blocks-2.rest.now) c.folded.ensures.same
+      c.folded-total.ensures.same c.sum_of_eights-sum.ensures.same ∙ c.blocks-2.invariant.same;
   bound = c.folded-total.ensures.bound;
 }
 
@@ -20,6 +24,6 @@ returns-in-len1-clause-same c =
     ap (λ (n : ℕ). (c.twos.total + n * 256) % 65535) c.from-in-len1.ensures
     ∙ (ap (λ (n : ℕ). n % 65535) (one_byte c.twos.total c.twos.rest.now (omega arith) (omega arith)) ∙ c.twos.invariant.same)
 
-pub returns-in_default-rest-2-clause-same : goal.returns-in_default-rest-2-clause-same
-returns-in_default-rest-2-clause-same c =
+pub returns-in_default-rest-clause-same : goal.returns-in_default-rest-clause-same
+returns-in_default-rest-clause-same c =
     ap (λ (n : ℕ). n % 65535) (no_byte c.twos.total c.twos.rest.now (omega arith)) ∙ c.twos.invariant.same

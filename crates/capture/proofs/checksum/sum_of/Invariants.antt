@@ -2,14 +2,14 @@ use Rattle.std.proofs.Common.{◌≡◌, ◌+◌, ◌%◌, ◌^◌, ◌<◌, len
 use Rattle.capture.specs.Words.{words}
 use Rattle.capture.proofs.checksum.sum_of.Given as goal
 
-abbrev pub invariant-eights : goal.invariant-eights
-invariant-eights l = record {
+abbrev pub invariant-blocks-2 : goal.invariant-blocks-2
+invariant-blocks-2 l = record {
   same : (l.total + words l.rest) % 65535 ≡ words l.bytes % 65535;
   bound : l.total < 2 ^ 33;
 }
 
-abbrev pub decreases-eights : goal.decreases-eights
-decreases-eights l = length l.rest
+abbrev pub decreases-blocks-2 : goal.decreases-blocks-2
+decreases-blocks-2 l = length l.rest
 
 abbrev pub invariant-twos : goal.invariant-twos
 invariant-twos l = record {

@@ -1,10 +1,8 @@
-use Rattle.std.proofs.Common.{refl, inl, inr, arith}
+use Rattle.std.proofs.Common.{refl}
 use Rattle.connections.specs.Table.{IsOver}
 use Rattle.connections.specs.Table.IsForgotten.{none}
 use Rattle.connections.proofs.TableLemmas.{last_forgotten}
 use Rattle.connections.proofs.table.forget_idle.Goals as goal
-use Rattle.connections.proofs.table.forget_idle.Goals.{else-not-is_idle-via-then-not-is_idle+else-len-le-MAX_CONNECTIONS}
-use Rattle.connections.proofs.table.forget_idle.Goals.{else-not-is_idle-via-else-not-is_idle}
 
 pub loop-last_time-init : goal.loop-last_time-init
 loop-last_time-init c = (none, refl)
@@ -12,12 +10,7 @@ loop-last_time-init c = (none, refl)
 pub loop-last_time-preserved : goal.loop-last_time-preserved
 loop-last_time-preserved c =
     let over : IsOver c.args.time c.loop-last_time.closed.entries c.in-Some.last_time.now =
-    elim c.else-not-is_idle.branch [
-      | else-not-is_idle-via-then-not-is_idle+else-len-le-MAX_CONNECTIONS w ↦
-          inr (omega (arith, w.len.ensures.len, w.if-len-le-MAX_CONNECTIONS.false))
-      | else-not-is_idle-via-else-not-is_idle w ↦ inl
-          (omega (arith, c.saturating_sub-is_idle.ensures, w.if-not-is_idle.false))
-    ] in
+    rw c.len.ensures.len at (c.is_over.ensures.over c.if-not-is_over.false) in
     rw c.pop_lru.ensures.entries (
       last_forgotten c.args.time c.args.closed.now.entries c.loop-last_time.closed.entries
           c.in-Some.field-0-0.now c.in-Some.last_time.now c.loop-last_time.invariant.0 c.in-Some.ensures over,

@@ -35,7 +35,7 @@ returns-in-Some-clause-others g c =
 pub returns-clause-put : goal.returns-clause-put
 returns-clause-put g c =
     let e = ends_of c.args.segment.now in let xs = c.self.inside.live.entries in
-    rw (← c.self.view_is) (put_new e (TakesSegment c.args.segment.now) xs c.accept-2.new.self
-    c.put_under.new.table.entries (rw c.between-ends.ensures at c.in_default.ensures.value)
-    (c.of_segment-connection.result, c.of_segment-connection.ensures, c.in_ok-accept-2.ensures.taken)
-    (rw c.between-ends.ensures at c.in_ok-put_under.ensures.put))
+    let begun = c.in_ok-begin.ensures.begun in
+    rw (← c.self.view_is) (put_new e (TakesSegment c.args.segment.now) xs begun.its
+    c.begin.new.self.live (rw c.between-ends.ensures at c.in_default.ensures.value) begun.takes
+    (rw c.between-ends.ensures at (ap (λ t. t.live) begun.stands)))

@@ -1,8 +1,6 @@
-use Rattle.std.proofs.Common.{ap, inl, inr, arith}
+use Rattle.std.proofs.Common.{ap}
 use Rattle.connections.proofs.TableLemmas.{was_last, same_last}
 use Rattle.connections.proofs.table.Connections.take_idle.Goals as goal
-use Rattle.connections.proofs.table.Connections.take_idle.Goals.{else-not-is_idle-via-then-not-is_idle+else-len-le-MAX_CONNECTIONS}
-use Rattle.connections.proofs.table.Connections.take_idle.Goals.{else-not-is_idle-via-else-not-is_idle}
 
 pub returns-clause-taken : goal.returns-clause-taken
 returns-clause-taken g c =
@@ -12,10 +10,5 @@ returns-clause-taken g c =
     rw (c.pop_lru.ensures.entries, ← c.self.view_is) (
       was_last c.self.inside.live.entries c.in_ok-connection.field-0-0 c.in_ok-connection.connection
           c.in_ok-connection.ensures.value,
-      elim c.else-not-is_idle.branch [
-        | else-not-is_idle-via-then-not-is_idle+else-len-le-MAX_CONNECTIONS w ↦
-            inr (omega (arith, w.len.ensures.len, w.if-len-le-MAX_CONNECTIONS.false))
-        | else-not-is_idle-via-else-not-is_idle w ↦ inl
-            (omega (arith, at_once, c.saturating_sub-is_idle.ensures, w.if-not-is_idle.false))
-      ],
+      rw (c.len.ensures.len, at_once) at (c.is_over.ensures.over c.if-not-is_over.false),
     )
