@@ -46,6 +46,7 @@ use Rattle.dtls_messages.specs.Fragments.{Fragment}
 use Rattle.dtls_messages.specs.Messages.{AreHeard, Encrypted, Event, Failed, Heard, Kept, Limits, Stands, events}
 use Rattle.dtls_stream.specs.Datagrams.{
   IsStep,
+  content_bytes,
   content_step,
   datagram,
   datagrams,
@@ -111,17 +112,17 @@ pub sealed_step : (l : Limits) (h : Heard) (r : RawRecord) (es es' : List Event)
 sealed_step l h r es es' k above told st =
     subst (λ b. IsStep l (cond b (h, Encrypted (encrypted r) ∷ [])
     (cond (r.header.content_type == 22) (fragment_record_step r.fragment l h)
-    (content_step (reading (record_content r.header) r.fragment) h))) es es' k)
+    (content_step (reading (record_content r.header) (content_bytes r)) h))) es es' k)
     (sym (lt-ltb 0 r.header.epoch above)) (record { events = told; stands = st })
 
 pub clear_step : (l : Limits) (h : Heard) (r : RawRecord) (es es' : List Event) (k : Kept) → r.header.epoch ≤ 0 →
     IsStep l (cond (r.header.content_type == 22) (fragment_record_step r.fragment l h)
-    (content_step (reading (record_content r.header) r.fragment) h)) es es' k →
+    (content_step (reading (record_content r.header) (content_bytes r)) h)) es es' k →
     IsStep l (record_step l h r) es es' k
 clear_step l h r es es' k low is =
     subst (λ b. IsStep l (cond b (h, Encrypted (encrypted r) ∷ [])
     (cond (r.header.content_type == 22) (fragment_record_step r.fragment l h)
-    (content_step (reading (record_content r.header) r.fragment) h))) es es' k)
+    (content_step (reading (record_content r.header) (content_bytes r)) h))) es es' k)
     (sym (le-ltb 0 r.header.epoch low)) is
 
 pub handshake_step : (l : Limits) (h : Heard) (r : RawRecord) (es es' : List Event) (k : Kept) → r.header.epoch ≤ 0
@@ -130,7 +131,7 @@ pub handshake_step : (l : Limits) (h : Heard) (r : RawRecord) (es es' : List Eve
 handshake_step l h r es es' k low kind is =
     clear_step l h r es es' k low
     (subst (λ b. IsStep l (cond b (fragment_record_step r.fragment l h)
-    (content_step (reading (record_content r.header) r.fragment) h)) es es' k)
+    (content_step (reading (record_content r.header) (content_bytes r)) h)) es es' k)
     (sym (eq-eqb r.header.content_type 22 kind)) is)
 
 pub eqb-ne : (a b : ℕ) → (a ≡ b → ⊥) → (a == b) ≡ false
@@ -146,17 +147,17 @@ content_same h (Err e) = refl
 
 pub other_step : (l : Limits) (h : Heard) (r : RawRecord) (es es' : List Event) (k : Kept) → r.header.epoch ≤ 0
     → (r.header.content_type ≡ 22 → ⊥) →
-    es' ≡ es ++ (content_step (reading (record_content r.header) r.fragment) h).1 → Stands l h k
+    es' ≡ es ++ (content_step (reading (record_content r.header) (content_bytes r)) h).1 → Stands l h k
     → IsStep l (record_step l h r) es es' k
 other_step l h r es es' k low kind told st =
     clear_step l h r es es' k low
     (subst (λ b. IsStep l (cond b (fragment_record_step r.fragment l h)
-    (content_step (reading (record_content r.header) r.fragment) h)) es es' k)
+    (content_step (reading (record_content r.header) (content_bytes r)) h)) es es' k)
     (sym (eqb-ne r.header.content_type 22 kind))
     (record {
       events = told;
       stands =
-          subst (λ g. Stands l g k) (sym (content_same h (reading (record_content r.header) r.fragment))) st;
+          subst (λ g. Stands l g k) (sym (content_same h (reading (record_content r.header) (content_bytes r)))) st;
     }))
 
 pub on_ok : {P Q E : Type 0} (r : Result Unit E) → OnOk r P → (P → Q) → OnOk r Q

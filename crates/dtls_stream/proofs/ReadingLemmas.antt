@@ -54,6 +54,7 @@ use Rattle.dtls_stream.specs.Datagrams.{
   IsCut,
   IsStep,
   Step,
+  content_bytes,
   content_step,
   datagram,
   datagram_record,
@@ -122,7 +123,7 @@ fragments_messages l h (Err e) = refl
 abbrev step_by : Bool → Bool → Limits → Heard → RawRecord → Step
 step_by a b l h r =
     cond a (h, Encrypted (encrypted r) ∷ []) (
-    cond b (fragment_record_step r.fragment l h) (content_step (reading (record_content r.header) r.fragment) h))
+    cond b (fragment_record_step r.fragment l h) (content_step (reading (record_content r.header) (content_bytes r)) h))
 
 abbrev fragments_by : Bool → Bool → RawRecord → List Fragment
 fragments_by a b r = cond a [] (cond b (those_read (reading (list1 fragment) r.fragment)) [])
@@ -132,14 +133,14 @@ after_by : (a b : Bool) (l : Limits) (h : Heard) (r : RawRecord)
 unfolding after
 after_by true b l h r = refl
 after_by false true l h r = fragments_after l h (reading (list1 fragment) r.fragment)
-after_by false false l h r = content_same h (reading (record_content r.header) r.fragment)
+after_by false false l h r = content_same h (reading (record_content r.header) (content_bytes r))
 
 messages_by : (a b : Bool) (l : Limits) (h : Heard) (r : RawRecord)
     → messages (step_by a b l h r).1 ≡ messages (events l h (fragments_by a b r))
 unfolding events
 messages_by true b l h r = refl
 messages_by false true l h r = fragments_messages l h (reading (list1 fragment) r.fragment)
-messages_by false false l h r = content_none h (reading (record_content r.header) r.fragment)
+messages_by false false l h r = content_none h (reading (record_content r.header) (content_bytes r))
 
 record_after : (l : Limits) (h : Heard) (r : RawRecord) → (record_step l h r).0 ≡ after l h (fragments_in_record r)
 record_after l h r = after_by (nat_lt 0 r.header.epoch) (r.header.content_type == 22) l h r
@@ -197,13 +198,13 @@ handshake_cut l h r es es' k low kind is =
 
 pub other_cut : (l : Limits) (h : Heard) (r : RawRecord) (es es' : List Event) (k : Kept) → r.header.epoch ≤ 0
     → (r.header.content_type ≡ 22 → ⊥) →
-    AreToldInPart (content_step (reading (record_content r.header) r.fragment) h).1 es es' → Stands l h k →
+    AreToldInPart (content_step (reading (record_content r.header) (content_bytes r)) h).1 es es' → Stands l h k →
     IsCut l h (fragments_in_record r) (record_step l h r).1 es es' k
 other_cut l h r es es' k low kind was st =
     cut_by (nat_lt 0 r.header.epoch) (r.header.content_type == 22) false false l h r es es' k
     (le-ltb 0 r.header.epoch low) (eqb-ne r.header.content_type 22 kind)
-    (cut_part l h (content_step (reading (record_content r.header) r.fragment) h).1 es es' k
-    (content_none h (reading (record_content r.header) r.fragment)) was st)
+    (cut_part l h (content_step (reading (record_content r.header) (content_bytes r)) h).1 es es' k
+    (content_none h (reading (record_content r.header) (content_bytes r))) was st)
 
 -- A datagram of which so many records may still come: its first fragments were heard.
 pub record IsReading (l : Limits) (h : Heard) (fs : List Fragment) (s : Step) (n : ℕ) (left : Bytes)

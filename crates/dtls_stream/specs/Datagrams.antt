@@ -1,5 +1,5 @@
 -- What is told of the datagrams of one direction (RFC 6347, sections 4.1 and 4.2).
-use Rattle.std.specs.Prelude.{◌≡◌, ℕ, zero, suc, ◌+◌, cond, nat_le, nat_lt, Option, Some, None, Ok, Err, ◌==◌, List, [], ◌∷◌, ◌++◌, length, map}
+use Rattle.std.specs.Prelude.{◌≡◌, ℕ, zero, suc, ◌+◌, cond, nat_le, nat_lt, Option, Some, None, Ok, Err, ◌==◌, ◌&&◌, if◌then◌else◌, List, [], ◌∷◌, ◌++◌, length, take, map}
 use Rattle.std.specs.Borrow.{Bor}
 use Rattle.tls_fields.specs.Bytes.{Bytes}
 use Rattle.tls_fields.specs.Layout.{Layout, done, block, list1, ◌>>=◌, ◌>>◌, test}
@@ -81,9 +81,15 @@ abbrev pub content_step : Answer (List dtls_record.Message) → Heard → Step
 content_step (Ok x) h = (h, map event_of x.0 ++ left_over x.1)
 content_step (Err e) h = (h, Failed (kind_of e) ∷ [])
 
+-- What the messages of a record are read from. In version 0x0100, which OpenSSL had before RFC 4347, the number of a message stands behind a
+-- ChangeCipherSpec, in 2 bytes.
+unfoldable pub content_bytes : RawRecord → Bytes
+content_bytes r =
+    if r.header.version == 0x0100 && (r.header.content_type == 20 && length r.fragment == 3) then take 1 r.fragment else r.fragment
+
 -- A record of another type than handshake.
 abbrev pub content_record_step : RawRecord → Heard → Step
-content_record_step r h = content_step (reading (record_content r.header) r.fragment) h
+content_record_step r h = content_step (reading (record_content r.header) (content_bytes r)) h
 
 -- A record of an epoch above 0, whose fragment isn't read.
 abbrev pub encrypted : RawRecord → EncryptedRecord

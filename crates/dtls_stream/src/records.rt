@@ -6,7 +6,7 @@ ghost use Rattle.std.specs.Option.{option_map};
 ghost use Rattle.tls_parser.specs.DtlsHandshake.{view_handshake};
 ghost use Rattle.dtls_messages.specs.Fragments.{view_fragment};
 ghost use Rattle.dtls_messages.specs.Messages.{Heard, Limits as Allowed, Stands, view_event, view_events};
-ghost use Rattle.dtls_stream.specs.Datagrams.{AreToldInPart, IsCut, IsRecordCut, IsStep, content as content_layout, content_record_step, datagram_record, event_of, fragment_in, fragment_record_step, fragments_in_content, kind_of as kind_told, left_over, limit, record_step, unread};
+ghost use Rattle.dtls_stream.specs.Datagrams.{AreToldInPart, IsCut, IsRecordCut, IsStep, content as content_layout, content_bytes as content_bytes_of, content_record_step, datagram_record, event_of, fragment_in, fragment_record_step, fragments_in_content, kind_of as kind_told, left_over, limit, record_step, unread};
 
 use dtls_messages::{EncryptedRecord, Event, Fragment, Messages, read_all};
 use std::alloc::Global;
@@ -135,6 +135,24 @@ fn tell_messages<'a>(
     Ok(())
 }
 
+/// The version of DTLS that OpenSSL had before RFC 4347.
+const BEFORE_RFC: u16 = 0x0100;
+
+/// What the messages of a record are read from: all of its fragment but, in version 0x0100, the number of a message behind a ChangeCipherSpec.
+#[tactic(auto, unfolding(crate::specs::Datagrams::content_bytes))]
+fn content_bytes<'a>(raw: &DTLSRawRecord<'a>) -> &'a [u8]
+    ensures { result.now ≡ content_bytes_of (view_raw_record raw.now) }
+{
+    let is_numbered = raw.header.version.0 == BEFORE_RFC
+        && raw.header.content_type.0 == TlsRecordType::ChangeCipherSpec.0
+        && raw.fragment.len() == 3;
+    if is_numbered {
+        &raw.fragment[..1]
+    } else {
+        raw.fragment
+    }
+}
+
 /// Tells of a record of another type than handshake.
 fn tell_content<'a>(
     alloc: Global,
@@ -146,7 +164,7 @@ fn tell_content<'a>(
     ensures stopped { (h : Heard)
         → OnErr result (AreToldInPart (content_record_step (view_raw_record raw.now) h).1 (view_events events.old.items) (view_events events.new.items)) }
 {
-    match parse_dtls_record_with_header(alloc, raw.fragment, &raw.header) {
+    match parse_dtls_record_with_header(alloc, content_bytes(raw), &raw.header) {
         Ok((rest, messages)) => {
             tell_messages(&messages, events)?;
             tell_left_over(rest, events)

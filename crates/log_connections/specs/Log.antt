@@ -9,6 +9,7 @@ use Rattle.connections.specs.declared.connection.Side.{Side}
 use Rattle.connections.specs.declared.connection.Side.TheVariants.{Originator, Responder}
 use Rattle.connections.specs.declared.datagram.Datagram.{Datagram}
 use Rattle.connections.specs.declared.segment.Segment.{Segment}
+use Rattle.tls_detection.specs.Front.{held_datagram}
 use Rattle.log_connections.specs.Heard.{HearsDatagram, HearsOn, direction_of}
 use Rattle.log_connections.specs.declared.heard.Heard.{Heard}
 
@@ -36,10 +37,10 @@ module _ {K : Type 0} where
   Logs true s old new = HearsSegment s old new
   Logs false s old new = new ≡ old
 
-  -- The listener hears a datagram of its sender's; all else of the exchange stays.
+  -- The listener hears a datagram of its sender's, or the one of DTLS that it holds; all else of the exchange stays.
   abbrev pub HearsFrom : Datagram → Connection (Heard K) → Connection (Heard K) → Type 0
   HearsFrom d c c' =
-      HearsDatagram (direction_of c.listener.is_turned (side_of c d.source)) d.payload.now c.listener.said c'.listener.said
+      HearsDatagram (direction_of c.listener.is_turned (side_of c d.source)) (held_datagram d.payload.now) c.listener.said c'.listener.said
       × (c' ≡ record c { listener = c'.listener })
 
   -- The datagram's own exchange takes it, and its listener hears it. All others stay.

@@ -1,10 +1,11 @@
 //! What is heard of a connection, by what carries it.
 ghost use Rattle.std.specs.Prelude.{◌≡◌, OnOk};
+ghost use Rattle.tls_detection.specs.Front.{held_datagram as held_datagram_of};
 ghost use Rattle.log_connections.specs.Heard.{HearsDatagram, HearsStream, direction_of};
 
 use connections::{Listener, Protocol, Side, Stream};
 use std::alloc::{AllocError, Global};
-use tls_detection::{HEADER_LEN, first_message};
+use tls_detection::{HEADER_LEN, first_message, held_datagram};
 use tls_facts::Facts;
 use tls_flow::{Direction, Outcome, Stop};
 use tls_talks::{DatagramRecords, DatagramTalk, Records, Talk};
@@ -140,7 +141,8 @@ impl<K: Keeper> Heard<K> {
         match &self.said {
             Said::Stream(_) => false,
             Said::Datagrams(talk) => {
-                self.direction(side) == Direction::ToServer && talk.begins_another(payload)
+                self.direction(side) == Direction::ToServer
+                    && talk.begins_another(held_datagram(payload))
             }
         }
     }
@@ -257,14 +259,15 @@ impl<K: Keeper> Heard<K> {
         Ok(())
     }
 
-    /// Hears a side's datagram.
+    /// Hears a side's datagram, or the one of DTLS that it holds.
     pub(crate) fn hear_datagram(
         &mut self,
         direction: Direction,
         payload: &[u8],
     ) -> Result<(), AllocError>
-        ensures { OnOk result (HearsDatagram direction payload.now self.old.said self.new.said) }
+        ensures { OnOk result (HearsDatagram direction (held_datagram_of payload.now) self.old.said self.new.said) }
     {
+        let payload = held_datagram(payload);
         match direction {
             Direction::ToServer => self.by_originator.add(payload),
             Direction::FromServer => self.by_responder.add(payload),

@@ -1,5 +1,5 @@
 -- How TLS and DTLS begin.
-use Rattle.std.specs.Prelude.{ℕ, Bool, false, ◌&&◌, ◌==◌, nat_le, nat_lt, if◌then◌else◌, Option, Some, None, Ok, Err, [], ◌∷◌, length}
+use Rattle.std.specs.Prelude.{ℕ, Bool, false, ◌&&◌, ◌||◌, ◌==◌, nat_le, nat_lt, if◌then◌else◌, Option, Some, None, is_some, Ok, Err, [], ◌∷◌, length, drop, slice_index}
 use Rattle.tls_fields.specs.Bytes.{Bytes}
 use Rattle.tls_fields.specs.Meaning.{Answer}
 use Rattle.tls_fields.specs.Reading.{reading}
@@ -36,11 +36,15 @@ first_message_in (Err e) = None
 abbrev pub first_message : Bytes → Option ℕ
 first_message b = first_message_in (reading stream.record_header b)
 
--- The header of a record of DTLS (RFC 6347, section 4.1) in front of these bytes of its datagram: a type that there is, the major version
--- 254, and a length that the datagram has. Where an association begins the version says how packets are laid out, and not which version is
--- spoken (section 4.2.1).
+-- The versions of records of DTLS: the major version is 254, and otherwise it is ignored, since where an association begins it says how packets are
+-- laid out, and not which version is spoken (RFC 6347, section 4.2.1); before RFC 4347 OpenSSL had 0x0100.
+unfoldable pub is_datagram_version : ℕ → Bool
+is_datagram_version n = is_within 0xfe00 0xfeff n || n == 0x0100
+
+-- The header of a record of DTLS (RFC 6347, section 4.1) in front of these bytes of its datagram: a type that there is, a version of DTLS, and a
+-- length that the datagram has.
 abbrev pub is_front_of_datagram : datagram.RecordHeader → Bytes → Bool
-is_front_of_datagram h b = is_within 20 24 h.content_type && is_within 0xfe00 0xfeff h.version && nat_le h.length (length b)
+is_front_of_datagram h b = is_within 20 24 h.content_type && is_datagram_version h.version && nat_le h.length (length b)
 
 abbrev pub epoch_in : Answer datagram.RecordHeader → Option ℕ
 epoch_in (Ok x) = if is_front_of_datagram x.0 x.1 then Some x.0.epoch else None
@@ -49,3 +53,12 @@ epoch_in (Err e) = None
 -- The epoch of the record that a datagram begins with.
 abbrev pub front_epoch : Bytes → Option ℕ
 front_epoch b = epoch_in (reading datagram.record_header b)
+
+-- The datagram of DTLS that a datagram of UDP holds. In CAPWAP a header of 4 bytes stands in front: version 0, type 1, and 3 bytes of 0 (RFC 5415,
+-- section 4.2).
+abbrev pub has_capwap_header : Bytes → Bool
+has_capwap_header b =
+    nat_le 4 (length b) && ((slice_index b 0 == 1) && ((slice_index b 1 == 0) && ((slice_index b 2 == 0) && (slice_index b 3 == 0))))
+
+abbrev pub held_datagram : Bytes → Bytes
+held_datagram b = if has_capwap_header b && is_some (front_epoch (drop 4 b)) then drop 4 b else b

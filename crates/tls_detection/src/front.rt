@@ -3,7 +3,7 @@ ghost use Rattle.std.specs.Prelude.{◌≡◌};
 ghost use Rattle.tls_fields.specs.Reading.{reading};
 ghost use Rattle.tls_parser.specs.DtlsRecord as datagram;
 ghost use Rattle.tls_parser.specs.Record as stream;
-ghost use Rattle.tls_detection.specs.Front.{begins_tls as begins, epoch_in, is_front, is_front_of_datagram, first_message as first, looks_like_tls as looks};
+ghost use Rattle.tls_detection.specs.Front.{begins_tls as begins, epoch_in, has_capwap_header as has_capwap_header_in, held_datagram as held_datagram_of, is_front, is_datagram_version as is_version_of_datagrams, is_front_of_datagram, first_message as first, looks_like_tls as looks};
 
 use tls_parser::{
     DTLSRecordHeader, MAX_RECORD_LEN, TlsRecordHeader, parse_dtls_record_header,
@@ -64,15 +64,22 @@ pub fn first_message(bytes: &[u8]) -> Option<u8>
     }
 }
 
-/// A type of records that there is, the major version of DTLS, and a length that the datagram has. The minor version is ignored: where an
-/// association begins it says how records are laid out, and not which version is spoken (RFC 6347, section 4.2.1).
+/// Whether a record of this version is one of DTLS: its major version is 254, whatever the minor one, since where an association begins that says how
+/// records are laid out, and not which version is spoken (RFC 6347, section 4.2.1); or it is 0x0100, as OpenSSL had it before RFC 4347.
+#[tactic(auto, unfolding(crate::specs::Front::is_datagram_version))]
+pub fn is_datagram_version(version: u16) -> bool
+    ensures { result ≡ is_version_of_datagrams version }
+{
+    version >= 0xfe00 && version <= 0xfeff || version == 0x0100
+}
+
+/// A type of records that there is, a version of DTLS, and a length that the datagram has.
 fn is_header_of_datagram(header: &DTLSRecordHeader, rest: &[u8]) -> bool
     ensures { result ≡ is_front_of_datagram (datagram.view_header header.now) rest.now }
 {
     header.content_type.0 >= 20
         && header.content_type.0 <= 24
-        && header.version.0 >= 0xfe00
-        && header.version.0 <= 0xfeff
+        && is_datagram_version(header.version.0)
         && header.length as usize <= rest.len()
 }
 
@@ -88,5 +95,25 @@ pub fn front_epoch(bytes: &[u8]) -> Option<u16>
             None
         }
         Err(_) => None,
+    }
+}
+
+/// Whether bytes begin with the header by which CAPWAP tells that what stands behind is encrypted (RFC 5415, section 4.2): version 0, type 1, and 3
+/// bytes of 0.
+fn has_capwap_header(bytes: &[u8]) -> bool
+    ensures { result ≡ has_capwap_header_in bytes.now }
+{
+    bytes.len() >= 4 && bytes[0] == 1 && bytes[1] == 0 && bytes[2] == 0 && bytes[3] == 0
+}
+
+/// The datagram of DTLS that a datagram of UDP holds: what stands behind CAPWAP's header of 4 bytes (RFC 5415, section 4.2), where DTLS begins
+/// there; else all of it.
+pub fn held_datagram(bytes: &[u8]) -> &[u8]
+    ensures { result.now ≡ held_datagram_of bytes.now }
+{
+    if has_capwap_header(bytes) && front_epoch(&bytes[4..]).is_some() {
+        &bytes[4..]
+    } else {
+        bytes
     }
 }

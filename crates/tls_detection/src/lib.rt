@@ -6,4 +6,7 @@
 
 mod front;
 
-pub use front::{HEADER_LEN, begins_tls, first_message, front_epoch, looks_like_tls};
+pub use front::{
+    HEADER_LEN, begins_tls, first_message, front_epoch, held_datagram, is_datagram_version,
+    looks_like_tls,
+};

@@ -59,6 +59,7 @@ use Rattle.tls_events.specs.Item.{
   fragment,
   is_change,
   is_encrypted,
+  is_sealed,
   item_of,
   items,
   or_broken,
@@ -112,7 +113,7 @@ front_refused s b x e = sym (same_refused s x.0 x.1 (has_header wide_record b x 
     ∙ ap (refused s) (front_joins wide_record b x e)
 
 broken_item : (s : Standing) (r : Bytes) (k : ErrorKind) → refused s r ≡ Some k → item_of s r ≡ Broken k
-broken_item s r k e = ap (λ o. or_broken o (read_item (is_encrypted s (content_type r)) r)) e
+broken_item s r k e = ap (λ o. or_broken o (read_item (is_sealed s r) r)) e
 
 -- A record that is refused by its header is so, whatever comes.
 pub refused_first : (s : Standing) (u t : Bytes) (k : ErrorKind) → 5 ≤ length u → refused s u ≡ Some k
@@ -185,10 +186,10 @@ fragment_is s r k f e = by_refusal (refused s r) e
     by_cipher true g = absurd cc
     by_cipher false g = by_type (content_type r == 20) refl g
 
-    by_refusal : (o : Option ErrorKind) → or_broken o (read_item (is_encrypted s (content_type r)) r) ≡ Fragment k f
+    by_refusal : (o : Option ErrorKind) → or_broken o (read_item (is_sealed s r) r) ≡ Fragment k f
         → IsFragment s r k f
     by_refusal (Some b) g = absurd cc
-    by_refusal None g = by_cipher (is_encrypted s (content_type r)) g
+    by_refusal None g = by_cipher (is_sealed s r) g
 
 -- Where a fragment lies in what isn't read.
 pub record IsThere (u : Bytes) (x : Bytes × Bytes) (f : Bytes) : Type 0 where

@@ -56,6 +56,11 @@ view_event (event.Heartbeat b) = Heartbeat b.now
 view_event (event.ApplicationData b) = ApplicationData b.now
 view_event (event.Encrypted b) = Encrypted b.now
 
+-- An alert in the clear is a record of its own (RFC 8446, section 5.1; no peer of older versions joins two): 2 bytes, of which the first is 1 for a
+-- warning, or 2 for a fatal one (RFC 5246, section 7.2).
+abbrev pub is_alert : Bytes → Bool
+is_alert b = (length b == 2) && ((slice_index b 0 == 1) || (slice_index b 0 == 2))
+
 -- What is known of a direction.
 pub record Standing : Type 0 where
   -- that the conversation speaks TLS 1.3
@@ -75,6 +80,13 @@ fragment r = drop 5 r
 -- (RFC 8446, section D.4); before, all after the ChangeCipherSpec.
 abbrev pub is_encrypted : Standing → ℕ → Bool
 is_encrypted s kind = cond s.is_tls13 (kind == 23) s.has_changed
+
+-- Whether a record is encrypted, as its header says or since what it holds is no alert.
+abbrev pub is_sealed_alert : Bytes → Bool
+is_sealed_alert r = (content_type r == 21) && not (is_alert (fragment r))
+
+unfoldable pub is_sealed : Standing → Bytes → Bool
+is_sealed s r = is_encrypted s (content_type r) || is_sealed_alert r
 
 -- Records with fragments of up to 2^14 + 2048 bytes (RFC 5246, section 6.2.3), as none but an encrypted one may have.
 abbrev pub wide_record : Shape
@@ -130,7 +142,7 @@ or_broken None i = i
 
 -- What a whole record is.
 abbrev pub item_of : Standing → Bytes → Item
-item_of s r = or_broken (refused s r) (read_item (is_encrypted s (content_type r)) r)
+item_of s r = or_broken (refused s r) (read_item (is_sealed s r) r)
 
 -- What is known after a record.
 abbrev pub after : Standing → Bytes → Standing

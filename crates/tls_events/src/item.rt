@@ -1,6 +1,6 @@
 //! What a record is to its direction.
 ghost use Rattle.std.specs.Prelude.{◌≡◌, ◌≤◌, length};
-ghost use Rattle.tls_events.specs.Item.{Standing, change_in, item_of, plain_item, read_item, refusal, view_item};
+ghost use Rattle.tls_events.specs.Item.{Standing, change_in, is_alert as is_alert_in, is_sealed_alert as is_alert_sealed, item_of, plain_item, read_item, refusal, view_item};
 
 use crate::event::Event;
 use tls_parser::{ErrorKind, MAX_RECORD_LEN};
@@ -49,6 +49,21 @@ fn read_change(fragment: &[u8]) -> Item<'_>
     } else {
         Item::Broken(ErrorKind::Verify)
     }
+}
+
+/// Whether a fragment is an alert in the clear: two bytes, a warning or a fatal one.
+fn is_alert(fragment: &[u8]) -> bool
+    ensures { result ≡ is_alert_in fragment.now }
+{
+    fragment.len() == 2 && (fragment[0] == 1 || fragment[0] == 2)
+}
+
+/// Whether a record of an alert is encrypted, whatever is known of its direction: what it holds is no alert.
+pub fn is_sealed_alert(record: &[u8]) -> bool
+    requires { 5 ≤ length record.now }
+    ensures { result ≡ is_alert_sealed record.now }
+{
+    record[0] == 21 && !is_alert(&record[5..])
 }
 
 /// What a record is that isn't encrypted.

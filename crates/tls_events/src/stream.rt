@@ -15,12 +15,12 @@ ghost use Rattle.tls_events.specs.Stream.{
   told_tls13,
 };
 ghost use Rattle.tls_events.specs.Messages.{messages_of};
-ghost use Rattle.tls_events.specs.Item.{is_encrypted, item_of, refused, view_event, view_item, wide_record};
+ghost use Rattle.tls_events.specs.Item.{is_encrypted, is_sealed, item_of, refused, view_event, view_item, wide_record};
 
 use crate::event::{Alerts, Event, message_event};
 use crate::fault::Fault;
 use crate::held::Held;
-use crate::item::{Item, MAX_ENCRYPTED_LEN, read_record, refuse};
+use crate::item::{Item, MAX_ENCRYPTED_LEN, is_sealed_alert, read_record, refuse};
 use std::alloc::Global;
 use tls_parser::{ErrorKind, OutOfMemory};
 use tls_stream::{Frame, Messages, Records, frame_in_front, is_too_large};
@@ -132,6 +132,15 @@ impl Stream {
         )
     }
 
+    /// Whether a record is encrypted, by its header or since it holds no alert.
+    #[tactic(auto, unfolding(crate::specs::Item::is_sealed))]
+    fn is_sealed(&self, record: &[u8]) -> bool
+        requires { 5 ≤ length record.now }
+        ensures { result ≡ is_sealed (standing self.now) record.now }
+    {
+        self.is_encrypted(record[0]) || is_sealed_alert(record)
+    }
+
     /// What a whole record is.
     fn read<'a>(&self, record: &'a [u8]) -> Item<'a>
         requires { 5 ≤ length record.now }
@@ -139,7 +148,7 @@ impl Stream {
     {
         match self.refused(record) {
             Some(kind) => Item::Broken(kind),
-            None => read_record(self.is_encrypted(record[0]), record),
+            None => read_record(self.is_sealed(record), record),
         }
     }
 }

@@ -4,6 +4,7 @@ use Rattle.tls_fields.specs.Bytes.{Bytes}
 use Rattle.tls_fields.specs.Items.{items_in}
 use Rattle.tls_fields.specs.Layout.{Layout, block, done, ◌>>=◌}
 use Rattle.tls_parser.specs.DtlsRecord.{RecordHeader, record_header}
+use Rattle.tls_detection.specs.Front.{is_datagram_version}
 use Rattle.tls_facts.specs.Exchange.{is_within}
 use Rattle.tls_talks.specs.declared.datagram_records.DatagramRecords.{DatagramRecords}
 
@@ -14,10 +15,9 @@ whole_record = do
   fragment ← block h.length
   done h
 
--- A type of records that there is, and the major version of DTLS, 254. Where an association begins the version says how packets are laid
--- out, and not which version is spoken (section 4.2.1).
+-- A type of records that there is, and a version of DTLS.
 abbrev pub is_known : RecordHeader → Bool
-is_known h = is_within 20 24 h.content_type && is_within 0xfe00 0xfeff h.version
+is_known h = is_within 20 24 h.content_type && is_datagram_version h.version
 
 -- No datagram came.
 abbrev pub no_datagrams : DatagramRecords

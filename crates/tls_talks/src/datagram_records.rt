@@ -3,6 +3,7 @@ ghost use Rattle.std.specs.Prelude.{◌≡◌};
 ghost use Rattle.tls_parser.specs.DtlsRecord.{RecordHeader, view_header};
 ghost use Rattle.tls_talks.specs.DatagramRecords.{is_known as is_known_header, no_datagrams, whole_record, with_datagram};
 
+use tls_detection::is_datagram_version;
 use tls_fields::{IResult, InPlace, Items, block};
 use tls_parser::{DTLSRecordHeader, parse_dtls_record_header};
 
@@ -26,14 +27,13 @@ impl<'a> InPlace<'a> for WholeRecord {
     }
 }
 
-/// A type of records that there is, and the major version of DTLS, whatever the minor one.
+/// A type of records that there is, and a version of DTLS.
 pub(crate) fn is_known(header: &DTLSRecordHeader) -> bool
     ensures { result ≡ is_known_header (view_header header.now) }
 {
     header.content_type.0 >= 20
         && header.content_type.0 <= 24
-        && header.version.0 >= 0xfe00
-        && header.version.0 <= 0xfeff
+        && is_datagram_version(header.version.0)
 }
 
 /// How many records the datagrams of a side have, of which no byte is kept.

@@ -203,7 +203,7 @@ impl DatagramTalk {
     /// Hears a datagram of a side, record by record. What its peer drops changes nothing:
     ///
     /// - what is no whole record of DTLS, and what stands behind it in the datagram (RFC 6347, section 4.1.2.7): a datagram that begins with none
-    ///   is left out, since other protocols may use the same ports (RFC 7983). Its version is 254 and any second byte;
+    ///   is left out, since other protocols may use the same ports (RFC 7983). Its version is [one of DTLS](is_datagram_version);
     /// - a record of an epoch that hasn't begun, or is over (section 4.1), and all records of a side that is over;
     /// - a record whose content can't be read, as an empty one;
     /// - a fragment that goes beyond its message, says another length of it, or is of a message that was handed out or is too far ahead
