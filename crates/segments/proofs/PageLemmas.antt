@@ -1,17 +1,16 @@
 -- Places in pages.
-use Rattle.std.proofs.Common.{◌≡◌, ℕ, zero, suc, ◌+◌, ◌-◌, ◌<◌, ◌≤◌, ◌⊎◌, inl, inr, [], ◌∷◌, ◌++◌, length, drop, map}
-use Rattle.std.proofs.Common.{◌^◌, Option, Some, None, Bool, true, false, cond, ltb, refl, sym, ◌∙◌, ap, subst, arith}
+use Rattle.std.proofs.Common.{◌≡◌, ℕ, zero, suc, ◌+◌, ◌-◌, ◌<◌, ◌≤◌, [], ◌∷◌, ◌++◌, length, drop, map}
+use Rattle.std.proofs.Common.{◌^◌, Option, Some, None, Bool, true, false, cond, ltb, refl, sym, ◌∙◌, ap, arith}
 use Rattle.std.proofs.Common.{max}
-use Rattle.std.specs.Option.{is_some}
-use Rattle.std.proofs.lemmas.Bool.{ltb-true, ltb-false, cases_eq}
+use Rattle.std.proofs.lemmas.Bool.{ltb-true, ltb-false}
 use Rattle.std.proofs.lemmas.List.{length-append, length-map}
 use Rattle.segments.specs.Cells.{Bytes, Cells, byte_at, cell, earlier, fill, fill_at, known, put}
-use Rattle.segments.specs.Pages.{AreWhole, IsPaged, IsWritten, Pages, page, place, places, written}
+use Rattle.segments.specs.Pages.{AreWhole, IsPaged, IsWritten, Pages, place, places, written}
 use Rattle.segments.proofs.CellLemmas.{cell_none, put_at}
 use Rattle.segments.proofs.LawLemmas.{cell_put, cell_put_low}
 
 -- Cells, place by place.
-cells_eq : (a b : Cells) → length a ≡ length b → ((i : ℕ) → cell a i ≡ cell b i) → a ≡ b
+pub cells_eq : (a b : Cells) → length a ≡ length b → ((i : ℕ) → cell a i ≡ cell b i) → a ≡ b
 cells_eq [] [] e h = refl
 cells_eq [] (y ∷ b) e h = absurd (omega (arith, e))
 cells_eq (x ∷ a) [] e h = absurd (omega (arith, e))
@@ -20,7 +19,7 @@ cells_eq (x ∷ a) (y ∷ b) e h =
     let others : a ≡ b = cells_eq a b (omega (arith, e)) (λ i. h (suc i)) in
     cc
 
-earlier_none : (o : Option ℕ) → earlier o None ≡ o
+pub earlier_none : (o : Option ℕ) → earlier o None ≡ o
 earlier_none None = refl
 earlier_none (Some x) = refl
 
@@ -28,7 +27,7 @@ earlier_on : (a b c : Option ℕ) → earlier (earlier a b) c ≡ earlier a (ear
 earlier_on None b c = refl
 earlier_on (Some x) b c = refl
 
-known_cons : (c : Option ℕ) (xs ys : Cells) (n : ℕ) → known xs ≡ known ys + n → known (c ∷ xs) ≡ known (c ∷ ys) + n
+pub known_cons : (c : Option ℕ) (xs ys : Cells) (n : ℕ) → known xs ≡ known ys + n → known (c ∷ xs) ≡ known (c ∷ ys) + n
 known_cons None xs ys n e = e
 known_cons (Some x) xs ys n e = omega (arith, e)
 
@@ -66,6 +65,26 @@ places_drop (suc a) (suc n) k m =
     let f : suc k + a ≡ k + suc a = omega arith in
     places_drop a n (suc k) m ∙ ap (λ x. places x (suc k + a) m) e ∙ ap (λ x. places (suc n - suc a) x m) f
 
+pub places_split : (a b k : ℕ) (m : Pages) → places (a + b) k m ≡ places a k m ++ places b (k + a) m
+places_split zero b k m =
+    let e : 0 + b ≡ b = omega arith in
+    let f : k ≡ k + 0 = omega arith in
+    ap (λ x. places x k m) e ∙ ap (λ x. places b x m) f
+places_split (suc a) b k m =
+    let e : suc a + b ≡ suc (a + b) = omega arith in
+    let f : suc k + a ≡ k + suc a = omega arith in
+    ap (λ x. places x k m) e
+    ∙ ap (λ r. place m k ∷ r) (places_split a b (suc k) m ∙ ap (λ x. places a (suc k) m ++ places b x m) f)
+
+pub known_append : (a b : Cells) → known (a ++ b) ≡ known a + known b
+known_append [] b = let e : known b ≡ 0 + known b = omega arith in e
+known_append (None ∷ a) b = known_append a b
+known_append (Some x ∷ a) b = let r = known_append a b in omega (arith, r)
+
+pub known_split_at : (n a k : ℕ) (m : Pages)
+    → known (places (n + a) k m) ≡ known (places n k m) + known (places a (k + n) m)
+known_split_at n a k m = ap known (places_split n a k m) ∙ known_append (places n k m) (places a (k + n) m)
+
 pub places_same : (n k : ℕ) (m m' : Pages) → ((j : ℕ) → k ≤ j → place m' j ≡ place m j) → places n k m' ≡ places n k m
 places_same zero k m m' same = refl
 places_same (suc n) k m m' same =
@@ -98,51 +117,6 @@ pub known_all : (n l k : ℕ) (m : Pages) → n ≤ l → ((j : ℕ) → k + n �
 known_all n l k m h none =
     let e : l ≡ n + (l - n) = omega (arith, h) in
     ap (λ x. known (places x k m)) e ∙ known_longer n (l - n) k m none
-
--- A loop that counts.
-pub known_next : (n k : ℕ) (m : Pages)
-    → known (places (n + 1) k m) ≡ known (places n k m) + (cond (is_some (place m (k + n))) 1 0)
-known_next zero k m =
-    let e : k ≡ k + 0 = omega arith in
-    one (place m k) ∙ ap (λ x. 0 + (cond (is_some (place m x)) 1 0)) e
-  where
-    one : (c : Option ℕ) → known (c ∷ []) ≡ 0 + (cond (is_some c) 1 0)
-    one None = refl
-    one (Some x) = refl
-known_next (suc n) k m =
-    let e : suc n + 1 ≡ suc (n + 1) = omega arith in
-    let f : suc k + n ≡ k + suc n = omega arith in
-    let r = known_next n (suc k) m ∙ ap (λ x. known (places n (suc k) m) + (cond (is_some (place m x)) 1 0)) f in
-    ap (λ x. known (places x k m)) e ∙ known_cons (place m k) (places (n + 1) (suc k) m) (places n (suc k) m) _ r
-
-places_beside : (l k : ℕ) (m n : Pages) (at : ℕ) → at < k → ((j : ℕ) → (j ≡ at → ⊥) → place n j ≡ place m j)
-    → places l k n ≡ places l k m
-places_beside l k m n at low others =
-    places_same l k m n (λ j h. others j (λ same. absurd (omega (arith, h, low, same))))
-
--- One byte more.
-known_set : (l k at b : ℕ) (m n : Pages) → ((j : ℕ) → (j ≡ at → ⊥) → place n j ≡ place m j) → place m at ≡ None
-    → place n at ≡ Some b
-    → k ≤ at → at < k + l → known (places l k n) ≡ known (places l k m) + 1
-known_set zero k at b m n others none some low high = absurd (omega (arith, low, high))
-known_set (suc l) k at b m n others none some low high =
-    go (ltb k at) refl (λ h. known_set l (suc k) at b m n others none some h (omega (arith, high)))
-  where
-    go : (t : Bool) → ltb k at ≡ t → (suc k ≤ at → known (places l (suc k) n) ≡ known (places l (suc k) m) + 1)
-        → known (places (suc l) k n) ≡ known (places (suc l) k m) + 1
-    go true e rest =
-        let h = ltb-true k at e in
-        ap (λ c. known (c ∷ places l (suc k) n)) (others k (λ same. absurd (omega (arith, h, same))))
-        ∙ known_cons (place m k) (places l (suc k) n) (places l (suc k) m) 1 (rest (omega (arith, h)))
-    go false e rest =
-        let h = ltb-false k at e in
-        let is : at ≡ k = omega (arith, h, low) in
-        let behind = places_beside l (suc k) m n at (omega (arith, is)) others in
-        let one : known (places (suc l) k n) ≡ known (places l (suc k) m) + 1 =
-        ap (λ c. known (c ∷ places l (suc k) n)) (ap (place n) (sym is) ∙ some)
-        ∙ (let r = ap known behind in
-        let t : suc (known (places l (suc k) n)) ≡ known (places l (suc k) m) + 1 = omega (arith, r) in t) in
-        one ∙ ap (λ c. known (c ∷ places l (suc k) m) + 1) (sym none ∙ ap (place m) is)
 
 -- What bytes put, one after the other.
 byte_behind : (x y : Bytes) (i : ℕ)
@@ -219,79 +193,13 @@ written_on at at' c d x y m n o is first last = record {
       omega (arith, p, q);
 }
 
--- One byte, where another stands and where none does.
-one_at : (at b : ℕ) → written at (b ∷ []) at ≡ Some b
-one_at at b = go (ltb at at) refl
-  where
-    go : (t : Bool) → ltb at at ≡ t → cond t None (byte_at (b ∷ []) (at - at)) ≡ Some b
-    go true e = let h = ltb-true at at e in absurd (omega (arith, h))
-    go false e = let n : at - at ≡ 0 = omega arith in ap (byte_at (b ∷ [])) n
-
-one_else : (at b j : ℕ) → (j ≡ at → ⊥) → written at (b ∷ []) j ≡ None
-one_else at b j apart = go (ltb j at) refl
-  where
-    behind : (i : ℕ) → 0 < i → byte_at (b ∷ []) i ≡ None
-    behind zero h = absurd (omega (arith, h))
-    behind (suc i) h = refl
-
-    go : (t : Bool) → ltb j at ≡ t → cond t None (byte_at (b ∷ []) (j - at)) ≡ None
-    go true e = refl
-    go false e =
-        let h = ltb-false j at e in
-        some (cases_eq j at) h
-      where
-        some : (j ≡ at) ⊎ (j ≡ at → ⊥) → at ≤ j → byte_at (b ∷ []) (j - at) ≡ None
-        some (inl same) h = absurd (apart same)
-        some (inr other) h = behind (j - at) (more h (ltb at j) refl)
-          where
-            more : at ≤ j → (t : Bool) → ltb at j ≡ t → 0 < j - at
-            more h true e = let r = ltb-true at j e in omega (arith, r)
-            more h false e = let r = ltb-false at j e in absurd (other (omega (arith, r, h)))
-
-pub byte_stands : (at b : ℕ) (m n : Pages) → AreWhole n
-    → ((k : ℕ) → is_some (page m k) ≡ true → is_some (page n k) ≡ true)
-    → ((j : ℕ) → place n j ≡ place m j) → is_some (place m at) ≡ true → IsWritten at (b ∷ []) m n 0
-byte_stands at b m n whole there same some = record {
-  whole = whole;
-  stands = λ j. same j ∙ each j (cases_eq j at);
-  there = there;
-  counted = λ k l low high. let e = ap known (places_same l k m n (λ j h. same j)) in omega (arith, e);
-}
-  where
-    stays : (o p : Option ℕ) → is_some o ≡ true → o ≡ earlier o p
-    stays None p h = absurd cc
-    stays (Some x) p h = refl
-
-    each : (j : ℕ) → (j ≡ at) ⊎ (j ≡ at → ⊥) → place m j ≡ earlier (place m j) (written at (b ∷ []) j)
-    each j (inl is) = stays (place m j) (written at (b ∷ []) j) (ap (λ i. is_some (place m i)) is ∙ some)
-    each j (inr apart) = sym (ap (earlier (place m j)) (one_else at b j apart) ∙ earlier_none (place m j))
-
-pub byte_is_put : (at b : ℕ) (m n : Pages) → AreWhole n
-    → ((k : ℕ) → is_some (page m k) ≡ true → is_some (page n k) ≡ true)
-    → ((j : ℕ) → (j ≡ at → ⊥) → place n j ≡ place m j) → place m at ≡ None → place n at ≡ Some b
-    → IsWritten at (b ∷ []) m n 1
-byte_is_put at b m n whole there others none some = record {
-  whole = whole;
-  stands = λ j. each j (cases_eq j at);
-  there = there;
-  counted = λ k l low high. known_set l k at b m n others none some low (omega (arith, high));
-}
-  where
-    each : (j : ℕ) → (j ≡ at) ⊎ (j ≡ at → ⊥) → place n j ≡ earlier (place m j) (written at (b ∷ []) j)
-    each j (inl same) =
-        ap (place n) same ∙ some
-        ∙ sym (ap (λ i. earlier (place m i) (written at (b ∷ []) i)) same
-        ∙ ap (λ o. earlier o (written at (b ∷ []) at)) none ∙ one_at at b)
-    each j (inr apart) = others j apart
-        ∙ sym (ap (earlier (place m j)) (one_else at b j apart) ∙ earlier_none (place m j))
-
 -- Bytes that are put at places of a window.
 fill_long : (cs : Cells) (ys : Bytes) → length (fill cs ys) ≡ max (length cs) (length ys)
 fill_long [] ys = length-map ys Some ∙ (let e : length ys ≡ max 0 (length ys) = omega arith in e)
 fill_long (c ∷ cs) [] = omega arith
 fill_long (c ∷ cs) (y ∷ ys) = let r = fill_long cs ys in omega (arith, r)
 
-fill_at_long : (k : ℕ) (cs : Cells) (ys : Bytes) → 0 < length ys
+pub fill_at_long : (k : ℕ) (cs : Cells) (ys : Bytes) → 0 < length ys
     → length (fill_at k cs ys) ≡ max (length cs) (k + length ys)
 fill_at_long zero cs ys some = let r = fill_long cs ys in omega (arith, r)
 fill_at_long (suc k) [] ys some = let r = fill_at_long k [] ys some in omega (arith, r, some)
@@ -375,45 +283,19 @@ fewer begin len held n count m m' p whole same few is = record {
   whole = whole;
   held_is =
       (let e : len ≡ n + (len - n) = omega (arith, few) in
-      let s = ap (λ x. known (places x begin m)) e ∙ known_parts n (len - n) begin m in
+      let s = ap (λ x. known (places x begin m)) e ∙ known_split_at n (len - n) begin m in
       let r = ap known (places_same (len - n) (begin + n) m m' (λ j h. same j h)) in
       let h = p.held_is in
       omega (arith, s, r, h, is));
   empty_behind = λ j h. same j (omega (arith, h)) ∙ p.empty_behind j (omega (arith, h, few));
   small = (let s = p.small in omega (arith, s, few));
 }
-  where
-    known_parts : (n a k : ℕ) (m : Pages)
-        → known (places (n + a) k m) ≡ known (places n k m) + known (places a (k + n) m)
-    known_parts zero a k m =
-        let e : 0 + a ≡ a = omega arith in
-        let f : k ≡ k + 0 = omega arith in
-        let g : known (places a k m) ≡ 0 + known (places a k m) = omega arith in
-        ap (λ x. known (places x k m)) e ∙ g ∙ ap (λ x. 0 + known (places a x m)) f
-    known_parts (suc n) a k m =
-        let e : suc n + a ≡ suc (n + a) = omega arith in
-        let f : suc k + n ≡ k + suc n = omega arith in
-        ap (λ x. known (places x k m)) e
-        ∙ known_cons (place m k) (places (n + a) (suc k) m) (places n (suc k) m) _
-        (known_parts n a (suc k) m ∙ ap (λ x. known (places n (suc k) m) + known (places a x m)) f)
 
 pub few_known : (begin len held n count : ℕ) (m : Pages) → IsPaged begin len held m → n ≤ len
     → count ≡ known (places n begin m) → count ≤ held
 few_known begin len held n count m p few is =
     let e : len ≡ n + (len - n) = omega (arith, few) in
     let s = ap (λ x. known (places x begin m)) e in
-    let r = more n (len - n) begin m in
+    let r = known_split_at n (len - n) begin m in
     let h = p.held_is in
     omega (arith, s, r, h, is)
-  where
-    more : (n a k : ℕ) (m : Pages) → known (places n k m) ≤ known (places (n + a) k m)
-    more zero a k m = omega arith
-    more (suc n) a k m =
-        let e : suc n + a ≡ suc (n + a) = omega arith in
-        let r = more n a (suc k) m in
-        subst (λ x. known (places (suc n) k m) ≤ known (places x k m)) (sym e)
-        (cons (place m k) (places n (suc k) m) (places (n + a) (suc k) m) r)
-      where
-        cons : (c : Option ℕ) (xs ys : Cells) → known xs ≤ known ys → known (c ∷ xs) ≤ known (c ∷ ys)
-        cons None xs ys h = h
-        cons (Some x) xs ys h = omega (arith, h)

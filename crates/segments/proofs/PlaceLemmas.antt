@@ -5,7 +5,7 @@ use Rattle.std.proofs.Common.{Bool, true, false, ltb, min}
 use Rattle.std.proofs.Common.{map, if◌then◌else◌}
 use Rattle.std.specs.Option.{unwrap_or}
 use Rattle.std.proofs.lemmas.Bool.{ltb-true, ltb-false}
-use Rattle.std.proofs.lemmas.List.{drop_all, drop_more, take_rest, drop_min}
+use Rattle.std.proofs.lemmas.List.{drop_all, drop_more, drop_min, length-take-le, take_rest, take-append-drop}
 use Rattle.segments.specs.Cells.{Bytes, Cells, cell, differing, differs, fill, run}
 use Rattle.segments.proofs.CellLemmas.{cell_none}
 use Rattle.segments.specs.Places.{over, standing}
@@ -24,18 +24,18 @@ over_end cs ys i (inr h) = ap (over (drop i cs)) (drop_all i ys h) ∙ nothing (
     nothing [] = refl
     nothing (c ∷ cs) = refl
 
-pub over_ends : (out out' out0 : Bytes) (cs : Cells) (ys all : Bytes) (i n : ℕ)
-    → IsAppending out out0 (over (drop i cs) (drop i ys)) all →
-    n ≡ min (length ys) (length cs) → n ≤ i → i ≤ n → out' ≡ out ++ take (length ys - n) (drop n ys)
-    → out' ≡ out0 ++ all
-over_ends out out' out0 cs ys all i n a n_is low high put =
-    let same : n ≡ i = omega (arith, low, high) in
-    put ∙ ap (λ r. out ++ r) (take_rest ys n ∙ ap (λ k. drop k ys) same
-    ∙ sym (over_end cs ys i (which (ltb (length ys) (length cs)) refl))) ∙ a.is
+pub over_common : (c : ℕ) (cs : Cells) (ys : Bytes) → c ≡ min (length ys) (length cs)
+    → over cs (take c ys) ++ take (length ys - c) (drop c ys) ≡ over cs ys
+over_common c cs ys e = ap (λ r. over cs (take c ys) ++ r) (take_rest ys c) ∙ go c cs ys e
   where
-    which : (t : Bool) → ltb (length ys) (length cs) ≡ t → (length cs ≤ i) ⊎ (length ys ≤ i)
-    which true e = let h = ltb-true (length ys) (length cs) e in inr (grind (arith, h, n_is, low))
-    which false e = let h = ltb-false (length ys) (length cs) e in inl (grind (arith, h, n_is, low))
+    go : (c : ℕ) (cs : Cells) (ys : Bytes) → c ≡ min (length ys) (length cs)
+        → over cs (take c ys) ++ drop c ys ≡ over cs ys
+    go zero [] ys e = refl
+    go zero (x ∷ cs) [] e = refl
+    go zero (x ∷ cs) (y ∷ ys) e = absurd (omega (arith, e))
+    go (suc c) [] ys e = absurd (omega (arith, e))
+    go (suc c) (x ∷ cs) [] e = absurd (omega (arith, e))
+    go (suc c) (x ∷ cs) (y ∷ ys) e = ap (λ r. standing x y ∷ r) (go c cs ys (omega (arith, e)))
 
 pub over_run : (cs : Cells) (ys : Bytes) → run (fill cs ys) ≡ over cs ys ++ run (drop (length ys) cs)
 over_run [] [] = refl
@@ -127,3 +127,24 @@ differing_behind F cs k (y ∷ ys) =
     ap (λ o. (if differs o y then 1 else 0) + differing (suc (length F + k)) ys (map Some F ++ cs)) (cell_behind F cs k)
     ∙ ap (λ n. (if differs (cell cs k) y then 1 else 0) + differing n ys (map Some F ++ cs)) next
     ∙ ap (λ n. (if differs (cell cs k) y then 1 else 0) + n) (differing_behind F cs (suc k) ys)
+
+pub differing_split : (k : ℕ) (x y : Bytes) (cs : Cells)
+    → differing k (x ++ y) cs ≡ differing k x cs + differing (k + length x) y cs
+differing_split k [] y cs =
+    let e : k ≡ k + 0 = omega arith in
+    let f : differing (k + 0) y cs ≡ 0 + differing (k + 0) y cs = omega arith in
+    ap (λ i. differing i y cs) e ∙ f
+differing_split k (c ∷ x) y cs =
+    let r = differing_split (suc k) x y cs in
+    let e : suc k + length x ≡ k + suc (length x) = omega arith in
+    let f = ap (λ i. differing i y cs) e in
+    omega (arith, r, f)
+
+pub differing_common : (cs : Cells) (ys : Bytes) (k c : ℕ) → c ≡ min (length ys) (length cs - k)
+    → differing k (take c ys) cs ≡ differing k ys cs
+differing_common cs ys k c e =
+    let split = ap (λ l. differing k l cs) (sym (take-append-drop c ys)) ∙ differing_split k (take c ys) (drop c ys) cs in
+    let long = length-take-le c ys (omega (arith, e)) in
+    let rest = ap (λ n. differing (k + n) (drop c ys) cs) long
+    ∙ differing_rest cs ys k c (omega (arith, e)) in
+    omega (arith, split, rest)

@@ -1,7 +1,7 @@
 -- How the places behind the first byte that is missing are stored: in pages, of which only those are there in which a byte came.
-use Rattle.std.specs.Prelude.{◌≡◌, ℕ, zero, suc, ◌+◌, ◌-◌, ◌/◌, ◌%◌, ◌^◌, ◌<◌, ◌≤◌, nat_lt, is_some, true, if◌then◌else◌, Option, Some, None, [], ◌∷◌, length}
+use Rattle.std.specs.Prelude.{◌≡◌, ℕ, zero, suc, ◌+◌, ◌-◌, ◌/◌, ◌%◌, ◌^◌, ◌<◌, ◌≤◌, nat_lt, is_some, Bool, true, if◌then◌else◌, Option, Some, None, List, [], ◌∷◌, length}
 use Rattle.std.specs.BTreeMap.{BTreeMap, get}
-use Rattle.std.specs.Global.{Vec}
+use Rattle.std.specs.Global.{Box}
 use Rattle.std.specs.Ordering.{nat_cmp}
 use Rattle.segments.specs.Cells.{Bytes, Cells, byte_at, cell, earlier, known}
 
@@ -9,9 +9,26 @@ use Rattle.segments.specs.Cells.{Bytes, Cells, byte_at, cell, earlier, known}
 abbrev pub page_length : ℕ
 page_length = 256
 
+-- Places in a row, each with a mark: where it is set, the byte beside it stands.
+abbrev pub marked : List Bool → Bytes → Cells
+marked [] bs = []
+marked (m ∷ ms) [] = []
+marked (m ∷ ms) (b ∷ bs) = (if m then Some b else None) ∷ marked ms bs
+
+-- How many marks are set.
+abbrev pub set_marks : List Bool → ℕ
+set_marks [] = 0
+set_marks (m ∷ ms) = (if m then 1 else 0) + set_marks ms
+
+-- What a page keeps: so many marks are set.
+pub record IsMarked (marks : List Bool) (bytes : Bytes) (held : ℕ) : Type 0 where
+  pub marks_long : length marks ≡ page_length
+  pub bytes_long : length bytes ≡ page_length
+  pub held_is : held ≡ set_marks marks
+
 -- The places of a page.
 abbrev pub Page : Type 0
-Page = Vec (Option ℕ)
+Page = Box Cells
 
 -- Pages by their number: page k has the places from k * page_length on.
 abbrev pub Pages : Type 0
@@ -23,7 +40,7 @@ page m k = get nat_cmp m k
 -- What stands at a place of a page; nothing does where the page isn't there.
 abbrev pub cell_in : Option Page → ℕ → Option ℕ
 cell_in None i = None
-cell_in (Some p) i = cell p.items i
+cell_in (Some p) i = cell p.value i
 
 abbrev pub place : Pages → ℕ → Option ℕ
 place m j = cell_in (page m (j / page_length)) (j % page_length)
@@ -35,7 +52,7 @@ places (suc n) k m = place m k ∷ places n (suc k) m
 
 -- Each page has all its places.
 abbrev pub AreWhole : Pages → Type 0
-AreWhole m = (k : ℕ) (p : Page) → page m k ≡ Some p → length p.items ≡ page_length
+AreWhole m = (k : ℕ) (p : Page) → page m k ≡ Some p → length p.value ≡ page_length
 
 -- What bytes from a place on put at another.
 abbrev pub written : ℕ → Bytes → ℕ → Option ℕ

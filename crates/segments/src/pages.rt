@@ -1,25 +1,52 @@
-//! Places in pages, of which only those are there in which a byte came.
-ghost use Rattle.std.specs.Prelude.{◌≡◌, ◌<◌, ◌≤◌, ◌+◌, ◌/◌, ◌^◌, ℕ, ◌∷◌, [], is_some, true, length, OnOk, OnErr};
-ghost use Rattle.segments.specs.Cells.{known};
+//! Places in pages, of which only those are there in which a byte came. Each call goes through the pages, and not through the places.
+ghost use Rattle.std.specs.Prelude.{◌≡◌, ◌<◌, ◌≤◌, ◌+◌, ◌-◌, ◌/◌, ◌%◌, ◌^◌, ◌++◌, ℕ, is_some, true, length, OnOk, OnErr};
+ghost use Rattle.segments.specs.Cells.{Bytes, differing, known, run};
 ghost use Rattle.segments.specs.Pages.{AreWhole, IsSame, IsWritten, page, page_length, place, places};
+ghost use Rattle.segments.specs.Places.{over};
 
+use crate::page::{PAGE, Page};
 use std::alloc::{AllocError, Global};
 use std::collections::BTreeMap;
 
-/// How many places a page has.
-const PAGE: u64 = 256;
-
 /// Pages by their number.
-pub(crate) type Pages = BTreeMap<u64, Vec<Option<u8>>>;
+pub(crate) type Pages = BTreeMap<u64, Box<Page>>;
+
+/// The number of the page that has a place.
+fn number_of(at: u64) -> u64
+    ensures { result ≡ at / page_length }
+{
+    at / PAGE as u64
+}
+
+/// Where in its page a place is.
+fn within_page(at: u64) -> usize
+    ensures is { result ≡ at % page_length }
+    ensures low { result < page_length }
+{
+    (at % PAGE as u64) as usize
+}
 
 /// What stands at a place.
 pub(crate) fn byte_at(pages: &Pages, at: u64) -> Option<u8>
     requires { AreWhole pages.now }
     ensures { result ≡ place pages.now at }
 {
-    match pages.get(&(at / PAGE)) {
-        Some(page) => page[(at % PAGE) as usize],
+    match pages.get(&number_of(at)) {
+        Some(page) => page.place(within_page(at)),
         None => None,
+    }
+}
+
+/// How many bytes stand at so many places of one page.
+fn count_in_page(pages: &Pages, first: u64, n: usize) -> usize
+    requires whole { AreWhole pages.now }
+    requires one { first % page_length + n ≤ page_length }
+    ensures is { result ≡ known (places n first pages.now) }
+    ensures within { result ≤ n }
+{
+    match pages.get(&number_of(first)) {
+        Some(page) => page.known(within_page(first), n),
+        None => 0,
     }
 }
 
@@ -31,12 +58,124 @@ pub(crate) fn count_known(pages: &Pages, first: u64, n: usize) -> usize
     ensures within { result ≤ n }
 {
     let mut count = 0;
-    for i in 0..n {
-        if byte_at(pages, first + i as u64).is_some() {
-            count += 1;
-        }
+    let mut done = 0;
+    while done < n {
+        let at = first + done as u64;
+        let most = (PAGE - within_page(at)).min(n - done);
+        count += count_in_page(pages, at, most);
+        done += most;
     }
     count
+}
+
+/// At how many places of one page other bytes stand than these.
+fn unlike_in_page(pages: &Pages, first: u64, bytes: &[u8]) -> usize
+    requires whole { AreWhole pages.now }
+    requires one { first % page_length + length bytes.now ≤ page_length }
+    ensures is { result ≡ differing 0 bytes.now (places (length bytes.now) first pages.now) }
+    ensures within { result ≤ length bytes.now }
+{
+    match pages.get(&number_of(first)) {
+        Some(page) => page.unlike(within_page(first), bytes),
+        None => 0,
+    }
+}
+
+/// At how many places from one on other bytes stand than these.
+pub(crate) fn count_unlike(pages: &Pages, first: u64, bytes: &[u8]) -> usize
+    requires whole { AreWhole pages.now }
+    requires small { first + length bytes.now < 2 ^ 64 }
+    ensures is { result ≡ differing 0 bytes.now (places (length bytes.now) first pages.now) }
+    ensures within { result ≤ length bytes.now }
+{
+    let mut count = 0;
+    let mut done = 0;
+    while done < bytes.len() {
+        let at = first + done as u64;
+        let most = (PAGE - within_page(at)).min(bytes.len() - done);
+        count += unlike_in_page(pages, at, &bytes[done..done + most]);
+        done += most;
+    }
+    count
+}
+
+/// The bytes that stand at so many places of one page, up to the first empty one.
+fn front_in_page(pages: &Pages, first: u64, n: usize) -> &[u8]
+    requires whole { AreWhole pages.now }
+    requires one { first % page_length + n ≤ page_length }
+    ensures { result.now ≡ run (places n first pages.now) }
+{
+    match pages.get(&number_of(first)) {
+        Some(page) => page.front(within_page(first), n),
+        None => &[],
+    }
+}
+
+/// Puts the bytes behind `out` that stand at so many places from one on, up to the first empty one.
+pub(crate) fn append_front(
+    pages: &Pages,
+    first: u64,
+    n: usize,
+    out: &mut Vec<u8>,
+) -> Result<(), AllocError>
+    requires whole { AreWhole pages.now }
+    requires small { first + n < 2 ^ 64 }
+    ensures out { OnOk result (out.new.items ≡ out.old.items ++ run (places n first pages.now)) }
+    ensures err { OnErr result ((s : Bytes) × (out.new.items ≡ out.old.items ++ s)) }
+{
+    let mut done = 0;
+    while done < n {
+        let at = first + done as u64;
+        let most = (PAGE - within_page(at)).min(n - done);
+        let front = front_in_page(pages, at, most);
+        out.extend_from_slice(front)?;
+        if front.len() < most {
+            return Ok(());
+        }
+        done += most;
+    }
+    Ok(())
+}
+
+/// Puts bytes of one page behind `out`, but at each place the one that stands there, where one does.
+fn append_over_page(
+    pages: &Pages,
+    first: u64,
+    bytes: &[u8],
+    out: &mut Vec<u8>,
+) -> Result<(), AllocError>
+    requires whole { AreWhole pages.now }
+    requires one { first % page_length + length bytes.now ≤ page_length }
+    ensures out { OnOk result (out.new.items ≡ out.old.items ++ over (places (length bytes.now) first pages.now) bytes.now) }
+    ensures err { OnErr result ((s : Bytes) × (out.new.items ≡ out.old.items ++ s)) }
+{
+    match pages.get(&number_of(first)) {
+        Some(page) => page.append_over(within_page(first), bytes, out)?,
+        None => out.extend_from_slice(bytes)?,
+    }
+    Ok(())
+}
+
+/// Puts bytes behind `out`, but at each place the one that stands there, where one does.
+pub(crate) fn append_over(
+    pages: &Pages,
+    first: u64,
+    bytes: &[u8],
+    out: &mut Vec<u8>,
+) -> Result<(), AllocError>
+    requires whole { AreWhole pages.now }
+    requires small { first + length bytes.now < 2 ^ 64 }
+    ensures out { OnOk result (out.new.items ≡ out.old.items ++ over (places (length bytes.now) first pages.now) bytes.now) }
+    ensures err { OnErr result ((s : Bytes) × (out.new.items ≡ out.old.items ++ s)) }
+{
+    let mut done = 0;
+    while done < bytes.len() {
+        let at = first + done as u64;
+        let most = (PAGE - within_page(at)).min(bytes.len() - done);
+        append_over_page(pages, at, &bytes[done..done + most], out)?;
+        done += most;
+    }
+    Ok(())
 }
 
 /// Makes the page of that number, unless it is there.
@@ -48,8 +187,7 @@ fn make_page(alloc: Global, pages: &mut Pages, number: u64) -> Result<(), AllocE
     if pages.contains_key(&number) {
         return Ok(());
     }
-    let mut page = Vec::new(alloc);
-    page.resize(PAGE as usize, None)?;
+    let page = Box::new(alloc, Page::new())?;
     pages.insert(number, page)?;
     Ok(())
 }
@@ -65,28 +203,24 @@ pub(crate) fn make_pages(
     ensures same { IsSame pages.old pages.new }
     ensures made { OnOk result ((j : ℕ) → first ≤ j → j ≤ last → is_some (page pages.new (j / page_length)) ≡ true) }
 {
-    for number in first / PAGE..last / PAGE + 1 {
+    for number in number_of(first)..number_of(last) + 1 {
         make_page(alloc, pages, number)?;
     }
     Ok(())
 }
 
-/// Puts a byte at a place where none stands, and tells how many it put.
-fn write_byte(pages: &mut Pages, at: u64, byte: u8) -> usize
+/// Puts bytes at places of one page where none stand, and tells how many it put.
+fn write_in_page(pages: &mut Pages, at: u64, bytes: &[u8]) -> usize
     requires whole { AreWhole pages.old }
     requires there { is_some (page pages.old (at / page_length)) ≡ true }
-    ensures written { IsWritten at (byte ∷ []) pages.old pages.new result }
-    ensures one { result ≤ 1 }
+    requires one { at % page_length + length bytes.now ≤ page_length }
+    ensures written { IsWritten at bytes.now pages.old pages.new result }
+    ensures within { result ≤ length bytes.now }
 {
-    let Some(page) = pages.get_mut(&(at / PAGE)) else {
+    let Some(page) = pages.get_mut(&number_of(at)) else {
         return 0;
     };
-    let i = (at % PAGE) as usize;
-    if page[i].is_some() {
-        return 0;
-    }
-    page[i] = Some(byte);
-    1
+    page.write(within_page(at), bytes)
 }
 
 /// Puts bytes from a place on where none stand, and tells how many it put.
@@ -97,10 +231,12 @@ pub(crate) fn write_bytes(pages: &mut Pages, at: u64, bytes: &[u8]) -> usize
     ensures { IsWritten at bytes.now pages.old pages.new result }
 {
     let mut count = 0;
-    let mut at = at;
-    for byte in bytes {
-        count += write_byte(pages, at, *byte);
-        at += 1;
+    let mut done = 0;
+    while done < bytes.len() {
+        let place = at + done as u64;
+        let most = (PAGE - within_page(place)).min(bytes.len() - done);
+        count += write_in_page(pages, place, &bytes[done..done + most]);
+        done += most;
     }
     count
 }
@@ -111,7 +247,7 @@ pub(crate) fn remove_pages(pages: &mut Pages, first: u64, end: u64)
     ensures whole { AreWhole pages.new }
     ensures places { (j : ℕ) → end ≤ j → place pages.new j ≡ place pages.old j }
 {
-    for number in first / PAGE..end / PAGE {
+    for number in number_of(first)..number_of(end) {
         pages.remove(&number);
     }
 }

@@ -1,6 +1,6 @@
 //! Places that a byte stands at or doesn't.
-ghost use Rattle.std.specs.Prelude.{◌≡◌, ◌<◌, ◌≤◌, ◌+◌, ◌++◌, ℕ, length, drop, OnOk, OnErr};
-ghost use Rattle.segments.specs.Cells.{Bytes, cell, differing, differs, empties, fill, run};
+ghost use Rattle.std.specs.Prelude.{◌≡◌, ◌≤◌, ◌++◌, length, drop, OnOk, OnErr};
+ghost use Rattle.segments.specs.Cells.{Bytes, differing, empties, fill, run};
 ghost use Rattle.segments.specs.Places.{over};
 
 use crate::window::Window;
@@ -19,30 +19,16 @@ pub(crate) fn count_empty(window: &Window) -> usize
     window.len()
 }
 
-/// Whether another byte stands at a place.
-fn stands_otherwise(window: &Window, at: usize, byte: u8) -> bool
-    requires { at < length window.now }
-    ensures { result ≡ differs (cell window.now at) byte }
-{
-    match window.place(at) {
-        Some(standing) => standing != byte,
-        None => false,
-    }
-}
-
 /// At how many places other bytes stand than these, the first of which is for a place.
 pub(crate) fn count_differing(window: &Window, at: usize, bytes: &[u8]) -> usize
     ensures is { result ≡ differing at bytes.now window.now }
     ensures within { result ≤ length bytes.now }
 {
-    let common = bytes.len().min(window.len().saturating_sub(at));
-    let mut count = 0;
-    for i in 0..common {
-        if stands_otherwise(window, at + i, bytes[i]) {
-            count += 1;
-        }
+    if window.len() < at {
+        return 0;
     }
-    count
+    let common = bytes.len().min(window.len() - at);
+    window.differing(at, &bytes[..common])
 }
 
 /// Puts bytes behind `out`, but at each place the one that stands there, where one does.
@@ -51,25 +37,8 @@ fn append_over(out: &mut Vec<u8>, bytes: &[u8], window: &Window) -> Result<(), A
     ensures err { OnErr result ((s : Bytes) × (out.new.items ≡ out.old.items ++ s)) }
 {
     let common = bytes.len().min(window.len());
-    for i in 0..common {
-        out.push(window.place(i).unwrap_or(bytes[i]))?;
-    }
+    window.append_over(&bytes[..common], out)?;
     out.extend_from_slice(&bytes[common..])?;
-    Ok(())
-}
-
-/// Puts the bytes behind `out` that stand from a place up to the first empty one.
-pub(crate) fn append_run(out: &mut Vec<u8>, window: &Window, from: usize) -> Result<(), AllocError>
-    requires { from ≤ length window.now }
-    ensures out { OnOk result (out.new.items ≡ out.old.items ++ run (drop from window.now)) }
-    ensures err { OnErr result ((s : Bytes) × (out.new.items ≡ out.old.items ++ s)) }
-{
-    for i in from..window.len() {
-        match window.place(i) {
-            Some(byte) => out.push(byte)?,
-            None => return Ok(()),
-        }
-    }
     Ok(())
 }
 
@@ -83,7 +52,7 @@ pub(crate) fn append_joined(
     ensures err { OnErr result ((s : Bytes) × (out.new.items ≡ out.old.items ++ s)) }
 {
     append_over(out, bytes, window)?;
-    append_run(out, window, bytes.len().min(window.len()))?;
+    window.append_run(bytes.len().min(window.len()), out)?;
     Ok(())
 }
 

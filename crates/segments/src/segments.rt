@@ -3,7 +3,7 @@ ghost use Rattle.std.specs.Prelude.{◌≡◌, ◌≤◌, ◌<◌, ◌+◌, ◌^
 ghost use Rattle.segments.specs.Cells.{ahead, differing_in, differing_located, gap, known_behind, located, placed, run, wanted, with_located, with_part, with_segment, without_front, IsBeyond, IsTooMuch};
 ghost use Rattle.segments.specs.declared.segments.SegmentError.TheVariants as segment_error;
 
-use crate::places::{append_joined, append_run, count_differing, count_empty, drop_first};
+use crate::places::{append_joined, count_differing, count_empty, drop_first};
 use crate::window::Window;
 use std::alloc::{AllocError, Global};
 use std::error::Error;
@@ -197,7 +197,8 @@ impl Segments {
         ensures err { OnErr result (self.new ≡ self.old) }
     {
         let held = self.front.len();
-        match append_run(&mut self.front, &self.window, missed.min(self.window.len())) {
+        let from = missed.min(self.window.len());
+        match self.window.append_run(from, &mut self.front) {
             Ok(()) => {
                 let added = self.front.len() - held;
                 self.window.drop_front(missed + added);

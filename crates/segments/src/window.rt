@@ -1,8 +1,12 @@
 //! Bytes that wait for others.
-ghost use Rattle.std.specs.Prelude.{◌≡◌, ◌≤◌, ◌<◌, ◌+◌, ◌^◌, [], length, drop, OnOk, OnErr};
-ghost use Rattle.segments.specs.Cells.{cell, fill_at, known};
+ghost use Rattle.std.specs.Prelude.{◌≡◌, ◌≤◌, ◌<◌, ◌+◌, ◌^◌, ◌++◌, [], length, drop, OnOk, OnErr};
+ghost use Rattle.segments.specs.Cells.{Bytes, cell, differing, fill_at, known, run};
+ghost use Rattle.segments.specs.Places.{over};
 
-use crate::pages::{Pages, byte_at, count_known, make_pages, remove_pages, write_bytes};
+use crate::pages::{
+    Pages, append_front, append_over, byte_at, count_known, count_unlike, make_pages, remove_pages,
+    write_bytes,
+};
 use std::alloc::{AllocError, Global};
 use std::collections::BTreeMap;
 use std::marker::Model;
@@ -66,6 +70,33 @@ impl Window {
         ensures within { result ≤ length self.now }
     {
         self.held
+    }
+
+    /// At how many places other bytes stand than these, the first of which is for a place.
+    pub(crate) fn differing(&self, at: usize, bytes: &[u8]) -> usize
+        requires { at + length bytes.now ≤ length self.now }
+        ensures is { result ≡ differing at bytes.now self.now }
+        ensures within { result ≤ length bytes.now }
+    {
+        count_unlike(&self.pages, self.begin + at as u64, bytes)
+    }
+
+    /// Puts bytes behind `out`, but at each place the one that stands there, where one does.
+    pub(crate) fn append_over(&self, bytes: &[u8], out: &mut Vec<u8>) -> Result<(), AllocError>
+        requires { length bytes.now ≤ length self.now }
+        ensures out { OnOk result (out.new.items ≡ out.old.items ++ over self.now bytes.now) }
+        ensures err { OnErr result ((s : Bytes) × (out.new.items ≡ out.old.items ++ s)) }
+    {
+        append_over(&self.pages, self.begin, bytes, out)
+    }
+
+    /// Puts the bytes behind `out` that stand from a place up to the first empty one.
+    pub(crate) fn append_run(&self, from: usize, out: &mut Vec<u8>) -> Result<(), AllocError>
+        requires { from ≤ length self.now }
+        ensures out { OnOk result (out.new.items ≡ out.old.items ++ run (drop from self.now)) }
+        ensures err { OnErr result ((s : Bytes) × (out.new.items ≡ out.old.items ++ s)) }
+    {
+        append_front(&self.pages, self.begin + from as u64, self.len - from, out)
     }
 
     /// Lets the first places go, and the memory of their pages.

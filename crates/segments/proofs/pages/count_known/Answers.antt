@@ -1,22 +1,14 @@
-use Rattle.std.proofs.Common.{sym, ◌∙◌, ap, arith}
-use Rattle.std.specs.Option.{is_some}
-use Rattle.segments.proofs.PageMapLemmas.{counted_next}
-use Rattle.segments.proofs.pages.count_known.Goals.{then-is_some, else-is_some}
+use Rattle.std.proofs.Common.{arith}
+use Rattle.segments.proofs.PageLemmas.{known_split_at}
 use Rattle.segments.proofs.pages.count_known.Goals as goal
 
-pub loop-i-preserved : goal.loop-i-preserved
-loop-i-preserved c =
-    let inv = c.loop-i.invariant in
-    let told = c.is_some.ensures ∙ ap is_some c.byte_at.ensures in
-    elim c.if-is_some.branch [
-      | then-is_some w ↦ (
-        omega (arith, inv.0, w.count-is),
-        counted_next c.loop-i.i c.args.first c.args.pages.now c.loop-i.count c.if-is_some.count _ inv.1
-            (sym w.if-is_some.true ∙ told) w.count-is,
-      )
-      | else-is_some w ↦ (
-        omega (arith, inv.0, w.count-is),
-        counted_next c.loop-i.i c.args.first c.args.pages.now c.loop-i.count c.if-is_some.count _ inv.1
-            (sym w.if-is_some.false ∙ told) (omega (arith, w.count-is)),
-      )
-    ]
+pub loop-done-preserved : goal.loop-done-preserved
+loop-done-preserved c =
+    let inv = c.loop-done.invariant in
+    let most = c.min-most.ensures in
+    let more = c.count_in_page-count.ensures in
+    let split = known_split_at c.loop-done.done c.min-most.result c.args.first c.args.pages.now in (
+      omega (arith, inv.0, more.within),
+      omega (arith, inv.1, most, c.loop-done-test.true),
+      omega (arith, inv.2, more.is, split),
+    )

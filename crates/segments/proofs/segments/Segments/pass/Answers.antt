@@ -15,7 +15,7 @@ drop_front-requires c =
     let few = subst (λ k. n ≤ k) all c.requires.within in
     let front_is =
     c.in-Ok.ensures.out
-    ∙ ap (λ k. i.front.items ++ run (drop k i.window)) (c.min.ensures ∙ ap (min n) c.len.ensures)
+    ∙ ap (λ k. i.front.items ++ run (drop k i.window)) (c.min-from.ensures ∙ ap (min n) c.len.ensures)
     ∙ ap (λ r. i.front.items ++ run r) (drop_min n i.window) in
     let o = i.front.ok.0 in
     let o' = c.append_run.new.out.ok.0 in
@@ -35,7 +35,7 @@ invariant_of-self c =
     let few = subst (λ k. n ≤ k) all c.requires.within in
     let front_is =
     c.in-Ok.ensures.out
-    ∙ ap (λ k. i.front.items ++ run (drop k i.window)) (c.min.ensures ∙ ap (min n) c.len.ensures)
+    ∙ ap (λ k. i.front.items ++ run (drop k i.window)) (c.min-from.ensures ∙ ap (min n) c.len.ensures)
     ∙ ap (λ r. i.front.items ++ run r) (drop_min n i.window) in
     let o = i.front.ok.0 in
     let o' = c.append_run.new.out.ok.0 in
@@ -57,7 +57,7 @@ returns-in-Ok-clause-ok c =
     let few = subst (λ k. n ≤ k) all c.requires.within in
     let front_is =
     c.in-Ok.ensures.out
-    ∙ ap (λ k. i.front.items ++ run (drop k i.window)) (c.min.ensures ∙ ap (min n) c.len.ensures)
+    ∙ ap (λ k. i.front.items ++ run (drop k i.window)) (c.min-from.ensures ∙ ap (min n) c.len.ensures)
     ∙ ap (λ r. i.front.items ++ run r) (drop_min n i.window) in
     let o = i.front.ok.0 in
     let o' = c.append_run.new.out.ok.0 in
