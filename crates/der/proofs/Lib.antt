@@ -1,0 +1,3 @@
+pub mod LeadingLemmas
+pub mod Base128Lemmas
+pub mod EncodingLemmas

@@ -1,0 +1,12 @@
+pub mod Element
+pub mod Values
+pub mod ObjectIdentifier
+pub mod Time
+pub mod Text
+pub use Rattle.tls_fields.specs.Bytes
+pub use Rattle.tls_fields.specs.Layout
+pub use Rattle.tls_fields.specs.Meaning
+pub use Rattle.tls_fields.specs.Reading
+pub use Rattle.tls_fields.specs.Items
+pub use Rattle.tls_fields.specs.Answers
+pub use Rattle.jiff_core.specs.Calendar

@@ -1,0 +1,173 @@
+//! Elements: a tag, a length, and as many bytes of content (X.690, sections 8.1 and 10.1).
+#![tactic(auto, using(tls_fields::proofs::OneAnswerLemmas::read_allowed))]
+
+ghost use Rattle.std.specs.Prelude.{List};
+ghost use Rattle.std.specs.Option.{option_map};
+ghost use Rattle.tls_fields.specs.Bytes.{Bytes};
+ghost use Rattle.tls_fields.specs.Answers.{Gives};
+ghost use Rattle.tls_fields.specs.Items.{items_in};
+ghost use Rattle.tls_fields.specs.Layout.{complete, rest as rest_layout};
+ghost use Rattle.der.specs.Element.{whole as whole_layout, tagged as tagged_layout, optional as optional_layout, optional_element as optional_element_layout};
+ghost use Rattle.der.specs.Element.{Element as PlainElement, view_element, element, element_bytes as element_bytes_layout, items_of};
+
+use crate::length::der_length;
+use std::marker::PhantomData;
+use tls_fields::{Err, ErrorKind, IResult, InPlace, Items, block, number1, refused, rest};
+
+/// What `T` reads, behind which no byte is left.
+#[tactic(auto, using(tls_fields::proofs::OneAnswerLemmas::read_allowed), unfolding(crate::specs::Element::whole))]
+fn whole<'a, T: InPlace<'a>>(i: &'a [u8]) -> IResult<&'a [u8], T::Read>
+    ensures { Gives T.view (whole_layout T.layout) i.now result }
+{
+    let (i, x) = T::read(i)?;
+    if !i.is_empty() {
+        return refused(i, ErrorKind::LengthValue);
+    }
+    Ok((i, x))
+}
+
+/// The same of a whole content: no further bytes belong to it.
+fn whole_content<'a, T: InPlace<'a>>(i: &'a [u8]) -> IResult<&'a [u8], T::Read>
+    ensures { Gives T.view (complete (whole_layout T.layout)) i.now result }
+{
+    match whole::<T>(i) {
+        Err(Err::Incomplete(_)) => refused(i, ErrorKind::Complete),
+        answer => answer,
+    }
+}
+
+/// Reads an element of this tag, whose whole content `T` reads.
+///
+/// - `Incomplete` of what is missing of the tag, the length or the content.
+/// - `Error` of kind `Tag` where the tag is another.
+/// - What [`der_length`] refuses.
+/// - What `T` refuses in the content; of kind `Complete` where bytes are missing there, and `LengthValue` where some are left.
+#[tactic(auto, using(tls_fields::proofs::OneAnswerLemmas::read_allowed), unfolding(crate::specs::Element::tagged))]
+pub fn tagged<'a, T: InPlace<'a>>(i: &'a [u8], tag: u8) -> IResult<&'a [u8], T::Read>
+    ensures { Gives T.view (tagged_layout tag T.layout) i.now result }
+{
+    let (i, t) = number1(i)?;
+    if t != tag {
+        return refused(i, ErrorKind::Tag);
+    }
+    let (i, n) = der_length(i)?;
+    let (i, content) = block(i, n)?;
+    let (_, x) = whole_content::<T>(content)?;
+    Ok((i, x))
+}
+
+/// As [`tagged`] where an element of this tag is next; else `None`, and nothing is taken (OPTIONAL).
+#[tactic(auto, using(tls_fields::proofs::OneAnswerLemmas::read_allowed), unfolding(crate::specs::Element::optional))]
+pub fn optional<'a, T: InPlace<'a>>(i: &'a [u8], tag: u8) -> IResult<&'a [u8], Option<T::Read>>
+    ensures { Gives (λ v. option_map T.view v) (optional_layout tag T.layout) i.now result }
+{
+    if i.is_empty() {
+        return Ok((i, None));
+    }
+    let (_, t) = number1(i)?;
+    if t == tag {
+        let (i, x) = tagged::<T>(i, tag)?;
+        return Ok((i, Some(x)));
+    }
+    Ok((i, None))
+}
+
+/// An element of any tag.
+#[derive(Clone, Copy, Debug, PartialEq)]
+pub struct Element<'a> {
+    /// The tag, of one byte: its class in bits 8 and 7, bit 6 where the content is made of elements, its number below 31
+    /// (X.690, section 8.1.2).
+    pub tag: u8,
+    /// The content.
+    pub content: &'a [u8],
+}
+
+/// Reads an element.
+///
+/// - `Incomplete` of what is missing of it.
+/// - `Error` of kind `Switch` where its tag has more than one byte.
+/// - What [`der_length`] refuses.
+impl<'a> InPlace<'a> for Element<'a> {
+    type Read = Self;
+
+    ghost Value = { PlainElement };
+
+    ghost view = { view_element };
+
+    ghost layout = { element };
+
+    #[tactic(auto, using(tls_fields::proofs::OneAnswerLemmas::read_allowed), unfolding(crate::specs::Element::element))]
+    fn read(i: &'a [u8]) -> IResult<&'a [u8], Self> {
+        let (i, tag) = number1(i)?;
+        if tag % 32 == 31 {
+            return refused(i, ErrorKind::Switch);
+        }
+        let (i, n) = der_length(i)?;
+        let (i, content) = block(i, n)?;
+        Ok((i, Element { tag, content }))
+    }
+}
+
+/// Reads an element, or `None` where no byte is left (ANY OPTIONAL, at an end).
+///
+/// It refuses what reading an [`Element`] does.
+#[tactic(auto, using(tls_fields::proofs::OneAnswerLemmas::read_allowed), unfolding(crate::specs::Element::optional_element))]
+pub fn optional_element(i: &[u8]) -> IResult<&[u8], Option<Element>>
+    ensures { Gives (λ v. option_map view_element v) optional_element_layout i.now result }
+{
+    if i.is_empty() {
+        return Ok((i, None));
+    }
+    let (i, x) = Element::read(i)?;
+    Ok((i, Some(x)))
+}
+
+/// Reads the bytes of an element, with its tag and its length.
+///
+/// It refuses what reading an [`Element`] does.
+#[tactic(auto, using(tls_fields::proofs::OneAnswerLemmas::read_allowed), unfolding(crate::specs::Element::element_bytes))]
+pub fn element_bytes(i: &[u8]) -> IResult<&[u8], &[u8]>
+    ensures { Gives (λ v. v.now) element_bytes_layout i.now result }
+{
+    let (behind, _) = Element::read(i)?;
+    block(i, i.len().saturating_sub(behind.len()))
+}
+
+/// All bytes of a content.
+pub struct AllBytes;
+
+impl<'a> InPlace<'a> for AllBytes {
+    type Read = &'a [u8];
+
+    ghost Value = { Bytes };
+
+    ghost view = { λ bytes. bytes.now };
+
+    ghost layout = { rest_layout };
+
+    fn read(i: &'a [u8]) -> IResult<&'a [u8], &'a [u8]> {
+        rest(i)
+    }
+}
+
+/// The items that a content holds, one behind the other, to be walked (SEQUENCE OF, SET OF).
+///
+/// None is judged before the walk comes to it; [`Items::refusal`] says what ended a walk early.
+pub struct ItemsOf<'a, T>(PhantomData<Items<'a, T>>);
+
+impl<'a, T: InPlace<'a>> InPlace<'a> for ItemsOf<'a, T> {
+    type Read = Items<'a, T>;
+
+    ghost Value = { List T.InPlace.Value };
+
+    ghost view = { λ v. items_in T.InPlace.layout v.bytes.now };
+
+    ghost layout = { items_of T.InPlace.layout };
+
+    #[tactic(auto, using(tls_fields::proofs::OneAnswerLemmas::read_allowed), unfolding(crate::specs::Element::items_of))]
+    fn read(i: &'a [u8]) -> IResult<&'a [u8], Items<'a, T>> {
+        let items = Items::new(i);
+        let (i, _) = rest(i)?;
+        Ok((i, items))
+    }
+}

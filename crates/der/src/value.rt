@@ -1,0 +1,176 @@
+//! Contents of single values: BOOLEAN, INTEGER and BIT STRING.
+#![tactic(auto, using(tls_fields::proofs::OneAnswerLemmas::read_allowed))]
+
+ghost use Rattle.std.specs.Prelude.{◌≡◌, ◌+◌, ◌*◌, ◌^◌, ◌≤◌, Bool, length, nat_lt};
+ghost use Rattle.tls_fields.specs.Bytes.{Bytes};
+ghost use Rattle.tls_fields.specs.Answers.{Gives};
+ghost use Rattle.der.specs.Values.{boolean, default_false as default_false_layout, integer, is_shortest as is_shortest_of, BitString as PlainBitString, view_bit_string, bit_string, is_padding as is_padding_of, bit_of};
+
+use crate::element::optional;
+use crate::tag;
+use tls_fields::{ErrorKind, IResult, InPlace, number1, refused, rest};
+
+/// The content of a BOOLEAN (X.690, sections 8.2 and 11.1).
+///
+/// - `Error` of kind `Verify` where it is neither 0 nor 255.
+/// - `Incomplete` of 1 where there is none.
+pub struct Boolean;
+
+impl<'a> InPlace<'a> for Boolean {
+    type Read = bool;
+
+    ghost Value = { Bool };
+
+    ghost view = { λ v. v };
+
+    ghost layout = { boolean };
+
+    #[tactic(auto, using(tls_fields::proofs::OneAnswerLemmas::read_allowed), unfolding(crate::specs::Values::boolean))]
+    fn read(i: &'a [u8]) -> IResult<&'a [u8], bool> {
+        let (i, n) = number1(i)?;
+        if n != 0 && n != 255 {
+            return refused(i, ErrorKind::Verify);
+        }
+        Ok((i, n == 255))
+    }
+}
+
+/// Reads a BOOLEAN DEFAULT FALSE: `false` where none is next.
+///
+/// The default may be written out, which DER forbids (X.690, section 11.5) and certificates have. It refuses what
+/// [`crate::tagged`] and [`Boolean`] do.
+#[tactic(auto, using(tls_fields::proofs::OneAnswerLemmas::read_allowed), unfolding(crate::specs::Values::default_false))]
+pub fn default_false(i: &[u8]) -> IResult<&[u8], bool>
+    ensures { Gives (λ v. v) default_false_layout i.now result }
+{
+    let (i, value) = optional::<Boolean>(i, tag::BOOLEAN)?;
+    match value {
+        Some(value) => Ok((i, value)),
+        None => Ok((i, false)),
+    }
+}
+
+/// Whether fewer bytes couldn't say the same INTEGER.
+fn is_shortest(bytes: &[u8]) -> bool
+    ensures { result ≡ is_shortest_of bytes.now }
+{
+    match bytes {
+        [0, b, ..] => *b >= 128,
+        [255, b, ..] => *b < 128,
+        _ => true,
+    }
+}
+
+/// The content of an INTEGER: its bytes in two's complement, the most significant first (X.690, section 8.3).
+///
+/// - `Error` of kind `LengthValue` where it has none.
+/// - `Error` of kind `Verify` where fewer bytes could say it.
+pub struct Integer;
+
+impl<'a> InPlace<'a> for Integer {
+    type Read = &'a [u8];
+
+    ghost Value = { Bytes };
+
+    ghost view = { λ bytes. bytes.now };
+
+    ghost layout = { integer };
+
+    #[tactic(auto, using(tls_fields::proofs::OneAnswerLemmas::read_allowed), unfolding(crate::specs::Values::integer))]
+    fn read(i: &'a [u8]) -> IResult<&'a [u8], &'a [u8]> {
+        if i.is_empty() {
+            return refused(i, ErrorKind::LengthValue);
+        }
+        let (i, bytes) = rest(i)?;
+        if !is_shortest(bytes) {
+            return refused(i, ErrorKind::Verify);
+        }
+        Ok((i, bytes))
+    }
+}
+
+/// 2 to the power of `k`.
+fn power_of_two(k: u8) -> u8
+    requires { k ≤ 7 }
+    ensures { result ≡ 2 ^ k }
+{
+    match k {
+        0 => 1,
+        1 => 2,
+        2 => 4,
+        3 => 8,
+        4 => 16,
+        5 => 32,
+        6 => 64,
+        _ => 128,
+    }
+}
+
+/// A BIT STRING (X.690, section 8.6).
+#[derive(Clone, Copy, Debug, PartialEq)]
+pub struct BitString<'a> {
+    /// How many bits of the last byte aren't part of it, at most 7.
+    pub unused: u8,
+    /// The bytes that it is in.
+    pub bytes: &'a [u8],
+}
+
+impl<'a> BitString<'a> {
+    /// Whether it has a bit `k`.
+    fn has_bit(self, k: usize) -> bool
+        ensures { result ≡ nat_lt (k + self.entry.unused) (length self.entry.bytes.now * 8) }
+    {
+        let past = k % 8 + self.unused as usize;
+        k / 8 + past / 8 < self.bytes.len()
+    }
+
+    /// Bit `k`, where bit 0 is the highest of the first byte; `false` for a bit behind the last.
+    pub fn bit(self, k: usize) -> bool
+        ensures { result ≡ bit_of (view_bit_string self.entry) k }
+    {
+        if !self.has_bit(k) {
+            return false;
+        }
+        let shift = power_of_two(7 - (k % 8) as u8);
+        self.bytes[k / 8] / shift % 2 == 1
+    }
+}
+
+/// Whether the unused bits are there, and 0.
+fn is_padding(unused: u8, bytes: &[u8]) -> bool
+    requires { unused ≤ 7 }
+    ensures { result ≡ is_padding_of unused bytes.now }
+{
+    if bytes.is_empty() {
+        return unused == 0;
+    }
+    bytes[bytes.len() - 1] % power_of_two(unused) == 0
+}
+
+/// The content of a BIT STRING.
+///
+/// - `Incomplete` of 1 where there is no byte.
+/// - `Error` of kind `Verify` where more than 7 bits are unused, there is no byte that they are in, or one of them isn't 0 (sections
+///   8.6.2.3 and 11.2.1).
+impl<'a> InPlace<'a> for BitString<'a> {
+    type Read = Self;
+
+    ghost Value = { PlainBitString };
+
+    ghost view = { view_bit_string };
+
+    ghost layout = { bit_string };
+
+    #[tactic(auto, using(tls_fields::proofs::OneAnswerLemmas::read_allowed), unfolding(crate::specs::Values::bit_string))]
+    fn read(i: &'a [u8]) -> IResult<&'a [u8], Self> {
+        let (i, unused) = number1(i)?;
+        if unused > 7 {
+            return refused(i, ErrorKind::Verify);
+        }
+        let (i, bytes) = rest(i)?;
+        if !is_padding(unused, bytes) {
+            return refused(i, ErrorKind::Verify);
+        }
+        Ok((i, BitString { unused, bytes }))
+    }
+}
