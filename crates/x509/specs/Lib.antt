@@ -1,0 +1,15 @@
+pub mod Name
+pub mod Certificate
+pub mod GeneralName
+pub mod Extensions
+pub mod PublicKey
+pub use Rattle.tls_fields.specs.Bytes
+pub use Rattle.tls_fields.specs.Layout
+pub use Rattle.tls_fields.specs.Meaning
+pub use Rattle.tls_fields.specs.Reading
+pub use Rattle.tls_fields.specs.Items
+pub use Rattle.tls_fields.specs.Answers
+pub use Rattle.der.specs.Element
+pub use Rattle.der.specs.Values
+pub use Rattle.der.specs.ObjectIdentifier
+pub use Rattle.der.specs.Time

@@ -1,0 +1,81 @@
+//! Certificates (RFC 5280, section 4.1).
+#![tactic(auto, using(tls_fields::proofs::OneAnswerLemmas::read_allowed))]
+
+ghost use Rattle.std.specs.Prelude.{◌≡◌, ◌-◌, length, take};
+ghost use Rattle.tls_fields.specs.Answers.{Gives};
+ghost use Rattle.x509.specs.Certificate.{Certificate as PlainCertificate, view_certificate, certificate_content, certificate};
+
+use crate::algorithm::{AlgorithmIdentifier, parse_algorithm_identifier};
+use crate::tbs::TBSCertificate;
+use der::{BitString, tag, tagged};
+use tls_fields::{IResult, InPlace, rest};
+
+/// A certificate.
+#[derive(Clone, Copy, Debug, PartialEq)]
+pub struct Certificate<'a> {
+    /// The bytes that are signed: those of the TBSCertificate, with its tag and its length.
+    pub signed_bytes: &'a [u8],
+    /// What they say.
+    pub tbs_certificate: TBSCertificate<'a>,
+    /// What they are signed with; it has to be the same as `signature` in the TBSCertificate, which isn't compared.
+    pub signature_algorithm: AlgorithmIdentifier<'a>,
+    /// The signature.
+    pub signature_value: BitString<'a>,
+}
+
+/// What is in front of the bytes behind.
+fn front_of<'a>(i: &'a [u8], behind: &[u8]) -> &'a [u8]
+    ensures { result.now ≡ take (length i.now - length behind.now) i.now }
+{
+    i.split_at(i.len().saturating_sub(behind.len())).0
+}
+
+/// What is in a certificate.
+struct CertificateContent;
+
+impl<'a> InPlace<'a> for CertificateContent {
+    type Read = Certificate<'a>;
+
+    ghost Value = { PlainCertificate };
+
+    ghost view = { view_certificate };
+
+    ghost layout = { certificate_content };
+
+    #[tactic(auto, using(tls_fields::proofs::OneAnswerLemmas::read_allowed), unfolding(crate::specs::Certificate::certificate_content))]
+    fn read(i: &'a [u8]) -> IResult<&'a [u8], Certificate<'a>> {
+        let (_, whole) = rest(i)?;
+        let (behind, tbs_certificate) = tagged::<TBSCertificate>(i, tag::SEQUENCE)?;
+        let signed_bytes = front_of(whole, behind);
+        let (i, signature_algorithm) = parse_algorithm_identifier(behind)?;
+        let (i, signature_value) = tagged::<BitString>(i, tag::BIT_STRING)?;
+        let certificate = Certificate {
+            signed_bytes,
+            tbs_certificate,
+            signature_algorithm,
+            signature_value,
+        };
+        Ok((i, certificate))
+    }
+}
+
+/// Reads a certificate in place.
+///
+/// Names and extensions are lists in place: each item is read as the walk comes to it, and [`tls_fields::Items::refusal`] says
+/// what ended a walk early.
+///
+/// - `Incomplete` of what is missing of the certificate's tag, length or content.
+/// - `Error` of kind `Tag` where another element is where one is asked for.
+/// - `Error` of kind `Complete` where an element doesn't fit in the one that it is in, or one is missing there.
+/// - `Error` of kind `LengthValue` where bytes are left behind the last field of a structure, or an INTEGER or an OBJECT IDENTIFIER
+///   has no bytes.
+/// - `Error` of kind `Verify` where a value breaks its rule: a length, an INTEGER or an arc that isn't the shortest, a version that
+///   is negative, a truth value that is neither 0 nor 255, a time that isn't one, bits that are unused and set.
+/// - `Error` of kind `Switch` where a length is indefinite, or the tag of an algorithm's parameters has more than one byte.
+/// - `Error` of kind `TooLarge` where a length has more than 3 bytes behind its first.
+#[tactic(auto, using(tls_fields::proofs::OneAnswerLemmas::read_allowed), unfolding(crate::specs::Certificate::certificate))]
+pub fn parse_certificate(i: &[u8]) -> IResult<&[u8], Certificate>
+    ensures { Gives view_certificate certificate i.now result }
+{
+    tagged::<CertificateContent>(i, tag::SEQUENCE)
+}

@@ -1,0 +1,102 @@
+//! Extensions (RFC 5280, section 4.2).
+#![tactic(auto, using(tls_fields::proofs::OneAnswerLemmas::read_allowed))]
+
+ghost use Rattle.std.specs.Prelude.{◌≡◌, List};
+ghost use Rattle.std.specs.Option.{option_map};
+ghost use Rattle.tls_fields.specs.Answers.{Gives};
+ghost use Rattle.tls_fields.specs.Items.{items_in};
+ghost use Rattle.x509.specs.Certificate.{Extension as PlainExtension, view_extension, extension_content, extension, extensions as extensions_layout};
+ghost use Rattle.x509.specs.Extensions.{first_of};
+
+use der::{AllBytes, ItemsOf, ObjectIdentifier, default_false, object_identifier, tag, tagged};
+use tls_fields::{IResult, InPlace, Items};
+
+/// An extension.
+#[derive(Clone, Copy, Debug, PartialEq)]
+pub struct Extension<'a> {
+    /// Its type.
+    pub extn_id: ObjectIdentifier<'a>,
+    /// Whether who doesn't know it is to reject the certificate.
+    pub critical: bool,
+    /// Its value, in DER.
+    pub extn_value: &'a [u8],
+}
+
+/// What is in an extension.
+struct ExtensionContent;
+
+impl<'a> InPlace<'a> for ExtensionContent {
+    type Read = Extension<'a>;
+
+    ghost Value = { PlainExtension };
+
+    ghost view = { view_extension };
+
+    ghost layout = { extension_content };
+
+    #[tactic(auto, using(tls_fields::proofs::OneAnswerLemmas::read_allowed), unfolding(crate::specs::Certificate::extension_content))]
+    fn read(i: &'a [u8]) -> IResult<&'a [u8], Extension<'a>> {
+        let (i, extn_id) = object_identifier(i)?;
+        let (i, critical) = default_false(i)?;
+        let (i, extn_value) = tagged::<AllBytes>(i, tag::OCTET_STRING)?;
+        let extension = Extension {
+            extn_id,
+            critical,
+            extn_value,
+        };
+        Ok((i, extension))
+    }
+}
+
+/// Extensions, one behind the other; each is read as an [`Extension`].
+pub struct Extensions;
+
+impl<'a> InPlace<'a> for Extensions {
+    type Read = Extension<'a>;
+
+    ghost Value = { PlainExtension };
+
+    ghost view = { view_extension };
+
+    ghost layout = { extension };
+
+    #[tactic(auto, using(tls_fields::proofs::OneAnswerLemmas::read_allowed), unfolding(crate::specs::Certificate::extension))]
+    fn read(i: &'a [u8]) -> IResult<&'a [u8], Extension<'a>> {
+        tagged::<ExtensionContent>(i, tag::SEQUENCE)
+    }
+}
+
+/// The list of the extensions.
+pub(crate) struct ExtensionList;
+
+impl<'a> InPlace<'a> for ExtensionList {
+    type Read = Items<'a, Extensions>;
+
+    ghost Value = { List PlainExtension };
+
+    ghost view = { λ v. items_in extension v.bytes.now };
+
+    ghost layout = { extensions_layout };
+
+    #[tactic(auto, using(tls_fields::proofs::OneAnswerLemmas::read_allowed), unfolding(crate::specs::Certificate::extensions))]
+    fn read(i: &'a [u8]) -> IResult<&'a [u8], Items<'a, Extensions>> {
+        tagged::<ItemsOf<Extensions>>(i, tag::SEQUENCE)
+    }
+}
+
+/// The first of `extensions` that has this type, as one of [`crate::oid`].
+///
+/// `None` too where the walk ends in front of it.
+pub fn first_extension<'a>(
+    extensions: Items<'a, Extensions>,
+    extn_id: ObjectIdentifier,
+) -> Option<Extension<'a>>
+    ensures { option_map view_extension result ≡ first_of extn_id.entry.content.now (items_in extension extensions.entry.bytes.now) }
+{
+    for extension in extensions {
+        if extension.extn_id.content == extn_id.content {
+            return Some(extension);
+        }
+    }
+    None
+}

@@ -1,0 +1,69 @@
+//! Names in extensions (RFC 5280, section 4.2.1.6).
+#![tactic(auto, using(tls_fields::proofs::OneAnswerLemmas::read_allowed))]
+
+ghost use Rattle.std.specs.Prelude.{◌≡◌};
+ghost use Rattle.tls_fields.specs.Answers.{Gives};
+ghost use Rattle.tls_fields.specs.Items.{items_in};
+ghost use Rattle.der.specs.Element.{view_element};
+ghost use Rattle.x509.specs.GeneralName.{GeneralName as PlainGeneralName, view_general_name, name_of, general_name, general_names};
+
+use der::{Element, ItemsOf, tag, tagged};
+use tls_fields::{IResult, InPlace, Items};
+
+/// A name of a subject or an issuer. Of text, the bytes are given as they are.
+#[derive(Clone, Copy, Debug, PartialEq)]
+pub enum GeneralName<'a> {
+    /// An address of mail: an IA5String.
+    Rfc822Name(&'a [u8]),
+    /// A name of the DNS: an IA5String.
+    DnsName(&'a [u8]),
+    /// A URI: an IA5String.
+    UniformResourceIdentifier(&'a [u8]),
+    /// An address of the Internet Protocol: 4 or 16 bytes, where it keeps its rule.
+    IpAddress(&'a [u8]),
+    /// Another kind, by its tag: otherName 0xa0, x400Address 0xa3, directoryName 0xa4, ediPartyName 0xa5, registeredID 0x88.
+    Other(Element<'a>),
+}
+
+/// The name that an element is.
+fn general_name_of(e: Element) -> GeneralName
+    ensures { view_general_name result ≡ name_of (view_element e.entry) }
+{
+    match e.tag {
+        0x81 => GeneralName::Rfc822Name(e.content),
+        0x82 => GeneralName::DnsName(e.content),
+        0x86 => GeneralName::UniformResourceIdentifier(e.content),
+        0x87 => GeneralName::IpAddress(e.content),
+        _ => GeneralName::Other(e),
+    }
+}
+
+/// Names, one behind the other; each is read as a [`GeneralName`].
+pub struct GeneralNames;
+
+impl<'a> InPlace<'a> for GeneralNames {
+    type Read = GeneralName<'a>;
+
+    ghost Value = { PlainGeneralName };
+
+    ghost view = { view_general_name };
+
+    ghost layout = { general_name };
+
+    #[tactic(auto, using(tls_fields::proofs::OneAnswerLemmas::read_allowed), unfolding(crate::specs::GeneralName::general_name))]
+    fn read(i: &'a [u8]) -> IResult<&'a [u8], GeneralName<'a>> {
+        let (i, e) = Element::read(i)?;
+        Ok((i, general_name_of(e)))
+    }
+}
+
+/// Reads GeneralNames in place, the value of subjectAltName and issuerAltName.
+///
+/// It refuses what [`der::tagged`] does, where no SEQUENCE is there. What breaks a rule within it ends the walk, and
+/// [`Items::refusal`] says what it is.
+#[tactic(auto, using(tls_fields::proofs::OneAnswerLemmas::read_allowed), unfolding(crate::specs::GeneralName::general_names))]
+pub fn parse_general_names<'a>(i: &'a [u8]) -> IResult<&'a [u8], Items<'a, GeneralNames>>
+    ensures { Gives (λ v. items_in general_name v.bytes.now) general_names i.now result }
+{
+    tagged::<ItemsOf<GeneralNames>>(i, tag::SEQUENCE)
+}

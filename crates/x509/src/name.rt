@@ -1,0 +1,96 @@
+//! Names (RFC 5280, section 4.1.2.4).
+#![tactic(auto, using(tls_fields::proofs::OneAnswerLemmas::read_allowed))]
+
+ghost use Rattle.std.specs.Prelude.{List};
+ghost use Rattle.tls_fields.specs.Answers.{Gives};
+ghost use Rattle.tls_fields.specs.Items.{items_in};
+ghost use Rattle.x509.specs.Name.{AttributeTypeAndValue as PlainAttribute, view_attribute, attribute_content, attribute, relative_distinguished_name, name as name_layout};
+
+use der::{Element, ItemsOf, ObjectIdentifier, object_identifier, tag, tagged};
+use tls_fields::{IResult, InPlace, Items};
+
+/// An attribute of a name.
+#[derive(Clone, Copy, Debug, PartialEq)]
+pub struct AttributeTypeAndValue<'a> {
+    /// Its type, as 2.5.4.3 for a commonName.
+    pub attribute_type: ObjectIdentifier<'a>,
+    /// Its value: a string of the kind that its tag says, most often.
+    pub value: Element<'a>,
+}
+
+/// What is in an attribute.
+struct AttributeContent;
+
+impl<'a> InPlace<'a> for AttributeContent {
+    type Read = AttributeTypeAndValue<'a>;
+
+    ghost Value = { PlainAttribute };
+
+    ghost view = { view_attribute };
+
+    ghost layout = { attribute_content };
+
+    #[tactic(auto, using(tls_fields::proofs::OneAnswerLemmas::read_allowed), unfolding(crate::specs::Name::attribute_content))]
+    fn read(i: &'a [u8]) -> IResult<&'a [u8], AttributeTypeAndValue<'a>> {
+        let (i, attribute_type) = object_identifier(i)?;
+        let (i, value) = Element::read(i)?;
+        let attribute = AttributeTypeAndValue {
+            attribute_type,
+            value,
+        };
+        Ok((i, attribute))
+    }
+}
+
+/// Attributes, one behind the other; each is read as an [`AttributeTypeAndValue`].
+pub struct Attributes;
+
+impl<'a> InPlace<'a> for Attributes {
+    type Read = AttributeTypeAndValue<'a>;
+
+    ghost Value = { PlainAttribute };
+
+    ghost view = { view_attribute };
+
+    ghost layout = { attribute };
+
+    #[tactic(auto, using(tls_fields::proofs::OneAnswerLemmas::read_allowed), unfolding(crate::specs::Name::attribute))]
+    fn read(i: &'a [u8]) -> IResult<&'a [u8], AttributeTypeAndValue<'a>> {
+        tagged::<AttributeContent>(i, tag::SEQUENCE)
+    }
+}
+
+/// A set of attributes; most have one.
+pub type RelativeDistinguishedName<'a> = Items<'a, Attributes>;
+
+/// Sets of attributes, one behind the other; each is read as a [`RelativeDistinguishedName`].
+pub struct RelativeDistinguishedNames;
+
+impl<'a> InPlace<'a> for RelativeDistinguishedNames {
+    type Read = Items<'a, Attributes>;
+
+    ghost Value = { List PlainAttribute };
+
+    ghost view = { λ v. items_in attribute v.bytes.now };
+
+    ghost layout = { relative_distinguished_name };
+
+    #[tactic(auto, using(tls_fields::proofs::OneAnswerLemmas::read_allowed), unfolding(crate::specs::Name::relative_distinguished_name))]
+    fn read(i: &'a [u8]) -> IResult<&'a [u8], Items<'a, Attributes>> {
+        tagged::<ItemsOf<Attributes>>(i, tag::SET)
+    }
+}
+
+/// A name: sets of attributes, in their order, each read as the walk comes to it.
+pub type Name<'a> = Items<'a, RelativeDistinguishedNames>;
+
+/// Reads a Name in place.
+///
+/// It refuses what [`der::tagged`] does, where no SEQUENCE is there. What breaks a rule within it ends the walk, and
+/// [`Items::refusal`] says what it is.
+#[tactic(auto, using(tls_fields::proofs::OneAnswerLemmas::read_allowed), unfolding(crate::specs::Name::name))]
+pub fn parse_name(i: &[u8]) -> IResult<&[u8], Name>
+    ensures { Gives (λ v. items_in relative_distinguished_name v.bytes.now) name_layout i.now result }
+{
+    tagged::<ItemsOf<RelativeDistinguishedNames>>(i, tag::SEQUENCE)
+}

@@ -1,0 +1,194 @@
+//! The part of a certificate that is signed (RFC 5280, section 4.1.2).
+#![tactic(auto, using(tls_fields::proofs::OneAnswerLemmas::read_allowed))]
+
+ghost use Rattle.std.specs.Prelude.{ℕ};
+ghost use Rattle.tls_fields.specs.Answers.{Gives};
+ghost use Rattle.x509.specs.Certificate.{version_content, version as version_layout, view_first_fields, first_fields, view_name_fields, name_fields, view_optional_fields, optional_fields};
+ghost use Rattle.x509.specs.Certificate.{TBSCertificate as PlainTBSCertificate, view_tbs_certificate, tbs_certificate};
+
+use crate::algorithm::{
+    AlgorithmIdentifier, SubjectPublicKeyInfo, parse_algorithm_identifier, parse_key_info,
+};
+use crate::extension::{ExtensionList, Extensions};
+use crate::name::{Name, parse_name};
+use crate::validity::{Validity, parse_validity};
+use der::{BitString, Integer, optional, tag, tagged};
+use tls_fields::{ErrorKind, IResult, InPlace, Items, number1, refused};
+
+/// The content of an INTEGER that is a version.
+struct VersionContent;
+
+impl<'a> InPlace<'a> for VersionContent {
+    type Read = u8;
+
+    ghost Value = { ℕ };
+
+    ghost view = { λ n. n };
+
+    ghost layout = { version_content };
+
+    #[tactic(auto, using(tls_fields::proofs::OneAnswerLemmas::read_allowed), unfolding(crate::specs::Certificate::version_content))]
+    fn read(i: &'a [u8]) -> IResult<&'a [u8], u8> {
+        let (i, n) = number1(i)?;
+        if n >= 128 {
+            return refused(i, ErrorKind::Verify);
+        }
+        Ok((i, n))
+    }
+}
+
+/// A version, as it is tagged in a certificate.
+struct Version;
+
+impl<'a> InPlace<'a> for Version {
+    type Read = u8;
+
+    ghost Value = { ℕ };
+
+    ghost view = { λ n. n };
+
+    ghost layout = { version_layout };
+
+    #[tactic(auto, using(tls_fields::proofs::OneAnswerLemmas::read_allowed), unfolding(crate::specs::Certificate::version))]
+    fn read(i: &'a [u8]) -> IResult<&'a [u8], u8> {
+        tagged::<VersionContent>(i, tag::INTEGER)
+    }
+}
+
+/// The fields up to the signature's algorithm.
+#[derive(Clone, Copy)]
+struct FirstFields<'a> {
+    version: u8,
+    serial_number: &'a [u8],
+    signature: AlgorithmIdentifier<'a>,
+}
+
+/// Reads the fields up to the signature's algorithm.
+#[tactic(auto, using(tls_fields::proofs::OneAnswerLemmas::read_allowed), unfolding(crate::specs::Certificate::first_fields))]
+fn read_first_fields(i: &[u8]) -> IResult<&[u8], FirstFields>
+    ensures { Gives view_first_fields first_fields i.now result }
+{
+    let (i, version) = optional::<Version>(i, 0xa0)?;
+    let (i, serial_number) = tagged::<Integer>(i, tag::INTEGER)?;
+    let (i, signature) = parse_algorithm_identifier(i)?;
+    let version = match version {
+        Some(n) => n,
+        None => 0,
+    };
+    let fields = FirstFields {
+        version,
+        serial_number,
+        signature,
+    };
+    Ok((i, fields))
+}
+
+/// The fields from the issuer to the key.
+#[derive(Clone, Copy)]
+struct NameFields<'a> {
+    issuer: Name<'a>,
+    validity: Validity,
+    subject: Name<'a>,
+    subject_public_key_info: SubjectPublicKeyInfo<'a>,
+}
+
+/// Reads the fields from the issuer to the key.
+#[tactic(auto, using(tls_fields::proofs::OneAnswerLemmas::read_allowed), unfolding(crate::specs::Certificate::name_fields))]
+fn read_name_fields(i: &[u8]) -> IResult<&[u8], NameFields>
+    ensures { Gives view_name_fields name_fields i.now result }
+{
+    let (i, issuer) = parse_name(i)?;
+    let (i, validity) = parse_validity(i)?;
+    let (i, subject) = parse_name(i)?;
+    let (i, subject_public_key_info) = parse_key_info(i)?;
+    let fields = NameFields {
+        issuer,
+        validity,
+        subject,
+        subject_public_key_info,
+    };
+    Ok((i, fields))
+}
+
+/// The fields behind the key.
+#[derive(Clone, Copy)]
+struct OptionalFields<'a> {
+    issuer_unique_id: Option<BitString<'a>>,
+    subject_unique_id: Option<BitString<'a>>,
+    extensions: Items<'a, Extensions>,
+}
+
+/// Reads the fields behind the key.
+#[tactic(auto, using(tls_fields::proofs::OneAnswerLemmas::read_allowed, tls_fields::proofs::ItemsLemmas::none_in), unfolding(crate::specs::Certificate::optional_fields))]
+fn read_optional_fields<'a>(i: &'a [u8]) -> IResult<&'a [u8], OptionalFields<'a>>
+    ensures { Gives view_optional_fields optional_fields i.now result }
+{
+    let (i, issuer_unique_id) = optional::<BitString>(i, 0x81)?;
+    let (i, subject_unique_id) = optional::<BitString>(i, 0x82)?;
+    let (i, list) = optional::<ExtensionList>(i, 0xa3)?;
+    let extensions = match list {
+        Some(extensions) => extensions,
+        None => Items::new(&[]),
+    };
+    let fields = OptionalFields {
+        issuer_unique_id,
+        subject_unique_id,
+        extensions,
+    };
+    Ok((i, fields))
+}
+
+/// The part of a certificate that is signed.
+#[derive(Clone, Copy, Debug, PartialEq)]
+pub struct TBSCertificate<'a> {
+    /// The version less 1: 0 for v1, where none is given too; 1 for v2, 2 for v3.
+    pub version: u8,
+    /// An INTEGER's bytes.
+    pub serial_number: &'a [u8],
+    /// What the certificate is signed with.
+    pub signature: AlgorithmIdentifier<'a>,
+    /// Who signed it.
+    pub issuer: Name<'a>,
+    /// When it is valid.
+    pub validity: Validity,
+    /// Whose key it certifies.
+    pub subject: Name<'a>,
+    /// The key.
+    pub subject_public_key_info: SubjectPublicKeyInfo<'a>,
+    /// Which of the issuers of that name.
+    pub issuer_unique_id: Option<BitString<'a>>,
+    /// Which of the subjects of that name.
+    pub subject_unique_id: Option<BitString<'a>>,
+    /// The extensions; none where there is no list of them.
+    pub extensions: Items<'a, Extensions>,
+}
+
+impl<'a> InPlace<'a> for TBSCertificate<'a> {
+    type Read = Self;
+
+    ghost Value = { PlainTBSCertificate };
+
+    ghost view = { view_tbs_certificate };
+
+    ghost layout = { tbs_certificate };
+
+    #[tactic(auto, using(tls_fields::proofs::OneAnswerLemmas::read_allowed), unfolding(crate::specs::Certificate::tbs_certificate))]
+    fn read(i: &'a [u8]) -> IResult<&'a [u8], Self> {
+        let (i, first) = read_first_fields(i)?;
+        let (i, names) = read_name_fields(i)?;
+        let (i, others) = read_optional_fields(i)?;
+        let certificate = TBSCertificate {
+            version: first.version,
+            serial_number: first.serial_number,
+            signature: first.signature,
+            issuer: names.issuer,
+            validity: names.validity,
+            subject: names.subject,
+            subject_public_key_info: names.subject_public_key_info,
+            issuer_unique_id: others.issuer_unique_id,
+            subject_unique_id: others.subject_unique_id,
+            extensions: others.extensions,
+        };
+        Ok((i, certificate))
+    }
+}
