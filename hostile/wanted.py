@@ -225,7 +225,8 @@ class Talk:
         share = first(row, "handshake.extensions_key_share_group", "handshake.extensions_key_share_selected_group")
         self.said["curve"] = group(int(share)) if share else None
         self.said["next_protocol"] = first(row, "handshake.extensions_alpn_str")
-        is_13 = version in (0x304, 0xFEFC)
+        # (0x7f and a number is that of a draft of TLS 1.3)
+        is_13 = version in (0x304, 0xFEFC) or version >> 8 == 0x7F
         self.said["resumed"] = is_13 and PRE_SHARED_KEY in row["handshake.extension.type"]
         self.is_13 |= is_13
 

@@ -127,7 +127,7 @@ def of_server(row, versions_by):
     return {
         "server_version": named(versions_by, numbers(row, "handshake.version"))[0],
         "server_session_id": plain(first(row, "handshake.session_id") or ""),
-        "comp_method": numbers(row, "handshake.comp_method")[0],
+        "comp_method": next(iter(numbers(row, "handshake.comp_method")), None),
         "ssl_server_exts": named(EXTENSIONS, numbers(row, "handshake.extension.type")),
         "server_key_share_group": named(GROUPS, share)[0] if share else None,
         "scts": len(row["tls.sct.sct_length"]),

@@ -288,8 +288,9 @@ uint32_t wispuddera_group_at(const uint8_t *bytes, size_t count, size_t index, w
  * WISPUDDERA_INCOMPLETE where the content has fewer bytes than its list's length says. */
 uint32_t wispuddera_signature_scheme_at(const uint8_t *bytes, size_t count, size_t index, wispuddera_number *out);
 
-/* The best version of a hello with that version and that block of extensions (RFC 8446, section 4.2.1): the highest in the block's first
- * supported_versions that isn't one of GREASE (RFC 8701); where there is no such extension, that version itself. `count` isn't set.
+/* The best version of a hello with that version and that block of extensions (RFC 8446, section 4.2.1): the latest in the block's first
+ * supported_versions that isn't one of GREASE (RFC 8701): the highest number, or of DTLS, whose numbers begin with 0xfe, the lowest; where there is no
+ * such extension, that version itself. `count` isn't set.
  *
  * WISPUDDERA_NONE where that extension has no version but those of GREASE; WISPUDDERA_INCOMPLETE where an extension up to that one
  * isn't whole, or its content has no bytes; WISPUDDERA_LENGTH_VALUE as wispuddera_version_at. */

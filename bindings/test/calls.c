@@ -522,7 +522,7 @@ static void test_refusals_of_numbers(void) {
     IS(n.missing, 0);
     IS(wispuddera_group_at(BYTES("\x00\x02\x00\x17\x00"), 1, &n), WISPUDDERA_NONE);
     IS(n.count, 1);
-    /* The block's versions are the highest and then another, GREASE and TLS 1.2, GREASE alone, none, and refused ones. */
+    /* The block's versions are the latest and then another, GREASE and TLS 1.2, GREASE alone, none, and refused ones. */
     IS(wispuddera_best_version(BYTES("\x00\x2b\x00\x05\x04\x03\x04\x03\x03"), 0x0303, &n), WISPUDDERA_READ);
     IS(n.value, 0x0304);
     IS(wispuddera_best_version(BYTES("\x00\x2b\x00\x05\x04\xfa\xfa\x03\x03"), 0x0301, &n), WISPUDDERA_READ);

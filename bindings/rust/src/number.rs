@@ -85,9 +85,9 @@ pub fn signature_schemes(content: &[u8]) -> Result<Numbers<'_>, Error> {
     Numbers::new(sys::wispuddera_signature_scheme_at, content)
 }
 
-/// The best version of a hello with that version and that block of extensions (RFC 8446, section 4.2.1): the highest in the block's first
-/// supported_versions that isn't one of GREASE (RFC 8701), `None` where it has no other; where there is no such extension, that version
-/// itself.
+/// The best version of a hello with that version and that block of extensions (RFC 8446, section 4.2.1): the latest in the block's first
+/// supported_versions that isn't one of GREASE (RFC 8701), the highest number or of DTLS the lowest, `None` where it has no other; where there is
+/// no such extension, that version itself.
 ///
 /// # Errors
 /// Where the block isn't read up to the versions, or these are refused.

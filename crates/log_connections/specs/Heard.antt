@@ -1,7 +1,7 @@
 -- What is heard of a connection's bytes.
-use Rattle.std.specs.Prelude.{◌≡◌, ◌⊎◌, ◌≤◌, Bool, true, false, length}
+use Rattle.std.specs.Prelude.{◌≡◌, ◌⊎◌, ◌-◌, ℕ, Bool, true, false, Ok, Err, length, drop}
 use Rattle.tls_fields.specs.Bytes.{Bytes}
-use Rattle.connections.specs.Stream.{handing_on, has_urgent_next, next_bytes, passing_urgent}
+use Rattle.connections.specs.Stream.{handing_on, has_urgent_next, is_cut_short, next_bytes, passing_urgent, stopped}
 use Rattle.connections.specs.declared.stream.Stream.{Stream}
 use Rattle.connections.specs.declared.stream.Reading.TheVariants.{Over}
 use Rattle.connections.specs.declared.connection.Side.{Side}
@@ -10,7 +10,15 @@ use Rattle.tls_flow.specs.declared.letter.Direction.{Direction}
 use Rattle.tls_flow.specs.declared.letter.Direction.TheVariants.{ToServer, FromServer}
 use Rattle.tls_talks.specs.Datagrams.{IsKnown, heard}
 use Rattle.tls_talks.specs.Datagrams as datagrams
-use Rattle.tls_talks.specs.Talks.{IsHeardOn}
+use Rattle.tls_talks.specs.Talks.{IsHeardAsNone, IsHeardInSsl2, IsHeardOn}
+use Rattle.ssl2_hello.specs.ClientHello as ssl2
+use Rattle.tls_fields.specs.Meaning.{Answer}
+use Rattle.tls_fields.specs.Reading.{reading}
+use Rattle.tls_talks.specs.declared.talk.Talk.{Talk}
+use Rattle.log_connections.specs.declared.fronts.Fronts.{Fronts}
+use Rattle.log_connections.specs.Fronts.{beginning, front_of, leaving, passing, with_begun}
+use Rattle.log_connections.specs.declared.fronts.Beginning.{Beginning}
+use Rattle.log_connections.specs.declared.fronts.Beginning.TheVariants as beginnings
 use Rattle.log_connections.specs.declared.heard.Said.{Said}
 use Rattle.log_connections.specs.declared.heard.Said.TheVariants as said
 
@@ -25,20 +33,60 @@ direction_of true Responder = ToServer
 abbrev pub IsTakenOff : Stream → Stream → Type 0
 IsTakenOff t u = (u ≡ handing_on (length (next_bytes t t.reading)) t) ⊎ (u.reading ≡ Over)
 
--- What comes next of a side's stream was heard, and handed on; no more than a record's header may wait, and then nothing was done.
-abbrev pub HearsStream : Direction → Stream → Stream → Said → Said → Type 0
-HearsStream d t u (said.Stream x) (said.Stream y) =
-    ((length (next_bytes t t.reading) ≤ 5) × (u ≡ t) × (y ≡ x)) ⊎ (IsHeardOn x d (next_bytes t t.reading) y × IsTakenOff t u)
-HearsStream d t u (said.Stream x) (said.Datagrams y) = ⊥
-HearsStream d t u (said.Datagrams x) y = (y ≡ said.Datagrams x) × (u ≡ t)
+-- What comes next of a side's stream was heard behind n bytes that stand in front of its TLS, and all of it was handed on.
+unfoldable pub HearsAt : Side → Direction → ℕ → Stream → Stream → Said → Said → Type 0
+HearsAt s d n t u (said.Stream x f) (said.Stream y g) =
+    IsHeardOn x d (drop n (next_bytes t t.reading)) y × (g ≡ with_begun s n f) × IsTakenOff t u
+HearsAt s d n t u (said.Stream x f) (said.Datagrams y) = ⊥
+HearsAt s d n t u (said.Datagrams x) y = (y ≡ said.Datagrams x) × (u ≡ t)
 
--- The same on both sides of an urgent byte, where one comes next behind it.
+-- So many bytes of it were passed over, and no more.
+unfoldable pub PassesOver : Side → ℕ → Stream → Stream → Said → Said → Type 0
+PassesOver s n t u (said.Stream x f) y = (y ≡ said.Stream x (passing s n f)) × (u ≡ handing_on n t)
+PassesOver s n t u (said.Datagrams x) y = (y ≡ said.Datagrams x) × (u ≡ t)
+
+-- The side was heard as one that doesn't speak TLS, and is read no further.
+unfoldable pub HearsNone : Side → Direction → Stream → Stream → Said → Said → Type 0
+HearsNone s d t u (said.Stream x f) (said.Stream y g) = IsHeardAsNone x d y × (g ≡ leaving s f) × (u ≡ stopped t t.reading)
+HearsNone s d t u (said.Stream x f) (said.Datagrams y) = ⊥
+HearsNone s d t u (said.Datagrams x) y = (y ≡ said.Datagrams x) × (u ≡ t)
+
+-- The ClientHello in SSL 2.0's form that its stream has next was heard, and handed on; where there is none, nothing.
+abbrev pub HearsHello : Answer ssl2.ClientHello → Side → Direction → Stream → Stream → Talk → Fronts → Said → Type 0
+HearsHello (Ok h) s d t u x f (said.Stream y g) =
+    IsHeardInSsl2 x d h.0 y × (g ≡ with_begun s 0 f) × (u ≡ handing_on (length (next_bytes t t.reading) - length h.1) t)
+HearsHello (Ok h) s d t u x f (said.Datagrams y) = ⊥
+HearsHello (Err e) s d t u x f y = (y ≡ said.Stream x f) × (u ≡ t)
+
+unfoldable pub HearsSsl2 : Side → Direction → Stream → Stream → Said → Said → Type 0
+HearsSsl2 s d t u (said.Stream x f) y = HearsHello (reading ssl2.client_hello (next_bytes t t.reading)) s d t u x f y
+HearsSsl2 s d t u (said.Datagrams x) y = (y ≡ said.Datagrams x) × (u ≡ t)
+
+-- Where a side's TLS begins, by the bytes that come next of its stream; it answers where the other's began.
+abbrev pub begins_in : Side → Bool → Said → Bytes → Beginning
+begins_in s last (said.Stream x f) b = beginning x.is_tls last (front_of s f) b
+begins_in s last (said.Datagrams x) b = beginnings.Waits
+
+abbrev pub HearsBy : Beginning → Side → Direction → Stream → Stream → Said → Said → Type 0
+HearsBy beginnings.Waits s d t u x y = (u ≡ t) × (y ≡ x)
+HearsBy (beginnings.PassesOver n) s d t u x y = PassesOver s n t u x y
+HearsBy (beginnings.At n) s d t u x y = HearsAt s d n t u x y
+HearsBy beginnings.InSsl2 s d t u x y = HearsSsl2 s d t u x y
+HearsBy beginnings.Nowhere s d t u x y = HearsNone s d t u x y
+
+-- What comes next of a side's stream was heard from where its TLS begins, or passed over.
+unfoldable pub HearsStream : Side → Bool → Direction → Stream → Stream → Said → Said → Type 0
+HearsStream s last d t u x y = HearsBy (begins_in s last x (next_bytes t t.reading)) s d t u x y
+
+-- The same on both sides of an urgent byte, where one comes next behind it; the bytes in front of one are the last that may tell where TLS begins.
 pub data HearsNext (side : Side) (d : Direction) (t u : Stream) (x y : Said) : Type 0 where
-  all : has_urgent_next u ≡ false → HearsStream d t u x y → HearsNext side d t u x y
+  all :
+      has_urgent_next u ≡ false → HearsStream side (is_cut_short t t.reading) d t u x y → HearsNext side d t u x y
   around_urgent :
       (turned : Bool) (mid : Stream) (z : Said)
-      → HearsStream (direction_of turned side) t mid x z → has_urgent_next mid ≡ true
-      → HearsStream d (passing_urgent mid) u z y → HearsNext side d t u x y
+      → HearsStream side (is_cut_short t t.reading) (direction_of turned side) t mid x z → has_urgent_next mid ≡ true
+      → HearsStream side (is_cut_short (passing_urgent mid) (passing_urgent mid).reading) d (passing_urgent mid) u z y
+      → HearsNext side d t u x y
 
 -- The same; of a stream that is read no further, what is passed on may change.
 pub record HearsOn (side : Side) (d : Direction) (t u : Stream) (x y : Said) : Type 0 where
@@ -50,5 +98,5 @@ pub record HearsOn (side : Side) (d : Direction) (t u : Stream) (x y : Said) : T
 abbrev pub HearsDatagram : Direction → Bytes → Said → Said → Type 0
 HearsDatagram d datagram (said.Datagrams t) (said.Datagrams u) =
     (k : datagrams.Talk) → IsKnown k t → IsKnown (heard k d datagram) u
-HearsDatagram d datagram (said.Datagrams t) (said.Stream u) = ⊥
-HearsDatagram d datagram (said.Stream t) u = u ≡ said.Stream t
+HearsDatagram d datagram (said.Datagrams t) (said.Stream u f) = ⊥
+HearsDatagram d datagram (said.Stream t f) u = u ≡ said.Stream t f

@@ -1,34 +1,34 @@
 //! What is heard of a connection, by what carries it.
-ghost use Rattle.std.specs.Prelude.{◌≡◌, OnOk};
+ghost use Rattle.std.specs.Prelude.{◌≡◌, ◌||◌, OnOk, drop};
 ghost use Rattle.tls_detection.specs.Front.{held_datagram as held_datagram_of};
-ghost use Rattle.log_connections.specs.Heard.{HearsDatagram, HearsStream, direction_of};
+ghost use Rattle.connections.specs.Stream.{is_cut_short};
+ghost use Rattle.log_connections.specs.Heard.{HearsAt, HearsDatagram, HearsNone, HearsStream, HearsSsl2, PassesOver, begins_in, direction_of as direction_by};
 
+use crate::fronts::{Beginning, Fronts, begins_at};
 use connections::{Listener, Protocol, Side, Stream};
+use ssl2_hello::parse_ssl2_client_hello;
 use std::alloc::{AllocError, Global};
-use tls_detection::{HEADER_LEN, first_message, held_datagram};
+use tls_detection::{first_message, held_datagram};
 use tls_facts::Facts;
 use tls_flow::{Direction, Outcome, Stop};
-use tls_talks::{DatagramRecords, DatagramTalk, Records, Talk};
+use tls_talks::{DatagramRecords, DatagramTalk, Records, Talk, Witness};
 
 /// The types of the messages with which a handshake begins, of the client and of the server (RFC 8446, section 4).
 const CLIENT_HELLO: u8 = 1;
 
 const SERVER_HELLO: u8 = 2;
 
-/// Who keeps the messages of a connection that is TLS or DTLS, where these are to be had one by one.
-pub trait Keeper: Drop {
+/// Who keeps the messages of a connection, where these are to be had one by one: it hears each event that counts.
+pub trait Keeper: Drop + Witness {
     /// That of a connection of which nothing came.
-    fn begin(alloc: Global, protocol: Protocol) -> Self;
-
-    /// Hears what a side says next: over TCP bytes of its stream, over UDP a datagram.
-    fn hear(&mut self, direction: Direction, bytes: &[u8]) -> Result<(), AllocError>;
+    fn begin(alloc: Global) -> Self;
 }
 
 /// What both sides of a connection said.
 #[derive(Drop)]
 enum Said {
-    /// Over TCP, as TLS.
-    Stream(Talk),
+    /// Over TCP, as TLS, behind what stands in front of it.
+    Stream(Talk, Fronts),
     /// Over UDP, as DTLS.
     Datagrams(DatagramTalk),
 }
@@ -51,10 +51,32 @@ pub struct Heard<K> {
     by_responder: DatagramRecords,
 }
 
+/// What is behind the first `n` bytes.
+#[tactic(auto, using(crate::proofs::FrontLemmas::behind_all))]
+fn behind(bytes: &[u8], n: usize) -> &[u8]
+    ensures { result.now ≡ drop n bytes.now }
+{
+    if n == 0 {
+        return bytes;
+    }
+    let (_, rest) = bytes.split_at(n.min(bytes.len()));
+    rest
+}
+
+/// Which way a side speaks, where the sides are turned or not.
+fn direction_of(is_turned: bool, side: Side) -> Direction
+    ensures { result ≡ direction_by is_turned side }
+{
+    match (side, is_turned) {
+        (Side::Originator, false) | (Side::Responder, true) => Direction::ToServer,
+        (Side::Responder, false) | (Side::Originator, true) => Direction::FromServer,
+    }
+}
+
 impl<K: Keeper> Listener for Heard<K> {
     fn begin(alloc: Global, protocol: Protocol) -> Heard<K> {
         let said = match protocol {
-            Protocol::Tcp => Said::Stream(Talk::new(alloc)),
+            Protocol::Tcp => Said::Stream(Talk::new(alloc), Fronts::NONE),
             Protocol::Udp => Said::Datagrams(DatagramTalk::new(alloc)),
         };
         Heard {
@@ -72,10 +94,10 @@ impl<K: Keeper> Listener for Heard<K> {
 }
 
 impl<K: Keeper> Heard<K> {
-    /// Whether it is TLS or DTLS.
+    /// Whether it is TLS or DTLS. TLS behind other bytes is where both sides speak it.
     pub fn is_spoken(&self) -> bool {
         match &self.said {
-            Said::Stream(talk) => talk.is_tls(),
+            Said::Stream(talk, fronts) => talk.is_tls() && fronts.are_answered(),
             Said::Datagrams(talk) => talk.is_dtls(),
         }
     }
@@ -83,7 +105,7 @@ impl<K: Keeper> Heard<K> {
     /// What is known of it.
     pub fn facts(&self) -> &Facts {
         match &self.said {
-            Said::Stream(talk) => talk.facts(),
+            Said::Stream(talk, _) => talk.facts(),
             Said::Datagrams(talk) => talk.facts(),
         }
     }
@@ -91,7 +113,7 @@ impl<K: Keeper> Heard<K> {
     /// A letter for each event, as Zeek's ssl_history has it.
     pub fn history(&self) -> &[u8] {
         match &self.said {
-            Said::Stream(talk) => talk.history(),
+            Said::Stream(talk, _) => talk.history(),
             Said::Datagrams(talk) => talk.history(),
         }
     }
@@ -99,7 +121,7 @@ impl<K: Keeper> Heard<K> {
     /// How the handshake stands.
     pub fn outcome(&self) -> Outcome {
         match &self.said {
-            Said::Stream(talk) => talk.outcome(),
+            Said::Stream(talk, _) => talk.outcome(),
             Said::Datagrams(talk) => talk.outcome(),
         }
     }
@@ -107,7 +129,7 @@ impl<K: Keeper> Heard<K> {
     /// The event that ended the handshake without success, if one did.
     pub fn stop(&self) -> Option<Stop> {
         match &self.said {
-            Said::Stream(talk) => talk.stop(),
+            Said::Stream(talk, _) => talk.stop(),
             Said::Datagrams(talk) => talk.stop(),
         }
     }
@@ -115,7 +137,7 @@ impl<K: Keeper> Heard<K> {
     /// Whether the part of the handshake that can be read came to its end.
     pub fn is_established(&self) -> bool {
         match &self.said {
-            Said::Stream(talk) => talk.is_established(),
+            Said::Stream(talk, _) => talk.is_established(),
             Said::Datagrams(talk) => talk.is_established(),
         }
     }
@@ -123,7 +145,7 @@ impl<K: Keeper> Heard<K> {
     /// Whether a session was taken up.
     pub fn is_resumed(&self) -> bool {
         match &self.said {
-            Said::Stream(talk) => talk.is_resumed(),
+            Said::Stream(talk, _) => talk.is_resumed(),
             Said::Datagrams(talk) => talk.is_resumed(),
         }
     }
@@ -131,7 +153,7 @@ impl<K: Keeper> Heard<K> {
     /// Whether the first messages of a side weren't captured, as the numbers of those of DTLS tell.
     pub fn lacks_front(&self, side: Side) -> bool {
         match &self.said {
-            Said::Stream(_) => false,
+            Said::Stream(_, _) => false,
             Said::Datagrams(talk) => talk.lacks_front(self.direction(side)),
         }
     }
@@ -139,7 +161,7 @@ impl<K: Keeper> Heard<K> {
     /// Whether a side's datagram begins another association of DTLS.
     pub(crate) fn begins_another(&self, side: Side, payload: &[u8]) -> bool {
         match &self.said {
-            Said::Stream(_) => false,
+            Said::Stream(_, _) => false,
             Said::Datagrams(talk) => {
                 self.direction(side) == Direction::ToServer
                     && talk.begins_another(held_datagram(payload))
@@ -152,7 +174,7 @@ impl<K: Keeper> Heard<K> {
         ensures { self.new.said ≡ self.old.said }
     {
         if self.keeper.is_none() {
-            let keeper = K::begin(self.alloc, self.protocol);
+            let keeper = K::begin(self.alloc);
             self.keeper = Some(Box::new(self.alloc, keeper)?);
         }
         Ok(())
@@ -178,21 +200,17 @@ impl<K: Keeper> Heard<K> {
 
     /// Which way a side speaks: the originator is the client, unless its first message is that of a server.
     pub(crate) fn direction(&self, side: Side) -> Direction
-        ensures { result ≡ direction_of self.now.is_turned side }
+        ensures { result ≡ direction_by self.now.is_turned side }
     {
-        match (side, self.is_turned) {
-            (Side::Originator, false) | (Side::Responder, true) => Direction::ToServer,
-            (Side::Responder, false) | (Side::Originator, true) => Direction::FromServer,
-        }
+        direction_of(self.is_turned, side)
     }
 
-    /// Whether no byte of that side's stream was heard.
-    fn has_said_nothing(&self, side: Side) -> bool {
-        let records = match side {
-            Side::Originator => self.from_originator,
-            Side::Responder => self.from_responder,
-        };
-        records == Records::new()
+    /// How many bytes of a side's stream stand in front of its TLS: of a stream of which none was found, 0.
+    pub fn preamble(&self, side: Side) -> u64 {
+        match &self.said {
+            Said::Stream(_, fronts) => fronts.preamble(side),
+            Said::Datagrams(_) => 0,
+        }
     }
 
     /// Sees which side is the client by the first bytes that are heard of the connection. A ServerHello tells where the opening wasn't captured: a
@@ -200,7 +218,11 @@ impl<K: Keeper> Heard<K> {
     fn see_client(&mut self, side: Side, bytes: &[u8], is_opened: bool)
         ensures { self.new ≡ record self.old { is_turned = self.new.is_turned } }
     {
-        if !self.has_said_nothing(Side::Originator) || !self.has_said_nothing(Side::Responder) {
+        let is_first = match &self.said {
+            Said::Stream(_, fronts) => fronts.are_silent(),
+            Said::Datagrams(_) => false,
+        };
+        if !is_first {
             return;
         }
         self.is_turned = match first_message(bytes) {
@@ -220,9 +242,103 @@ impl<K: Keeper> Heard<K> {
         }
     }
 
-    /// Hears what a side's stream says next; its first bytes once they tell whether it speaks TLS and as which end, or where they are its last, or those
-    /// in front of an urgent one.
+    /// Hears bytes of a side, behind `n` that stand in front of its TLS.
+    #[tactic(auto, unfolding(crate::specs::Heard::HearsAt))]
+    fn hear_at(
+        &mut self,
+        stream: &mut Stream,
+        side: Side,
+        is_opened: bool,
+        n: usize,
+    ) -> Result<(), AllocError>
+        ensures { OnOk result (HearsAt side (direction_by self.new.is_turned side) n stream.old stream.new self.old.said self.new.said) }
+    {
+        let all = stream.available();
+        let bytes = behind(all, n);
+        self.see_client(side, bytes, is_opened);
+        let direction = self.direction(side);
+        let Said::Stream(talk, fronts) = &mut self.said else {
+            return Ok(());
+        };
+        fronts.begin(side, n);
+        talk.hear_with(self.alloc, direction, bytes, &mut self.keeper)?;
+        let is_over = talk.is_over(direction);
+        self.count_records(side, bytes);
+        let len = all.len();
+        stream.take(len);
+        if is_over {
+            stream.stop();
+        }
+        Ok(())
+    }
+
+    /// Hears the ClientHello in SSL 2.0's form with which a side begins. What is behind it is heard with what comes next.
+    #[tactic(auto, unfolding(crate::specs::Heard::HearsSsl2))]
+    fn hear_ssl2(&mut self, stream: &mut Stream, side: Side) -> Result<(), AllocError>
+        ensures { OnOk result (HearsSsl2 side (direction_by self.new.is_turned side) stream.old stream.new self.old.said self.new.said) }
+    {
+        let bytes = stream.available();
+        let Ok((rest, hello)) = parse_ssl2_client_hello(bytes) else {
+            return Ok(());
+        };
+        let n = bytes.len().saturating_sub(rest.len());
+        let Said::Stream(talk, fronts) = &mut self.said else {
+            return Ok(());
+        };
+        if fronts.are_silent() {
+            self.is_turned = side == Side::Responder;
+        }
+        let direction = direction_of(self.is_turned, side);
+        fronts.begin(side, 0);
+        talk.hear_ssl2(self.alloc, direction, &hello)?;
+        stream.take(n);
+        Ok(())
+    }
+
+    /// Hears a side as one that doesn't speak TLS, and reads its stream no further.
+    #[tactic(auto, unfolding(crate::specs::Heard::HearsNone))]
+    fn hear_none(&mut self, stream: &mut Stream, side: Side) -> Result<(), AllocError>
+        ensures { OnOk result (HearsNone side (direction_by self.new.is_turned side) stream.old stream.new self.old.said self.new.said) }
+    {
+        let direction = self.direction(side);
+        let Said::Stream(talk, fronts) = &mut self.said else {
+            return Ok(());
+        };
+        fronts.leave(side);
+        talk.hear_none(self.alloc, direction)?;
+        stream.stop();
+        Ok(())
+    }
+
+    /// Passes over bytes of a side in front of its TLS.
+    #[tactic(auto, unfolding(crate::specs::Heard::PassesOver))]
+    fn pass_over(&mut self, stream: &mut Stream, side: Side, n: usize)
+        ensures passed { PassesOver side n stream.old stream.new self.old.said self.new.said }
+        ensures turned { self.new.is_turned ≡ self.old.is_turned }
+    {
+        if let Said::Stream(_, fronts) = &mut self.said {
+            fronts.pass(side, n);
+            stream.take(n);
+        }
+    }
+
+    /// Where the TLS of a side begins in the bytes that come next of it; they are its last, or those in front of an urgent one, where they
+    /// `are_last`.
+    fn beginning(&self, bytes: &[u8], side: Side, are_last: bool) -> Beginning
+        ensures { result ≡ begins_in side are_last self.now.said bytes.now }
+    {
+        match &self.said {
+            Said::Stream(talk, fronts) => {
+                begins_at(talk.is_tls(), are_last, fronts.of(side), bytes)
+            }
+            Said::Datagrams(_) => Beginning::Waits,
+        }
+    }
+
+    /// Hears what a side's stream says next, from where its TLS begins; the bytes that come next are its last, where they `are_last`. Those in front
+    /// are passed over.
     /// The opening of the connection was captured where it `is_opened`.
+    #[tactic(auto, unfolding(crate::specs::Heard::HearsStream))]
     pub(crate) fn hear_stream(
         &mut self,
         stream: &mut Stream,
@@ -230,33 +346,20 @@ impl<K: Keeper> Heard<K> {
         is_opened: bool,
         are_last: bool,
     ) -> Result<(), AllocError>
-        ensures { OnOk result (HearsStream (direction_of self.new.is_turned side) stream.old stream.new self.old.said self.new.said) }
+        ensures { OnOk result (HearsStream side (are_last || is_cut_short stream.old stream.old.reading) (direction_by self.new.is_turned side)
+            stream.old stream.new self.old.said self.new.said) }
     {
-        let bytes = stream.available();
-        let is_early = bytes.len() <= HEADER_LEN && !are_last && !stream.is_cut();
-        if is_early && self.has_said_nothing(side) {
-            return Ok(());
-        }
-        self.see_client(side, bytes, is_opened);
-        let direction = self.direction(side);
-        let Said::Stream(talk) = &mut self.said else {
-            return Ok(());
-        };
-        let was_over = talk.is_over(direction);
-        talk.hear(self.alloc, direction, bytes)?;
-        let is_over = talk.is_over(direction);
-        if let Some(keeper) = &mut self.keeper {
-            if talk.is_tls() && !was_over {
-                keeper.hear(direction, bytes)?;
+        let are_last = are_last || stream.is_cut();
+        match self.beginning(stream.available(), side, are_last) {
+            Beginning::Waits => Ok(()),
+            Beginning::PassesOver(n) => {
+                self.pass_over(stream, side, n);
+                Ok(())
             }
+            Beginning::At(n) => self.hear_at(stream, side, is_opened, n),
+            Beginning::InSsl2 => self.hear_ssl2(stream, side),
+            Beginning::Nowhere => self.hear_none(stream, side),
         }
-        self.count_records(side, bytes);
-        let n = bytes.len();
-        stream.take(n);
-        if is_over {
-            stream.stop();
-        }
-        Ok(())
     }
 
     /// Hears a side's datagram, or the one of DTLS that it holds.
@@ -268,19 +371,16 @@ impl<K: Keeper> Heard<K> {
         ensures { OnOk result (HearsDatagram direction (held_datagram_of payload.now) self.old.said self.new.said) }
     {
         let payload = held_datagram(payload);
-        match direction {
-            Direction::ToServer => self.by_originator.add(payload),
-            Direction::FromServer => self.by_responder.add(payload),
-        }
         let Said::Datagrams(talk) = &mut self.said else {
             return Ok(());
         };
-        let was_over = talk.is_over(direction);
-        talk.hear(self.alloc, direction, payload)?;
-        if let Some(keeper) = &mut self.keeper {
-            if talk.is_dtls() && !was_over {
-                keeper.hear(direction, payload)?;
-            }
+        talk.hear_with(self.alloc, direction, payload, &mut self.keeper)?;
+        // (the version and the connection ids may stand in this datagram, in front of its encrypted records)
+        let id_len = talk.facts().connection_id_len(direction);
+        let is_13 = talk.is_13();
+        match direction {
+            Direction::ToServer => self.by_originator.add(payload, id_len, is_13),
+            Direction::FromServer => self.by_responder.add(payload, id_len, is_13),
         }
         Ok(())
     }

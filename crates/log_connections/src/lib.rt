@@ -6,6 +6,7 @@
 #![tactic(auto)]
 
 mod counts;
+mod fronts;
 mod heard;
 mod log;
 

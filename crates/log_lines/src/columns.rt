@@ -54,6 +54,7 @@ pub enum Offer {
     Cookie,
     EncryptedClientHello,
     DelegatedCredentials,
+    Ssl2Hello,
 }
 
 /// What the server answers, by its ServerHello.
@@ -97,6 +98,7 @@ pub enum Sent {
     Disagreeing,
     Dropped,
     DroppedFor,
+    Preamble,
 }
 
 /// A field of a connection's line.
@@ -185,6 +187,14 @@ pub static FIELDS: &[Column<Field>] = &[
         "resp_dropped_for",
         Field::Sent(Side::Responder, Sent::DroppedFor),
     ),
+    (
+        "orig_preamble_bytes",
+        Field::Sent(Side::Originator, Sent::Preamble),
+    ),
+    (
+        "resp_preamble_bytes",
+        Field::Sent(Side::Responder, Sent::Preamble),
+    ),
     ("client_version", Field::Offer(Offer::Version)),
     ("client_supported_versions", Field::Offer(Offer::Versions)),
     ("client_session_id", Field::Offer(Offer::SessionId)),
@@ -209,6 +219,7 @@ pub static FIELDS: &[Column<Field>] = &[
         "delegated_credential",
         Field::Offer(Offer::DelegatedCredentials),
     ),
+    ("ssl2_hello", Field::Offer(Offer::Ssl2Hello)),
     ("server_version", Field::Answer(Answer::Version)),
     ("server_session_id", Field::Answer(Answer::SessionId)),
     ("comp_method", Field::Answer(Answer::Compression)),

@@ -90,7 +90,11 @@ pub fn offer_cell(
         Offer::Version => some_version(alloc, facts.client_version()),
         Offer::Versions => versions(alloc, facts.client_versions()),
         Offer::SessionId => some_bytes(alloc, facts.client_session_id()),
-        Offer::Ciphers => suites.texts(alloc, facts.client_ciphers()),
+        Offer::Ciphers => match facts.client_cipher_specs() {
+            Some(specs) => suites.spec_texts(alloc, specs),
+            None => suites.texts(alloc, facts.client_ciphers()),
+        },
+        Offer::Ssl2Hello => Ok(some_mark(facts.ssl2_cipher_specs.is_some())),
         Offer::Compressions => some_codes(alloc, facts.client_compressions().bytes()),
         Offer::ExtensionTypes => types(alloc, facts.client_extension_types()),
         Offer::Groups => groups(alloc, facts.client_groups()),

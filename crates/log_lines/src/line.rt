@@ -168,6 +168,7 @@ fn sent_cell(
         Sent::Disagreeing => Ok(some_count(party.stream.disagreeing())),
         Sent::Dropped => Ok(some_count(party.dropped.packets)),
         Sent::DroppedFor => reasons_cell(alloc, &party.dropped),
+        Sent::Preamble => Ok(some_count(party.preamble)),
     }
 }
 

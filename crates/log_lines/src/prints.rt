@@ -15,8 +15,11 @@ fn slice_of(bytes: &Option<Vec<u8>>) -> Option<&[u8]> {
     }
 }
 
-/// What the client's fingerprints are made of.
+/// What the client's fingerprints are made of. A hello in SSL 2.0's form has none.
 fn client_parts(facts: &Facts) -> Option<ClientHelloParts<'_>> {
+    if facts.ssl2_cipher_specs.is_some() {
+        return None;
+    }
     match &facts.client {
         Some(client) => Some(ClientHelloParts {
             version: client.version,

@@ -1,11 +1,9 @@
 //! The messages that both sides say in the clear, one after the other.
-use connections::Protocol;
-use dtls_stream::{DEFAULT_LIMITS, Messages, read_datagram};
 use serde::Serialize;
 use std::alloc::{AllocError, Global};
 use std::mem;
 use tls_base::{TlsHandshakeType, TlsMessageAlert};
-use tls_conversations::{Conversation, Said};
+use tls_conversations::Said;
 use tls_flow::Direction;
 use tls_json::{AlertMessage, ChangeCipherSpec, Chosen, HeartbeatMessage, Message, message_name};
 
@@ -206,78 +204,20 @@ impl Kept {
             dtls_stream::Event::Refused(_, _) | dtls_stream::Event::Fault(_) => Ok(()),
         }
     }
-
-    /// Keeps all that a side of TLS says by these bytes.
-    fn hear_bytes(
-        &mut self,
-        alloc: Global,
-        conversation: &mut Conversation,
-        direction: Direction,
-        bytes: &[u8],
-    ) -> Result<(), AllocError> {
-        if conversation.feed(direction, bytes).is_err() {
-            return Err(AllocError);
-        }
-        for _ in 0..u64::MAX {
-            match conversation.front(direction) {
-                Some(Said::Event(event)) => self.hear_event(alloc, direction, &event)?,
-                Some(_) => {}
-                None => break,
-            }
-            conversation.take_front(direction);
-        }
-        Ok(())
-    }
-
-    /// Keeps all that a datagram of one side says.
-    fn hear_datagram(
-        &mut self,
-        alloc: Global,
-        messages: &mut Messages,
-        direction: Direction,
-        datagram: &[u8],
-    ) -> Result<(), AllocError> {
-        let mut events = Vec::new(alloc);
-        if read_datagram(alloc, messages, datagram, &mut events).is_err() {
-            return Err(AllocError);
-        }
-        for event in &events {
-            self.hear_datagrams_event(alloc, direction, event)?;
-        }
-        Ok(())
-    }
-}
-
-/// What both sides' bytes are read by.
-#[derive(Drop)]
-enum Ears {
-    /// TLS.
-    Stream(Conversation),
-    /// DTLS: the client's messages, and the server's.
-    Datagrams(Messages, Messages),
 }
 
 /// The messages of both sides, as they come.
 #[derive(Drop)]
 pub struct Speech {
     alloc: Global,
-    ears: Ears,
     kept: Kept,
 }
 
 impl Speech {
     /// That of a connection of which nothing came.
-    pub fn new(alloc: Global, protocol: Protocol) -> Speech {
-        let ears = match protocol {
-            Protocol::Tcp => Ears::Stream(Conversation::new(alloc)),
-            Protocol::Udp => Ears::Datagrams(
-                Messages::new(alloc, DEFAULT_LIMITS),
-                Messages::new(alloc, DEFAULT_LIMITS),
-            ),
-        };
+    pub fn new(alloc: Global) -> Speech {
         Speech {
             alloc,
-            ears,
             kept: Kept {
                 chosen: None,
                 client_count: 0,
@@ -287,20 +227,21 @@ impl Speech {
         }
     }
 
-    /// Hears the bytes that a side says next, and keeps the messages that are whole then.
-    pub fn hear(&mut self, direction: Direction, bytes: &[u8]) -> Result<(), AllocError> {
-        let (alloc, kept) = (self.alloc, &mut self.kept);
-        match (&mut self.ears, direction) {
-            (Ears::Stream(conversation), _) => {
-                kept.hear_bytes(alloc, conversation, direction, bytes)
-            }
-            (Ears::Datagrams(client, _), Direction::ToServer) => {
-                kept.hear_datagram(alloc, client, direction, bytes)
-            }
-            (Ears::Datagrams(_, server), Direction::FromServer) => {
-                kept.hear_datagram(alloc, server, direction, bytes)
-            }
+    /// Keeps what a side of TLS says, where that is a message in the clear.
+    pub fn hear_said(&mut self, direction: Direction, said: &Said<'_>) -> Result<(), AllocError> {
+        match said {
+            Said::Event(event) => self.kept.hear_event(self.alloc, direction, event),
+            Said::Fault(_) => Ok(()),
         }
+    }
+
+    /// The same of what a side of DTLS says.
+    pub fn hear_event(
+        &mut self,
+        direction: Direction,
+        event: &dtls_stream::Event<'_>,
+    ) -> Result<(), AllocError> {
+        self.kept.hear_datagrams_event(self.alloc, direction, event)
     }
 
     /// Takes out the messages that are kept.

@@ -1,6 +1,7 @@
 //! Names of cipher suites.
 use crate::cell::Cell;
 use crate::text::{add_text, name_or_number, some_text, some_texts};
+use ssl2_hello::CipherSpec;
 use std::alloc::{AllocError, Global};
 use std::collections::BTreeMap;
 use tls_base::TlsCipherSuiteID;
@@ -88,6 +89,27 @@ impl Suites {
         let mut all = Vec::new(alloc);
         for suite in suites {
             add_text(&mut all, self.text(alloc, suite))?;
+        }
+        Ok(some_texts(all))
+    }
+
+    /// A CipherSpec: the suite of TLS that it is, or else its number of 6 digits.
+    fn spec_text(&self, alloc: Global, spec: CipherSpec) -> Result<String, AllocError> {
+        match spec.suite() {
+            Some(suite) => self.text(alloc, suite),
+            None => format!(in alloc; "0x{:06x}", spec.0),
+        }
+    }
+
+    /// A list of CipherSpecs of a hello in SSL 2.0's form.
+    pub fn spec_texts(
+        &self,
+        alloc: Global,
+        specs: Items<'_, CipherSpec>,
+    ) -> Result<Option<Cell>, AllocError> {
+        let mut all = Vec::new(alloc);
+        for spec in specs {
+            add_text(&mut all, self.spec_text(alloc, spec))?;
         }
         Ok(some_texts(all))
     }

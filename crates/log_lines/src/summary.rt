@@ -14,6 +14,8 @@ pub struct Party<'a> {
     pub sent: Traffic,
     /// What it sent over TCP besides, of which the other side took nothing.
     pub dropped: Dropped,
+    /// How many bytes stand in front of its TLS.
+    pub preamble: u64,
     /// How many records it said.
     pub records: u64,
     /// Whether its first messages weren't captured, as those of DTLS tell by their numbers.

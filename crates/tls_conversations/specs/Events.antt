@@ -4,7 +4,7 @@ use Rattle.tls_events.specs.Item.{Event as Said, Handshake, ChangeCipherSpec, Al
 use Rattle.dtls_messages.specs.Messages as datagrams
 use Rattle.tls_base.specs.Alert as alerts
 use Rattle.tls_flow.specs.Letters.{letter}
-use Rattle.tls_flow.specs.Bytes.{kind_of_bytes, kind_of_type}
+use Rattle.tls_flow.specs.Bytes.{kind_of_bytes, kind_of_datagram_body}
 use Rattle.tls_flow.specs.Messages.{kind_of_alert}
 use Rattle.tls_flow.specs.declared.event.Event.{Event}
 use Rattle.tls_flow.specs.declared.letter.Kind.{Kind}
@@ -35,10 +35,10 @@ abbrev pub view_said : rust.Said → Said
 view_said (said.Event e) = view_event e
 view_said (said.Fault f) = Failed f
 
--- The same of a direction of DTLS up to 1.2. What a peer drops says nothing: a record that can't be read, or the rest of one (RFC 6347,
+-- The same of a direction of DTLS. What a peer drops says nothing: a record that can't be read, or the rest of one (RFC 6347,
 -- section 4.1.2.7), and a fragment that isn't taken, as one that is sent again (section 4.2.4).
 abbrev pub event_in_datagram : Side → datagrams.Event → Option Event
-event_in_datagram s (datagrams.Handshake m) = Some (plain (kind_of_type m.msg_type) s)
+event_in_datagram s (datagrams.Handshake m) = Some (plain (kind_of_datagram_body m.msg_type m.body) s)
 event_in_datagram s datagrams.ChangeCipherSpec = Some (plain kind.ChangeCipherSpec s)
 event_in_datagram s (datagrams.Alert a) = Some (of_alert a s)
 event_in_datagram s (datagrams.Encrypted r) = Some (plain kind.Encrypted s)

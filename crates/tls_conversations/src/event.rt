@@ -21,7 +21,7 @@ pub fn tls_event(event: &tls_events::Event<'_>, side: Direction) -> Event
     }
 }
 
-/// The event that a side of DTLS up to 1.2 says, from its datagrams. `None` for what its peer drops, which says nothing: a record, or the
+/// The event that a side of DTLS says, from its datagrams. `None` for what its peer drops, which says nothing: a record, or the
 /// rest of one, that can't be read (RFC 6347, section 4.1.2.7), and a fragment that isn't taken, as one of a message that was handed out
 /// before and is sent again (section 4.2.4). A ChangeCipherSpec that is sent again is to be left out before.
 pub fn dtls_event(event: &dtls_stream::Event<'_>, side: Direction) -> Option<Event>
@@ -29,7 +29,8 @@ pub fn dtls_event(event: &dtls_stream::Event<'_>, side: Direction) -> Option<Eve
 {
     match event {
         dtls_stream::Event::Handshake(message) => {
-            Some(Event::new(Kind::of_type(message.msg_type), side))
+            let kind = Kind::of_datagram_body(message.msg_type, message.body.as_slice());
+            Some(Event::new(kind, side))
         }
         dtls_stream::Event::ChangeCipherSpec => Some(Event::new(Kind::ChangeCipherSpec, side)),
         dtls_stream::Event::Alert(alert) => Some(Event::of_alert(alert, side)),

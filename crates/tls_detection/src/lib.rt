@@ -5,8 +5,11 @@
 #![tactic(auto)]
 
 mod front;
+pub mod laws;
+mod place;
 
 pub use front::{
     HEADER_LEN, begins_tls, first_message, front_epoch, held_datagram, is_datagram_version,
     looks_like_tls,
 };
+pub use place::{HELLO_FRONT_LEN, place_behind};

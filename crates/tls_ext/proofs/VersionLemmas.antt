@@ -1,4 +1,4 @@
--- The highest version, found one by one.
+-- The latest version, found one by one.
 use Rattle.std.proofs.Common.{
   ◌≡◌,
   ℕ,
@@ -25,54 +25,50 @@ use Rattle.std.proofs.lemmas.Bool.{ltb-true, ltb-false}
 use Rattle.std.specs.Option.{option_map}
 use Rattle.tls_fields.proofs.OneAnswerLemmas.{ltb_yes, ltb_no}
 use Rattle.tls_ext.specs.Dispatch.{is_grease}
-use Rattle.tls_ext.specs.InPlace.{higher, highest}
+use Rattle.tls_ext.specs.InPlace.{lateness, later, latest}
 
--- the higher of a known one and that of the others
+-- the later of a known one and that of the others
 abbrev pub with_known : Option ℕ → Option ℕ → Option ℕ
 with_known None best = best
-with_known (Some v) best = Some (higher v best)
+with_known (Some v) best = Some (later v best)
 
-pub highest_end : (known : Option ℕ) → with_known known None ≡ known
-highest_end None = refl
-highest_end (Some v) = refl
+pub latest_end : (known : Option ℕ) → with_known known None ≡ known
+latest_end None = refl
+latest_end (Some v) = refl
 
 -- a number of GREASE is passed over
-pub highest_grease : (v : ℕ) (vs : List ℕ) → is_grease v ≡ true → highest (v ∷ vs) ≡ highest vs
-highest_grease v vs e = ap (λ t. cond t (highest vs) (Some (higher v (highest vs)))) e
+pub latest_grease : (v : ℕ) (vs : List ℕ) → is_grease v ≡ true → latest (v ∷ vs) ≡ latest vs
+latest_grease v vs e = ap (λ t. cond t (latest vs) (Some (later v (latest vs)))) e
 
-pub highest_other : (v : ℕ) (vs : List ℕ) → is_grease v ≡ false → highest (v ∷ vs) ≡ Some (higher v (highest vs))
-highest_other v vs e = ap (λ t. cond t (highest vs) (Some (higher v (highest vs)))) e
+pub latest_other : (v : ℕ) (vs : List ℕ) → is_grease v ≡ false → latest (v ∷ vs) ≡ Some (later v (latest vs))
+latest_other v vs e = ap (λ t. cond t (latest vs) (Some (later v (latest vs)))) e
 
-higher_low : (v w : ℕ) (best : Option ℕ) → v < w → higher w (Some (higher v best)) ≡ higher w best
-higher_low v w None low = ap (λ t. cond t v w) (ltb_no w v (omega (arith, low)))
-higher_low v w (Some x) low = go (ltb v x) refl
+stays : (v w : ℕ) (best : Option ℕ) → lateness v < lateness w → later w (Some (later v best)) ≡ later w best
+stays v w None low = ap (λ t. cond t w v) (ltb_yes (lateness v) (lateness w) low)
+stays v w (Some x) low = go (ltb (lateness x) (lateness v)) refl
   where
-    go : (t : Bool) → ltb v x ≡ t → cond (ltb w (cond t x v)) (cond t x v) w ≡ cond (ltb w x) x w
-    go true e = refl
-    go false e = ap (λ t. cond t v w) (ltb_no w v (omega (arith, low)))
-        ∙ sym (ap (λ t. cond t x w) (ltb_no w x (omega (arith, low, ltb-false v x e))))
+    go : (t : Bool) → ltb (lateness x) (lateness v) ≡ t
+        → cond (ltb (lateness (cond t v x)) (lateness w)) w (cond t v x) ≡ cond (ltb (lateness x) (lateness w)) w x
+    go true e = ap (λ t. cond t w v) (ltb_yes (lateness v) (lateness w) low)
+        ∙ sym (ap (λ t. cond t w x)
+        (ltb_yes (lateness x) (lateness w) (omega (arith, low, ltb-true (lateness x) (lateness v) e))))
+    go false e = refl
 
-higher_high : (v w : ℕ) (best : Option ℕ) → w ≤ v → higher w (Some (higher v best)) ≡ higher v best
-higher_high v w None high = go (ltb w v) refl
+better : (v w : ℕ) (best : Option ℕ) → lateness w ≤ lateness v → later w (Some (later v best)) ≡ later v best
+better v w None high = ap (λ t. cond t w v) (ltb_no (lateness v) (lateness w) (omega (arith, high)))
+better v w (Some x) high = go (ltb (lateness x) (lateness v)) refl
   where
-    go : (t : Bool) → ltb w v ≡ t → cond t v w ≡ v
-    go true e = refl
-    go false e = omega (arith, high, ltb-false w v e)
-higher_high v w (Some x) high = go (ltb v x) refl
-  where
-    same : (t : Bool) → ltb w v ≡ t → cond t v w ≡ v
-    same true e = refl
-    same false e = omega (arith, high, ltb-false w v e)
-
-    go : (t : Bool) → ltb v x ≡ t → cond (ltb w (cond t x v)) (cond t x v) w ≡ cond t x v
-    go true e = ap (λ t. cond t x w) (ltb_yes w x (omega (arith, high, ltb-true v x e)))
-    go false e = same (ltb w v) refl
+    go : (t : Bool) → ltb (lateness x) (lateness v) ≡ t
+        → cond (ltb (lateness (cond t v x)) (lateness w)) w (cond t v x) ≡ cond t v x
+    go true e = ap (λ t. cond t w v) (ltb_no (lateness v) (lateness w) (omega (arith, high)))
+    go false e = ap (λ t. cond t w x)
+        (ltb_no (lateness x) (lateness w) (omega (arith, high, ltb-false (lateness x) (lateness v) e)))
 
 -- the known one stays, or the next is better
-pub known_stays : (v w : ℕ) (best : Option ℕ) → v < w
-    → with_known (Some w) (Some (higher v best)) ≡ with_known (Some w) best
-known_stays v w best low = ap Some (higher_low v w best low)
+pub known_stays : (v w : ℕ) (best : Option ℕ) → lateness v < lateness w
+    → with_known (Some w) (Some (later v best)) ≡ with_known (Some w) best
+known_stays v w best low = ap Some (stays v w best low)
 
-pub next_is_better : (v w : ℕ) (best : Option ℕ) → w ≤ v
-    → with_known (Some w) (Some (higher v best)) ≡ with_known (Some v) best
-next_is_better v w best high = ap Some (higher_high v w best high)
+pub next_is_better : (v w : ℕ) (best : Option ℕ) → lateness w ≤ lateness v
+    → with_known (Some w) (Some (later v best)) ≡ with_known (Some v) best
+next_is_better v w best high = ap Some (better v w best high)

@@ -1,5 +1,5 @@
 -- Extensions in place.
-use Rattle.std.specs.Prelude.{ℕ, List, [], ◌∷◌, Option, Some, None, Result, Ok, Err, ◌==◌, nat_lt, if◌then◌else◌}
+use Rattle.std.specs.Prelude.{ℕ, List, [], ◌∷◌, Option, Some, None, Result, Ok, Err, ◌==◌, ◌+◌, ◌-◌, ◌&&◌, nat_le, nat_lt, if◌then◌else◌}
 use Rattle.tls_base.specs.ExtensionNumbers as extension_number
 use Rattle.tls_fields.specs.Bytes.{Bytes}
 use Rattle.tls_fields.specs.Layout.{Layout, list, mapped, counted_window}
@@ -88,22 +88,27 @@ abbrev pub listed_versions : Extension → Option (List ℕ)
 listed_versions (ext.supported_versions versions) = Some versions
 listed_versions e = None
 
-abbrev pub higher : ℕ → Option ℕ → ℕ
-higher v None = v
-higher v (Some w) = if nat_lt v w then w else v
+-- How late a version is: by its number, but a version of DTLS, whose number begins with 0xfe, is the later the lower its number is (RFC 6347,
+-- section 4.1; RFC 9147, section 5.3).
+abbrev pub lateness : ℕ → ℕ
+lateness v = if nat_le 0xfe00 v && nat_le v 0xfeff then 0xfe00 + (0xfeff - v) else v
 
--- The highest version that isn't a number of GREASE.
-abbrev pub highest : List ℕ → Option ℕ
-highest [] = None
-highest (v ∷ vs) = if is_grease v then highest vs else Some (higher v (highest vs))
+abbrev pub later : ℕ → Option ℕ → ℕ
+later v None = v
+later v (Some w) = if nat_lt (lateness w) (lateness v) then v else w
 
-abbrev pub highest_of : ℕ → Result (Option (List ℕ)) Refusal → Result (Option ℕ) Refusal
-highest_of version (Ok (Some versions)) = Ok (highest versions)
-highest_of version (Ok None) = Ok (Some version)
-highest_of version (Err e) = Err e
+-- The latest version that isn't a number of GREASE.
+abbrev pub latest : List ℕ → Option ℕ
+latest [] = None
+latest (v ∷ vs) = if is_grease v then latest vs else Some (later v (latest vs))
 
--- The highest version in the first supported_versions (RFC 8446, section 4.2.1); where there is none, the one in the hello.
+abbrev pub latest_of : ℕ → Result (Option (List ℕ)) Refusal → Result (Option ℕ) Refusal
+latest_of version (Ok (Some versions)) = Ok (latest versions)
+latest_of version (Ok None) = Ok (Some version)
+latest_of version (Err e) = Err e
+
+-- The latest version in the first supported_versions (RFC 8446, section 4.2.1); where there is none, the one in the hello.
 abbrev pub best_version : ℕ → Bytes → Result (Option ℕ) Refusal
 best_version version b =
-    highest_of version (in_content content.supported_versions listed_versions
+    latest_of version (in_content content.supported_versions listed_versions
     (content_of extension_number.supported_versions b))

@@ -11,7 +11,7 @@ ghost use Rattle.tls_fields.specs.Items.{Tells, items_in};
 ghost use Rattle.tls_fields.specs.Layout.{counted, number};
 ghost use Rattle.tls_fields.specs.Text.{held};
 ghost use Rattle.tls_ext.specs.Dispatch.{is_grease as is_grease_number};
-ghost use Rattle.tls_ext.specs.InPlace.{best_version as best_version_in, highest, host_name, protocol_names as protocol_names_in};
+ghost use Rattle.tls_ext.specs.InPlace.{best_version as best_version_in, host_name, lateness as lateness_in, latest, protocol_names as protocol_names_in};
 
 use crate::content_view::{protocol_names, server_names, supported_versions};
 use crate::extension_view::{extensions, first_content};
@@ -60,10 +60,20 @@ fn is_grease(n: u16) -> bool
     n & 0x0f0f == 0x0a0a
 }
 
-/// The highest of `versions` that isn't a number of GREASE; `None` where there is none.
-#[tactic(auto, using(crate::proofs::VersionLemmas::highest_end, crate::proofs::VersionLemmas::highest_grease, crate::proofs::VersionLemmas::highest_other, crate::proofs::VersionLemmas::known_stays, crate::proofs::VersionLemmas::next_is_better))]
-fn highest_version(versions: Items<TlsVersion>) -> Option<TlsVersion>
-    ensures { option_map (λ v. v.0) result ≡ highest (items_in (number 2) versions.entry.bytes.now) }
+/// How late a version is: by its number, but a version of DTLS is the later the lower its number is (RFC 6347, section 4.1; RFC 9147, section 5.3).
+fn lateness(version: TlsVersion) -> u16
+    ensures { result ≡ lateness_in version.0 }
+{
+    match version.0 {
+        number @ 0xfe00..=0xfeff => 0xfe00 + (0xfeff - number),
+        number => number,
+    }
+}
+
+/// The latest of `versions` that isn't a number of GREASE; `None` where there is none.
+#[tactic(auto, using(crate::proofs::VersionLemmas::latest_end, crate::proofs::VersionLemmas::latest_grease, crate::proofs::VersionLemmas::latest_other, crate::proofs::VersionLemmas::known_stays, crate::proofs::VersionLemmas::next_is_better))]
+fn latest_version(versions: Items<TlsVersion>) -> Option<TlsVersion>
+    ensures { option_map (λ v. v.0) result ≡ latest (items_in (number 2) versions.entry.bytes.now) }
 {
     let mut best: Option<TlsVersion> = None;
     for version in versions {
@@ -71,16 +81,17 @@ fn highest_version(versions: Items<TlsVersion>) -> Option<TlsVersion>
             continue;
         }
         best = match best {
-            Some(known) if version.0 < known.0 => Some(known),
+            Some(known) if lateness(version) < lateness(known) => Some(known),
             _ => Some(version),
         };
     }
     best
 }
 
-/// The best version of a hello (RFC 8446, section 4.2.1): the highest number in its extension supported_versions that isn't one of
+/// The best version of a hello (RFC 8446, section 4.2.1): the latest in its extension supported_versions that isn't a number of
 /// GREASE (RFC 8701, section 2); where there is no such extension, `version`, the one in the hello itself. In a ServerHello that is
-/// the version which the server chose.
+/// the version which the server chose. Of two numbers the higher is the later, but of two of DTLS, which begin with 0xfe, the lower
+/// (RFC 6347, section 4.1).
 ///
 /// `None` where the extension is there and has none. What refuses it is the answer where the extension's content is refused, or
 /// where none is found and the extensions end in one that isn't whole. A draft's number is a number as any other.
@@ -95,5 +106,5 @@ pub fn best_version<'a>(
         return Ok(Some(version));
     };
     let (_, versions) = supported_versions(content)?;
-    Ok(highest_version(versions))
+    Ok(latest_version(versions))
 }

@@ -11,6 +11,7 @@ use Rattle.tls_hs.specs.Handshake as handshakes
 use Rattle.tls_hs.specs.Hello as client
 use Rattle.tls_hs.specs.InPlace.{raw_handshake}
 use Rattle.tls_hs.specs.ServerHello as server
+use Rattle.ssl2_hello.specs.ClientHello as ssl2
 use Rattle.tls_parser.specs.DtlsHello as datagram
 use Rattle.tls_flow.specs.declared.letter.Direction.{Direction as Side}
 use Rattle.tls_flow.specs.declared.letter.Direction.TheVariants.{ToServer, FromServer}
@@ -21,6 +22,7 @@ use Rattle.tls_facts.specs.Facts.{
   Facts,
   KeepsHellos,
   asked,
+  asked_in_ssl2,
   certified,
   chosen,
   exchanged,
@@ -37,7 +39,9 @@ use Rattle.tls_facts.specs.Facts.{
   of_message,
   of_other,
   of_raw,
+  of_server_body,
   of_server_hello,
+  of_ssl2,
   retried,
   retry_random,
   verified,
@@ -65,11 +69,26 @@ asked_keeps FromServer h f = stays FromServer f
 asked_keeps ToServer h f = go (has_asked f) refl
   where
     next : Facts
-    next = record f { client = Some h; is_asked_again = not (is_some f.client) && f.is_asked_again }
+    next = record f {
+      client = Some h;
+      is_asked_again = not (is_some f.client) && f.is_asked_again;
+      ssl2_cipher_specs = None;
+    }
 
     go : (b : Bool) → has_asked f ≡ b → KeepsHellos ToServer f (if b then f else next)
     go true is = stays ToServer f
     go false is = (refl, λ e. absurd (not_so is e))
+
+pub ssl2_keeps : (s : Side) (h : ssl2.ClientHello) (f : Facts) → KeepsHellos s f (asked_in_ssl2 s h f)
+ssl2_keeps FromServer h f = stays FromServer f
+ssl2_keeps ToServer h f = go (has_asked f) refl
+  where
+    next : Facts
+    next = record (asked ToServer (of_ssl2 h) f) { ssl2_cipher_specs = Some h.cipher_specs }
+
+    go : (b : Bool) → has_asked f ≡ b → KeepsHellos ToServer f (if b then f else next)
+    go true is = stays ToServer f
+    go false is = ((asked_keeps ToServer (of_ssl2 h) f).0, λ e. absurd (not_so is e))
 
 retried_keeps : (s : Side) (f : Facts) → KeepsHellos s f (retried s f)
 retried_keeps ToServer f = stays ToServer f
@@ -133,10 +152,15 @@ server_hello_keeps s (Ok (handshakes.ServerHello h, rest)) f = chosen_keeps s h 
 server_hello_keeps s (Ok (handshakes.ServerHelloV13Draft18 h, rest)) f = chosen_keeps s (of_draft h) f
 server_hello_keeps s _ f = stays s f
 
+server_body_keeps : (s : Side) (a : Answer handshakes.Handshake) (b : Bytes) (f : Facts)
+    → KeepsHellos s f (of_server_body s a b f)
+server_body_keeps s (Ok x) b f = server_hello_keeps s (Ok x) f
+server_body_keeps s (Err e) b f = server_hello_keeps s (reading handshakes.server_hello_of_draft_body b) f
+
 message_keeps : (s : Side) (n : ℕ) (b : Bytes) (f : Facts) → KeepsHellos s f (of_message s n b f)
 message_keeps s n b f =
     if_keeps s f (n == 1) _ _ (client_hello_keeps s (reading client.client_hello b) f)
-    (if_keeps s f (n == 2) _ _ (server_hello_keeps s (reading handshakes.server_hello_body b) f) (other_keeps s n b f))
+    (if_keeps s f (n == 2) _ _ (server_body_keeps s (reading handshakes.server_hello_body b) b f) (other_keeps s n b f))
 
 pub bytes_keep : (s : Side) (b : Bytes) (f : Facts) → KeepsHellos s f (of_bytes s b f)
 bytes_keep s b f = go (reading raw_handshake b)

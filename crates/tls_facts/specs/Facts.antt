@@ -3,9 +3,12 @@ use Rattle.std.specs.Prelude.{◌≡◌, ℕ, Bool, true, false, not, ◌&&◌, 
 use Rattle.std.specs.Str.{bytes_eq}
 use Rattle.tls_fields.specs.Bytes.{Bytes}
 use Rattle.tls_fields.specs.Framed.{Framed}
+use Rattle.tls_fields.specs.Items.{items_in}
+use Rattle.tls_fields.specs.Layout.{number}
 use Rattle.tls_fields.specs.Meaning.{Answer}
 use Rattle.tls_fields.specs.Reading.{reading}
 use Rattle.tls_fields.specs.Text.{held}
+use Rattle.ssl2_hello.specs.ClientHello as ssl2
 use Rattle.tls_hs.specs.Certificate.{certificate}
 use Rattle.tls_hs.specs.Handshake as handshakes
 use Rattle.tls_hs.specs.Hello as client
@@ -40,6 +43,8 @@ pub record Facts : Type 0 where
   pub has_ticket : Bool
   -- what the last alert says
   pub last_alert : Option ℕ
+  -- the CipherSpecs of a ClientHello in SSL 2.0's form
+  pub ssl2_cipher_specs : Option (List ℕ)
 
 abbrev pub view_facts : rust.Facts → Facts
 view_facts f = record {
@@ -54,6 +59,7 @@ view_facts f = record {
   has_status = f.has_status;
   has_ticket = f.has_ticket;
   last_alert = option_map (λ a. a.0) f.last_alert;
+  ssl2_cipher_specs = option_map (λ v. items_in (number 3) v.items) f.ssl2_cipher_specs;
 }
 
 -- Nothing was said.
@@ -70,6 +76,7 @@ nothing = record {
   has_status = false;
   has_ticket = false;
   last_alert = None;
+  ssl2_cipher_specs = None;
 }
 
 -- The random of a ServerHello that is a HelloRetryRequest (RFC 8446, section 4.1.3).
@@ -87,8 +94,33 @@ has_asked f = is_some f.client && not f.is_asked_again
 abbrev pub asked : Side → client.ClientHello → Facts → Facts
 asked ToServer h f =
     if has_asked f then f
-    else record f { client = Some h; is_asked_again = not (is_some f.client) && f.is_asked_again }
+    else record f {
+      client = Some h;
+      is_asked_again = not (is_some f.client) && f.is_asked_again;
+      ssl2_cipher_specs = None;
+    }
 asked FromServer h f = f
+
+-- A ClientHello in SSL 2.0's form (RFC 5246, appendix E.2): its challenge is its random, and it has no compression methods and no extensions. Its
+-- CipherSpecs have three bytes.
+abbrev pub id_of : Bytes → Option Bytes
+id_of [] = None
+id_of (n ∷ b) = Some (n ∷ b)
+
+abbrev pub of_ssl2 : ssl2.ClientHello → client.ClientHello
+of_ssl2 h = record {
+  client_version = h.version;
+  random = h.challenge;
+  session_id = id_of h.session_id;
+  cipher_suites = [];
+  compression_methods = [];
+  extensions = None;
+}
+
+abbrev pub asked_in_ssl2 : Side → ssl2.ClientHello → Facts → Facts
+asked_in_ssl2 ToServer h f =
+    if has_asked f then f else record (asked ToServer (of_ssl2 h) f) { ssl2_cipher_specs = Some h.cipher_specs }
+asked_in_ssl2 FromServer h f = f
 
 -- The server asks for another ClientHello by a HelloRetryRequest (RFC 8446, section 4.1.4): once, and in front of its ServerHello.
 abbrev pub retried : Side → Facts → Facts
@@ -123,7 +155,7 @@ is_stray FromServer kind.ServerHello13 f = is_some f.server
 is_stray FromServer kind.HelloRetryRequest f = is_some f.server || f.is_retried
 is_stray s k f = false
 
--- What draft 18 of TLS 1.3 leaves out of a ServerHello is empty (draft-ietf-tls-tls13-18, section 4.1.3).
+-- What drafts of TLS 1.3 leave out of a ServerHello is empty (draft-ietf-tls-tls13-18, section 4.1.3).
 abbrev pub of_draft : server.ServerHelloDraft18 → server.ServerHello
 of_draft h = record {
   server_version = h.version;
@@ -169,11 +201,16 @@ of_server_hello s (Ok (handshakes.ServerHello h, rest)) f = chosen s h f
 of_server_hello s (Ok (handshakes.ServerHelloV13Draft18 h, rest)) f = chosen s (of_draft h) f
 of_server_hello s _ f = f
 
+-- One that is refused may be that of a draft of TLS 1.3.
+abbrev pub of_server_body : Side → Answer handshakes.Handshake → Bytes → Facts → Facts
+of_server_body s (Ok x) b f = of_server_hello s (Ok x) f
+of_server_body s (Err e) b f = of_server_hello s (reading handshakes.server_hello_of_draft_body b) f
+
 -- What a message of TLS adds, by its type and its body; one whose body is refused, as far as it is read, adds nothing.
 abbrev pub of_message : Side → ℕ → Bytes → Facts → Facts
 of_message s n b f =
     if n == 1 then of_client_hello s (reading client.client_hello b) f
-    else if n == 2 then of_server_hello s (reading handshakes.server_hello_body b) f
+    else if n == 2 then of_server_body s (reading handshakes.server_hello_body b) b f
     else of_other s n b f
 
 abbrev pub of_raw : Side → Answer Framed → Facts → Facts

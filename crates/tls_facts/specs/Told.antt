@@ -1,5 +1,5 @@
 -- What is known of a connection, field by field.
-use Rattle.std.specs.Prelude.{ℕ, Bool, List, [], Option, Some, None}
+use Rattle.std.specs.Prelude.{ℕ, Bool, List, [], ◌∷◌, Option, Some, None, ◌==◌, if◌then◌else◌, length}
 use Rattle.std.specs.Option.{option_map}
 use Rattle.tls_base.specs.ExtensionNumbers as extension_number
 use Rattle.tls_base.specs.Timestamp.{SignedCertificateTimestamp}
@@ -11,6 +11,8 @@ use Rattle.tls_ext.specs.Extension.{ServerName}
 use Rattle.tls_ext.specs.InPlace as ext
 use Rattle.tls_hs.specs.Hello as client
 use Rattle.tls_hs.specs.ServerHello as server
+use Rattle.tls_flow.specs.declared.letter.Direction.{Direction as Side}
+use Rattle.tls_flow.specs.declared.letter.Direction.TheVariants.{ToServer, FromServer}
 use Rattle.tls_facts.specs.Facts.{Facts}
 use Rattle.tls_facts.specs.Hellos.{algorithms_in, content_in, first_of, formats_in, groups_in, has, has_ticket_in, host_among, known, modes_in, names_in, others_among, protocols_in, share_group_in, shares_in, timestamps_in, versions_in}
 
@@ -139,6 +141,22 @@ server_compression f = option_map (λ h. h.compression_method) f.server
 
 abbrev pub server_extension : ℕ → Facts → Option Bytes
 server_extension kind f = content_in kind (server_extensions f)
+
+-- The connection id that a hello asks for in what is sent to its sender: opaque cid<0..2^8-1> (RFC 9146, section 3).
+abbrev pub id_length : Option Bytes → ℕ
+id_length (Some (n ∷ id)) = if length id == n then length id else 0
+id_length _ = 0
+
+abbrev pub id_length_of : Option Bytes → Option Bytes → Option Bytes → ℕ
+id_length_of (Some b) (Some c) asked = id_length asked
+id_length_of _ _ asked = 0
+
+-- That of the records that go to a side, where both sides' hellos have the extension connection_id, type 54.
+abbrev pub connection_id_length : Side → Facts → ℕ
+connection_id_length ToServer f =
+    id_length_of (client_extension 54 f) (server_extension 54 f) (server_extension 54 f)
+connection_id_length FromServer f =
+    id_length_of (client_extension 54 f) (server_extension 54 f) (client_extension 54 f)
 
 abbrev pub server_extension_types : Facts → List ℕ
 server_extension_types f = items_in ext.extension_type (server_extensions f)

@@ -2,19 +2,21 @@
 ghost use Rattle.std.specs.Prelude.{◌≡◌, OnOk};
 ghost use Rattle.tls_hs.specs.InPlace.{view_client_hello_in_place};
 ghost use Rattle.tls_hs.specs.ServerHello.{view_server_hello, view_server_hello_draft18};
-ghost use Rattle.tls_facts.specs.Facts.{asked, certified, chosen, exchanged, has_asked as has_asked_in, is_stray as is_stray_in, nothing, of_alert, of_bytes, of_datagram_client_hello, of_datagram_message, of_draft, of_message, of_other, of_server_hello, retried, verified, view_facts};
+ghost use Rattle.tls_facts.specs.Facts.{asked, asked_in_ssl2, certified, chosen, exchanged, has_asked as has_asked_in, is_stray as is_stray_in, nothing, of_alert, of_bytes, of_datagram_client_hello, of_datagram_message, of_draft, of_message, of_other, of_server_body, of_server_hello, retried, verified, view_facts};
+ghost use Rattle.ssl2_hello.specs.ClientHello.{view_client_hello as view_ssl2_hello};
 ghost use Rattle.tls_fields.specs.Reading.{reading};
 ghost use Rattle.tls_hs.specs.Certificate.{certificate};
-ghost use Rattle.tls_hs.specs.Handshake.{server_hello_body};
+ghost use Rattle.tls_hs.specs.Handshake.{server_hello_body, server_hello_of_draft_body};
 ghost use Rattle.tls_parser.specs.DtlsHello.{client_hello as datagram_client_hello};
 
 use crate::exchange::{has_hint, hinted_parameters, named_group, names_curve};
-use crate::hellos::{content, group_of_share};
-use crate::parts::{CertificateFacts, ClientParts, ServerParts, facts_of};
+use crate::hellos::{content, group_of_share, none};
+use crate::parts::{CertificateFacts, ClientParts, ServerParts, copied, facts_of};
+use ssl2_hello::Ssl2ClientHello;
 use std::alloc::{AllocError, Global};
 use tls_base::{
-    NamedGroup, TlsAlertDescription, TlsCompressionID, TlsExtensionType, TlsHandshakeType,
-    parse_ec_parameters,
+    NamedGroup, TlsAlertDescription, TlsCipherSuiteID, TlsCompressionID, TlsExtensionType,
+    TlsHandshakeType, parse_ec_parameters,
 };
 use tls_fields::InPlace;
 use tls_flow::{Direction, Kind};
@@ -22,6 +24,7 @@ use tls_hs::parts::server_hello_any;
 use tls_hs::{
     ClientHelloView, RawHandshake, TlsMessageHandshake, TlsServerHelloContents,
     TlsServerHelloV13Draft18Contents, certificates, parse_tls_handshake_msg_server_hello,
+    parse_tls_handshake_msg_server_hello_of_draft,
 };
 use tls_parser::DTLSClientHelloView;
 
@@ -56,9 +59,12 @@ pub struct Facts {
     pub has_ticket: bool,
     /// What the last alert in the clear says.
     pub last_alert: Option<TlsAlertDescription>,
+    /// The CipherSpecs of the ClientHello, 3 bytes each, in its order, where it has SSL 2.0's form (RFC 5246, appendix E.2); `None` of any other, whose
+    /// cipher suites are those of [`client`](Facts::client).
+    pub ssl2_cipher_specs: Option<Vec<u8>>,
 }
 
-/// A ServerHello of draft 18 with what it leaves out: no session id, and no compression.
+/// A ServerHello of a draft of TLS 1.3 with what it leaves out: no session id, and no compression.
 fn as_later(hello: TlsServerHelloV13Draft18Contents<'_>) -> TlsServerHelloContents<'_>
     ensures { view_server_hello result ≡ of_draft (view_server_hello_draft18 hello.entry) }
 {
@@ -89,6 +95,7 @@ impl Facts {
             has_status: false,
             has_ticket: false,
             last_alert: None,
+            ssl2_cipher_specs: None,
         }
     }
 
@@ -136,6 +143,39 @@ impl Facts {
         let parts = ClientParts::of(alloc, hello)?;
         self.is_asked_again = self.client.is_none() && self.is_asked_again;
         self.client = Some(parts);
+        self.ssl2_cipher_specs = None;
+        Ok(())
+    }
+
+    /// Notes a ClientHello in SSL 2.0's form (RFC 5246, appendix E.2), by which a side begins. Its challenge is kept as the client's random.
+    ///
+    /// `AllocError` where it could not be held.
+    pub fn note_ssl2_hello(
+        &mut self,
+        alloc: Global,
+        side: Direction,
+        hello: &Ssl2ClientHello<'_>,
+    ) -> Result<(), AllocError>
+        ensures { OnOk result (view_facts self.new ≡ asked_in_ssl2 side (view_ssl2_hello hello.now) (view_facts self.old)) }
+    {
+        if side == Direction::FromServer || self.has_asked() {
+            return Ok(());
+        }
+        let specs = copied(alloc, hello.cipher_specs.bytes())?;
+        let as_tls = ClientHelloView {
+            version: hello.version,
+            random: hello.challenge,
+            session_id: if hello.session_id.is_empty() {
+                None
+            } else {
+                Some(hello.session_id)
+            },
+            ciphers: none::<TlsCipherSuiteID>(),
+            comp: none::<TlsCompressionID>(),
+            ext: None,
+        };
+        self.ask(alloc, side, &as_tls)?;
+        self.ssl2_cipher_specs = Some(specs);
         Ok(())
     }
 
@@ -179,6 +219,24 @@ impl Facts {
         Ok(())
     }
 
+    /// What the ServerHello of a draft of TLS 1.3 says, by its body.
+    fn note_draft_hello(
+        &mut self,
+        alloc: Global,
+        side: Direction,
+        body: &[u8],
+    ) -> Result<(), AllocError>
+        ensures { OnOk result (view_facts self.new ≡ of_server_hello side (reading server_hello_of_draft_body body.now) (view_facts self.old)) }
+    {
+        match parse_tls_handshake_msg_server_hello_of_draft(body) {
+            Ok((_, TlsMessageHandshake::ServerHello(hello))) => self.choose(alloc, side, &hello),
+            Ok((_, TlsMessageHandshake::ServerHelloV13Draft18(hello))) => {
+                self.choose(alloc, side, &as_later(hello))
+            }
+            _ => Ok(()),
+        }
+    }
+
     /// What a ServerHello says, by its body.
     fn note_server_hello(
         &mut self,
@@ -186,14 +244,15 @@ impl Facts {
         side: Direction,
         body: &[u8],
     ) -> Result<(), AllocError>
-        ensures { OnOk result (view_facts self.new ≡ of_server_hello side (reading server_hello_body body.now) (view_facts self.old)) }
+        ensures { OnOk result (view_facts self.new ≡ of_server_body side (reading server_hello_body body.now) body.now (view_facts self.old)) }
     {
         match parse_tls_handshake_msg_server_hello(body) {
             Ok((_, TlsMessageHandshake::ServerHello(hello))) => self.choose(alloc, side, &hello),
             Ok((_, TlsMessageHandshake::ServerHelloV13Draft18(hello))) => {
                 self.choose(alloc, side, &as_later(hello))
             }
-            _ => Ok(()),
+            Ok(_) => Ok(()),
+            Err(_) => self.note_draft_hello(alloc, side, body),
         }
     }
 

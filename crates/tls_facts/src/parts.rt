@@ -18,7 +18,7 @@ use tls_hs::{ClientHelloView, RawCertificate, TlsServerHelloContents};
 pub struct ClientParts {
     /// The version in the hello itself: 0x0303 in TLS 1.3.
     pub version: TlsVersion,
-    /// 32 bytes.
+    /// 32 bytes; of a hello in SSL 2.0's form its challenge, of 16 to 32 (RFC 5246, appendix E.2).
     pub random: Vec<u8>,
     /// 1 to 32 bytes; `None` where there are none.
     pub session_id: Option<Vec<u8>>,
@@ -57,7 +57,7 @@ pub struct CertificateFacts {
 }
 
 /// The bytes, copied.
-fn copied(alloc: Global, bytes: &[u8]) -> Result<Vec<u8>, AllocError>
+pub(crate) fn copied(alloc: Global, bytes: &[u8]) -> Result<Vec<u8>, AllocError>
     ensures { IfOk result (λ v. v.items ≡ bytes.now) }
 {
     let mut copy = Vec::new(alloc);

@@ -15,6 +15,7 @@ use crate::hellos::{
     algorithms, content, formats, group_of_share, groups, host_name, is_filled, known, modes,
     names, none, other_names, protocols, shares, timestamps, versions,
 };
+use ssl2_hello::CipherSpec;
 use std::alloc::{AllocError, Global};
 use tls_base::{
     NamedGroup, SNIType, SignedCertificateTimestamp, TlsCipherSuiteID, TlsCompressionID,
@@ -22,12 +23,26 @@ use tls_base::{
 };
 use tls_ext::{ExtensionType, KeyShareEntry, best_version, extension_types};
 use tls_fields::{Counted1, Items};
+use tls_flow::Direction;
 
 /// The encrypted_client_hello of RFC 9849, section 5, which the library has no name for.
 pub const ENCRYPTED_CLIENT_HELLO: TlsExtensionType = TlsExtensionType(0xfe0d);
 
 /// The delegated_credential of RFC 9345, section 4.1.1, which the library has no name for.
 pub const DELEGATED_CREDENTIAL: TlsExtensionType = TlsExtensionType(34);
+
+/// The connection_id of RFC 9146, section 3, which the library has no name for.
+pub const CONNECTION_ID: TlsExtensionType = TlsExtensionType(54);
+
+/// How many bytes the connection id has that an extension connection_id asks for: 1 byte of length, and the id.
+fn id_len(content: Option<&[u8]>) -> usize
+    ensures { result ≡ told.id_length (option_map (λ x. x.now) content.entry) }
+{
+    match content {
+        Some([len, id @ ..]) if id.len() == *len as usize => id.len(),
+        _ => 0,
+    }
+}
 
 /// What is held, as it stands.
 fn lent(bytes: &Option<Vec<u8>>) -> Option<&[u8]>
@@ -298,6 +313,30 @@ impl Facts {
         ensures { option_map (λ x. x.now) result ≡ told.server_extension kind.0 (view_facts self.now) }
     {
         content(self.server_ext(), kind)
+    }
+
+    /// The CipherSpecs of a ClientHello in SSL 2.0's form (RFC 5246, appendix E.2), in its order; `None` where it has another form.
+    pub fn client_cipher_specs(&self) -> Option<Items<'_, CipherSpec>>
+        ensures { option_map (λ x. items_in (number 3) x.bytes.now) result ≡ (view_facts self.now).ssl2_cipher_specs }
+    {
+        match &self.ssl2_cipher_specs {
+            Some(specs) => Some(Items::new(specs.as_slice())),
+            None => None,
+        }
+    }
+
+    /// How many bytes the connection id has in each record of DTLS that goes in this direction: the one that its receiver asked for in its hello (RFC
+    /// 9146, section 3; RFC 9147, section 9). 0 where a side's hello has no such extension.
+    pub fn connection_id_len(&self, side: Direction) -> usize
+        ensures { result ≡ told.connection_id_length side (view_facts self.now) }
+    {
+        let client = self.client_extension(CONNECTION_ID);
+        let server = self.server_extension(CONNECTION_ID);
+        match (side, client, server) {
+            (Direction::ToServer, Some(_), Some(_)) => id_len(server),
+            (Direction::FromServer, Some(_), Some(_)) => id_len(client),
+            _ => 0,
+        }
     }
 
     /// The types of the ServerHello's extensions, in their order.

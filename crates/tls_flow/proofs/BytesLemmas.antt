@@ -44,7 +44,7 @@ use Rattle.tls_hs.specs.ServerHello as server
 use Rattle.tls_hs.specs.Certificate as certificates
 use Rattle.tls_hs.specs.Session as session
 use Rattle.tls_hs.specs.Message as messages
-use Rattle.tls_flow.specs.Bytes.{kind_of_body, kind_of_bytes, kind_of_read}
+use Rattle.tls_flow.specs.Bytes.{kind_of_body, kind_of_bytes, kind_of_hello}
 use Rattle.tls_flow.specs.Messages.{kind_of, kind_of_handshake}
 use Rattle.tls_flow.specs.Read.{IsSameKind}
 use Rattle.tls_flow.specs.declared.letter.Kind.{Kind}
@@ -139,7 +139,7 @@ module _ (n : ℕ) (w : Bytes) (x : handshakes.Handshake × Bytes) where
     | inr e ↦ elim (pick t 1 _ _ w x e) [
       | inl h ↦ at t 1 h.0 (row handshakes.ClientHello hello.client_hello kind.ClientHello w x (λ a. refl) h.1)
       | inr e ↦ elim (pick t 2 _ _ w x e) [
-        | inl h ↦ at t 2 h.0 (ap kind_of_read h.1)
+        | inl h ↦ at t 2 h.0 (ap (λ a. kind_of_hello a w) h.1)
         | inr e ↦ elim (pick t 4 _ _ w x e) [
           | inl h ↦ at t 4 h.0 (row handshakes.NewSessionTicket (session.new_session_ticket n) kind.NewSessionTicket w x
               (λ a. refl) h.1)
@@ -147,7 +147,7 @@ module _ (n : ℕ) (w : Bytes) (x : handshakes.Handshake × Bytes) where
             | inl h ↦ at t 5 h.0 (let same : ◌≡◌ {A = handshakes.Handshake × Bytes} (handshakes.EndOfEarlyData, w) x =
                 cc in ap (λ (p : handshakes.Handshake × Bytes). kind_of_handshake p.0) same)
             | inr e ↦ elim (pick t 6 _ _ w x e) [
-              | inl h ↦ at t 6 h.0 (row handshakes.HelloRetryRequest server.hello_retry_request kind.Other w x
+              | inl h ↦ at t 6 h.0 (row handshakes.HelloRetryRequest server.hello_retry_request kind.HelloRetryRequest w x
                   (λ a. refl) h.1)
               | inr e ↦ from_certificate t e
             ]

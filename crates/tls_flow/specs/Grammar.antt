@@ -1,4 +1,4 @@
--- The handshakes of TLS 1.0 to 1.3 and DTLS 1.0 to 1.2. A conversation is followed up to the second ChangeCipherSpec, and
+-- The handshakes of TLS 1.0 to 1.3 and DTLS 1.0 to 1.3. A conversation is followed up to the second ChangeCipherSpec, and
 -- in TLS 1.3 up to the ServerHello: behind these all is encrypted.
 use Rattle.std.specs.Prelude.{Bool, true, false}
 use Rattle.tls_flow.specs.Letters.{letter}

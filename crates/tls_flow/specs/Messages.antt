@@ -46,9 +46,10 @@ extension = do
   content ← counted 2
   done (extension_type, content)
 
--- The version that the server picks (RFC 8446, 4.2.1) is TLS 1.3, 0x0304, or a draft of it, 0x7f and the draft's number.
+-- The version that the server picks (RFC 8446, 4.2.1) is TLS 1.3, 0x0304, a draft of it, 0x7f and the draft's number, or DTLS 1.3, 0xfefc
+-- (RFC 9147, 5.4).
 abbrev pub is_tls13_version : Bytes → Bool
-is_tls13_version (major ∷ minor ∷ []) = (major == 3 && minor == 4) || major == 127
+is_tls13_version (major ∷ minor ∷ []) = (major == 3 && minor == 4) || major == 127 || (major == 0xfe && minor == 0xfc)
 is_tls13_version _ = false
 
 -- The extension supported_versions, type 43, which names such a version.
@@ -79,11 +80,14 @@ kind_of_server_hello h =
     if bytes_eq h.random HELLO_RETRY_RANDOM then kind.HelloRetryRequest
     else if picks h.extensions then kind.ServerHello13 else kind.ServerHello
 
--- By the variant alone: of a ServerHello this is the kind of one below TLS 1.3.
+-- By the variant alone: of a ServerHello this is the kind of one below TLS 1.3. Drafts of TLS 1.3 have a ServerHello and a HelloRetryRequest of
+-- their own (draft-ietf-tls-tls13-18, 4.1.3; draft-ietf-tls-tls13-19, 4.1.4).
 abbrev pub kind_by_variant : handshakes.Handshake → Kind
 kind_by_variant handshakes.HelloRequest = kind.HelloRequest
 kind_by_variant (handshakes.ClientHello hello) = kind.ClientHello
 kind_by_variant (handshakes.ServerHello hello) = kind.ServerHello
+kind_by_variant (handshakes.ServerHelloV13Draft18 hello) = kind.ServerHello13
+kind_by_variant (handshakes.HelloRetryRequest request) = kind.HelloRetryRequest
 kind_by_variant (handshakes.NewSessionTicket ticket) = kind.NewSessionTicket
 kind_by_variant (handshakes.Certificate chain) = kind.Certificate
 kind_by_variant (handshakes.ServerKeyExchange parameters) = kind.ServerKeyExchange

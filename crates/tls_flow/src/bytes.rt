@@ -1,13 +1,17 @@
 //! Handshake messages as letters by their bytes, without memory.
 ghost use Rattle.std.specs.Prelude.{◌≡◌};
-ghost use Rattle.tls_flow.specs.Bytes.{kind_of_type, kind_of_body, kind_of_bytes};
+ghost use Rattle.tls_fields.specs.Reading.{reading};
+ghost use Rattle.tls_hs.specs.Handshake as handshakes;
+ghost use Rattle.tls_flow.specs.Bytes.{kind_of_bytes, kind_of_body, kind_of_datagram_body, kind_of_read, kind_of_type};
 
 use crate::letter::Kind;
+use crate::message::kind_of_hello;
 use tls_base::TlsHandshakeType;
-use tls_hs::parse_tls_handshake_msg_server_hello;
+use tls_hs::parts::server_hello_any;
+use tls_hs::{parse_tls_handshake_msg_server_hello, parse_tls_handshake_msg_server_hello_of_draft};
 
 impl Kind {
-    /// The kind of a handshake message by its type alone. In DTLS up to 1.2 no more is needed.
+    /// The kind of a handshake message by its type alone: of a ServerHello that of one below TLS 1.3.
     pub fn of_type(msg_type: TlsHandshakeType) -> Kind
         ensures { result ≡ kind_of_type msg_type.0 }
     {
@@ -24,12 +28,23 @@ impl Kind {
             15 => Kind::CertificateVerify,
             16 => Kind::ClientKeyExchange,
             22 => Kind::CertificateStatus,
-            5 | 6 | 8 | 20 | 24 | 67 => Kind::Other,
+            6 => Kind::HelloRetryRequest,
+            5 | 8 | 20 | 24 | 67 => Kind::Other,
             _ => Kind::Unknown,
         }
     }
 
-    /// The kind of a handshake message of TLS with that type and body. A ServerHello is read.
+    /// The kind of the ServerHello of a draft of TLS 1.3.
+    fn of_draft(body: &[u8]) -> Kind
+        ensures { result ≡ kind_of_read (reading handshakes.server_hello_of_draft_body body.now) }
+    {
+        match parse_tls_handshake_msg_server_hello_of_draft(body) {
+            Ok((_, message)) => Kind::of_handshake(&message),
+            Err(_) => Kind::Unknown,
+        }
+    }
+
+    /// The kind of a handshake message of TLS with that type and body. A ServerHello is read, also one of a draft of TLS 1.3.
     pub fn of_body(msg_type: TlsHandshakeType, body: &[u8]) -> Kind
         ensures { result ≡ kind_of_body msg_type.0 body.now }
     {
@@ -38,7 +53,20 @@ impl Kind {
         }
         match parse_tls_handshake_msg_server_hello(body) {
             Ok((_, message)) => Kind::of_handshake(&message),
-            Err(_) => Kind::Unknown,
+            Err(_) => Kind::of_draft(body),
+        }
+    }
+
+    /// The kind of a handshake message of DTLS with that type and body. A ServerHello is read, whatever its version.
+    pub fn of_datagram_body(msg_type: TlsHandshakeType, body: &[u8]) -> Kind
+        ensures { result ≡ kind_of_datagram_body msg_type.0 body.now }
+    {
+        if msg_type != TlsHandshakeType::ServerHello {
+            return Kind::of_type(msg_type);
+        }
+        match server_hello_any(body) {
+            Ok((_, hello)) => kind_of_hello(&hello),
+            Err(_) => Kind::ServerHello,
         }
     }
 

@@ -11,9 +11,10 @@ pub enum Kind {
     HelloVerifyRequest,
     /// The ServerHello of a version below TLS 1.3.
     ServerHello,
-    /// The server asks for another ClientHello (RFC 8446, section 4.1.4): a ServerHello of a random of its own.
+    /// The server asks for another ClientHello (RFC 8446, section 4.1.4): a ServerHello of a random of its own, or in drafts a message of its own type.
     HelloRetryRequest,
-    /// The ServerHello of TLS 1.3 (RFC 8446, section 4.1.3): its extension supported_versions names it or a draft of it.
+    /// The ServerHello of TLS 1.3 (RFC 8446, section 4.1.3): its extension supported_versions names it, a draft of it, or DTLS 1.3 (RFC 9147, section
+    /// 5.4); or that of drafts 14 to 21.
     ServerHello13,
     /// A ticket (RFC 5077, section 3.3).
     NewSessionTicket,

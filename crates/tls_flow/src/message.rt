@@ -31,12 +31,14 @@ fn extension(i: &[u8]) -> IResult<&[u8], (u16, &[u8])>
     Ok((i, (extension_type, content)))
 }
 
-/// Whether the content of a ServerHello's supported_versions is TLS 1.3, or a draft of it.
+/// Whether the content of a ServerHello's supported_versions is TLS 1.3, a draft of it, or DTLS 1.3.
 fn is_tls13(content: &[u8]) -> bool
     ensures { result ≡ is_tls13_version content.now }
 {
     match content {
-        [major, minor] => (*major == 3 && *minor == 4) || *major == 0x7f,
+        [major, minor] => {
+            (*major == 3 && *minor == 4) || *major == 0x7f || (*major == 0xfe && *minor == 0xfc)
+        }
         _ => false,
     }
 }
@@ -48,7 +50,7 @@ fn is_pick(extension_type: u16, content: &[u8]) -> bool
     extension_type == SUPPORTED_VERSIONS && is_tls13(content)
 }
 
-/// Whether a ServerHello's block of extensions picks TLS 1.3, or a draft of it, by supported_versions. What stands behind
+/// Whether a ServerHello's block of extensions picks TLS 1.3, a draft of it, or DTLS 1.3, by supported_versions. What stands behind
 /// bytes that are no extension isn't looked at.
 pub fn picks_tls13(block: &[u8]) -> bool
     ensures { result ≡ picks_in block.now }
@@ -70,7 +72,7 @@ pub fn picks_tls13(block: &[u8]) -> bool
 
 /// The kind of a ServerHello: a HelloRetryRequest by its random, one of TLS 1.3 by its extension supported_versions.
 #[inline(never)]
-fn kind_of_hello(hello: &TlsServerHelloContents<'_>) -> Kind
+pub(crate) fn kind_of_hello(hello: &TlsServerHelloContents<'_>) -> Kind
     ensures { result ≡ kind_of_server_hello (view_server_hello hello.now) }
 {
     if hello.random == HELLO_RETRY_RANDOM.as_slice() {
@@ -87,10 +89,10 @@ static BY_VARIANT: [Kind; 17] = [
     Kind::HelloRequest,
     Kind::ClientHello,
     Kind::ServerHello,
-    Kind::Other,
+    Kind::ServerHello13,
     Kind::NewSessionTicket,
     Kind::Other,
-    Kind::Other,
+    Kind::HelloRetryRequest,
     Kind::Certificate,
     Kind::ServerKeyExchange,
     Kind::CertificateRequest,

@@ -1,10 +1,10 @@
 -- Handshake messages (RFC 5246, section 7.4), and of TLS 1.3 and its drafts those whose numbers are free there: types 5
 -- and 24 (RFC 8446, section 4), 6 (draft-ietf-tls-tls13-19, section 4.1.4) and 67 (draft-agl-tls-nextprotoneg-04,
 -- section 3). Types 4, 11 and 13 have a form of their own in TLS 1.3, which isn't read: they are read in that of TLS 1.2.
-use Rattle.std.specs.Prelude.{ℕ, List, ◌==◌}
+use Rattle.std.specs.Prelude.{ℕ, List, ◌==◌, ◌&&◌, nat_le}
 use Rattle.tls_fields.specs.Bytes.{Bytes}
 use Rattle.tls_fields.specs.Layout.{Layout, done, refuse, number, block, look, ◌>>=◌, mapped, choose}
-use Rattle.tls_fields.specs.declared.result.ErrorKind.TheVariants.{Switch}
+use Rattle.tls_fields.specs.declared.result.ErrorKind.TheVariants.{Switch, Tag}
 use Rattle.tls_hs.specs.Hello as hello
 use Rattle.tls_hs.specs.ServerHello as server
 use Rattle.tls_hs.specs.Certificate as certificates
@@ -64,6 +64,14 @@ server_hello_body = do
   version ← look (number 2)
   choose (version == 0x7f12) (mapped ServerHelloV13Draft18 server.server_hello_draft18) (
       mapped ServerHello server.server_hello)
+
+-- The ServerHello of drafts 14 to 21 of TLS 1.3: in the form of draft 18, each with a version of its own, 0x7f and the draft's number. From draft
+-- 22 on the form is that of RFC 8446, and the number stands in supported_versions (draft-ietf-tls-tls13-22, section 4.1.3).
+unfoldable pub server_hello_of_draft_body : Layout Handshake
+server_hello_of_draft_body = do
+  version ← look (number 2)
+  choose (nat_le 0x7f0e version && nat_le version 0x7f15) (mapped ServerHelloV13Draft18 server.server_hello_draft18)
+      (refuse Tag)
 
 unfoldable pub new_session_ticket_body : ℕ → Layout Handshake
 new_session_ticket_body length = mapped NewSessionTicket (session.new_session_ticket length)

@@ -1,7 +1,7 @@
 //! The bodies of handshake messages (RFC 5246, section 7.4), each read as a message. Where a call takes `len`, it is the
 //! length of the body in bytes, whatever `i` holds.
 ghost use Rattle.tls_fields.specs.Answers.{Gives, GivesOrMemory};
-ghost use Rattle.tls_hs.specs.Handshake.{view_handshake, hello_request_body, client_hello_body, server_hello_body};
+ghost use Rattle.tls_hs.specs.Handshake.{view_handshake, hello_request_body, client_hello_body, server_hello_body, server_hello_of_draft_body};
 ghost use Rattle.tls_hs.specs.Handshake.{new_session_ticket_body, hello_retry_request_body, certificate_body};
 ghost use Rattle.tls_hs.specs.Handshake.{server_key_exchange_body, certificate_request_body, server_done_body};
 ghost use Rattle.tls_hs.specs.Handshake.{certificate_verify_body, client_key_exchange_body, finished_body};
@@ -20,7 +20,7 @@ use crate::session::{
 };
 use std::alloc::Global;
 use tls_base::TlsVersion;
-use tls_fields::{IResult, block, number1};
+use tls_fields::{ErrorKind, IResult, block, number1, refused};
 
 /// Reads the body of a HelloRequest (RFC 5246, section 7.4.1.1): no bytes. It never refuses.
 #[tactic(auto, using(tls_fields::proofs::OneAnswerLemmas::read_allowed), unfolding(crate::specs::Handshake::hello_request_body))]
@@ -63,6 +63,27 @@ pub fn parse_tls_handshake_msg_server_hello(i: &[u8]) -> IResult<&[u8], TlsMessa
             let (i, hello) = parse_tls_handshake_server_hello(i)?;
             Ok((i, TlsMessageHandshake::ServerHello(hello)))
         }
+    }
+}
+
+/// Reads the body of a ServerHello of drafts 14 to 21 of TLS 1.3, whose version, the first 2 bytes, is 0x7f and the draft's number: in the form of
+/// draft 18 (draft-ietf-tls-tls13-18, section 4.1.3), whichever it is. Later drafts have the form of RFC 8446.
+///
+/// - `Incomplete` of the count of missing bytes, where they are missing in front of the extensions.
+/// - `Error` of kind `Tag` for any other version, whatever follows it.
+#[tactic(auto, using(tls_fields::proofs::OneAnswerLemmas::read_allowed), unfolding(crate::specs::Handshake::server_hello_of_draft_body))]
+pub fn parse_tls_handshake_msg_server_hello_of_draft(
+    i: &[u8],
+) -> IResult<&[u8], TlsMessageHandshake>
+    ensures { Gives view_handshake server_hello_of_draft_body i.now result }
+{
+    let (_, version) = TlsVersion::parse(i)?;
+    match version.0 {
+        0x7f0e..=0x7f15 => {
+            let (i, hello) = server_hello_draft18(i)?;
+            Ok((i, TlsMessageHandshake::ServerHelloV13Draft18(hello)))
+        }
+        _ => refused(i, ErrorKind::Tag),
     }
 }
 

@@ -31,8 +31,8 @@ pub use bodies::{
     parse_tls_handshake_msg_finished, parse_tls_handshake_msg_hello_request,
     parse_tls_handshake_msg_hello_retry_request, parse_tls_handshake_msg_key_update,
     parse_tls_handshake_msg_newsessionticket, parse_tls_handshake_msg_next_protocol,
-    parse_tls_handshake_msg_server_hello, parse_tls_handshake_msg_serverdone,
-    parse_tls_handshake_msg_serverkeyexchange,
+    parse_tls_handshake_msg_server_hello, parse_tls_handshake_msg_server_hello_of_draft,
+    parse_tls_handshake_msg_serverdone, parse_tls_handshake_msg_serverkeyexchange,
 };
 pub use certificate::{
     RawCertificate, TlsCertificateContents, TlsCertificateStatusContents,

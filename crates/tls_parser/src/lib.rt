@@ -95,10 +95,11 @@ pub use tls_hs::{
     parse_tls_handshake_msg_finished, parse_tls_handshake_msg_hello_request,
     parse_tls_handshake_msg_hello_retry_request, parse_tls_handshake_msg_key_update,
     parse_tls_handshake_msg_newsessionticket, parse_tls_handshake_msg_next_protocol,
-    parse_tls_handshake_msg_server_hello, parse_tls_handshake_msg_serverdone,
-    parse_tls_handshake_msg_serverkeyexchange, parse_tls_handshake_next_protocol,
-    parse_tls_handshake_server_hello, parse_tls_message_alert, parse_tls_message_applicationdata,
-    parse_tls_message_changecipherspec, parse_tls_message_handshake, parse_tls_message_heartbeat,
+    parse_tls_handshake_msg_server_hello, parse_tls_handshake_msg_server_hello_of_draft,
+    parse_tls_handshake_msg_serverdone, parse_tls_handshake_msg_serverkeyexchange,
+    parse_tls_handshake_next_protocol, parse_tls_handshake_server_hello, parse_tls_message_alert,
+    parse_tls_message_applicationdata, parse_tls_message_changecipherspec,
+    parse_tls_message_handshake, parse_tls_message_heartbeat,
 };
 
 // Following a handshake.

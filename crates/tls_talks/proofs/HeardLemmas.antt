@@ -7,7 +7,7 @@ use Rattle.tls_parser.specs.DtlsRecord.{RawRecord}
 use Rattle.dtls_stream.specs.Datagrams.{datagram_record}
 use Rattle.tls_flow.specs.declared.letter.Direction.{Direction as Side}
 use Rattle.tls_talks.specs.DatagramRecords.{is_known}
-use Rattle.tls_talks.specs.Datagrams.{IsKnown, Talk, heard, next_heard, record_heard, records_heard}
+use Rattle.tls_talks.specs.Datagrams.{IsKnown, Talk, heard, next_heard, record_heard, records_heard, sealed_by}
 use Rattle.tls_talks.specs.declared.datagram_talk.DatagramTalk.{DatagramTalk}
 
 -- Where at most n records are still to be heard of what is left of a datagram, and all of them come to this talk.
@@ -19,7 +19,7 @@ unfolding records_heard
 records_none k s b = refl
 
 records_more : (n : ℕ) (k : Talk) (s : Side) (b : Bytes)
-    → records_heard (suc n) k s b ≡ next_heard (reading datagram_record b) k s (λ k b. records_heard n k s b)
+    → records_heard (suc n) k s b ≡ next_heard (reading datagram_record b) k s b (λ k b. records_heard n k s b)
 unfolding records_heard
 records_more n k s b = refl
 
@@ -32,7 +32,7 @@ next_ok : (n m : ℕ) (k : Talk) (s : Side) (b rest : Bytes) (r : RawRecord) →
     → records_heard n k s b ≡ records_heard m (record_heard k s r) s rest
 next_ok n m k s b rest r e ok known =
     ap (λ n. records_heard n k s b) e ∙ records_more m k s b
-    ∙ ap (λ x. next_heard x k s (λ k b. records_heard m k s b)) ok
+    ∙ ap (λ x. next_heard x k s b (λ k b. records_heard m k s b)) ok
     ∙ rw known refl
 
 pub hearing_next : (all : Talk) (n m : ℕ) (s : Side) (b rest : Bytes) (r : RawRecord) (t u : DatagramTalk) → n ≡ suc m
@@ -42,19 +42,21 @@ pub hearing_next : (all : Talk) (n m : ℕ) (s : Side) (b rest : Bytes) (r : Raw
 hearing_next all n m s b rest r t u e ok known hears was =
     (record_heard was.0 s r, hears was.0 was.1, sym (next_ok n m was.0 s b rest r e ok known) ∙ was.2)
 
-pub hearing_fails : (all : Talk) (n m : ℕ) (s : Side) (b : Bytes) (x : Refusal) (t : DatagramTalk) → n ≡ suc m
-    → reading datagram_record b ≡ Err x → IsHearing all n s b t → IsKnown all t
-hearing_fails all n m s b x t e fails was =
-    subst (λ k. IsKnown k t)
+pub hearing_fails : (all : Talk) (n m : ℕ) (s : Side) (b : Bytes) (x : Refusal) (t u : DatagramTalk) → n ≡ suc m
+    → reading datagram_record b ≡ Err x → ((k : Talk) → IsKnown k t → IsKnown (sealed_by k s b) u)
+    → IsHearing all n s b t → IsKnown all u
+hearing_fails all n m s b x t u e fails seals was =
+    subst (λ k. IsKnown k u)
     (sym (ap (λ n. records_heard n was.0 s b) e ∙ records_more m was.0 s b
-    ∙ ap (λ x. next_heard x was.0 s (λ k b. records_heard m k s b)) fails) ∙ was.2) was.1
+    ∙ ap (λ x. next_heard x was.0 s b (λ k b. records_heard m k s b)) fails) ∙ was.2) (seals was.0 was.1)
 
-pub hearing_unknown : (all : Talk) (n m : ℕ) (s : Side) (b rest : Bytes) (r : RawRecord) (t : DatagramTalk) → n ≡ suc m
-    → reading datagram_record b ≡ Ok (r, rest) → is_known r.header ≡ false → IsHearing all n s b t → IsKnown all t
-hearing_unknown all n m s b rest r t e ok unknown was =
-    subst (λ k. IsKnown k t)
+pub hearing_unknown : (all : Talk) (n m : ℕ) (s : Side) (b rest : Bytes) (r : RawRecord) (t u : DatagramTalk) → n ≡ suc m
+    → reading datagram_record b ≡ Ok (r, rest) → is_known r.header ≡ false
+    → ((k : Talk) → IsKnown k t → IsKnown (sealed_by k s b) u) → IsHearing all n s b t → IsKnown all u
+hearing_unknown all n m s b rest r t u e ok unknown seals was =
+    subst (λ k. IsKnown k u)
     (sym (ap (λ n. records_heard n was.0 s b) e ∙ records_more m was.0 s b
-    ∙ ap (λ x. next_heard x was.0 s (λ k b. records_heard m k s b)) ok ∙ rw unknown refl) ∙ was.2) was.1
+    ∙ ap (λ x. next_heard x was.0 s b (λ k b. records_heard m k s b)) ok ∙ rw unknown refl) ∙ was.2) (seals was.0 was.1)
 
 pub hearing_ends : (all : Talk) (n : ℕ) (s : Side) (b : Bytes) (t : DatagramTalk) → n ≡ 0 → IsHearing all n s b t
     → IsKnown all t

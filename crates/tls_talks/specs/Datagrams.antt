@@ -1,4 +1,4 @@
--- What a talk over datagrams comes to, record by record (RFC 6347): what its peers take. What an association drops changes nothing.
+-- What a talk over datagrams comes to, record by record (RFC 6347, RFC 9147): what its peers take. What an association drops changes nothing.
 use Rattle.std.specs.Prelude.{◌≡◌, ℕ, zero, suc, Bool, true, false, not, ◌&&◌, ◌||◌, ◌==◌, nat_lt, is_some, if◌then◌else◌, Option, Some, None, Ok, Err, List, [], ◌∷◌, length}
 use Rattle.std.specs.Str.{bytes_eq}
 use Rattle.tls_fields.specs.Bytes.{Bytes}
@@ -17,7 +17,9 @@ use Rattle.tls_flow.specs.declared.letter.Direction.TheVariants.{ToServer, FromS
 use Rattle.tls_conversations.specs.Events.{event_in_datagram}
 use Rattle.tls_flow.specs.declared.state.Outcome.{Outcome}
 use Rattle.tls_facts.specs.Facts.{Facts, nothing, of_alert, of_datagram_message, view_facts}
-use Rattle.tls_facts.specs.Told.{client_session_id, offers_ticket, server_session_id}
+use Rattle.dtls13_records.specs.Ciphertext.{Ciphertext, ciphertext}
+use Rattle.tls_talks.specs.Ends.{is_13}
+use Rattle.tls_facts.specs.Told.{client_session_id, connection_id_length, offers_ticket, server_session_id}
 use Rattle.tls_talks.specs.DatagramRecords.{is_known}
 use Rattle.tls_talks.specs.History.{letter_in_datagram, with_letter}
 use Rattle.tls_talks.specs.declared.account.Account.{Account}
@@ -225,15 +227,32 @@ record_heard_in k s r = if takes k s r then taken (begun_by (first_fragment r) k
 abbrev pub record_heard : Talk → Side → RawRecord → Talk
 record_heard k s r = record_heard_in (record k { is_dtls = k.is_dtls || r.header.epoch == 0 }) s r
 
-abbrev pub next_heard : Answer RawRecord → Talk → Side → (Talk → Bytes → Talk) → Talk
-next_heard (Err e) k s more = k
-next_heard (Ok x) k s more = if is_known x.0.header then more (record_heard k s x.0) x.1 else k
+-- Bytes that are an encrypted record of DTLS 1.3 (RFC 9147, section 4).
+abbrev pub is_sealed_record : Answer Ciphertext → Bool
+is_sealed_record (Ok x) = true
+is_sealed_record (Err e) = false
+
+-- Where a record in the form of DTLS 1.3 comes next, and that is spoken, the side is encrypted. One that comes before its peer knows that is dropped.
+abbrev pub is_sealed_next : Talk → Side → Bytes → Bool
+is_sealed_next k s b =
+    is_13 (outcome_at k.flow.state) && is_sealed_record (reading (ciphertext (connection_id_length s k.facts)) b)
+
+abbrev pub sealed : Spoken → Spoken
+sealed p = record p { is_encrypted = true }
+
+abbrev pub sealed_by : Talk → Side → Bytes → Talk
+sealed_by k s b = if is_sealed_next k s b then with_spoken k s (sealed (spoken k s)) else k
+
+abbrev pub next_heard : Answer RawRecord → Talk → Side → Bytes → (Talk → Bytes → Talk) → Talk
+next_heard (Err e) k s b more = sealed_by k s b
+next_heard (Ok x) k s b more = if is_known x.0.header then more (record_heard k s x.0) x.1 else sealed_by k s b
 
 -- At most n records of a datagram, one after the other. What is no whole record of DTLS is dropped, and what stands behind it (section
--- 4.1.2.7): so is a datagram that begins with none, since other protocols may use the same ports (RFC 7983).
+-- 4.1.2.7): so is a datagram that begins with none, since other protocols may use the same ports (RFC 7983). In DTLS 1.3 encrypted records may
+-- stand behind the others, of which the first tells that the side is encrypted.
 unfoldable pub records_heard : ℕ → Talk → Side → Bytes → Talk
 records_heard zero k s b = k
-records_heard (suc n) k s b = next_heard (reading datagram_record b) k s (λ k b. records_heard n k s b)
+records_heard (suc n) k s b = next_heard (reading datagram_record b) k s b (λ k b. records_heard n k s b)
 
 -- A datagram of that side comes. A record takes bytes, so there are no more of them than bytes.
 abbrev pub heard : Talk → Side → Bytes → Talk

@@ -12,6 +12,11 @@ is_established outcome.Resumed = true
 is_established (outcome.Tls13 retried early) = true
 is_established _ = false
 
+-- TLS 1.3 is spoken, or DTLS 1.3.
+abbrev pub is_13 : Outcome → Bool
+is_13 (outcome.Tls13 retried early) = true
+is_13 _ = false
+
 -- A session was taken up by an abbreviated handshake (RFC 5246, section 7.3), or in TLS 1.3 a key known before by the
 -- ServerHello's pre_shared_key (RFC 8446, section 4.2.11).
 abbrev pub is_resumed : Outcome → Facts → Bool

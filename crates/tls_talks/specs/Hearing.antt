@@ -8,9 +8,13 @@ use Rattle.tls_conversations.specs.Conversations.{IsBegun, IsBehind, IsPast, IsF
 use Rattle.tls_conversations.specs.Ears.{says}
 use Rattle.tls_conversations.specs.declared.conversation.Conversation.{Conversation}
 use Rattle.tls_flow.specs.Steps.{silence}
-use Rattle.tls_facts.specs.Facts.{nothing, view_facts}
+use Rattle.tls_facts.specs.Facts.{asked_in_ssl2, nothing, view_facts}
+use Rattle.tls_conversations.specs.Events.{plain}
+use Rattle.tls_flow.specs.declared.letter.Kind.TheVariants as kind
+use Rattle.ssl2_hello.specs.ClientHello as ssl2
+use Rattle.std.specs.Str.{byte}
 use Rattle.tls_talks.specs.History.{history, letter_of, with_letter}
-use Rattle.tls_talks.specs.Noting.{Known, followed, has_sealed, is_sealed, known, noted}
+use Rattle.tls_talks.specs.Noting.{Known, followed, has_sealed, is_sealed, known, noted, stepped}
 use Rattle.tls_talks.specs.declared.hearer.Hearer.{Hearer}
 
 abbrev pub known_of : Hearer → Known
@@ -29,6 +33,13 @@ pub record IsNoted (h : Hearer) (s : Side) (v : Said) (i : Hearer) : Type 0 wher
   pub flow : i.flow ≡ followed s h.flow (view_facts h.facts) v
   pub facts : view_facts i.facts ≡ noted s (view_facts h.facts) v
   pub history : i.history.items ≡ with_letter s h.history.items (letter_of v)
+
+-- The side says a ClientHello in SSL 2.0's form (RFC 5246, appendix E.2), which is followed and noted as any.
+pub record IsHelloNoted (h : Hearer) (s : Side) (x : ssl2.ClientHello) (i : Hearer) : Type 0 where
+  pub conversation : i.conversation ≡ h.conversation
+  pub flow : i.flow ≡ stepped s h.flow (view_facts h.facts) (plain kind.ClientHello s)
+  pub facts : view_facts i.facts ≡ asked_in_ssl2 s x (view_facts h.facts)
+  pub history : i.history.items ≡ with_letter s h.history.items (Some (byte "c"))
 
 -- What the side says next is taken off, if it says something: whether it is encrypted.
 abbrev pub IsNextTaken : Option Said → Hearer → Side → Option Bool → Hearer → Type 0

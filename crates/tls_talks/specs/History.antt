@@ -4,7 +4,7 @@ use Rattle.std.specs.Str.{byte}
 use Rattle.tls_fields.specs.Bytes.{Bytes}
 use Rattle.tls_events.specs.Item as stream
 use Rattle.dtls_messages.specs.Messages as datagrams
-use Rattle.tls_flow.specs.Bytes.{kind_of_bytes}
+use Rattle.tls_flow.specs.Bytes.{kind_of_bytes, kind_of_datagram_body}
 use Rattle.tls_flow.specs.declared.letter.Direction.{Direction as Side}
 use Rattle.tls_flow.specs.declared.letter.Direction.TheVariants.{ToServer, FromServer}
 use Rattle.tls_flow.specs.declared.letter.Kind.{Kind}
@@ -63,9 +63,13 @@ letter_of (stream.Heartbeat b) = Some (byte "b")
 letter_of (stream.ApplicationData b) = Some (byte "d")
 letter_of _ = None
 
--- The same of DTLS up to 1.2.
+-- The letter of a handshake message of DTLS.
+abbrev pub letter_of_datagram_message : ℕ → Bytes → ℕ
+letter_of_datagram_message n b = if is_retry (kind_of_datagram_body n b) then byte "j" else letter_of_type n
+
+-- The same of DTLS.
 abbrev pub letter_in_datagram : datagrams.Event → Option ℕ
-letter_in_datagram (datagrams.Handshake m) = Some (letter_of_type m.msg_type)
+letter_in_datagram (datagrams.Handshake m) = Some (letter_of_datagram_message m.msg_type m.body)
 letter_in_datagram datagrams.ChangeCipherSpec = Some (byte "i")
 letter_in_datagram (datagrams.Alert a) = Some (byte "l")
 letter_in_datagram _ = None

@@ -13,7 +13,8 @@ use Rattle.tls_conversations.specs.Ears.{says}
 use Rattle.tls_conversations.specs.declared.conversation.Conversation.{Conversation}
 use Rattle.tls_facts.specs.Facts.{nothing, view_facts}
 use Rattle.tls_detection.specs.Front.{begins_tls}
-use Rattle.tls_talks.specs.Hearing.{IsNoted, known_of, turns}
+use Rattle.tls_talks.specs.Hearing.{IsHelloNoted, IsNoted, known_of, turns}
+use Rattle.ssl2_hello.specs.ClientHello as ssl2
 use Rattle.tls_talks.specs.History.{history}
 use Rattle.tls_talks.specs.Noting.{Known, has_sealed, is_sealed, known}
 use Rattle.tls_talks.specs.declared.talk.Hearing.{Hearing}
@@ -141,6 +142,14 @@ IsHeardBy h t s b u = IsNext t s b u
 -- The bytes that a side says next are heard.
 abbrev pub IsHeardOn : Talk → Side → Bytes → Talk → Type 0
 IsHeardOn t s b u = IsHeardBy (hearing t s) t s b u
+
+-- The side begins with a ClientHello in SSL 2.0's form; what it says behind it is TLS.
+abbrev pub IsHeardInSsl2 : Talk → Side → ssl2.ClientHello → Talk → Type 0
+IsHeardInSsl2 t s x u = IsHelloNoted t.hearer s x u.hearer × (u ≡ with_hearing (record t { hearer = u.hearer; is_tls = true }) s Clear)
+
+-- The side doesn't speak TLS, whatever it says: what is heard of it is what 5 bytes are heard as that are no header of a record.
+abbrev pub IsHeardAsNone : Talk → Side → Talk → Type 0
+IsHeardAsNone t s u = (n : Talk) × IsNext t s (0 ∷ 0 ∷ 0 ∷ 0 ∷ 0 ∷ []) n × (u ≡ with_hearing n s Other)
 
 -- These pieces are heard one after the other, each of its side.
 abbrev pub AreHeardOn : Talk → List (Side × Bytes) → Talk → Type 0

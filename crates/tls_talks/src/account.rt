@@ -6,6 +6,7 @@ ghost use Rattle.tls_flow.specs.Table.{is_failed as is_failure, is_waiting as is
 ghost use Rattle.tls_talks.specs.Datagrams.{awaits_change as awaits, behind_change as stands_behind_change, followed, has_come_to_change as comes_to_change, is_change as changes, is_sealed as seals, may_resume as takes_session, noted_in_datagram, said, said_all, saying, told_of};
 
 use crate::history::{add_letter, datagram_letter};
+use crate::witness::Witness;
 use dtls_stream::Event;
 use std::alloc::{AllocError, Global};
 use tls_conversations::{Direction, Flow, Outcome, dtls_event};
@@ -129,18 +130,20 @@ impl Account {
     }
 
     /// Follows and notes an event of a side, and puts its letter behind the others.
-    fn say(
+    fn say<W: Witness>(
         &mut self,
         alloc: Global,
         side: Direction,
         progress: &mut Progress,
         event: &Event<'_>,
+        witness: &mut W,
     ) -> Result<(), AllocError>
         ensures { OnOk result (told_of self.new progress.new ≡ saying side (told_of self.old progress.old) (view_event event.now)) }
     {
         note(&mut self.facts, alloc, side, event)?;
         follow(&mut self.flow, event, side);
         add_letter(&mut self.history, side, datagram_letter(event))?;
+        witness.hear_event(side, event)?;
         progress.has_changed = progress.has_changed || is_change(event);
         progress.is_encrypted = progress.is_encrypted || is_sealed(event);
         Ok(())
@@ -148,33 +151,35 @@ impl Account {
 
     /// Takes an event of a side. A ChangeCipherSpec is dropped where the handshake hasn't come to it, and where it was sent again (RFC 6347,
     /// section 4.2.4).
-    fn add(
+    fn add<W: Witness>(
         &mut self,
         alloc: Global,
         side: Direction,
         progress: &mut Progress,
         event: &Event<'_>,
+        witness: &mut W,
     ) -> Result<(), AllocError>
         ensures { OnOk result (told_of self.new progress.new ≡ said side (told_of self.old progress.old) (view_event event.now)) }
     {
         if is_change(event) && !self.awaits_change(side, progress) {
             return Ok(());
         }
-        self.say(alloc, side, progress, event)
+        self.say(alloc, side, progress, event, witness)
     }
 
     /// Takes all events of a side, one after the other.
-    pub(crate) fn add_all(
+    pub(crate) fn add_all<W: Witness>(
         &mut self,
         alloc: Global,
         side: Direction,
         progress: &mut Progress,
         events: &[Event<'_>],
+        witness: &mut W,
     ) -> Result<(), AllocError>
         ensures { OnOk result (told_of self.new progress.new ≡ said_all side (told_of self.old progress.old) (view_events events.now)) }
     {
         for event in events {
-            self.add(alloc, side, progress, event)?;
+            self.add(alloc, side, progress, event, witness)?;
         }
         Ok(())
     }

@@ -1,39 +1,33 @@
 //! The records of datagrams, counted.
 ghost use Rattle.std.specs.Prelude.{◌≡◌};
-ghost use Rattle.tls_parser.specs.DtlsRecord.{RecordHeader, view_header};
-ghost use Rattle.tls_talks.specs.DatagramRecords.{is_known as is_known_header, no_datagrams, whole_record, with_datagram};
+ghost use Rattle.tls_parser.specs.DtlsRecord.{view_header};
+ghost use Rattle.dtls13_records.specs.Datagram.{view_datagram_record};
+ghost use Rattle.tls_talks.specs.DatagramRecords.{is_known as is_known_header, is_record as is_record_of, no_datagrams, with_datagram};
 
+use dtls13_records::DatagramRecord;
 use tls_detection::is_datagram_version;
-use tls_fields::{IResult, InPlace, Items, block};
-use tls_parser::{DTLSRecordHeader, parse_dtls_record_header};
+use tls_parser::DTLSRecordHeader;
 
-/// How a whole record of DTLS is read, and its fragment passed over (RFC 6347, section 4.1).
-struct WholeRecord;
-
-impl<'a> InPlace<'a> for WholeRecord {
-    type Read = DTLSRecordHeader;
-
-    ghost Value = { RecordHeader };
-
-    ghost view = { view_header };
-
-    ghost layout = { whole_record };
-
-    #[tactic(auto, using(tls_fields::proofs::OneAnswerLemmas::read_allowed), unfolding(crate::specs::DatagramRecords::whole_record))]
-    fn read(i: &'a [u8]) -> IResult<&'a [u8], DTLSRecordHeader> {
-        let (i, header) = parse_dtls_record_header(i)?;
-        let (i, _) = block(i, header.length as usize)?;
-        Ok((i, header))
-    }
-}
+/// The type of a record that acknowledges others (RFC 9147, section 7).
+const ACK: u8 = 26;
 
 /// A type of records that there is, and a version of DTLS.
 pub(crate) fn is_known(header: &DTLSRecordHeader) -> bool
     ensures { result ≡ is_known_header (view_header header.now) }
 {
-    header.content_type.0 >= 20
-        && header.content_type.0 <= 24
-        && is_datagram_version(header.version.0)
+    let kind = header.content_type.0;
+    (kind >= 20 && kind <= 24 || kind == ACK) && is_datagram_version(header.version.0)
+}
+
+/// The same of a record of any form, of DTLS 1.3 where that is spoken.
+fn is_record(record: &DatagramRecord<'_>, is_13: bool) -> bool
+    ensures { result ≡ is_record_of is_13 (view_datagram_record record.now) }
+{
+    match record {
+        DatagramRecord::Plaintext(record) => is_known(&record.header),
+        DatagramRecord::ConnectionId(record) => is_datagram_version(record.header.fields.version.0),
+        DatagramRecord::Ciphertext(_) => is_13,
+    }
 }
 
 /// How many records the datagrams of a side have, of which no byte is kept.
@@ -57,13 +51,13 @@ impl DatagramRecords {
         self.count
     }
 
-    /// Counts the whole records in front of a datagram, encrypted ones too.
-    pub fn add(&mut self, datagram: &[u8])
-        ensures { self.new ≡ with_datagram datagram.now self.old }
+    /// Counts the whole records in front of a datagram, encrypted ones too, in the form of DTLS 1.3 where that is spoken. `connection_id_len` is how
+    /// many bytes a connection id has in them.
+    pub fn add(&mut self, datagram: &[u8], connection_id_len: usize, is_13: bool)
+        ensures { self.new ≡ with_datagram is_13 connection_id_len datagram.now self.old }
     {
-        let records: Items<WholeRecord> = Items::new(datagram);
-        for header in records {
-            if !is_known(&header) {
+        for record in dtls13_records::DatagramRecords::new(datagram, connection_id_len) {
+            if !is_record(&record, is_13) {
                 return;
             }
             self.count = self.count.saturating_add(1);

@@ -6,21 +6,23 @@ ghost use Rattle.tls_conversations.specs.Conversations.{views};
 ghost use Rattle.tls_facts.specs.Facts.{view_facts};
 ghost use Rattle.tls_flow.specs.Table.{outcome_at};
 ghost use Rattle.tls_talks.specs.Another.{begins_another as another_begins};
-ghost use Rattle.tls_talks.specs.Datagrams.{IsKnown, Talk, begun, first_fragment as first, heard, heard_all, is_late as is_late_in, is_over as is_over_in, record_heard, speaker_of, spoken, taken, takes as is_taken, untold, with_spoken};
-ghost use Rattle.tls_talks.specs.Ends.{is_established as established_by, is_resumed as resumed_by};
+ghost use Rattle.tls_talks.specs.Datagrams.{IsKnown, Talk, begun, first_fragment as first, heard, heard_all, is_late as is_late_in, is_over as is_over_in, is_sealed_next as sealed_next, record_heard, sealed_by, speaker_of, spoken, taken, takes as is_taken, untold, with_spoken};
+ghost use Rattle.tls_talks.specs.Ends.{is_13 as is_13_by, is_established as established_by, is_resumed as resumed_by};
 
 use crate::account::Account;
 use crate::another::{has_ended, has_other_hello};
 use crate::datagram_records::is_known;
 use crate::ends;
 use crate::speaker::{Speaker, first_fragment, is_hello};
+use crate::witness::{Nobody, Witness};
 use dtls_stream::{Fragment, read_record};
+use dtls13_records::parse_dtls13_ciphertext;
 use std::alloc::{AllocError, Global};
 use tls_conversations::{Direction, Flow, Outcome, Stop};
 use tls_facts::Facts;
 use tls_parser::DTLSRawRecord;
 
-/// What both sides of a conversation in DTLS up to 1.2 say (RFC 6347), and whether they speak DTLS: what their peers take. What an
+/// What both sides of a conversation in DTLS say (RFC 6347, RFC 9147), and whether they speak DTLS: what their peers take. What an
 /// association drops changes nothing.
 #[derive(Drop)]
 pub struct DatagramTalk {
@@ -167,26 +169,32 @@ impl DatagramTalk {
     }
 
     /// Follows and notes what a side's record says.
-    fn follow(
+    fn follow<W: Witness>(
         &mut self,
         alloc: Global,
         side: Direction,
         record: DTLSRawRecord<'_>,
+        witness: &mut W,
     ) -> Result<(), AllocError>
         ensures { (k : Talk) → IsKnown k self.old → OnOk result (IsKnown (taken k side (view_raw_record record.entry)) self.new) }
     {
         match side {
-            Direction::ToServer => self.client.hear(&mut self.account, alloc, side, record),
-            Direction::FromServer => self.server.hear(&mut self.account, alloc, side, record),
+            Direction::ToServer => self
+                .client
+                .hear(&mut self.account, alloc, side, record, witness),
+            Direction::FromServer => self
+                .server
+                .hear(&mut self.account, alloc, side, record, witness),
         }
     }
 
     /// Hears a record of a side.
-    fn hear_record(
+    fn hear_record<W: Witness>(
         &mut self,
         alloc: Global,
         side: Direction,
         record: DTLSRawRecord<'_>,
+        witness: &mut W,
     ) -> Result<(), AllocError>
         ensures { (k : Talk) → IsKnown k self.old → OnOk result (IsKnown (record_heard k side (view_raw_record record.entry)) self.new) }
     {
@@ -197,12 +205,41 @@ impl DatagramTalk {
         if let Some(fragment) = first_fragment(&record) {
             self.begin(alloc, side, &fragment);
         }
-        self.follow(alloc, side, record)
+        self.follow(alloc, side, record, witness)
     }
 
-    /// Hears a datagram of a side, record by record. What its peer drops changes nothing:
+    /// Whether DTLS 1.3 is spoken.
+    pub fn is_13(&self) -> bool
+        ensures { (k : Talk) → IsKnown k self.now → result ≡ is_13_by (outcome_at k.flow.state) }
+    {
+        ends::is_13(self.outcome())
+    }
+
+    /// Whether an encrypted record of DTLS 1.3 comes next, and that is spoken.
+    fn is_sealed_next(&self, side: Direction, bytes: &[u8]) -> bool
+        ensures { (k : Talk) → IsKnown k self.now → result ≡ sealed_next k side bytes.now }
+    {
+        self.is_13()
+            && parse_dtls13_ciphertext(bytes, self.account.facts.connection_id_len(side)).is_ok()
+    }
+
+    /// The side is encrypted from here on, where such a record comes next.
+    fn see_sealed(&mut self, side: Direction, bytes: &[u8])
+        ensures { (k : Talk) → IsKnown k self.old → IsKnown (sealed_by k side bytes.now) self.new }
+    {
+        if !self.is_sealed_next(side, bytes) {
+            return;
+        }
+        match side {
+            Direction::ToServer => self.client.progress.is_encrypted = true,
+            Direction::FromServer => self.server.progress.is_encrypted = true,
+        }
+    }
+
+    /// Hears a datagram of a side, record by record. In DTLS 1.3 the first encrypted record tells that the side is encrypted (RFC 9147, section 4). What
+    /// its peer drops changes nothing:
     ///
-    /// - what is no whole record of DTLS, and what stands behind it in the datagram (RFC 6347, section 4.1.2.7): a datagram that begins with none
+    /// - what is no whole record, and what stands behind it in the datagram (RFC 6347, section 4.1.2.7): a datagram that begins with none
     ///   is left out, since other protocols may use the same ports (RFC 7983). Its version is [one of DTLS](is_datagram_version);
     /// - a record of an epoch that hasn't begun, or is over (section 4.1), and all records of a side that is over;
     /// - a record whose content can't be read, as an empty one;
@@ -219,15 +256,30 @@ impl DatagramTalk {
     ) -> Result<(), AllocError>
         ensures { (k : Talk) → IsKnown k self.old → OnOk result (IsKnown (heard k side datagram.now) self.new) }
     {
+        self.hear_with(alloc, side, datagram, &mut Nobody)
+    }
+
+    /// The same, and each event that counts is heard by the witness, too.
+    pub fn hear_with<W: Witness>(
+        &mut self,
+        alloc: Global,
+        side: Direction,
+        datagram: &[u8],
+        witness: &mut W,
+    ) -> Result<(), AllocError>
+        ensures { (k : Talk) → IsKnown k self.old → OnOk result (IsKnown (heard k side datagram.now) self.new) }
+    {
         let mut left = datagram;
         'records: for read in 0..datagram.len() {
             let Ok((rest, record)) = read_record(left) else {
+                self.see_sealed(side, left);
                 return Ok(());
             };
             if !is_known(&record.header) {
+                self.see_sealed(side, left);
                 return Ok(());
             }
-            self.hear_record(alloc, side, record)?;
+            self.hear_record(alloc, side, record, witness)?;
             left = rest;
         }
         Ok(())

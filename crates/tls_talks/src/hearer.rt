@@ -1,14 +1,17 @@
 //! A conversation whose events are noted.
 ghost use Rattle.std.specs.Prelude.{◌≡◌, [], IfOk, OnOk};
+ghost use Rattle.ssl2_hello.specs.ClientHello.{view_client_hello as view_ssl2_hello};
 ghost use Rattle.tls_conversations.specs.Conversations.{IsBegun, ear, views};
 ghost use Rattle.tls_conversations.specs.Ears.{IsReady, front_of};
 ghost use Rattle.tls_conversations.specs.Events.{event_of, view_said};
 ghost use Rattle.tls_facts.specs.Facts.{nothing, view_facts};
 ghost use Rattle.tls_flow.specs.Steps.{silence};
 ghost use Rattle.tls_talks.specs.Noting.{is_sealed, noted, stepped};
-ghost use Rattle.tls_talks.specs.Hearing.{IsFed, IsHeard, IsHeardOf, IsNextTaken};
+ghost use Rattle.tls_talks.specs.Hearing.{IsFed, IsHeard, IsHeardOf, IsHelloNoted, IsNextTaken};
 
 use crate::history::{add_letter, said_letter};
+use crate::witness::{Nobody, Witness};
+use ssl2_hello::Ssl2ClientHello;
 use std::alloc::{AllocError, Global};
 use tls_conversations::{Conversation, Direction, Event, Flow, Kind, Said, tls_event};
 use tls_events::DEFAULT_LIMIT;
@@ -108,11 +111,27 @@ impl Hearer {
         self.conversation.feed(side, piece).map_err(|_e| AllocError)
     }
 
-    /// Follows and notes what the side says next, and takes it off: whether it is encrypted. `None` where it says no more for now.
-    pub(crate) fn take_next(
+    /// Follows and notes a ClientHello in SSL 2.0's form, with which a side begins.
+    pub(crate) fn hear_ssl2(
         &mut self,
         alloc: Global,
         side: Direction,
+        hello: &Ssl2ClientHello<'_>,
+    ) -> Result<(), AllocError>
+        ensures { OnOk result (IsHelloNoted self.old side (view_ssl2_hello hello.now) self.new) }
+    {
+        let event = tls_flow::Event::new(Kind::ClientHello, side);
+        step(&mut self.flow, &self.facts, side, event);
+        self.facts.note_ssl2_hello(alloc, side, hello)?;
+        add_letter(&mut self.history, side, Some(b'c'))
+    }
+
+    /// Follows and notes what the side says next, and takes it off: whether it is encrypted. `None` where it says no more for now.
+    pub(crate) fn take_next<W: Witness>(
+        &mut self,
+        alloc: Global,
+        side: Direction,
+        witness: &mut W,
     ) -> Result<Option<bool>, AllocError>
         ensures taken { IfOk result (λ r. IsNextTaken (front_of (ear self.old.conversation side)) self.old side r self.new) }
         ensures ready { OnOk result (IsReady (ear self.old.conversation side) → IsReady (ear self.new.conversation side)) }
@@ -122,6 +141,7 @@ impl Hearer {
                 step(&mut self.flow, &self.facts, side, flow_event(&said, side));
                 note(&mut self.facts, alloc, side, &said)?;
                 add_letter(&mut self.history, side, said_letter(&said))?;
+                witness.hear_said(side, &said)?;
                 is_encrypted(&said)
             }
             None => return Ok(None),
@@ -140,7 +160,7 @@ impl Hearer {
         let mut has_encrypted = false;
         self.feed(side, piece)?;
         for _ in 0..u64::MAX {
-            match self.take_next(alloc, side)? {
+            match self.take_next(alloc, side, &mut Nobody)? {
                 Some(is_encrypted) => has_encrypted = has_encrypted || is_encrypted,
                 None => break,
             }

@@ -8,7 +8,9 @@
 //! Both have a history: a letter for each event, up to [`HISTORY_LIMIT`]. [`Records`] counts the records of a stream, encrypted ones too, and
 //! keeps no byte of them; [`DatagramRecords`] counts those of datagrams.
 //!
-//! Over datagrams, [`DatagramTalk`] does the same of DTLS up to 1.2. What it came to is a definition over the datagrams in their
+//! Who wants the events one by one gives a [`Witness`], which hears each that counts, once: facts, history, outcome and messages are made of the same events.
+//!
+//! Over datagrams, [`DatagramTalk`] does the same of DTLS. What it came to is a definition over the datagrams in their
 //! order: [`talk_of`] states it.
 #![tactic(auto)]
 
@@ -23,6 +25,7 @@ pub mod laws;
 mod records;
 mod speaker;
 mod talk;
+mod witness;
 
 pub use datagram_records::DatagramRecords;
 pub use datagram_talk::{DatagramTalk, talk_of};
@@ -30,3 +33,4 @@ pub use hearer::{Hearer, hear_all};
 pub use history::HISTORY_LIMIT;
 pub use records::Records;
 pub use talk::{Talk, talk_all};
+pub use witness::Witness;

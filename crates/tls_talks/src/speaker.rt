@@ -7,6 +7,7 @@ ghost use Rattle.dtls_messages.specs.Messages.{Heard, Stands};
 ghost use Rattle.tls_talks.specs.Datagrams.{IsSameSide, IsSpoken, SpeakerHears, Spoken, allowed, begun, epoch_of, first_fragment as first, is_behind_front as is_behind, is_hello as hello, none_spoken};
 
 use crate::account::{Account, Progress};
+use crate::witness::Witness;
 use dtls_stream::{DEFAULT_LIMITS, Fragment, Messages, hear_record, parse_dtls_fragment};
 use std::alloc::{AllocError, Global};
 use tls_conversations::Direction;
@@ -100,12 +101,13 @@ impl Speaker {
     }
 
     /// Takes a record of this side, and follows and notes what it says.
-    pub(crate) fn hear(
+    pub(crate) fn hear<W: Witness>(
         &mut self,
         account: &mut Account,
         alloc: Global,
         side: Direction,
         record: DTLSRawRecord<'_>,
+        witness: &mut W,
     ) -> Result<(), AllocError>
         ensures told { (h : Heard) → Stands allowed h self.old.messages
             → OnOk result (SpeakerHears side h (view_raw_record record.entry) account.old account.new self.old self.new) }
@@ -113,6 +115,6 @@ impl Speaker {
     {
         let mut events = Vec::new(alloc);
         hear_record(alloc, record, &mut self.messages, &mut events).map_err(|_e| AllocError)?;
-        account.add_all(alloc, side, &mut self.progress, events.as_slice())
+        account.add_all(alloc, side, &mut self.progress, events.as_slice(), witness)
     }
 }

@@ -1,14 +1,17 @@
 //! What a connection says, as far as it is TLS.
 ghost use Rattle.std.specs.Prelude.{◌≡◌, ◌++◌, [], IfOk, OnOk};
+ghost use Rattle.ssl2_hello.specs.ClientHello.{view_client_hello as view_ssl2_hello};
 ghost use Rattle.tls_conversations.specs.Conversations.{ear, views};
 ghost use Rattle.tls_conversations.specs.Ears.{IsReady, front_of};
 ghost use Rattle.tls_facts.specs.Facts.{view_facts};
 ghost use Rattle.tls_flow.specs.Table.{outcome_at};
 ghost use Rattle.tls_talks.specs.Ends.{is_established as established_by, is_resumed as resumed_by};
-ghost use Rattle.tls_talks.specs.Talks.{IsFirstHeard, IsHeardOn, IsNew, IsNext, IsTaken, IsTalkOf, Waits, hearing as hearing_of, is_over as is_over_in, waiting as waiting_of, with_hearing};
+ghost use Rattle.tls_talks.specs.Talks.{IsFirstHeard, IsHeardAsNone, IsHeardInSsl2, IsHeardOn, IsNew, IsNext, IsTaken, IsTalkOf, Waits, hearing as hearing_of, is_over as is_over_in, waiting as waiting_of, with_hearing};
 
 use crate::ends;
 use crate::hearer::Hearer;
+use crate::witness::{Nobody, Witness};
+use ssl2_hello::Ssl2ClientHello;
 use std::alloc::{AllocError, Global};
 use std::mem;
 use tls_conversations::{Direction, Outcome, Stop};
@@ -167,11 +170,16 @@ impl Talk {
     }
 
     /// Follows and notes what the side says next, and takes it off: true. False where it says no more for now.
-    fn take_next(&mut self, alloc: Global, side: Direction) -> Result<bool, AllocError>
+    fn take_next<W: Witness>(
+        &mut self,
+        alloc: Global,
+        side: Direction,
+        witness: &mut W,
+    ) -> Result<bool, AllocError>
         ensures taken { IfOk result (λ taken. IsTaken (front_of (ear self.old.hearer.conversation side)) self.old side taken self.new) }
         ensures ready { OnOk result (IsReady (ear self.old.hearer.conversation side) → IsReady (ear self.new.hearer.conversation side)) }
     {
-        match self.hearer.take_next(alloc, side)? {
+        match self.hearer.take_next(alloc, side, witness)? {
             Some(true) => {
                 self.set_hearing(side, Hearing::Encrypted);
                 Ok(true)
@@ -182,7 +190,13 @@ impl Talk {
     }
 
     /// Hears a piece of a side, up to what it says last before it is over.
-    fn follow(&mut self, alloc: Global, side: Direction, piece: &[u8]) -> Result<(), AllocError>
+    fn follow<W: Witness>(
+        &mut self,
+        alloc: Global,
+        side: Direction,
+        piece: &[u8],
+        witness: &mut W,
+    ) -> Result<(), AllocError>
         ensures { OnOk result (IsNext self.old side piece.now self.new) }
     {
         if self.is_over(side) {
@@ -190,7 +204,7 @@ impl Talk {
         }
         self.hearer.feed(side, piece)?;
         for _ in 0..u64::MAX {
-            if self.is_over(side) || !self.take_next(alloc, side)? {
+            if self.is_over(side) || !self.take_next(alloc, side, witness)? {
                 break;
             }
         }
@@ -198,7 +212,13 @@ impl Talk {
     }
 
     /// Hears the first bytes of a side, which tell whether it speaks TLS.
-    fn hear_first(&mut self, alloc: Global, side: Direction, bytes: &[u8]) -> Result<(), AllocError>
+    fn hear_first<W: Witness>(
+        &mut self,
+        alloc: Global,
+        side: Direction,
+        bytes: &[u8],
+        witness: &mut W,
+    ) -> Result<(), AllocError>
         ensures { OnOk result (IsFirstHeard self.old side (waiting_of self.old side).items bytes.now self.new) }
     {
         let missing = HEADER_LEN.saturating_sub(self.waiting(side).len());
@@ -211,10 +231,39 @@ impl Talk {
         if begins_tls(first.as_slice()) {
             self.is_tls = true;
             self.set_hearing(side, Hearing::Clear);
-            self.follow(alloc, side, first.as_slice())?;
-            return self.follow(alloc, side, rest);
+            self.follow(alloc, side, first.as_slice(), witness)?;
+            return self.follow(alloc, side, rest, witness);
         }
-        self.follow(alloc, side, first.as_slice())?;
+        self.follow(alloc, side, first.as_slice(), witness)?;
+        self.set_hearing(side, Hearing::Other);
+        Ok(())
+    }
+
+    /// Hears a ClientHello in SSL 2.0's form (RFC 5246, appendix E.2), with which a side begins: what it says behind it is TLS.
+    ///
+    /// `AllocError` where it could not be held. The talk is then of no further use.
+    pub fn hear_ssl2(
+        &mut self,
+        alloc: Global,
+        side: Direction,
+        hello: &Ssl2ClientHello<'_>,
+    ) -> Result<(), AllocError>
+        ensures { OnOk result (IsHeardInSsl2 self.old side (view_ssl2_hello hello.now) self.new) }
+    {
+        self.hearer.hear_ssl2(alloc, side, hello)?;
+        self.is_tls = true;
+        self.set_hearing(side, Hearing::Clear);
+        Ok(())
+    }
+
+    /// Takes a side that has said nothing yet for one that doesn't speak TLS: what is heard of it is a fault, as of 5 bytes that are no header of a
+    /// record, and nothing more.
+    ///
+    /// `AllocError` where it could not be held. The talk is then of no further use.
+    pub fn hear_none(&mut self, alloc: Global, side: Direction) -> Result<(), AllocError>
+        ensures { OnOk result (IsHeardAsNone self.old side self.new) }
+    {
+        self.follow(alloc, side, &[0, 0, 0, 0, 0], &mut Nobody)?;
         self.set_hearing(side, Hearing::Other);
         Ok(())
     }
@@ -226,10 +275,23 @@ impl Talk {
     pub fn hear(&mut self, alloc: Global, side: Direction, bytes: &[u8]) -> Result<(), AllocError>
         ensures { OnOk result (IsHeardOn self.old side bytes.now self.new) }
     {
+        self.hear_with(alloc, side, bytes, &mut Nobody)
+    }
+
+    /// The same, and each event that is heard is heard by the witness, too.
+    pub fn hear_with<W: Witness>(
+        &mut self,
+        alloc: Global,
+        side: Direction,
+        bytes: &[u8],
+        witness: &mut W,
+    ) -> Result<(), AllocError>
+        ensures { OnOk result (IsHeardOn self.old side bytes.now self.new) }
+    {
         if self.hearing(side) == Hearing::Unknown {
-            return self.hear_first(alloc, side, bytes);
+            return self.hear_first(alloc, side, bytes, witness);
         }
-        self.follow(alloc, side, bytes)
+        self.follow(alloc, side, bytes, witness)
     }
 }
 

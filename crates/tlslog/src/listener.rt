@@ -1,9 +1,11 @@
 //! What goes with each connection of a capture.
-use connections::{Connection, Protocol, Side};
+use connections::{Connection, Side};
 use log_connections::{Heard, Keeper};
 use log_lines::{Party, Speech, Spoken, Summary};
 use std::alloc::{AllocError, Global};
+use tls_conversations::Said;
 use tls_flow::Direction;
+use tls_talks::Witness;
 
 /// The messages of a connection, until they are printed.
 #[derive(Drop)]
@@ -12,14 +14,24 @@ pub struct Messages {
 }
 
 impl Keeper for Messages {
-    fn begin(alloc: Global, protocol: Protocol) -> Messages {
+    fn begin(alloc: Global) -> Messages {
         Messages {
-            speech: Speech::new(alloc, protocol),
+            speech: Speech::new(alloc),
         }
     }
+}
 
-    fn hear(&mut self, direction: Direction, bytes: &[u8]) -> Result<(), AllocError> {
-        self.speech.hear(direction, bytes)
+impl Witness for Messages {
+    fn hear_said(&mut self, side: Direction, said: &Said<'_>) -> Result<(), AllocError> {
+        self.speech.hear_said(side, said)
+    }
+
+    fn hear_event(
+        &mut self,
+        side: Direction,
+        event: &dtls_stream::Event<'_>,
+    ) -> Result<(), AllocError> {
+        self.speech.hear_event(side, event)
     }
 }
 
@@ -44,6 +56,7 @@ fn party(connection: &Connection<Listener>, side: Side) -> Party<'_> {
         stream: connection.stream(side),
         sent: connection.sent(side),
         dropped: connection.dropped(side),
+        preamble: connection.listener.preamble(side),
         records: connection.listener.records(side),
         lacks_front: connection.listener.lacks_front(side),
     }

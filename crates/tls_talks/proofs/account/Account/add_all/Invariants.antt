@@ -5,6 +5,6 @@ use Rattle.tls_talks.specs.Datagrams.{said_all, told_of}
 use Rattle.tls_talks.proofs.account.Account.add_all.Given as goal
 
 abbrev pub invariant-loop-event : goal.invariant-loop-event
-invariant-loop-event l =
+invariant-loop-event g l =
     said_all l.side (told_of l.fn.self l.fn.progress) (view_events l.events)
     ≡ said_all l.side (told_of l.self l.progress) (view_events (drop l.event-index l.events))

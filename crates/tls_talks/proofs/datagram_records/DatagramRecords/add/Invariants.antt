@@ -1,11 +1,12 @@
 use Rattle.std.proofs.Common.{◌≡◌}
 use Rattle.tls_fields.specs.Items.{items_in}
-use Rattle.tls_talks.specs.DatagramRecords.{whole_record, with_records}
+use Rattle.dtls13_records.specs.Datagram.{datagram_record13}
+use Rattle.tls_talks.specs.DatagramRecords.{with_records}
 use Rattle.tls_talks.proofs.datagram_records.DatagramRecords.add.Given as goal
 
-abbrev pub invariant-loop-header : goal.invariant-loop-header
-invariant-loop-header l =
-    (goal.iterator-loop-header).can_next l.header-iterator ×
-    (goal.iterator-loop-header).is_finite l.header-iterator ×
-    (with_records (items_in whole_record l.fn.datagram) l.fn.self
-    ≡ with_records (items_in whole_record l.header-iterator.bytes.now) l.self)
+abbrev pub invariant-loop-record : goal.invariant-loop-record
+invariant-loop-record l =
+    (goal.iterator-loop-record).can_next l.record-iterator ×
+    (goal.iterator-loop-record).is_finite l.record-iterator ×
+    (with_records l.is_13 (items_in (datagram_record13 l.connection_id_len) l.fn.datagram) l.fn.self
+    ≡ with_records l.is_13 (items_in (datagram_record13 l.record-iterator.connection_id_len) l.record-iterator.left.now) l.self)

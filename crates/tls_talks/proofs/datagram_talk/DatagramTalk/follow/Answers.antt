@@ -3,12 +3,12 @@ use Rattle.tls_talks.proofs.DatagramLemmas.{client_answers, server_answers}
 use Rattle.tls_talks.proofs.datagram_talk.DatagramTalk.follow.Goals as goal
 
 pub returns-in-ToServer : goal.returns-in-ToServer
-returns-in-ToServer c k is =
+returns-in-ToServer g c k is =
     client_answers k c.args.self.now c.args.side c.hear.new.account c.hear.new.self (view_raw_record c.args.record)
     c.hear.result c.in-ToServer.is c.hear.ensures.told c.hear.ensures.same is
 
 pub returns-in-FromServer : goal.returns-in-FromServer
-returns-in-FromServer c k is =
+returns-in-FromServer g c k is =
     server_answers k c.args.self.now c.args.side c.hear-in-FromServer.new.account c.hear-in-FromServer.new.self
     (view_raw_record c.args.record)
     c.hear-in-FromServer.result c.in-FromServer.is c.hear-in-FromServer.ensures.told c.hear-in-FromServer.ensures.same

@@ -1,5 +1,5 @@
 use Rattle.std.proofs.Common.{rules}
-use Rattle.tls_talks.proofs.HearerLemmas.{on_next}
+use Rattle.tls_talks.proofs.HearerLemmas.{on_next, on_none}
 use Rattle.tls_talks.proofs.hearer.Hearer.hear.Goals as goal
 
 pub loop-preserved : goal.loop-preserved
@@ -8,3 +8,8 @@ loop-preserved c =
     c.loop.has_encrypted
     c.in-Some.is_encrypted c.if-has_encrypted.has_encrypted c.loop.invariant (search rules) (search rules) (search
     rules)
+
+pub returns-in-None : goal.returns-in-None
+returns-in-None c =
+    on_none c.args.self.now c.loop.self c.take_next.new.self c.args.side c.args.piece.now c.loop.counter
+    c.loop.has_encrypted c.loop.invariant (search rules)

@@ -10,7 +10,7 @@ use Rattle.tls_talks.proofs.talk.Talk.follow.Goals.{
 }
 
 pub loop-preserved : goal.loop-preserved
-loop-preserved c =
+loop-preserved g c =
     on_next c.args.self.now c.loop.self c.take_next.new.self c.args.side c.args.piece.now c.loop.counter
     c.loop.invariant (search rules)
     (subst (λ b. IsTaken (front_of (ear c.loop.self.hearer.conversation c.args.side)) c.loop.self c.args.side b
@@ -19,12 +19,12 @@ loop-preserved c =
     c.in_ok-take_next.ensures.ready
 
 pub returns-after-loop : goal.returns-after-loop
-returns-after-loop c =
+returns-after-loop g c =
     next_clear c.args.self.now c.loop.self c.args.side c.args.piece.now (search rules)
     (on_end c.args.self.now c.loop.self c.args.side c.args.piece.now c.loop.counter c.loop.invariant (search rules))
 
 pub returns-then-is_over-2 : goal.returns-then-is_over-2
-returns-then-is_over-2 c =
+returns-then-is_over-2 g c =
     elim c.then-is_over-2.branch [
       | then-is_over-2-via-then-is_over-2 w ↦ subst (λ u. IsNext c.args.self.now c.args.side c.args.piece.now u) (sym
           w.self-is)

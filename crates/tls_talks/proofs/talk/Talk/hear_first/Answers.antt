@@ -6,7 +6,7 @@ use Rattle.tls_talks.proofs.FirstLemmas.{first_other, first_tls, front_is}
 use Rattle.tls_talks.proofs.talk.Talk.hear_first.Goals as goal
 
 pub returns-then-begins_tls : goal.returns-then-begins_tls
-returns-then-begins_tls c =
+returns-then-begins_tls g c =
     let w : Bytes = (waiting c.args.self.now c.args.side).items in
     let count : c.saturating_sub-missing.result ≡ 5 - length w = search rules in
     let header : c.as_slice.result.now ≡ front w c.args.bytes.now = front_is w c.take_waiting-first.result.items
@@ -31,7 +31,7 @@ returns-then-begins_tls c =
     c.follow-then-begins_tls.ensures)
 
 pub returns : goal.returns
-returns c =
+returns g c =
     let w : Bytes = (waiting c.args.self.now c.args.side).items in
     let count : c.saturating_sub-missing.result ≡ 5 - length w = search rules in
     let header : c.as_slice.result.now ≡ front w c.args.bytes.now = front_is w c.take_waiting-first.result.items

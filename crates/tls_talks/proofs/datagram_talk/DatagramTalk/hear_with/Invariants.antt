@@ -2,9 +2,9 @@
 use Rattle.std.proofs.Common.{◌-◌, length}
 use Rattle.tls_talks.specs.Datagrams.{IsKnown, Talk, heard}
 use Rattle.tls_talks.proofs.HeardLemmas.{IsHearing}
-use Rattle.tls_talks.proofs.datagram_talk.DatagramTalk.hear.Given as goal
+use Rattle.tls_talks.proofs.datagram_talk.DatagramTalk.hear_with.Given as goal
 
 abbrev pub invariant-records : goal.invariant-records
-invariant-records l =
+invariant-records g l =
     (k : Talk) → IsKnown k l.initial.self →
     IsHearing (heard k l.side l.fn.datagram) (length l.fn.datagram - l.read) l.side l.left l.self

@@ -1,0 +1,10 @@
+pub mod Ciphertext
+pub mod Ack
+pub mod Datagram
+pub use Rattle.tls_fields.specs.Bytes
+pub use Rattle.tls_fields.specs.Layout
+pub use Rattle.tls_fields.specs.Meaning
+pub use Rattle.tls_fields.specs.Reading
+pub use Rattle.tls_fields.specs.Answers
+pub use Rattle.tls_parser.specs.DtlsRecord
+pub use Rattle.dtls_stream.specs.Datagrams

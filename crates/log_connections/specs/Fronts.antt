@@ -1,0 +1,93 @@
+-- What stands in front of the TLS of a side of a stream.
+use Rattle.std.specs.Prelude.{ℕ, ◌+◌, ◌-◌, ◌^◌, ◌==◌, min, Bool, true, false, not, ◌&&◌, ◌||◌, nat_le, nat_lt, if◌then◌else◌, Option, Some, None, length, is_ok}
+use Rattle.tls_fields.specs.Bytes.{Bytes}
+use Rattle.tls_fields.specs.Reading.{reading}
+use Rattle.ssl2_hello.specs.ClientHello.{client_hello}
+use Rattle.ssl2_hello.specs.Front.{begins_ssl2_hello_in}
+use Rattle.tls_detection.specs.Front.{begins_tls}
+use Rattle.tls_detection.specs.Place.{place_behind}
+use Rattle.connections.specs.declared.connection.Side.{Side}
+use Rattle.connections.specs.declared.connection.Side.TheVariants.{Originator, Responder}
+use Rattle.log_connections.specs.declared.fronts.Front.{Front}
+use Rattle.log_connections.specs.declared.fronts.Fronts.{Fronts}
+use Rattle.log_connections.specs.declared.fronts.Standing.{Standing}
+use Rattle.log_connections.specs.declared.fronts.Standing.TheVariants.{Sought, Heard, Left}
+use Rattle.log_connections.specs.declared.fronts.Beginning.{Beginning}
+use Rattle.log_connections.specs.declared.fronts.Beginning.TheVariants.{Waits, PassesOver, At, InSsl2, Nowhere}
+
+abbrev pub is_sought_standing : Standing → Bool
+is_sought_standing Sought = true
+is_sought_standing _ = false
+
+abbrev pub is_heard_standing : Standing → Bool
+is_heard_standing Heard = true
+is_heard_standing _ = false
+
+-- Its TLS wasn't found yet.
+abbrev pub is_sought : Front → Bool
+is_sought f = is_sought_standing f.standing
+
+-- The count stays where it can't be held.
+abbrev pub behind : Front → ℕ → ℕ
+behind f n = min (f.passed + n) (2 ^ 64 - 1)
+
+-- It begins at the first place at which a hello stands, or in an answer an alert, where that is one of the first 65,536 of the side. Where none
+-- is found in these bytes, it may still begin in the last 10 of them, unless nothing comes behind.
+abbrev pub found : Option ℕ → Bool → Front → ℕ → Beginning
+found (Some n) last f count = if nat_lt (behind f n) 65536 then At n else Nowhere
+found None last f count =
+    if last || nat_le 65536 (behind f (count - 10)) then Nowhere else PassesOver (count - 10)
+
+-- It begins with the first byte of the side, by the header of a record (RFC 8446, section 5.1). The byte behind it tells which end the side is.
+abbrev pub begins_there : Bytes → Bool → Bool
+begins_there b last = (nat_lt 5 (length b) || last) && begins_tls b
+
+-- It may begin at the first of these bytes, once more come: fewer than 11 don't tell, and a ClientHello in SSL 2.0's form, with which a side may begin
+-- (RFC 5246, appendix E.2), waits until it is whole.
+abbrev pub may_begin : Front → Bytes → Bool
+may_begin f b = nat_lt (length b) 11 || (f.passed == 0 && begins_ssl2_hello_in b)
+
+-- Nothing is told of a side that says less than the header of a record, and of one of which more may come that tells.
+abbrev pub is_waiting : Front → Bytes → Bool → Bool
+is_waiting f b last = (f.passed == 0 && nat_lt (length b) 5) || (not last && may_begin f b)
+
+-- Where it begins, by the bytes that come next of a side, which are its last or not, behind what was passed over. The side answers where the
+-- other's TLS began.
+abbrev pub beginning : Bool → Bool → Front → Bytes → Beginning
+beginning answers last f b =
+    if not (is_sought f) || (f.passed == 0 && begins_there b last) then At 0
+    else if f.passed == 0 && is_ok (reading client_hello b) then InSsl2
+    else if is_waiting f b last then Waits
+    else found (place_behind answers b) last f (length b)
+
+abbrev pub front_of : Side → Fronts → Front
+front_of Originator f = f.originator
+front_of Responder f = f.responder
+
+abbrev pub with_front : Side → Front → Fronts → Fronts
+with_front Originator x f = record f { originator = x }
+with_front Responder x f = record f { responder = x }
+
+-- Neither side is heard yet.
+abbrev pub are_silent : Fronts → Bool
+are_silent f = is_sought f.originator && is_sought f.responder
+
+-- A side answers where it is heard; one in front of whose TLS nothing stands needs no answer.
+abbrev pub answers : ℕ → Front → Bool
+answers passed f = passed == 0 || is_heard_standing f.standing
+
+abbrev pub are_answered : Fronts → Bool
+are_answered f = answers f.originator.passed f.responder && answers f.responder.passed f.originator
+
+-- So many bytes of a side are passed over, and more may be.
+abbrev pub passing : Side → ℕ → Fronts → Fronts
+passing s n f = with_front s (record { passed = behind (front_of s f) n; standing = (front_of s f).standing }) f
+
+-- It is heard behind them from here on; one that was heard or left before stays so.
+abbrev pub with_begun : Side → ℕ → Fronts → Fronts
+with_begun s n f =
+    if is_sought (front_of s f) then with_front s (record { passed = behind (front_of s f) n; standing = Heard }) f else f
+
+-- It is left: nothing stands in front of it.
+abbrev pub leaving : Side → Fronts → Fronts
+leaving s f = with_front s (record { passed = 0; standing = Left }) f

@@ -1,0 +1,3 @@
+pub mod CipherSpec
+pub mod Front
+pub mod ClientHello

@@ -1,0 +1,72 @@
+//! The ClientHello in its record.
+ghost use Rattle.tls_fields.specs.Answers.{Gives};
+ghost use Rattle.tls_fields.specs.Layout.{complete};
+ghost use Rattle.ssl2_hello.specs.ClientHello.{view_client_hello, message as message_layout, client_hello as client_hello_layout};
+
+use crate::cipher_spec::CipherSpec;
+use crate::front::{fixed_fields, record_length};
+use tls_base::TlsVersion;
+use tls_fields::{Err, ErrorKind, IResult, Items, block, refused};
+
+/// A ClientHello in the form of SSL 2.0: the V2ClientHello of RFC 5246, appendix E.2.
+#[derive(Clone, Copy, Debug, PartialEq)]
+pub struct Ssl2ClientHello<'a> {
+    /// The version that the client offers: 0x0002 is SSL 2.0.
+    pub version: TlsVersion,
+    /// What the client offers, in its order; at least one.
+    pub cipher_specs: Items<'a, CipherSpec>,
+    /// 0 to 32 bytes; those of SSL 2.0 have 16, and a client of TLS 1.2 has none.
+    pub session_id: &'a [u8],
+    /// 16 to 32 bytes, which correspond to the random of a ClientHello of TLS.
+    pub challenge: &'a [u8],
+}
+
+/// Reads the message in a record of `n` bytes.
+#[tactic(auto, using(tls_fields::proofs::OneAnswerLemmas::read_allowed), unfolding(crate::specs::ClientHello::message))]
+fn message(i: &[u8], n: u16) -> IResult<&[u8], Ssl2ClientHello>
+    ensures { Gives view_client_hello (message_layout n) i.now result }
+{
+    let (i, fields) = fixed_fields(i, n)?;
+    let (i, cipher_specs) = block(i, fields.cipher_spec_length as usize)?;
+    let (i, session_id) = block(i, fields.session_id_length as usize)?;
+    let (i, challenge) = block(i, fields.challenge_length as usize)?;
+    let hello = Ssl2ClientHello {
+        version: fields.version,
+        cipher_specs: Items::new(cipher_specs),
+        session_id,
+        challenge,
+    };
+    Ok((i, hello))
+}
+
+/// Reads all of a record as the message.
+fn in_record(bytes: &[u8], n: u16) -> IResult<&[u8], Ssl2ClientHello>
+    ensures { Gives view_client_hello (complete (message_layout n)) bytes.now result }
+{
+    match message(bytes, n) {
+        Err(Err::Incomplete(_)) => refused(bytes, ErrorKind::Complete),
+        answer => answer,
+    }
+}
+
+/// Reads a ClientHello in the form of SSL 2.0, in its record (RFC 5246, appendix E.2; RFC 6101, appendix E): 2 bytes of header, of which the
+/// first bit is set and the others are the length of what follows, in bytes; 1 byte of message type, 2 of version, 2 each of the lengths of
+/// CipherSpecs, session id and challenge in bytes, and these three. All numbers are big-endian.
+///
+/// - `Incomplete` of the missing bytes, where they are missing of the header or else of the record.
+/// - `Error` of kind `Tag` where the first bit isn't set, the type isn't 1, or the version is neither 0x0002 nor 0x0300 to 0x03ff.
+/// - `Error` of kind `LengthValue` where there is no CipherSpec, the length of these is no multiple of 3, or the three lengths don't fill the
+///   record.
+/// - `Error` of kind `Verify` where the session id is longer than 32 bytes, or the challenge isn't of 16 to 32.
+/// - `Error` of kind `Complete` where the record ends within the lengths.
+///
+/// The record is judged once it is there whole; [`crate::begins_ssl2_hello`] tells from its first bytes whether it will be read.
+#[tactic(auto, using(tls_fields::proofs::OneAnswerLemmas::read_allowed), unfolding(crate::specs::ClientHello::client_hello))]
+pub fn parse_ssl2_client_hello(i: &[u8]) -> IResult<&[u8], Ssl2ClientHello>
+    ensures { Gives view_client_hello client_hello_layout i.now result }
+{
+    let (i, n) = record_length(i)?;
+    let (rest, record) = block(i, n as usize)?;
+    let (_, hello) = in_record(record, n)?;
+    Ok((rest, hello))
+}

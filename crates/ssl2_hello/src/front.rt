@@ -1,0 +1,108 @@
+//! The fields of fixed size that a hello begins with.
+ghost use Rattle.std.specs.Prelude.{◌≡◌};
+ghost use Rattle.tls_fields.specs.Answers.{Gives};
+ghost use Rattle.ssl2_hello.specs.Front.{record_length as record_length_layout, fixed_fields as fixed_fields_layout, lengths as lengths_layout, view_fixed_fields};
+ghost use Rattle.ssl2_hello.specs.Front.{beginning as beginning_layout, begins_ssl2_hello_in};
+
+use tls_base::TlsVersion;
+use tls_fields::{ErrorKind, IResult, number1, number2, refused};
+
+/// The type of the message.
+const CLIENT_HELLO: u8 = 1;
+
+/// How many bytes the message has in front of its CipherSpecs.
+const FRONT_LEN: u32 = 9;
+
+/// The version, and the lengths of what follows, in bytes.
+#[derive(Clone, Copy)]
+pub(crate) struct FixedFields {
+    pub(crate) version: TlsVersion,
+    pub(crate) cipher_spec_length: u16,
+    pub(crate) session_id_length: u16,
+    pub(crate) challenge_length: u16,
+}
+
+/// Reads the header of a record of 2 bytes: the length of what follows.
+///
+/// - `Incomplete` of the missing bytes where there are fewer than 2.
+/// - `Error` of kind `Tag` where the first bit isn't set.
+#[tactic(auto, using(tls_fields::proofs::OneAnswerLemmas::read_allowed), unfolding(crate::specs::Front::record_length))]
+pub(crate) fn record_length(i: &[u8]) -> IResult<&[u8], u16>
+    ensures { Gives (λ n. n) record_length_layout i.now result }
+{
+    let (i, n) = number2(i)?;
+    if n < 0x8000 {
+        return refused(i, ErrorKind::Tag);
+    }
+    Ok((i, n - 0x8000))
+}
+
+/// Reads the lengths of what follows.
+#[tactic(auto, using(tls_fields::proofs::OneAnswerLemmas::read_allowed), unfolding(crate::specs::Front::lengths))]
+fn lengths(i: &[u8], version: TlsVersion) -> IResult<&[u8], FixedFields>
+    ensures { Gives view_fixed_fields (lengths_layout version.0) i.now result }
+{
+    let (i, cipher_spec_length) = number2(i)?;
+    if cipher_spec_length % 3 != 0 || cipher_spec_length == 0 {
+        return refused(i, ErrorKind::LengthValue);
+    }
+    let (i, session_id_length) = number2(i)?;
+    if session_id_length > 32 {
+        return refused(i, ErrorKind::Verify);
+    }
+    let (i, challenge_length) = number2(i)?;
+    if challenge_length < 16 || challenge_length > 32 {
+        return refused(i, ErrorKind::Verify);
+    }
+    let fields = FixedFields {
+        version,
+        cipher_spec_length,
+        session_id_length,
+        challenge_length,
+    };
+    Ok((i, fields))
+}
+
+/// Reads the fields of fixed size of a hello in a record of `n` bytes.
+#[tactic(auto, using(tls_fields::proofs::OneAnswerLemmas::read_allowed), unfolding(crate::specs::Front::fixed_fields))]
+pub(crate) fn fixed_fields(i: &[u8], n: u16) -> IResult<&[u8], FixedFields>
+    ensures { Gives view_fixed_fields (fixed_fields_layout n) i.now result }
+{
+    let (i, msg_type) = number1(i)?;
+    if msg_type != CLIENT_HELLO {
+        return refused(i, ErrorKind::Tag);
+    }
+    let (i, version) = TlsVersion::parse(i)?;
+    if version.0 != 0x0002 && (version.0 < 0x0300 || version.0 > 0x03ff) {
+        return refused(i, ErrorKind::Tag);
+    }
+    let (i, fields) = lengths(i, version)?;
+    let length = FRONT_LEN
+        + u32::from(fields.cipher_spec_length)
+        + u32::from(fields.session_id_length)
+        + u32::from(fields.challenge_length);
+    if length != u32::from(n) {
+        return refused(i, ErrorKind::LengthValue);
+    }
+    Ok((i, fields))
+}
+
+/// Reads what the first 11 bytes of a stream tell.
+#[tactic(auto, using(tls_fields::proofs::OneAnswerLemmas::read_allowed), unfolding(crate::specs::Front::beginning))]
+fn beginning(i: &[u8]) -> IResult<&[u8], FixedFields>
+    ensures { Gives view_fixed_fields beginning_layout i.now result }
+{
+    let (i, n) = record_length(i)?;
+    fixed_fields(i, n)
+}
+
+/// Whether a stream begins with a ClientHello in the form of SSL 2.0 (RFC 5246, appendix E.2), as far as its first 11 bytes tell: the header of
+/// a record, the type of a ClientHello, version 0x0002 or the major version 3, and lengths of CipherSpecs, session id and challenge that are
+/// allowed and fill the record. Fewer than 11 bytes are no such hello.
+///
+/// Where it holds, [`crate::parse_ssl2_client_hello`] reads the hello once its record is there whole, and asks for more bytes until then.
+pub fn begins_ssl2_hello(bytes: &[u8]) -> bool
+    ensures { result ≡ begins_ssl2_hello_in bytes.now }
+{
+    beginning(bytes).is_ok()
+}
