@@ -37,16 +37,19 @@ def of_front(file, port, seen):
         "server_name": seen["server_name"], "version": NAMES[seen["version"]], "established": True,
         "orig_preamble_bytes": seen["orig_front"], "resp_preamble_bytes": seen["resp_front"],
     }
+    # A side with nothing in front has no such field.
+    none = [field for field in ("orig_preamble_bytes", "resp_preamble_bytes") if not by_peer[field]]
+    by_peer = {field: value for field, value in by_peer.items() if field not in none}
     if not found:
         fields = {**known, "proto": "tcp", **by_peer, "outcome": "tls13" if by_peer["version"] == "TLSv13" else "full"}
-        return [line(fields, {"the first packet": [*known, "proto"], "seen": [*by_peer, "outcome", "last_alert"]}, ["last_alert"])]
+        return [line(fields, {"the first packet": [*known, "proto"], "seen": [*by_peer, "outcome", "last_alert", *none]}, ["last_alert", *none])]
     [fields] = found
     for field, value in {**known, **by_peer}.items():
         if not field.endswith("preamble_bytes") and fields[field] != value:
             raise ValueError(f"{field}: tshark {fields[field]!r}, the peer {value!r}")
     fields |= by_peer
     others = [field for field in fields if field not in by_peer]
-    return [line(fields, {"seen": list(by_peer), "tshark": [*others, "last_alert", "gap"]}, ["last_alert", "gap"])]
+    return [line(fields, {"seen": [*by_peer, *none], "tshark": [*others, "last_alert", "gap"]}, ["last_alert", "gap", *none])]
 
 
 def of_none(file):
