@@ -1,0 +1,94 @@
+-- Whether a certificate is for a host (RFC 9525, section 6.3).
+use Rattle.std.specs.Prelude.{ℕ, ◌-◌, ◌==◌, ◌&&◌, ◌||◌, not, Bool, true, false, List, [], ◌∷◌, length, map, take, slice_get, Option, Some, None, if◌then◌else◌}
+use Rattle.std.specs.Borrow.{Bor}
+use Rattle.std.specs.Char.{to_ascii_lowercase, is_ascii_alphanumeric, is_ascii_digit}
+use Rattle.std.specs.List.{list_all, list_any, slice_split}
+use Rattle.std.specs.Str.{bytes_eq}
+use Rattle.tls_fields.specs.Bytes.{Bytes}
+use Rattle.tls_fields.specs.Items.{list_read}
+use Rattle.tls_fields.specs.Reading.{reading}
+use Rattle.x509.specs.Certificate.{Certificate, Extension}
+use Rattle.x509.specs.Extensions.{first_of}
+use Rattle.x509.specs.GeneralName.{GeneralName, DnsName, general_names}
+
+-- The labels of a name: the parts between its full stops.
+abbrev pub labels : Bytes → List Bytes
+labels name = slice_split (λ b. b == 46) name
+
+-- Those of what is left of a name.
+abbrev pub labels_left : Option (Bor Bytes) → List Bytes
+labels_left None = []
+labels_left (Some rest) = labels rest.now
+
+-- Letters, digits, `-` and `_`.
+abbrev pub is_name_byte : ℕ → Bool
+is_name_byte b = is_ascii_alphanumeric b || (b == 45 || b == 95)
+
+abbrev pub is_label : Bytes → Bool
+is_label label = not (length label == 0) && list_all is_name_byte label
+
+abbrev pub is_number : Bytes → Bool
+is_number label = list_all is_ascii_digit label
+
+-- Labels of a host, behind one that is a number or not: the last of all isn't one, or they were an address.
+abbrev pub are_host_labels : Bool → List Bytes → Bool
+are_host_labels number [] = not number
+are_host_labels number (label ∷ others) = is_label label && are_host_labels (is_number label) others
+
+abbrev pub is_host : List Bytes → Bool
+is_host name = are_host_labels true name
+
+-- The same in letters of either case.
+abbrev pub same_label : Bytes → Bytes → Bool
+same_label a b = bytes_eq (map to_ascii_lowercase a) (map to_ascii_lowercase b)
+
+abbrev pub same_labels : List Bytes → List Bytes → Bool
+same_labels [] [] = true
+same_labels (a ∷ others) (b ∷ behind) = same_label a b && same_labels others behind
+same_labels _ _ = false
+
+-- `*` stands for any label, where others are behind it.
+abbrev pub stands_for : Bytes → Bool → Bytes → Bool
+stands_for first further label = if bytes_eq first (42 ∷ []) then further else same_label first label
+
+abbrev pub are_some : List Bytes → Bool
+are_some [] = false
+are_some (label ∷ others) = true
+
+-- The labels of a dNSName cover those of a host.
+abbrev pub covers : List Bytes → List Bytes → Bool
+covers (first ∷ others) (label ∷ behind) = stands_for first (are_some others) label && same_labels others behind
+covers _ _ = false
+
+-- A full stop at the end says that the name is whole.
+abbrev pub ends_whole : Option ℕ → Bool
+ends_whole (Some last) = last == 46
+ends_whole None = false
+
+abbrev pub without_root : Bytes → Bytes
+without_root host =
+    if ends_whole (slice_get host (length host - 1)) then take (length host - 1) host else host
+
+abbrev pub name_covers : List Bytes → GeneralName → Bool
+name_covers host (DnsName pattern) = covers (labels pattern) host
+name_covers host _ = false
+
+abbrev pub names_host : List Bytes → List GeneralName → Bool
+names_host host names = list_any (name_covers host) names
+
+-- id-ce-subjectAltName: 2.5.29.17
+abbrev pub SUBJECT_ALT_NAME : Bytes
+SUBJECT_ALT_NAME = 0x55 ∷ 0x1d ∷ 0x11 ∷ []
+
+abbrev pub names_in : Option Extension → List GeneralName
+names_in None = []
+names_in (Some e) = list_read (reading general_names e.extn_value)
+
+-- The names of the first subjectAltName.
+abbrev pub alt_names : List Extension → List GeneralName
+alt_names extensions = names_in (first_of SUBJECT_ALT_NAME extensions)
+
+abbrev pub matches_host : Certificate → Bytes → Bool
+matches_host certificate host =
+    let name : Bytes = without_root host in
+    is_host (labels name) && names_host (labels name) (alt_names certificate.tbs_certificate.others.extensions)

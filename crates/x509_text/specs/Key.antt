@@ -1,0 +1,36 @@
+-- What a public key is (RFC 3279, section 2.3; RFC 5480, section 2; RFC 8410, section 3).
+use Rattle.std.specs.Prelude.{ℕ, ◌||◌, List, [], ◌∷◌, find, codes, Option, Some, None, Result, Ok, if◌then◌else◌}
+use Rattle.std.specs.Str.{bytes_eq}
+use Rattle.std.specs.Option.{option_map}
+use Rattle.tls_fields.specs.Bytes.{Bytes}
+use Rattle.tls_fields.specs.Meaning.{Refusal}
+use Rattle.x509.specs.PublicKey.{PublicKey, Rsa, Ec, PKCS_1, EC_PUBLIC_KEY, EDWARDS}
+use Rattle.x509_text.specs.CurveSizes.{curve_sizes}
+use Rattle.x509_text.specs.Object.{SizedCurve}
+
+-- id-dsa: 1.2.840.10040.4.1
+abbrev pub DSA : Bytes
+DSA = 0x2a ∷ 0x86 ∷ 0x48 ∷ 0xce ∷ 0x38 ∷ 0x04 ∷ 0x01 ∷ []
+
+-- By the content of the algorithm's object identifier.
+abbrev pub key_type_of : Bytes → Bytes
+key_type_of algorithm =
+    if bytes_eq algorithm (PKCS_1 1) || bytes_eq algorithm (PKCS_1 10) then codes "rsa" else
+    if bytes_eq algorithm DSA then codes "dsa" else
+    if bytes_eq algorithm EC_PUBLIC_KEY then codes "ecdsa" else
+    if bytes_eq algorithm (EDWARDS 0x70) then codes "ed25519" else
+    if bytes_eq algorithm (EDWARDS 0x71) then codes "ed448" else codes "unknown"
+
+-- The size that a table has for a curve.
+abbrev pub size_in : List SizedCurve → Bytes → Option ℕ
+size_in table content = option_map (λ c. c.bits) (find (λ c. bytes_eq c.content content) table)
+
+-- The bits of RSA's modulus, or of the order of a curve's base point.
+abbrev pub key_length_of : Result PublicKey Refusal → Option ℕ
+key_length_of (Ok (Rsa bits)) = Some bits
+key_length_of (Ok (Ec curve)) = size_in curve_sizes curve
+key_length_of _ = None
+
+abbrev pub curve_of : Result PublicKey Refusal → Option Bytes
+curve_of (Ok (Ec curve)) = Some curve
+curve_of _ = None

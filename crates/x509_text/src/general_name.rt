@@ -1,0 +1,95 @@
+//! Names in extensions as texts (RFC 5280, section 4.2.1.6).
+ghost use Rattle.std.specs.Prelude.{◌≡◌, ◌++◌, IfOk, OnOk};
+ghost use Rattle.std.specs.String.{string_bytes};
+ghost use Rattle.x509.specs.GeneralName.{view_general_name};
+ghost use Rattle.x509_text.specs.GeneralName.{address_text, ascii_byte, ascii_text, general_name_text as general_name_text_of, kind_of};
+
+use crate::hexadecimal::{add_hex, lower_hex_digit};
+use std::alloc::{AllocError, Global};
+use std::net::{Ipv4Addr, Ipv6Addr};
+use x509::GeneralName;
+
+/// Adds a byte: printable ASCII but `\` as it is, others behind `\`.
+fn add_ascii_byte(text: &mut String, byte: u8) -> Result<(), AllocError>
+    ensures { OnOk result (string_bytes text.new ≡ string_bytes text.old ++ ascii_byte byte) }
+{
+    if byte == b'\\' {
+        return text.push_str("\\\\");
+    }
+    if 0x20 <= byte && byte < 0x7f {
+        return text.push(char::from(byte));
+    }
+    text.push_str("\\x")?;
+    text.push(lower_hex_digit(byte / 16))?;
+    text.push(lower_hex_digit(byte % 16))
+}
+
+/// Adds bytes that should be ASCII.
+fn add_ascii(text: &mut String, bytes: &[u8]) -> Result<(), AllocError>
+    ensures { OnOk result (string_bytes text.new ≡ string_bytes text.old ++ ascii_text bytes.now) }
+{
+    for byte in bytes {
+        add_ascii_byte(text, *byte)?;
+    }
+    Ok(())
+}
+
+/// Adds an address of the Internet Protocol.
+fn add_address(alloc: Global, text: &mut String, address: &[u8]) -> Result<(), AllocError>
+    ensures { OnOk result (string_bytes text.new ≡ string_bytes text.old ++ address_text address.now) }
+{
+    match address {
+        [a, b, c, d] => {
+            let shown = format!(in alloc; "{}", Ipv4Addr::new(*a, *b, *c, *d))?;
+            text.push_str(shown.as_str())
+        }
+        [a, b, c, d, e, f, g, h, i, j, k, l, m, n, o, p] => {
+            let octets = [
+                *a, *b, *c, *d, *e, *f, *g, *h, *i, *j, *k, *l, *m, *n, *o, *p,
+            ];
+            let shown = format!(in alloc; "{}", Ipv6Addr::from(octets))?;
+            text.push_str(shown.as_str())
+        }
+        _ => {
+            text.push_str("iPAddress:")?;
+            add_hex(alloc, text, address)
+        }
+    }
+}
+
+/// What RFC 5280 calls a kind of names, by its tag.
+fn kind(tag: u8) -> &'static str
+    ensures { result.now ≡ kind_of tag }
+{
+    match tag {
+        0xa0 => "otherName",
+        0xa3 => "x400Address",
+        0xa4 => "directoryName",
+        0xa5 => "ediPartyName",
+        0x88 => "registeredID",
+        _ => "unknown",
+    }
+}
+
+/// A name of a subject or an issuer as text.
+///
+/// Of an rfc822Name, a dNSName and a uniformResourceIdentifier its bytes, where those that aren't printable ASCII are as `\xff`, and `\` is `\\`. Of an
+/// iPAddress its address: of 4 bytes as 192.0.2.1, of 16 by RFC 5952 as 2001:db8::1, and else `iPAddress:` and the bytes in hexadecimal. Of others
+/// their kind, as `otherName`, `:` and the bytes of their content in hexadecimal. `AllocError` where the text could not be held.
+pub fn general_name_text(alloc: Global, name: GeneralName) -> Result<String, AllocError>
+    ensures { IfOk result (λ text. string_bytes text ≡ general_name_text_of (view_general_name name.entry)) }
+{
+    let mut text = String::new(alloc);
+    match name {
+        GeneralName::Rfc822Name(bytes) => add_ascii(&mut text, bytes)?,
+        GeneralName::DnsName(bytes) => add_ascii(&mut text, bytes)?,
+        GeneralName::UniformResourceIdentifier(bytes) => add_ascii(&mut text, bytes)?,
+        GeneralName::IpAddress(bytes) => add_address(alloc, &mut text, bytes)?,
+        GeneralName::Other(element) => {
+            text.push_str(kind(element.tag))?;
+            text.push(':')?;
+            add_hex(alloc, &mut text, element.content)?
+        }
+    }
+    Ok(text)
+}

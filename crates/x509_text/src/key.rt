@@ -1,0 +1,81 @@
+//! What a public key is.
+#![tactic(auto, using(tls_fields::proofs::OneAnswerLemmas::read_allowed))]
+
+ghost use Rattle.std.specs.Prelude.{◌≡◌, map};
+ghost use Rattle.std.specs.Option.{option_map};
+ghost use Rattle.x509.specs.Certificate.{view_key_info};
+ghost use Rattle.x509.specs.PublicKey.{key_of};
+ghost use Rattle.x509_text.specs.CurveSizes.{curve_sizes};
+ghost use Rattle.x509_text.specs.Key.{curve_of, key_length_of, key_type_of, size_in};
+ghost use Rattle.x509_text.specs.Object.{view_size};
+
+use crate::tables::{CURVE_SIZES, CurveSize};
+use der::ObjectIdentifier;
+use x509::{PublicKey, SubjectPublicKeyInfo, oid};
+
+/// The content of the object identifier of DSA's keys: 1.2.840.10040.4.1 (RFC 3279, section 2.3.2).
+const DSA: &[u8] = b"\x2a\x86\x48\xce\x38\x04\x01";
+
+/// What a key is used with, by its algorithm: `rsa` (for any padding, or PSS alone), `dsa`, `ecdsa`, `ed25519`, `ed448`, or `unknown`.
+pub fn key_type(info: SubjectPublicKeyInfo) -> &'static str
+    ensures { result.now ≡ key_type_of info.entry.algorithm.algorithm.content.now }
+{
+    let algorithm = info.algorithm.algorithm.content;
+    if algorithm == oid::RSA_ENCRYPTION.content || algorithm == oid::RSASSA_PSS.content {
+        "rsa"
+    } else if algorithm == DSA {
+        "dsa"
+    } else if algorithm == oid::EC_PUBLIC_KEY.content {
+        "ecdsa"
+    } else if algorithm == oid::ED25519.content {
+        "ed25519"
+    } else if algorithm == oid::ED448.content {
+        "ed448"
+    } else {
+        "unknown"
+    }
+}
+
+/// The size in the first row of a table that has this content.
+fn find_size(table: &'static [CurveSize], content: &[u8]) -> Option<u32>
+    ensures { result ≡ size_in (map view_size table.now) content.now }
+{
+    for curve in table {
+        if curve.content == content {
+            return Some(curve.bits);
+        }
+    }
+    None
+}
+
+/// The size of a curve.
+#[tactic(auto, unfolding(crate::specs::CurveSizes::curve_sizes))]
+fn curve_size(content: &[u8]) -> Option<u32>
+    ensures { result ≡ size_in curve_sizes content.now }
+{
+    find_size(CURVE_SIZES, content)
+}
+
+/// How many bits a key has: of RSA its modulus, of an elliptic curve with a name the order of its base point.
+///
+/// `None` of other keys, and where [`SubjectPublicKeyInfo::public_key`] refuses the key or the curve has no name here.
+pub fn key_length(info: SubjectPublicKeyInfo) -> Option<u32>
+    ensures { result ≡ key_length_of (key_of (view_key_info info.entry)) }
+{
+    match info.public_key() {
+        Ok(PublicKey::Rsa(bits)) => Some(bits),
+        Ok(PublicKey::Ec(curve)) => curve_size(curve.content),
+        _ => None,
+    }
+}
+
+/// The curve of a key that is one of an elliptic curve with a name; [`object_name`](crate::object_name) and
+/// [`object_text`](crate::object_text) say which.
+pub fn key_curve<'a>(info: SubjectPublicKeyInfo<'a>) -> Option<ObjectIdentifier<'a>>
+    ensures { option_map (λ o. o.content.now) result ≡ curve_of (key_of (view_key_info info.entry)) }
+{
+    match info.public_key() {
+        Ok(PublicKey::Ec(curve)) => Some(curve),
+        _ => None,
+    }
+}
