@@ -3,6 +3,7 @@
 import re
 import subprocess
 
+import wanted_certificates
 import wanted_hellos
 
 FIELDS = """
@@ -38,7 +39,7 @@ LETTERS = {
     "Heartbeat Request": "b", "Heartbeat Response": "b",
 }
 # Of these, 0 is told too.
-ALWAYS = ["comp_method", "cert_count", "client_cert_count"]
+ALWAYS = ["comp_method", "cert_count", "client_cert_count", *wanted_certificates.ALWAYS]
 ORDER = """
     ts id.orig_h id.orig_p id.resp_h id.resp_p proto duration version cipher curve server_name other_server_names next_protocol resumed
     established last_alert outcome stop gap ssl_history orig_pkts resp_pkts orig_bytes resp_bytes orig_records resp_records retried
@@ -150,6 +151,7 @@ class Talk:
         self.is_tls, self.said, self.messages = False, {}, 0
         self.closed, self.changed, self.has_done, self.is_13 = set(), [], False, False
         self.stop, self.history, self.sent = None, "", {True: Sent(), False: Sent()}
+        self.own = {True: None, False: None}
 
     def source(self, row):
         return first(row, "ip.src", "ipv6.src"), int(first(row, f"{self.layer}.srcport"))
@@ -173,6 +175,7 @@ class Talk:
         self.note_names(row, side)
         if side not in self.changed or self.is_13:
             self.said |= wanted_hellos.of_messages(row, side)
+            self.note_own(row, side)
         self.has_done |= SERVER_DONE in types
         self.messages += len(types)
         for kind in row["record.content_type"]:
@@ -180,6 +183,12 @@ class Talk:
         self.note_alerts(row, side)
         if self.layer == "tcp":
             self.note_end(row, side)
+
+    def note_own(self, row, side):
+        """The certificate of a side's own is the first of its chain."""
+        chain = wanted_hellos.chain_of(row)
+        if chain is not None:
+            self.own[side] = chain[0] if chain else None
 
     def note_end(self, row, side):
         """An RST ends both sides, and an acknowledgement behind the other side's FIN that side."""
@@ -250,7 +259,7 @@ class Talk:
         known = {
             "ts": round(self.begun, 6), "proto": self.layer, "duration": round(self.last - self.begun, 6),
             "id.orig_h": self.ends[0][0], "id.orig_p": self.ends[0][1], "id.resp_h": self.ends[1][0], "id.resp_p": self.ends[1][1],
-            **self.said, "resumed": is_short or (self.is_13 and self.said["resumed"]),
+            **self.said, **wanted_certificates.of_talk(self.said.get("server_name"), self.own[False], self.own[True]), "resumed": is_short or (self.is_13 and self.said["resumed"]),
             "established": self.is_established(), "outcome": outcome, "stop": self.stop, "ssl_history": self.history or None,
             **self.sent[True].told("orig"), **self.sent[False].told("resp"),
         }

@@ -3,6 +3,8 @@
 import hashlib
 import subprocess
 
+import wanted_certificates
+
 FIELDS = """
     handshake.session_id handshake.comp_method handshake.extension.len handshake.extensions_supported_group
     handshake.extensions_ec_point_format handshake.sig_hash_alg handshake.certificate handshake.ja3 handshake.ja3_full handshake.ja3s
@@ -15,8 +17,7 @@ ORDER = """
     point_formats sigalgs orig_alpn client_key_share_groups psk_key_exchange_modes offers_psk offers_early_data offers_ticket cookie ech
     delegated_credential server_version server_session_id comp_method ssl_server_exts server_key_share_group scts ticket_issued
     ocsp_stapled cert_count cert_lengths cert_chain_fps client_cert_requested client_cert_count client_cert_lengths client_cert_chain_fps
-    ja3 ja3_string ja3s ja3s_string ja4
-""".split()
+""".split() + wanted_certificates.ORDER + "ja3 ja3_string ja3s ja3s_string ja4".split()
 TICKET, CERTIFICATE, CERTIFICATE_REQUEST, STATUS = "4", "11", "13", "22"
 LETTERS = {
     0x304: "13", 0x303: "12", 0x302: "11", 0x301: "10", 0x300: "s3", 2: "s2", 0xFEFF: "d1", 0xFEFD: "d2", 0xFEFC: "d3",
@@ -135,11 +136,18 @@ def of_server(row, versions_by):
     }
 
 
+def chain_of(row):
+    """The certificates of a Certificate, in DER; None where there is no such message."""
+    if CERTIFICATE not in row["handshake.type"]:
+        return None
+    return [bytes.fromhex(plain(value)) for value in row["handshake.certificate"]]
+
+
 def of_messages(row, side):
     """What other messages in the clear say; `side` is whether the client sent them."""
     types, said = row["handshake.type"], {}
-    if CERTIFICATE in types:
-        chain = [bytes.fromhex(plain(value)) for value in row["handshake.certificate"]]
+    chain = chain_of(row)
+    if chain is not None:
         front, whole = ("client_cert_", "client_cert_chain_fps") if side else ("cert_", "cert_chain_fps")
         said[front + "count"] = len(chain)
         said[front + "lengths"] = [len(one) for one in chain]

@@ -1,5 +1,5 @@
 -- What is heard of a connection's bytes.
-use Rattle.std.specs.Prelude.{◌≡◌, ◌⊎◌, ◌-◌, ℕ, Bool, true, false, Ok, Err, length, drop}
+use Rattle.std.specs.Prelude.{◌≡◌, ◌⊎◌, ◌-◌, ◌&&◌, ℕ, Bool, true, false, Ok, Err, length, drop}
 use Rattle.tls_fields.specs.Bytes.{Bytes}
 use Rattle.connections.specs.Stream.{handing_on, has_urgent_next, is_cut_short, next_bytes, passing_urgent, stopped}
 use Rattle.connections.specs.declared.stream.Stream.{Stream}
@@ -16,7 +16,7 @@ use Rattle.tls_fields.specs.Meaning.{Answer}
 use Rattle.tls_fields.specs.Reading.{reading}
 use Rattle.tls_talks.specs.declared.talk.Talk.{Talk}
 use Rattle.log_connections.specs.declared.fronts.Fronts.{Fronts}
-use Rattle.log_connections.specs.Fronts.{beginning, front_of, leaving, passing, with_begun}
+use Rattle.log_connections.specs.Fronts.{are_answered, beginning, front_of, leaving, passing, with_begun}
 use Rattle.log_connections.specs.declared.fronts.Beginning.{Beginning}
 use Rattle.log_connections.specs.declared.fronts.Beginning.TheVariants as beginnings
 use Rattle.log_connections.specs.declared.heard.Said.{Said}
@@ -100,3 +100,13 @@ HearsDatagram d datagram (said.Datagrams t) (said.Datagrams u) =
     (k : datagrams.Talk) → IsKnown k t → IsKnown (heard k d datagram) u
 HearsDatagram d datagram (said.Datagrams t) (said.Stream u f) = ⊥
 HearsDatagram d datagram (said.Stream t f) u = u ≡ said.Stream t f
+
+-- How many bytes stand in front of a side's TLS. Over UDP there are none.
+abbrev pub preamble_of : Side → Said → ℕ
+preamble_of s (said.Stream x f) = (front_of s f).passed
+preamble_of s (said.Datagrams x) = 0
+
+-- Whether TLS is spoken, which behind other bytes both sides do; or DTLS.
+abbrev pub IsSpokenBy : Bool → Said → Type 0
+IsSpokenBy b (said.Stream x f) = b ≡ (x.is_tls && are_answered f)
+IsSpokenBy b (said.Datagrams t) = (k : datagrams.Talk) → IsKnown k t → b ≡ k.is_dtls

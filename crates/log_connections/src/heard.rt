@@ -2,7 +2,7 @@
 ghost use Rattle.std.specs.Prelude.{◌≡◌, ◌||◌, OnOk, drop};
 ghost use Rattle.tls_detection.specs.Front.{held_datagram as held_datagram_of};
 ghost use Rattle.connections.specs.Stream.{is_cut_short};
-ghost use Rattle.log_connections.specs.Heard.{HearsAt, HearsDatagram, HearsNone, HearsStream, HearsSsl2, PassesOver, begins_in, direction_of as direction_by};
+ghost use Rattle.log_connections.specs.Heard.{HearsAt, HearsDatagram, HearsNone, HearsStream, HearsSsl2, IsSpokenBy, PassesOver, begins_in, direction_of as direction_by, preamble_of};
 
 use crate::fronts::{Beginning, Fronts, begins_at};
 use connections::{Listener, Protocol, Side, Stream};
@@ -18,10 +18,19 @@ const CLIENT_HELLO: u8 = 1;
 
 const SERVER_HELLO: u8 = 2;
 
-/// Who keeps the messages of a connection, where these are to be had one by one: it hears each event that counts.
+/// What is to be had of a connection one by one, as it comes.
+#[derive(Clone, Copy, Debug, PartialEq, Eq)]
+pub enum Pieces {
+    /// Its messages.
+    Messages,
+    /// The certificates of its chains.
+    Certificates,
+}
+
+/// Who keeps such pieces of a connection until they are taken: it hears each event that counts.
 pub trait Keeper: Drop + Witness {
     /// That of a connection of which nothing came.
-    fn begin(alloc: Global) -> Self;
+    fn begin(alloc: Global, pieces: Pieces) -> Self;
 }
 
 /// What both sides of a connection said.
@@ -95,7 +104,9 @@ impl<K: Keeper> Listener for Heard<K> {
 
 impl<K: Keeper> Heard<K> {
     /// Whether it is TLS or DTLS. TLS behind other bytes is where both sides speak it.
-    pub fn is_spoken(&self) -> bool {
+    pub fn is_spoken(&self) -> bool
+        ensures { IsSpokenBy result self.now.said }
+    {
         match &self.said {
             Said::Stream(talk, fronts) => talk.is_tls() && fronts.are_answered(),
             Said::Datagrams(talk) => talk.is_dtls(),
@@ -169,18 +180,18 @@ impl<K: Keeper> Heard<K> {
         }
     }
 
-    /// Keeps the messages that come from here on.
-    pub(crate) fn keep_messages(&mut self) -> Result<(), AllocError>
+    /// Keeps the pieces that come from here on.
+    pub(crate) fn keep(&mut self, pieces: Pieces) -> Result<(), AllocError>
         ensures { self.new.said ≡ self.old.said }
     {
         if self.keeper.is_none() {
-            let keeper = K::begin(self.alloc);
+            let keeper = K::begin(self.alloc, pieces);
             self.keeper = Some(Box::new(self.alloc, keeper)?);
         }
         Ok(())
     }
 
-    /// Who keeps the messages, where they are kept.
+    /// Who keeps the pieces, where they are kept.
     pub fn keeper(&mut self) -> Option<&mut K> {
         match &mut self.keeper {
             Some(keeper) => Some(&mut **keeper),
@@ -206,7 +217,9 @@ impl<K: Keeper> Heard<K> {
     }
 
     /// How many bytes of a side's stream stand in front of its TLS: of a stream of which none was found, 0.
-    pub fn preamble(&self, side: Side) -> u64 {
+    pub fn preamble(&self, side: Side) -> u64
+        ensures { result ≡ preamble_of side self.now.said }
+    {
         match &self.said {
             Said::Stream(_, fronts) => fronts.preamble(side),
             Said::Datagrams(_) => 0,

@@ -1,7 +1,7 @@
 //! What is heard of the connections of a capture, from its packets.
 //!
 //! [`Log`] is a table of connections: each packet of TCP or UDP goes to its own, which hears what its sender says then ([`Heard`]). Who
-//! wants the messages one by one gives a [`Keeper`], which hears with each connection that is TLS or DTLS. What was read and what was left
+//! wants the messages or the certificates one by one gives a [`Keeper`], which hears with each connection that is TLS or DTLS. What was read and what was left
 //! out is counted ([`Counts`]).
 #![tactic(auto)]
 
@@ -11,5 +11,5 @@ mod heard;
 mod log;
 
 pub use counts::{Counts, add_one};
-pub use heard::{Heard, Keeper};
+pub use heard::{Heard, Keeper, Pieces};
 pub use log::{Arrival, Checksums, Log};

@@ -5,7 +5,7 @@ ghost use Rattle.log_connections.specs.Heard.{HearsNext, HearsOn, direction_of a
 ghost use Rattle.log_connections.specs.Log.{HearsFrom, HearsSide, Logs, LogsDatagram};
 
 use crate::counts::{Counts, add_one};
-use crate::heard::{Heard, Keeper};
+use crate::heard::{Heard, Keeper, Pieces};
 use capture::{
     Address, Content, TcpSegment, UdpDatagram, maximum_segment_size, option_of, parse_packet,
     timestamp, window_scale,
@@ -47,8 +47,8 @@ pub enum Checksums {
 pub struct Log<K> {
     alloc: Global,
     connections: Connections<Heard<K>>,
-    // Whether the messages of connections are kept.
-    keeps_messages: bool,
+    // What is kept of connections until it is taken.
+    kept: Option<Pieces>,
     checksums: Checksums,
     /// What was read, and what was left out.
     pub counts: Counts,
@@ -235,18 +235,18 @@ fn hear_side<K: Keeper>(
     Ok(())
 }
 
-/// The same of the segment's sender, which keeps the messages that it hears where they are to be taken.
+/// The same of the segment's sender, which keeps the pieces that it hears where they are to be taken.
 fn hear<K: Keeper>(
     connection: &mut Connection<Heard<K>>,
     segment: &Segment<'_>,
-    keeps_messages: bool,
+    kept: Option<Pieces>,
 ) -> Result<(), AllocError>
     ensures { OnOk result (HearsSide (side_of connection.old segment.now.source) connection.old connection.new) }
 {
     let (side, is_opened) = (connection.side_of(segment.source), connection.has_opening());
     let heard = &mut connection.listener;
-    if keeps_messages {
-        heard.keep_messages()?;
+    if let Some(pieces) = kept {
+        heard.keep(pieces)?;
     }
     match side {
         Side::Originator => {
@@ -260,35 +260,35 @@ fn hear<K: Keeper>(
     }
 }
 
-/// Lets the listener hear a datagram, and keep the messages that it hears where they are to be taken.
+/// Lets the listener hear a datagram, and keep the pieces that it hears where they are to be taken.
 fn hear_from<K: Keeper>(
     exchange: &mut Connection<Heard<K>>,
     datagram: &Datagram<'_>,
-    keeps_messages: bool,
+    kept: Option<Pieces>,
 ) -> Result<(), AllocError>
     ensures { OnOk result (HearsFrom datagram.now exchange.old exchange.new) }
 {
     let side = exchange.side_of(datagram.source);
     let heard = &mut exchange.listener;
     let direction = heard.direction(side);
-    if keeps_messages {
-        heard.keep_messages()?;
+    if let Some(pieces) = kept {
+        heard.keep(pieces)?;
     }
     heard.hear_datagram(direction, datagram.payload)
 }
 
 impl<K: Keeper> Log<K> {
-    /// That of a capture of which nothing was read, with keys for the hashes of its table. It keeps the messages of connections where they
+    /// That of a capture of which nothing was read, with keys for the hashes of its table. It keeps such pieces of connections where they
     /// are to be taken.
     pub fn new(
         alloc: Global,
         keys: RandomState,
-        keeps_messages: bool,
+        kept: Option<Pieces>,
     ) -> Result<Log<K>, AllocError> {
         Ok(Log {
             alloc,
             connections: Connections::new(alloc, keys)?,
-            keeps_messages,
+            kept,
             checksums: Checksums::Auto,
             counts: Counts::new(),
         })
@@ -378,10 +378,10 @@ impl<K: Keeper> Log<K> {
         if !self.connections.accept(segment)? {
             return Ok(None);
         }
-        let keeps_messages = self.keeps_messages;
+        let pieces = self.kept;
         match self.connections.get_mut(&segment.between()) {
             Some(connection) => {
-                hear(connection, segment, keeps_messages)?;
+                hear(connection, segment, pieces)?;
                 Ok(Some(connection.is_closed()))
             }
             None => Ok(None),
@@ -391,9 +391,9 @@ impl<K: Keeper> Log<K> {
     /// Hears a segment that waited, and whether both sides of its connection said their last then.
     fn hear_kept(&mut self, kept: &Kept) -> Result<(), AllocError> {
         self.connections.accept_kept(kept)?;
-        let (segment, keeps_messages) = (kept.segment(), self.keeps_messages);
+        let (segment, pieces) = (kept.segment(), self.kept);
         match self.connections.get_mut(&segment.between()) {
-            Some(connection) => hear(connection, &segment, keeps_messages),
+            Some(connection) => hear(connection, &segment, pieces),
             None => Ok(()),
         }
     }
@@ -511,9 +511,9 @@ impl<K: Keeper> Log<K> {
         ensures { OnOk result (LogsDatagram datagram.now self.old.connections self.new.connections) }
     {
         self.connections.accept_datagram(datagram)?;
-        let keeps_messages = self.keeps_messages;
+        let pieces = self.kept;
         match self.connections.get_mut(&datagram.between()) {
-            Some(exchange) => hear_from(exchange, datagram, keeps_messages),
+            Some(exchange) => hear_from(exchange, datagram, pieces),
             None => Ok(()),
         }
     }

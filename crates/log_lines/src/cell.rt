@@ -23,6 +23,8 @@ pub enum Cell {
     Text(String),
     /// A number.
     Number(u64),
+    /// A number that may be below 0.
+    Whole(i64),
     /// Seconds.
     Seconds(f64),
     /// Whether it is so.

@@ -78,6 +78,37 @@ pub enum Chain {
     ClientCount,
     ClientLengths,
     ClientPrints,
+    NameMatches,
+    ServerFaults,
+    ClientFaults,
+}
+
+/// What a certificate says (RFC 5280, section 4.1).
+pub enum Certified {
+    Version,
+    Serial,
+    Subject,
+    Issuer,
+    NotBefore,
+    NotAfter,
+    ValidFrom,
+    ValidUntil,
+    KeyAlgorithm,
+    KeyType,
+    KeyLength,
+    Curve,
+    SignatureAlgorithm,
+    DnsNames,
+    Uris,
+    Emails,
+    Addresses,
+    OtherNames,
+    IsCa,
+    MayBeCa,
+    PathLength,
+    SelfIssued,
+    KeyUsage,
+    Purposes,
 }
 
 /// Fingerprints of hellos.
@@ -109,6 +140,8 @@ pub enum Field {
     Offer(Offer),
     Answer(Answer),
     Chain(Chain),
+    ServerCertificate(Certified),
+    ClientCertificate(Certified),
     Print(Print),
     Sent(Side, Sent),
 }
@@ -121,6 +154,19 @@ pub enum Part {
     ContentType,
     Name,
     Message,
+}
+
+/// A field of a certificate's line.
+pub enum Detail {
+    End(End),
+    Side,
+    Place,
+    Print,
+    Length,
+    Certificate(Certified),
+    IsServers,
+    IsClients,
+    Fault,
 }
 
 /// A field and its name.
@@ -238,6 +284,33 @@ pub static FIELDS: &[Column<Field>] = &[
     ("client_cert_count", Field::Chain(Chain::ClientCount)),
     ("client_cert_lengths", Field::Chain(Chain::ClientLengths)),
     ("client_cert_chain_fps", Field::Chain(Chain::ClientPrints)),
+    ("subject", Field::ServerCertificate(Certified::Subject)),
+    ("issuer", Field::ServerCertificate(Certified::Issuer)),
+    ("serial", Field::ServerCertificate(Certified::Serial)),
+    ("not_before", Field::ServerCertificate(Certified::NotBefore)),
+    ("not_after", Field::ServerCertificate(Certified::NotAfter)),
+    ("san_dns", Field::ServerCertificate(Certified::DnsNames)),
+    ("san_ip", Field::ServerCertificate(Certified::Addresses)),
+    ("key_type", Field::ServerCertificate(Certified::KeyType)),
+    ("key_length", Field::ServerCertificate(Certified::KeyLength)),
+    ("key_curve", Field::ServerCertificate(Certified::Curve)),
+    (
+        "sig_alg",
+        Field::ServerCertificate(Certified::SignatureAlgorithm),
+    ),
+    ("is_ca", Field::ServerCertificate(Certified::IsCa)),
+    (
+        "self_issued",
+        Field::ServerCertificate(Certified::SelfIssued),
+    ),
+    ("sni_matches_cert", Field::Chain(Chain::NameMatches)),
+    ("cert_error", Field::Chain(Chain::ServerFaults)),
+    (
+        "client_subject",
+        Field::ClientCertificate(Certified::Subject),
+    ),
+    ("client_issuer", Field::ClientCertificate(Certified::Issuer)),
+    ("client_cert_error", Field::Chain(Chain::ClientFaults)),
     ("ja3", Field::Print(Print::Ja3)),
     ("ja3_string", Field::Print(Print::Ja3Text)),
     ("ja3s", Field::Print(Print::Ja3s)),
@@ -258,4 +331,72 @@ pub static PARTS: &[Column<Part>] = &[
     ("content_type", Part::ContentType),
     ("name", Part::Name),
     ("message", Part::Message),
+];
+
+/// The fields of a certificate's line, in their order. The names are those of Zeek's x509.log where Zeek has the thing.
+pub static DETAILS: &[Column<Detail>] = &[
+    ("ts", Detail::End(End::Time)),
+    ("id.orig_h", Detail::End(End::Originator)),
+    ("id.orig_p", Detail::End(End::OriginatorPort)),
+    ("id.resp_h", Detail::End(End::Responder)),
+    ("id.resp_p", Detail::End(End::ResponderPort)),
+    ("proto", Detail::End(End::Protocol)),
+    ("side", Detail::Side),
+    ("place", Detail::Place),
+    ("fingerprint", Detail::Print),
+    ("length", Detail::Length),
+    (
+        "certificate.version",
+        Detail::Certificate(Certified::Version),
+    ),
+    ("certificate.serial", Detail::Certificate(Certified::Serial)),
+    (
+        "certificate.subject",
+        Detail::Certificate(Certified::Subject),
+    ),
+    ("certificate.issuer", Detail::Certificate(Certified::Issuer)),
+    (
+        "certificate.not_valid_before",
+        Detail::Certificate(Certified::ValidFrom),
+    ),
+    (
+        "certificate.not_valid_after",
+        Detail::Certificate(Certified::ValidUntil),
+    ),
+    (
+        "certificate.key_alg",
+        Detail::Certificate(Certified::KeyAlgorithm),
+    ),
+    (
+        "certificate.sig_alg",
+        Detail::Certificate(Certified::SignatureAlgorithm),
+    ),
+    (
+        "certificate.key_type",
+        Detail::Certificate(Certified::KeyType),
+    ),
+    (
+        "certificate.key_length",
+        Detail::Certificate(Certified::KeyLength),
+    ),
+    ("certificate.curve", Detail::Certificate(Certified::Curve)),
+    ("san.dns", Detail::Certificate(Certified::DnsNames)),
+    ("san.uri", Detail::Certificate(Certified::Uris)),
+    ("san.email", Detail::Certificate(Certified::Emails)),
+    ("san.ip", Detail::Certificate(Certified::Addresses)),
+    ("san.other", Detail::Certificate(Certified::OtherNames)),
+    (
+        "basic_constraints.ca",
+        Detail::Certificate(Certified::MayBeCa),
+    ),
+    (
+        "basic_constraints.path_len",
+        Detail::Certificate(Certified::PathLength),
+    ),
+    ("key_usage", Detail::Certificate(Certified::KeyUsage)),
+    ("ext_key_usage", Detail::Certificate(Certified::Purposes)),
+    ("self_issued", Detail::Certificate(Certified::SelfIssued)),
+    ("host_cert", Detail::IsServers),
+    ("client_cert", Detail::IsClients),
+    ("error", Detail::Fault),
 ];

@@ -1,5 +1,6 @@
 //! What both hellos and the certificates say, as fields.
 use crate::cell::Cell;
+use crate::certificates::fault_name;
 use crate::columns::{Answer, Chain, Offer};
 use crate::suites::Suites;
 use crate::text::{
@@ -11,6 +12,8 @@ use tls_base::{NamedGroup, TlsVersion};
 use tls_ext::{ExtensionType, KeyShareEntry};
 use tls_facts::{CertificateFacts, Facts};
 use tls_fields::{Counted1, Items};
+use x509::Certificate;
+use x509_text::matches_host;
 
 fn versions(alloc: Global, list: Items<'_, TlsVersion>) -> Result<Option<Cell>, AllocError> {
     let mut all = Vec::new(alloc);
@@ -187,8 +190,34 @@ fn prints_cell(alloc: Global, chain: &[CertificateFacts]) -> Result<Option<Cell>
     Ok(some_texts(all))
 }
 
-/// The certificates that are read. The lengths and fingerprints of an empty chain are missing.
-pub fn chain_cell(alloc: Global, facts: &Facts, field: &Chain) -> Result<Option<Cell>, AllocError> {
+/// Which certificates of a chain aren't read, and why, as `0:verify`; nothing where all are.
+fn faults_cell(alloc: Global, chain: &[CertificateFacts]) -> Result<Option<Cell>, AllocError> {
+    let mut all = Vec::new(alloc);
+    for (place, one) in chain.iter().enumerate() {
+        if let Some(fault) = one.fault {
+            let text = format!(in alloc; "{place}:{}", fault_name(fault));
+            add_text(&mut all, text)?;
+        }
+    }
+    Ok(some_texts(all))
+}
+
+/// Whether the host that was asked for is one of the names of the server's own certificate (RFC 9525, section 6.3); nothing where there is no such host, or no
+/// such certificate.
+fn match_cell(facts: &Facts, certificate: &Option<Certificate<'_>>) -> Option<Cell> {
+    match (facts.server_name(), certificate) {
+        (Some(host), Some(certificate)) => Some(Cell::Mark(matches_host(certificate, host))),
+        _ => None,
+    }
+}
+
+/// The certificates of both sides, of which the server's own is given where it is read. The lengths and fingerprints of an empty chain are missing.
+pub fn chain_cell(
+    alloc: Global,
+    facts: &Facts,
+    own: &Option<Certificate<'_>>,
+    field: &Chain,
+) -> Result<Option<Cell>, AllocError> {
     let (server, client) = (&facts.server_certificates, &facts.client_certificates);
     match field {
         Chain::ServerCount => Ok(count_cell(server)),
@@ -198,5 +227,8 @@ pub fn chain_cell(alloc: Global, facts: &Facts, field: &Chain) -> Result<Option<
         Chain::ClientCount => Ok(count_cell(client)),
         Chain::ClientLengths => lengths_cell(alloc, certificates(client)),
         Chain::ClientPrints => prints_cell(alloc, certificates(client)),
+        Chain::NameMatches => Ok(match_cell(facts, own)),
+        Chain::ServerFaults => faults_cell(alloc, certificates(server)),
+        Chain::ClientFaults => faults_cell(alloc, certificates(client)),
     }
 }

@@ -1,14 +1,18 @@
 //! The lines of a log of connections: what stands in one, and how it is written.
 //!
 //! [`Style`] says which lines there are, with which fields, and writes them: [`row_of`] makes the line of a connection of its [`Summary`],
-//! and [`message_row`] that of a message. [`Speech`] reads the messages of both sides. The names of fields are those of Zeek's logs.
+//! [`message_row`] that of a message, and [`certificate_row`] that of a certificate. [`Speech`] reads the messages of both sides, and [`Chains`] has their
+//! certificates. The names of fields are those of Zeek's logs.
 #![tactic(auto)]
 
 mod cell;
+mod certificates;
+mod chains;
 mod columns;
 mod hellos;
 mod line;
 mod names;
+mod presented;
 mod prints;
 mod speech;
 mod spoken;
@@ -18,9 +22,11 @@ mod summary;
 mod text;
 
 pub use cell::Row;
+pub use chains::{Chains, Presented};
 pub use line::row_of;
+pub use presented::certificate_row;
 pub use speech::{Speech, Spoken};
 pub use spoken::message_row;
-pub use style::{Format, Lines, Style, StyleError};
+pub use style::{Format, LineKind, Lines, Style, StyleError};
 pub use suites::Suites;
 pub use summary::{Party, Summary};

@@ -1,6 +1,7 @@
 //! The line of a connection.
 use crate::cell::{Cell, Row, StopCell};
-use crate::columns::{Course, End, FIELDS, Field, Named, Sent};
+use crate::certificates::{certificate_of, certified_cell};
+use crate::columns::{Certified, Course, End, FIELDS, Field, Named, Sent};
 use crate::hellos::{answer_cell, chain_cell, offer_cell, other_names_cell};
 use crate::names::{REASONS, kind_name, outcome_name, reason_name, sender_name};
 use crate::prints::print_cell;
@@ -16,6 +17,7 @@ use tls_base::TlsAlertDescription;
 use tls_facts::Facts;
 use tls_flow::Stop;
 use tls_json::alert_name;
+use x509::Certificate;
 
 /// Nanoseconds as seconds, to the microsecond.
 fn seconds(nanoseconds: u64) -> Cell {
@@ -172,21 +174,39 @@ fn sent_cell(
     }
 }
 
-/// What one field says of a connection; nothing where it is missing.
-fn cell_of(
+/// A connection, and the certificates of both sides' own, if they are read.
+#[derive(Drop)]
+struct Told<'a> {
+    suites: &'a Suites,
+    summary: &'a Summary<'a>,
+    server: Option<Certificate<'a>>,
+    client: Option<Certificate<'a>>,
+}
+
+/// What one field says of a certificate, if there is one.
+fn own_cell(
     alloc: Global,
-    suites: &Suites,
-    summary: &Summary<'_>,
-    field: &Field,
+    certificate: &Option<Certificate<'_>>,
+    field: &Certified,
 ) -> Result<Option<Cell>, AllocError> {
-    let facts = summary.facts;
+    match certificate {
+        Some(certificate) => certified_cell(alloc, certificate, field),
+        None => Ok(None),
+    }
+}
+
+/// What one field says of a connection; nothing where it is missing.
+fn cell_of(alloc: Global, told: &Told<'_>, field: &Field) -> Result<Option<Cell>, AllocError> {
+    let (suites, summary, facts) = (told.suites, told.summary, told.summary.facts);
     match field {
         Field::End(field) => end_cell(alloc, summary, summary.first_time, field),
         Field::Named(field) => named_cell(alloc, suites, facts, field),
         Field::Course(field) => course_cell(alloc, summary, field),
         Field::Offer(field) => offer_cell(alloc, suites, facts, field),
         Field::Answer(field) => answer_cell(alloc, facts, field),
-        Field::Chain(field) => chain_cell(alloc, facts, field),
+        Field::Chain(field) => chain_cell(alloc, facts, &told.server, field),
+        Field::ServerCertificate(field) => own_cell(alloc, &told.server, field),
+        Field::ClientCertificate(field) => own_cell(alloc, &told.client, field),
         Field::Print(field) => print_cell(alloc, facts, summary.protocol, field),
         Field::Sent(side, field) => sent_cell(alloc, summary, *side, field),
     }
@@ -199,10 +219,17 @@ pub fn row_of(
     places: &[usize],
     summary: &Summary<'_>,
 ) -> Result<Row, AllocError> {
+    let facts = summary.facts;
+    let told = Told {
+        suites,
+        summary,
+        server: certificate_of(facts.server_certificate.as_deref()),
+        client: certificate_of(facts.client_certificate.as_deref()),
+    };
     let mut cells = Vec::with_capacity(alloc, places.len())?;
     for place in places {
         if let Some((name, field)) = FIELDS.get(*place) {
-            let cell = cell_of(alloc, suites, summary, field)?;
+            let cell = cell_of(alloc, &told, field)?;
             cells.push((*name, cell))?;
         }
     }

@@ -4,7 +4,7 @@ use std::alloc::{AllocError, Global};
 use std::mem;
 use tls_base::{TlsHandshakeType, TlsMessageAlert};
 use tls_conversations::Said;
-use tls_flow::Direction;
+use tls_flow::{Direction, HandshakeMessage};
 use tls_json::{AlertMessage, ChangeCipherSpec, Chosen, HeartbeatMessage, Message, message_name};
 
 /// What stands in a message, by its fields.
@@ -81,39 +81,40 @@ fn handshake_name(message: &[u8]) -> Option<&'static str> {
     message_name(TlsHandshakeType(*kind))
 }
 
-/// A handshake message of TLS, its header first; it may be a ServerHello that chooses.
+/// A handshake message of TLS by its bytes, its header first, and as it was read, where it is whole; it may be a ServerHello that chooses.
 fn handshake_word(
     alloc: Global,
     chosen: &mut Option<Chosen>,
-    message: &[u8],
+    bytes: &[u8],
+    message: Option<&HandshakeMessage<'_>>,
 ) -> Result<Word, AllocError> {
-    if let Some(choice) = Chosen::new(message) {
-        *chosen = Some(choice);
-    }
-    let name = handshake_name(message);
-    match Message::new(alloc, *chosen, message)? {
-        Some(read) => Word::new(alloc, 22, name, Body::Handshake(read)),
-        None => Ok(Word {
+    let name = handshake_name(bytes);
+    let Some(message) = message else {
+        return Ok(Word {
             content_type: 22,
             name,
             body: None,
-        }),
+        });
+    };
+    if let Some(choice) = Chosen::of(message) {
+        *chosen = Some(choice);
     }
+    let read = Message::of(alloc, *chosen, message)?;
+    Word::new(alloc, 22, name, Body::Handshake(read))
 }
 
-/// A handshake message of DTLS; it may be a ServerHello that chooses.
+/// A handshake message of DTLS, and its number; it may be a ServerHello that chooses.
 fn handshake_word_of_datagrams(
     alloc: Global,
     chosen: &mut Option<Chosen>,
-    message: &dtls_stream::Message,
+    message_seq: u16,
+    message: &HandshakeMessage<'_>,
 ) -> Result<Word, AllocError> {
-    let body = message.body.as_slice();
-    if let Some(choice) = Chosen::of_datagrams(message.msg_type, body) {
+    if let Some(choice) = Chosen::of(message) {
         *chosen = Some(choice);
     }
     let name = message_name(message.msg_type);
-    let number = message.message_seq;
-    let read = Message::of_datagrams(alloc, *chosen, message.msg_type, number, body)?;
+    let read = Message::of_datagram_message(alloc, *chosen, message_seq, message)?;
     Word::new(alloc, 22, name, Body::Handshake(read))
 }
 
@@ -166,10 +167,11 @@ impl Kept {
         alloc: Global,
         direction: Direction,
         event: &tls_conversations::Event<'_>,
+        message: Option<&HandshakeMessage<'_>>,
     ) -> Result<(), AllocError> {
         match event {
-            tls_conversations::Event::Handshake(message) => {
-                let word = handshake_word(alloc, &mut self.chosen, message);
+            tls_conversations::Event::Handshake(bytes) => {
+                let word = handshake_word(alloc, &mut self.chosen, bytes, message);
                 self.keep(direction, word)
             }
             tls_conversations::Event::ChangeCipherSpec => {
@@ -192,10 +194,15 @@ impl Kept {
         alloc: Global,
         direction: Direction,
         event: &dtls_stream::Event<'_>,
+        message: Option<&HandshakeMessage<'_>>,
     ) -> Result<(), AllocError> {
         match event {
-            dtls_stream::Event::Handshake(message) => {
-                let word = handshake_word_of_datagrams(alloc, &mut self.chosen, message);
+            dtls_stream::Event::Handshake(whole) => {
+                let Some(message) = message else {
+                    return Ok(());
+                };
+                let number = whole.message_seq;
+                let word = handshake_word_of_datagrams(alloc, &mut self.chosen, number, message);
                 self.keep(direction, word)
             }
             dtls_stream::Event::ChangeCipherSpec => self.keep(direction, change_word(alloc)),
@@ -227,10 +234,15 @@ impl Speech {
         }
     }
 
-    /// Keeps what a side of TLS says, where that is a message in the clear.
-    pub fn hear_said(&mut self, direction: Direction, said: &Said<'_>) -> Result<(), AllocError> {
+    /// Keeps what a side of TLS says, where that is a message in the clear; `message` is the handshake message that it is.
+    pub fn hear_said(
+        &mut self,
+        direction: Direction,
+        said: &Said<'_>,
+        message: Option<&HandshakeMessage<'_>>,
+    ) -> Result<(), AllocError> {
         match said {
-            Said::Event(event) => self.kept.hear_event(self.alloc, direction, event),
+            Said::Event(event) => self.kept.hear_event(self.alloc, direction, event, message),
             Said::Fault(_) => Ok(()),
         }
     }
@@ -240,8 +252,10 @@ impl Speech {
         &mut self,
         direction: Direction,
         event: &dtls_stream::Event<'_>,
+        message: Option<&HandshakeMessage<'_>>,
     ) -> Result<(), AllocError> {
-        self.kept.hear_datagrams_event(self.alloc, direction, event)
+        self.kept
+            .hear_datagrams_event(self.alloc, direction, event, message)
     }
 
     /// Takes out the messages that are kept.

@@ -1,6 +1,6 @@
 //! What is printed, and how.
 use crate::cell::{Cell, Row};
-use crate::columns::{Column, FIELDS, PARTS};
+use crate::columns::{Column, DETAILS, FIELDS, PARTS};
 use crate::suites::Suites;
 use crate::text::add_text;
 use csv::WriterBuilder;
@@ -16,6 +16,17 @@ pub enum Format {
     Csv,
 }
 
+/// What has a line of its own.
+#[derive(Clone, Copy, Debug, PartialEq, Eq)]
+pub enum LineKind {
+    /// Each connection, at its end.
+    Connections,
+    /// Each message, as it comes.
+    Messages,
+    /// Each certificate, as it comes.
+    Certificates,
+}
+
 /// What has a line of its own, and the fields of that.
 #[derive(Drop)]
 pub enum Lines {
@@ -23,6 +34,8 @@ pub enum Lines {
     Connections(Vec<usize>),
     /// Each message, as it comes: places in [`PARTS`].
     Messages(Vec<usize>),
+    /// Each certificate, as it comes: places in [`DETAILS`].
+    Certificates(Vec<usize>),
 }
 
 /// What is printed, and how.
@@ -43,6 +56,10 @@ pub enum StyleError<'a> {
     UnknownField(&'a str),
     /// The line of a message has no field of that name.
     UnknownPart(&'a str),
+    /// The line of a certificate has no field of that name.
+    UnknownDetail(&'a str),
+    /// Both messages and certificates are to have lines.
+    TwoKinds,
     /// That field is named twice.
     DoubledField(&'a str),
     /// Memory ran out.
@@ -81,6 +98,16 @@ impl Display for StyleError<'_> {
                     "no field {name} goes with --messages; the fields of a message are "
                 )?;
                 write_names(PARTS, f)
+            }
+            StyleError::UnknownDetail(name) => {
+                write!(
+                    f,
+                    "no field {name} goes with --certificates; the fields of a certificate are "
+                )?;
+                write_names(DETAILS, f)
+            }
+            StyleError::TwoKinds => {
+                f.write_str("--messages and --certificates don't go together")
             }
             StyleError::DoubledField(name) => write!(f, "the field {name} is named twice"),
             StyleError::OutOfMemory => f.write_str("out of memory"),
@@ -122,19 +149,24 @@ fn chosen<'a, T>(
 }
 
 impl Lines {
-    /// Those of connections, or of messages, with these fields, whose names stand with `,` between them; with all where none are named.
+    /// Those of that kind, with these fields, whose names stand with `,` between them; with all where none are named.
     pub fn new(
         alloc: Global,
-        are_messages: bool,
+        kind: LineKind,
         names: Option<&str>,
     ) -> Result<Lines, StyleError<'_>> {
-        if !are_messages {
-            return Ok(Lines::Connections(chosen(alloc, FIELDS, names)?));
-        }
-        match chosen(alloc, PARTS, names) {
-            Ok(places) => Ok(Lines::Messages(places)),
-            Err(StyleError::UnknownField(name)) => Err(StyleError::UnknownPart(name)),
-            Err(e) => Err(e),
+        match kind {
+            LineKind::Connections => Ok(Lines::Connections(chosen(alloc, FIELDS, names)?)),
+            LineKind::Messages => match chosen(alloc, PARTS, names) {
+                Ok(places) => Ok(Lines::Messages(places)),
+                Err(StyleError::UnknownField(name)) => Err(StyleError::UnknownPart(name)),
+                Err(e) => Err(e),
+            },
+            LineKind::Certificates => match chosen(alloc, DETAILS, names) {
+                Ok(places) => Ok(Lines::Certificates(places)),
+                Err(StyleError::UnknownField(name)) => Err(StyleError::UnknownDetail(name)),
+                Err(e) => Err(e),
+            },
         }
     }
 }
@@ -193,6 +225,7 @@ impl Style {
         let names = match &self.lines {
             Lines::Connections(places) => names_of(alloc, FIELDS, places.as_slice())?,
             Lines::Messages(places) => names_of(alloc, PARTS, places.as_slice())?,
+            Lines::Certificates(places) => names_of(alloc, DETAILS, places.as_slice())?,
         };
         Ok(Some(record(alloc, names.as_slice())?))
     }

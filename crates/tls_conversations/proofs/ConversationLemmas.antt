@@ -30,8 +30,6 @@ use Rattle.std.proofs.Common.{
   ap,
   subst,
   arith,
-  append_assoc,
-  append-nil,
 }
 use Rattle.std.specs.Borrow.{Bor}
 use Rattle.std.proofs.Math.Seq.{take-suc}
@@ -40,20 +38,17 @@ use Rattle.tls_fields.specs.Bytes.{Bytes}
 use Rattle.tls_events.specs.Item.{Event as Said}
 use Rattle.tls_words.specs.Words.{run}
 use Rattle.tls_words.proofs.MachineLemmas.{run_on}
-use Rattle.tls_flow.specs.Letters.{letters_of}
-use Rattle.tls_flow.specs.Steps.{follow, silence}
-use Rattle.tls_flow.specs.Conversations.{IsOutcome}
+use Rattle.tls_flow.specs.Steps.{follow}
 use Rattle.tls_flow.specs.Table.{outcome_at}
 use Rattle.tls_flow.specs.declared.event.Event.{Event}
-use Rattle.tls_flow.specs.declared.flow.Flow.{Flow}
 use Rattle.tls_flow.specs.declared.letter.Direction.{Direction as Side}
 use Rattle.tls_flow.specs.declared.letter.Direction.TheVariants.{ToServer, FromServer}
 use Rattle.tls_flow.proofs.FlowLemmas.{told_of_flow}
 use Rattle.tls_conversations.specs.Conversations.{
-  AreEvents,
   Hears,
   IsBegun,
   IsBehind,
+  IsEventOf,
   IsFedBy,
   IsFollowed,
   IsHeard,
@@ -159,6 +154,54 @@ at_server c m d s v e t n at is front e_is off f =
     (ap (λ (x : Conversation). x.client) is) (ap (λ (x : Conversation). x.is_tls13) is)
     (ap (λ (x : Conversation). x.flow) is) f)
     front e_is
+
+-- What stands in front of a side was taken off, and its event followed.
+pub client_taken : (c m d : Conversation) (s : Side) (e : Event) (t : Bool) (n : Ear) → s ≡ ToServer
+    → m ≡ record c { client = n } → IsTaken (front_of c.client) c.client t n → t ≡ true → IsFollowed m e d
+    → IsEventOf e s (front_of (ear c s)) → IsTakenBy (front_of (ear c s)) c s true d
+client_taken c m d s e t n at is off took f same =
+    subst (λ s. IsEventOf e s (front_of (ear c s)) → IsTakenBy (front_of (ear c s)) c s true d) (sym at)
+    (by (front_of c.client) refl off) same
+  where
+    by : (o : Option Said) → front_of c.client ≡ o → IsTaken o c.client t n
+        → IsEventOf e ToServer (front_of c.client) → IsTakenBy (front_of c.client) c ToServer true d
+    by None front none same = let bad : true ≡ false = sym took ∙ none.0 in absurd cc
+    by (Some v) front some same =
+        at_client c m d ToServer v e t n refl is (sym front) (subst (IsEventOf e ToServer) front same) off f
+
+pub server_taken : (c m d : Conversation) (s : Side) (e : Event) (t : Bool) (n : Ear) → s ≡ FromServer
+    → m ≡ record c { server = n } → IsTaken (front_of c.server) c.server t n → t ≡ true → IsFollowed m e d
+    → IsEventOf e s (front_of (ear c s)) → IsTakenBy (front_of (ear c s)) c s true d
+server_taken c m d s e t n at is off took f same =
+    subst (λ s. IsEventOf e s (front_of (ear c s)) → IsTakenBy (front_of (ear c s)) c s true d) (sym at)
+    (by (front_of c.server) refl off) same
+  where
+    by : (o : Option Said) → front_of c.server ≡ o → IsTaken o c.server t n
+        → IsEventOf e FromServer (front_of c.server) → IsTakenBy (front_of c.server) c FromServer true d
+    by None front none same = let bad : true ≡ false = sym took ∙ none.0 in absurd cc
+    by (Some v) front some same =
+        at_server c m d FromServer v e t n refl is (sym front) (subst (IsEventOf e FromServer) front same) off f
+
+-- Nothing stands there.
+pub client_silent : (c m : Conversation) (s : Side) (t : Bool) (n : Ear) → s ≡ ToServer
+    → m ≡ record c { client = n } → IsTaken (front_of c.client) c.client t n → t ≡ false
+    → IsTakenBy (front_of (ear c s)) c s false m
+client_silent c m s t n at is off none =
+    subst (λ s. IsTakenBy (front_of (ear c s)) c s false m) (sym at) (by (front_of c.client) off)
+  where
+    by : (o : Option Said) → IsTaken o c.client t n → IsTakenBy o c ToServer false m
+    by None off = (refl, is ∙ ap (λ x. record c { client = x }) off.1)
+    by (Some v) off = let bad : true ≡ false = sym off.0 ∙ none in absurd cc
+
+pub server_silent : (c m : Conversation) (s : Side) (t : Bool) (n : Ear) → s ≡ FromServer
+    → m ≡ record c { server = n } → IsTaken (front_of c.server) c.server t n → t ≡ false
+    → IsTakenBy (front_of (ear c s)) c s false m
+server_silent c m s t n at is off none =
+    subst (λ s. IsTakenBy (front_of (ear c s)) c s false m) (sym at) (by (front_of c.server) off)
+  where
+    by : (o : Option Said) → IsTaken o c.server t n → IsTakenBy o c FromServer false m
+    by None off = (refl, is ∙ ap (λ x. record c { server = x }) off.1)
+    by (Some v) off = let bad : true ≡ false = sym off.0 ∙ none in absurd cc
 
 -- All that a side says is taken off, one after the other: what it says then, it said behind what was taken.
 pub record IsOn (c : Conversation) (s : Side) (m : Conversation) : Type 0 where

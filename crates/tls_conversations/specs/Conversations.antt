@@ -11,7 +11,7 @@ use Rattle.tls_flow.specs.declared.letter.Direction.{Direction as Side}
 use Rattle.tls_flow.specs.declared.letter.Direction.TheVariants.{ToServer, FromServer}
 use Rattle.tls_flow.specs.declared.state.Outcome.{Outcome}
 use Rattle.tls_conversations.specs.Events.{chooses_tls13, event_of}
-use Rattle.tls_conversations.specs.Ears.{IsFed, IsFirst, IsReady, IsSilent, SaysAs, front_of, says, told}
+use Rattle.tls_conversations.specs.Ears.{IsFed, IsFirst, IsReady, IsSilent, SaysAs, says, told}
 use Rattle.tls_conversations.specs.declared.conversation.Conversation.{Conversation}
 use Rattle.tls_conversations.specs.declared.ear.Ear.{Ear}
 
@@ -97,3 +97,8 @@ IsOutcomeOf o limit ps = (es : List Event) × AreEvents limit ps es × IsOutcome
 abbrev pub IsTakenBy : Option Said → Conversation → Side → Bool → Conversation → Type 0
 IsTakenBy (Some v) c s taken d = (taken ≡ true) × IsBehind c s v d
 IsTakenBy None c s taken d = (taken ≡ false) × (d ≡ c)
+
+-- It is the event of what stands in front, if something does.
+abbrev pub IsEventOf : Event → Side → Option Said → Type 0
+IsEventOf e s (Some v) = e ≡ event_of s v
+IsEventOf e s None = Unit

@@ -3,7 +3,7 @@ ghost use Rattle.std.specs.Prelude.{◌≡◌, List, IfOk, IsErr, OnOk};
 ghost use Rattle.std.specs.Option.{option_map};
 ghost use Rattle.tls_events.specs.Item.{Event as Saying};
 ghost use Rattle.tls_flow.specs.Table.{outcome_at};
-ghost use Rattle.tls_conversations.specs.Conversations.{IsBegun, IsFedBy, IsFollowed, IsHeard, IsOutcomeOf, IsTakenBy, Says, ear as ear_of, views};
+ghost use Rattle.tls_conversations.specs.Conversations.{IsBegun, IsEventOf, IsFedBy, IsFollowed, IsHeard, IsOutcomeOf, IsTakenBy, Says, ear as ear_of, views};
 ghost use Rattle.tls_conversations.specs.Ears.{IsReady, front_of};
 ghost use Rattle.tls_conversations.specs.Events.{view_said};
 
@@ -93,6 +93,25 @@ impl Conversation {
         self.flow.update(event);
     }
 
+    /// Takes what the side says next off, and follows it as this event: true. Where nothing stands there nothing changes: false. It is for who
+    /// has made the event already.
+    ///
+    /// Where it is the first message that chooses TLS 1.3, both sides are read as TLS 1.3 from there on.
+    pub fn take_front_as(&mut self, side: Direction, event: Event) -> bool
+        ensures taken { IsEventOf event side (front_of (ear_of self.old side)) → IsTakenBy (front_of (ear_of self.old side)) self.old side result self.new }
+        ensures ready { IsReady (ear_of self.old side) → IsReady (ear_of self.new side) }
+    {
+        let is_taken = match side {
+            Direction::ToServer => self.client.take_front(),
+            Direction::FromServer => self.server.take_front(),
+        };
+        if !is_taken {
+            return false;
+        }
+        self.follow(event);
+        true
+    }
+
     /// Takes what the side says next off, and follows it: true. Where nothing stands there nothing changes: false.
     ///
     /// Where it is the first message that chooses TLS 1.3, both sides are read as TLS 1.3 from there on.
@@ -104,12 +123,7 @@ impl Conversation {
             Some(said) => said_event(&said, side),
             None => return false,
         };
-        match side {
-            Direction::ToServer => self.client.take_front(),
-            Direction::FromServer => self.server.take_front(),
-        };
-        self.follow(event);
-        true
+        self.take_front_as(side, event)
     }
 
     /// Takes all that the side says off, one after the other, and follows it.

@@ -3,16 +3,15 @@ use Rattle.std.proofs.Common.{◌≡◌, ℕ, ◌==◌, ◌&&◌, ◌||◌, not,
 use Rattle.std.specs.Prelude.{if◌then◌else◌, is_some}
 use Rattle.std.specs.Str.{bytes_eq}
 use Rattle.tls_fields.specs.Bytes.{Bytes}
-use Rattle.tls_fields.specs.Framed.{Framed}
 use Rattle.tls_fields.specs.Meaning.{Answer}
 use Rattle.tls_fields.specs.Reading.{reading}
 use Rattle.tls_hs.specs.Certificate.{certificate}
 use Rattle.tls_hs.specs.Handshake as handshakes
 use Rattle.tls_hs.specs.Hello as client
-use Rattle.tls_hs.specs.InPlace.{raw_handshake}
 use Rattle.tls_hs.specs.ServerHello as server
 use Rattle.ssl2_hello.specs.ClientHello as ssl2
 use Rattle.tls_parser.specs.DtlsHello as datagram
+use Rattle.tls_flow.specs.Bytes.{HandshakeMessage, datagram_message, message_of}
 use Rattle.tls_flow.specs.declared.letter.Direction.{Direction as Side}
 use Rattle.tls_flow.specs.declared.letter.Direction.TheVariants.{ToServer, FromServer}
 use Rattle.tls_facts.specs.Exchange.{curve_by}
@@ -34,12 +33,11 @@ use Rattle.tls_facts.specs.Facts.{
   of_client_hello,
   of_datagram_client_hello,
   of_datagram_message,
-  of_datagram_server_hello,
+  of_datagrams,
   of_draft,
   of_message,
+  of_message_if,
   of_other,
-  of_raw,
-  of_server_body,
   of_server_hello,
   of_ssl2,
   retried,
@@ -147,27 +145,22 @@ client_hello_keeps : (s : Side) (a : Answer client.ClientHello) (f : Facts) → 
 client_hello_keeps s (Ok x) f = asked_keeps s x.0 f
 client_hello_keeps s (Err e) f = stays s f
 
-server_hello_keeps : (s : Side) (a : Answer handshakes.Handshake) (f : Facts) → KeepsHellos s f (of_server_hello s a f)
-server_hello_keeps s (Ok (handshakes.ServerHello h, rest)) f = chosen_keeps s h f
-server_hello_keeps s (Ok (handshakes.ServerHelloV13Draft18 h, rest)) f = chosen_keeps s (of_draft h) f
+server_hello_keeps : (s : Side) (h : Option handshakes.Handshake) (f : Facts) → KeepsHellos s f (of_server_hello s h f)
+server_hello_keeps s (Some (handshakes.ServerHello h)) f = chosen_keeps s h f
+server_hello_keeps s (Some (handshakes.ServerHelloV13Draft18 h)) f = chosen_keeps s (of_draft h) f
 server_hello_keeps s _ f = stays s f
 
-server_body_keeps : (s : Side) (a : Answer handshakes.Handshake) (b : Bytes) (f : Facts)
-    → KeepsHellos s f (of_server_body s a b f)
-server_body_keeps s (Ok x) b f = server_hello_keeps s (Ok x) f
-server_body_keeps s (Err e) b f = server_hello_keeps s (reading handshakes.server_hello_of_draft_body b) f
-
-message_keeps : (s : Side) (n : ℕ) (b : Bytes) (f : Facts) → KeepsHellos s f (of_message s n b f)
-message_keeps s n b f =
-    if_keeps s f (n == 1) _ _ (client_hello_keeps s (reading client.client_hello b) f)
-    (if_keeps s f (n == 2) _ _ (server_body_keeps s (reading handshakes.server_hello_body b) b f) (other_keeps s n b f))
+message_keeps : (s : Side) (m : HandshakeMessage) (f : Facts) → KeepsHellos s f (of_message s m f)
+message_keeps s m f =
+    if_keeps s f (m.msg_type == 1) _ _ (client_hello_keeps s (reading client.client_hello m.body) f)
+    (if_keeps s f (m.msg_type == 2) _ _ (server_hello_keeps s m.server_hello f) (other_keeps s m.msg_type m.body f))
 
 pub bytes_keep : (s : Side) (b : Bytes) (f : Facts) → KeepsHellos s f (of_bytes s b f)
-bytes_keep s b f = go (reading raw_handshake b)
+bytes_keep s b f = go (message_of b)
   where
-    go : (a : Answer Framed) → KeepsHellos s f (of_raw s a f)
-    go (Ok x) = message_keeps s x.0.kind x.0.content f
-    go (Err e) = stays s f
+    go : (m : Option HandshakeMessage) → KeepsHellos s f (of_message_if s m f)
+    go (Some m) = message_keeps s m f
+    go None = stays s f
 
 datagram_client_hello_keeps : (s : Side) (a : Answer datagram.ClientHello) (f : Facts)
     → KeepsHellos s f (of_datagram_client_hello s a f)
@@ -175,16 +168,14 @@ datagram_client_hello_keeps s (Ok x) f =
     if_keeps s f (is_behind_first x.1 f) f (asked s x.0.hello f) (stays s f) (asked_keeps s x.0.hello f)
 datagram_client_hello_keeps s (Err e) f = stays s f
 
-datagram_server_hello_keeps : (s : Side) (a : Answer server.ServerHello) (f : Facts)
-    → KeepsHellos s f (of_datagram_server_hello s a f)
-datagram_server_hello_keeps s (Ok x) f = chosen_keeps s x.0 f
-datagram_server_hello_keeps s (Err e) f = stays s f
+datagrams_keep : (s : Side) (m : HandshakeMessage) (f : Facts) → KeepsHellos s f (of_datagrams s m f)
+datagrams_keep s m f =
+    if_keeps s f (m.msg_type == 1) _ _ (datagram_client_hello_keeps s (reading datagram.client_hello m.body) f)
+    (if_keeps s f (m.msg_type == 2) _ _ (server_hello_keeps s m.server_hello f)
+    (if_keeps s f (m.msg_type == 3) _ _ (verified_keeps s f) (other_keeps s m.msg_type m.body f)))
 
 pub datagram_message_keeps : (s : Side) (n : ℕ) (b : Bytes) (f : Facts) → KeepsHellos s f (of_datagram_message s n b f)
-datagram_message_keeps s n b f =
-    if_keeps s f (n == 1) _ _ (datagram_client_hello_keeps s (reading datagram.client_hello b) f)
-    (if_keeps s f (n == 2) _ _ (datagram_server_hello_keeps s (reading server.server_hello_any b) f)
-    (if_keeps s f (n == 3) _ _ (verified_keeps s f) (other_keeps s n b f)))
+datagram_message_keeps s n b f = datagrams_keep s (datagram_message n b) f
 
 pub alert_keeps : (s : Side) (n : ℕ) (f : Facts) → KeepsHellos s f (of_alert n f)
 alert_keeps s n f = beside s f (of_alert n f) refl refl refl

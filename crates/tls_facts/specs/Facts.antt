@@ -2,7 +2,6 @@
 use Rattle.std.specs.Prelude.{◌≡◌, ℕ, Bool, true, false, not, ◌&&◌, ◌||◌, ◌==◌, if◌then◌else◌, List, [], ◌∷◌, Option, Some, None, is_some, option_map, Ok, Err, length}
 use Rattle.std.specs.Str.{bytes_eq}
 use Rattle.tls_fields.specs.Bytes.{Bytes}
-use Rattle.tls_fields.specs.Framed.{Framed}
 use Rattle.tls_fields.specs.Items.{items_in}
 use Rattle.tls_fields.specs.Layout.{number}
 use Rattle.tls_fields.specs.Meaning.{Answer}
@@ -12,16 +11,16 @@ use Rattle.ssl2_hello.specs.ClientHello as ssl2
 use Rattle.tls_hs.specs.Certificate.{certificate}
 use Rattle.tls_hs.specs.Handshake as handshakes
 use Rattle.tls_hs.specs.Hello as client
-use Rattle.tls_hs.specs.InPlace.{raw_handshake}
 use Rattle.tls_hs.specs.ServerHello as server
 use Rattle.tls_parser.specs.DtlsHello as datagram
+use Rattle.tls_flow.specs.Bytes.{HandshakeMessage, datagram_message, message_of}
 use Rattle.tls_flow.specs.declared.letter.Direction.{Direction as Side}
 use Rattle.tls_flow.specs.declared.letter.Direction.TheVariants.{ToServer, FromServer}
 use Rattle.tls_flow.specs.declared.letter.Kind.{Kind}
 use Rattle.tls_flow.specs.declared.letter.Kind.TheVariants as kind
 use Rattle.tls_facts.specs.Exchange.{curve_by}
 use Rattle.tls_facts.specs.Hellos.{share_group_in}
-use Rattle.tls_facts.specs.Parts.{facts_of_all, view_client, view_server}
+use Rattle.tls_facts.specs.Parts.{facts_of_all, first_of, view_client, view_server}
 use Rattle.tls_facts.specs.declared.facts.Facts as rust
 use Rattle.tls_facts.specs.declared.parts.CertificateFacts.{CertificateFacts}
 
@@ -31,9 +30,11 @@ pub record Facts : Type 0 where
   pub server : Option server.ServerHello
   -- the group of the key exchange: of the server's key share, or of its ServerKeyExchange
   pub curve : Option ℕ
-  -- the last Certificate of each side
+  -- the last Certificate of each side, and the certificate of its own in it
   pub client_certificates : Option (List CertificateFacts)
   pub server_certificates : Option (List CertificateFacts)
+  pub client_certificate : Option Bytes
+  pub server_certificate : Option Bytes
   -- whether the server asked for another ClientHello, which didn't come yet
   pub is_asked_again : Bool
   -- whether a HelloRetryRequest came, a CertificateRequest, a CertificateStatus, a NewSessionTicket
@@ -53,6 +54,8 @@ view_facts f = record {
   curve = option_map (λ g. g.0) f.curve;
   client_certificates = option_map (λ v. v.items) f.client_certificates;
   server_certificates = option_map (λ v. v.items) f.server_certificates;
+  client_certificate = option_map (λ v. v.items) f.client_certificate;
+  server_certificate = option_map (λ v. v.items) f.server_certificate;
   is_asked_again = f.is_asked_again;
   is_retried = f.is_retried;
   requests_certificate = f.requests_certificate;
@@ -70,6 +73,8 @@ nothing = record {
   curve = None;
   client_certificates = None;
   server_certificates = None;
+  client_certificate = None;
+  server_certificate = None;
   is_asked_again = false;
   is_retried = false;
   requests_certificate = false;
@@ -174,10 +179,13 @@ exchanged_by (Some h) b f = record f { curve = curve_by h.cipher_suite b f.curve
 abbrev pub exchanged : Bytes → Facts → Facts
 exchanged b f = exchanged_by f.server b f
 
--- The last Certificate of that side (RFC 5246, section 7.4.2).
+-- The last Certificate of that side, whose own certificate comes first (RFC 5246, section 7.4.2).
+abbrev pub with_chain : Side → List CertificateFacts → Option Bytes → Facts → Facts
+with_chain ToServer chain own f = record f { client_certificates = Some chain; client_certificate = own }
+with_chain FromServer chain own f = record f { server_certificates = Some chain; server_certificate = own }
+
 abbrev pub certified : Side → Answer (List Bytes) → Facts → Facts
-certified ToServer (Ok x) f = record f { client_certificates = Some (facts_of_all x.0) }
-certified FromServer (Ok x) f = record f { server_certificates = Some (facts_of_all x.0) }
+certified s (Ok x) f = with_chain s (facts_of_all x.0) (first_of x.0) f
 certified s (Err e) f = f
 
 -- What a message that is no hello adds, by its side, its type and its body (RFC 5246, section 7.4). A HelloRetryRequest of its own type
@@ -196,30 +204,26 @@ abbrev pub of_client_hello : Side → Answer client.ClientHello → Facts → Fa
 of_client_hello s (Ok x) f = asked s x.0 f
 of_client_hello s (Err e) f = f
 
-abbrev pub of_server_hello : Side → Answer handshakes.Handshake → Facts → Facts
-of_server_hello s (Ok (handshakes.ServerHello h, rest)) f = chosen s h f
-of_server_hello s (Ok (handshakes.ServerHelloV13Draft18 h, rest)) f = chosen s (of_draft h) f
+-- A ServerHello, by the form that its version has.
+abbrev pub of_server_hello : Side → Option handshakes.Handshake → Facts → Facts
+of_server_hello s (Some (handshakes.ServerHello h)) f = chosen s h f
+of_server_hello s (Some (handshakes.ServerHelloV13Draft18 h)) f = chosen s (of_draft h) f
 of_server_hello s _ f = f
 
--- One that is refused may be that of a draft of TLS 1.3.
-abbrev pub of_server_body : Side → Answer handshakes.Handshake → Bytes → Facts → Facts
-of_server_body s (Ok x) b f = of_server_hello s (Ok x) f
-of_server_body s (Err e) b f = of_server_hello s (reading handshakes.server_hello_of_draft_body b) f
+-- What a message of TLS adds; one whose body is refused, as far as it is read, adds nothing.
+abbrev pub of_message : Side → HandshakeMessage → Facts → Facts
+of_message s m f =
+    if m.msg_type == 1 then of_client_hello s (reading client.client_hello m.body) f
+    else if m.msg_type == 2 then of_server_hello s m.server_hello f
+    else of_other s m.msg_type m.body f
 
--- What a message of TLS adds, by its type and its body; one whose body is refused, as far as it is read, adds nothing.
-abbrev pub of_message : Side → ℕ → Bytes → Facts → Facts
-of_message s n b f =
-    if n == 1 then of_client_hello s (reading client.client_hello b) f
-    else if n == 2 then of_server_body s (reading handshakes.server_hello_body b) b f
-    else of_other s n b f
-
-abbrev pub of_raw : Side → Answer Framed → Facts → Facts
-of_raw s (Ok x) f = of_message s x.0.kind x.0.content f
-of_raw s (Err e) f = f
+abbrev pub of_message_if : Side → Option HandshakeMessage → Facts → Facts
+of_message_if s (Some m) f = of_message s m f
+of_message_if s None f = f
 
 -- What a whole handshake message adds, by its bytes.
 abbrev pub of_bytes : Side → Bytes → Facts → Facts
-of_bytes s b f = of_raw s (reading raw_handshake b) f
+of_bytes s b f = of_message_if s (message_of b) f
 
 -- A second hello stands only if it is read to its end: its reader ends the handshake at one with more (RFC 5246, section 7.4.1.2).
 abbrev pub is_behind_first : Bytes → Facts → Bool
@@ -229,18 +233,18 @@ abbrev pub of_datagram_client_hello : Side → Answer datagram.ClientHello → F
 of_datagram_client_hello s (Ok x) f = if is_behind_first x.1 f then f else asked s x.0.hello f
 of_datagram_client_hello s (Err e) f = f
 
-abbrev pub of_datagram_server_hello : Side → Answer server.ServerHello → Facts → Facts
-of_datagram_server_hello s (Ok x) f = chosen s x.0 f
-of_datagram_server_hello s (Err e) f = f
+-- What a message of DTLS adds (RFC 6347, section 4.2): its ClientHello has a cookie, which a HelloVerifyRequest gives, and its versions are
+-- numbers of their own.
+abbrev pub of_datagrams : Side → HandshakeMessage → Facts → Facts
+of_datagrams s m f =
+    if m.msg_type == 1 then of_datagram_client_hello s (reading datagram.client_hello m.body) f
+    else if m.msg_type == 2 then of_server_hello s m.server_hello f
+    else if m.msg_type == 3 then verified s f
+    else of_other s m.msg_type m.body f
 
--- What a whole handshake message of DTLS adds, by its type and its body (RFC 6347, section 4.2): its ClientHello has a cookie, which a
--- HelloVerifyRequest gives, and its versions are numbers of their own.
+-- The same by its type and its body.
 abbrev pub of_datagram_message : Side → ℕ → Bytes → Facts → Facts
-of_datagram_message s n b f =
-    if n == 1 then of_datagram_client_hello s (reading datagram.client_hello b) f
-    else if n == 2 then of_datagram_server_hello s (reading server.server_hello_any b) f
-    else if n == 3 then verified s f
-    else of_other s n b f
+of_datagram_message s n b f = of_datagrams s (datagram_message n b) f
 
 -- What an alert adds.
 abbrev pub of_alert : ℕ → Facts → Facts

@@ -1,15 +1,20 @@
 -- What is kept of the hellos and the certificates of a connection.
-use Rattle.std.specs.Prelude.{List, map, length}
+use Rattle.std.specs.Prelude.{List, [], ◌∷◌, map, length, Option, Some, None, Ok, Err}
 use Rattle.std.specs.Option.{option_map}
 use Rattle.sha2.specs.Sha256.{sha256}
 use Rattle.tls_fields.specs.Bytes.{Bytes}
 use Rattle.tls_fields.specs.Layout.{number}
 use Rattle.tls_fields.specs.Items.{items_in}
+use Rattle.tls_fields.specs.Meaning.{Answer, Broken, Lacks}
+use Rattle.tls_fields.specs.Reading.{reading}
 use Rattle.tls_hs.specs.Hello as hello
 use Rattle.tls_hs.specs.ServerHello as server
+use Rattle.x509.specs.Certificate.{Certificate, certificate}
 use Rattle.tls_facts.specs.declared.parts.ClientParts.{ClientParts}
 use Rattle.tls_facts.specs.declared.parts.ServerParts.{ServerParts}
 use Rattle.tls_facts.specs.declared.parts.CertificateFacts.{CertificateFacts}
+use Rattle.tls_facts.specs.declared.parts.CertificateFault.{CertificateFault}
+use Rattle.tls_facts.specs.declared.parts.CertificateFault.TheVariants as fault
 
 -- The ClientHello whose parts these are.
 abbrev pub view_client : ClientParts → hello.ClientHello
@@ -33,9 +38,21 @@ view_server p = record {
   extensions = option_map (λ v. v.items) p.ext;
 }
 
-abbrev pub facts_of : Bytes → CertificateFacts
-facts_of b = record { length = length b; sha256 = sha256 b }
+-- Why a certificate isn't read (RFC 5280, section 4.1): nothing stands behind its last field.
+abbrev pub fault_by : Answer Certificate → Option CertificateFault
+fault_by (Ok (c, [])) = None
+fault_by (Ok (c, n ∷ b)) = Some fault.Trailing
+fault_by (Err (Lacks n)) = Some fault.Incomplete
+fault_by (Err (Broken k)) = Some (fault.Broken k)
 
--- The length and the SHA-256 of each certificate, in their order.
+abbrev pub facts_of : Bytes → CertificateFacts
+facts_of b = record { length = length b; sha256 = sha256 b; fault = fault_by (reading certificate b) }
+
+-- The length and the SHA-256 of each certificate, in their order, and why it isn't read.
 abbrev pub facts_of_all : List Bytes → List CertificateFacts
 facts_of_all chain = map facts_of chain
+
+-- The first of a chain, which is its sender's own.
+abbrev pub first_of : List Bytes → Option Bytes
+first_of [] = None
+first_of (b ∷ chain) = Some b

@@ -1,30 +1,29 @@
 //! What both sides' messages and alerts say of a connection.
 ghost use Rattle.std.specs.Prelude.{◌≡◌, OnOk};
+ghost use Rattle.std.specs.Option.{option_map};
 ghost use Rattle.tls_hs.specs.InPlace.{view_client_hello_in_place};
+ghost use Rattle.tls_hs.specs.Handshake.{view_handshake};
 ghost use Rattle.tls_hs.specs.ServerHello.{view_server_hello, view_server_hello_draft18};
-ghost use Rattle.tls_facts.specs.Facts.{asked, asked_in_ssl2, certified, chosen, exchanged, has_asked as has_asked_in, is_stray as is_stray_in, nothing, of_alert, of_bytes, of_datagram_client_hello, of_datagram_message, of_draft, of_message, of_other, of_server_body, of_server_hello, retried, verified, view_facts};
+ghost use Rattle.tls_facts.specs.Facts.{asked, asked_in_ssl2, certified, chosen, exchanged, has_asked as has_asked_in, is_stray as is_stray_in, nothing, of_alert, of_bytes, of_datagram_client_hello, of_datagram_message, of_datagrams, of_draft, of_message, of_other, of_server_hello, retried, verified, view_facts, with_chain};
 ghost use Rattle.ssl2_hello.specs.ClientHello.{view_client_hello as view_ssl2_hello};
 ghost use Rattle.tls_fields.specs.Reading.{reading};
 ghost use Rattle.tls_hs.specs.Certificate.{certificate};
-ghost use Rattle.tls_hs.specs.Handshake.{server_hello_body, server_hello_of_draft_body};
+ghost use Rattle.tls_flow.specs.Bytes.{view_heard};
 ghost use Rattle.tls_parser.specs.DtlsHello.{client_hello as datagram_client_hello};
 
 use crate::exchange::{has_hint, hinted_parameters, named_group, names_curve};
 use crate::hellos::{content, group_of_share, none};
-use crate::parts::{CertificateFacts, ClientParts, ServerParts, copied, facts_of};
+use crate::parts::{CertificateFacts, Chain, ClientParts, ServerParts, chain_of, copied};
 use ssl2_hello::Ssl2ClientHello;
 use std::alloc::{AllocError, Global};
 use tls_base::{
     NamedGroup, TlsAlertDescription, TlsCipherSuiteID, TlsCompressionID, TlsExtensionType,
     TlsHandshakeType, parse_ec_parameters,
 };
-use tls_fields::InPlace;
-use tls_flow::{Direction, Kind};
-use tls_hs::parts::server_hello_any;
+use tls_flow::{Direction, HandshakeMessage, Kind, ReadServerHello};
 use tls_hs::{
-    ClientHelloView, RawHandshake, TlsMessageHandshake, TlsServerHelloContents,
-    TlsServerHelloV13Draft18Contents, certificates, parse_tls_handshake_msg_server_hello,
-    parse_tls_handshake_msg_server_hello_of_draft,
+    ClientHelloView, TlsMessageHandshake, TlsServerHelloContents, TlsServerHelloV13Draft18Contents,
+    certificates,
 };
 use tls_parser::DTLSClientHelloView;
 
@@ -47,6 +46,10 @@ pub struct Facts {
     pub client_certificates: Option<Vec<CertificateFacts>>,
     /// Those of the server's (RFC 5246, section 7.4.2).
     pub server_certificates: Option<Vec<CertificateFacts>>,
+    /// The client's own certificate in DER, the first of [`client_certificates`](Facts::client_certificates); `None` where there is none.
+    pub client_certificate: Option<Vec<u8>>,
+    /// The server's own.
+    pub server_certificate: Option<Vec<u8>>,
     // Whether the server asked for another ClientHello, which didn't come yet.
     is_asked_again: bool,
     /// Whether the server asked for another ClientHello by a HelloRetryRequest (RFC 8446, section 4.1.4).
@@ -65,8 +68,8 @@ pub struct Facts {
 }
 
 /// A ServerHello of a draft of TLS 1.3 with what it leaves out: no session id, and no compression.
-fn as_later(hello: TlsServerHelloV13Draft18Contents<'_>) -> TlsServerHelloContents<'_>
-    ensures { view_server_hello result ≡ of_draft (view_server_hello_draft18 hello.entry) }
+fn as_later<'a>(hello: &TlsServerHelloV13Draft18Contents<'a>) -> TlsServerHelloContents<'a>
+    ensures { view_server_hello result ≡ of_draft (view_server_hello_draft18 hello.now) }
 {
     TlsServerHelloContents {
         version: hello.version,
@@ -89,6 +92,8 @@ impl Facts {
             curve: None,
             client_certificates: None,
             server_certificates: None,
+            client_certificate: None,
+            server_certificate: None,
             is_asked_again: false,
             is_retried: false,
             requests_certificate: false,
@@ -219,40 +224,24 @@ impl Facts {
         Ok(())
     }
 
-    /// What the ServerHello of a draft of TLS 1.3 says, by its body.
-    fn note_draft_hello(
-        &mut self,
-        alloc: Global,
-        side: Direction,
-        body: &[u8],
-    ) -> Result<(), AllocError>
-        ensures { OnOk result (view_facts self.new ≡ of_server_hello side (reading server_hello_of_draft_body body.now) (view_facts self.old)) }
-    {
-        match parse_tls_handshake_msg_server_hello_of_draft(body) {
-            Ok((_, TlsMessageHandshake::ServerHello(hello))) => self.choose(alloc, side, &hello),
-            Ok((_, TlsMessageHandshake::ServerHelloV13Draft18(hello))) => {
-                self.choose(alloc, side, &as_later(hello))
-            }
-            _ => Ok(()),
-        }
-    }
-
-    /// What a ServerHello says, by its body.
+    /// What a ServerHello says; nothing where it is refused.
     fn note_server_hello(
         &mut self,
         alloc: Global,
         side: Direction,
-        body: &[u8],
+        hello: &Option<ReadServerHello<'_>>,
     ) -> Result<(), AllocError>
-        ensures { OnOk result (view_facts self.new ≡ of_server_body side (reading server_hello_body body.now) body.now (view_facts self.old)) }
+        ensures { OnOk result (view_facts self.new ≡ of_server_hello side (option_map (λ h. view_handshake h.message) hello.now) (view_facts self.old)) }
     {
-        match parse_tls_handshake_msg_server_hello(body) {
-            Ok((_, TlsMessageHandshake::ServerHello(hello))) => self.choose(alloc, side, &hello),
-            Ok((_, TlsMessageHandshake::ServerHelloV13Draft18(hello))) => {
+        let Some(hello) = hello else {
+            return Ok(());
+        };
+        match &hello.message {
+            TlsMessageHandshake::ServerHello(hello) => self.choose(alloc, side, hello),
+            TlsMessageHandshake::ServerHelloV13Draft18(hello) => {
                 self.choose(alloc, side, &as_later(hello))
             }
-            Ok(_) => Ok(()),
-            Err(_) => self.note_draft_hello(alloc, side, body),
+            _ => Ok(()),
         }
     }
 
@@ -271,6 +260,23 @@ impl Facts {
         }
     }
 
+    /// Keeps a side's chain in place of an earlier one.
+    fn keep_chain(&mut self, side: Direction, chain: Chain)
+        ensures { view_facts self.new ≡ with_chain side chain.facts.items (option_map (λ v. v.items) chain.own) (view_facts self.old) }
+    {
+        let Chain { facts, own } = chain;
+        match side {
+            Direction::ToServer => {
+                self.client_certificates = Some(facts);
+                self.client_certificate = own;
+            }
+            Direction::FromServer => {
+                self.server_certificates = Some(facts);
+                self.server_certificate = own;
+            }
+        }
+    }
+
     /// What a Certificate of that side says.
     fn note_certificates(
         &mut self,
@@ -280,14 +286,11 @@ impl Facts {
     ) -> Result<(), AllocError>
         ensures { OnOk result (view_facts self.new ≡ certified side (reading certificate body.now) (view_facts self.old)) }
     {
-        let Ok((_, chain)) = certificates(body) else {
+        let Ok((_, list)) = certificates(body) else {
             return Ok(());
         };
-        let chain = facts_of(alloc, chain)?;
-        match side {
-            Direction::ToServer => self.client_certificates = Some(chain),
-            Direction::FromServer => self.server_certificates = Some(chain),
-        }
+        let chain = chain_of(alloc, list.bytes())?;
+        self.keep_chain(side, chain);
         Ok(())
     }
 
@@ -313,28 +316,31 @@ impl Facts {
         Ok(())
     }
 
-    /// What a message says, by its type and its body.
-    fn note_body(
+    /// Notes what a handshake message of a side says. The first hello of a side stands; the ClientHello for which a HelloRetryRequest asks replaces the
+    /// first whole. One that is refused says nothing, and no [stray](Facts::is_stray) one.
+    ///
+    /// `AllocError` where it could not be held.
+    pub fn note(
         &mut self,
         alloc: Global,
         side: Direction,
-        msg_type: TlsHandshakeType,
-        body: &[u8],
+        message: &HandshakeMessage<'_>,
     ) -> Result<(), AllocError>
-        ensures { OnOk result (view_facts self.new ≡ of_message side msg_type.0 body.now (view_facts self.old)) }
+        ensures { OnOk result (view_facts self.new ≡ of_message side (view_heard message.now) (view_facts self.old)) }
     {
-        match msg_type {
-            TlsHandshakeType::ClientHello => match ClientHelloView::parse(body) {
+        match message.msg_type {
+            TlsHandshakeType::ClientHello => match ClientHelloView::parse(message.body) {
                 Ok((_, hello)) => self.ask(alloc, side, &hello),
                 Err(_) => Ok(()),
             },
-            TlsHandshakeType::ServerHello => self.note_server_hello(alloc, side, body),
-            _ => self.note_other(alloc, side, msg_type, body),
+            TlsHandshakeType::ServerHello => {
+                self.note_server_hello(alloc, side, &message.server_hello)
+            }
+            _ => self.note_other(alloc, side, message.msg_type, message.body),
         }
     }
 
-    /// Notes what a whole handshake message of a side says, its header of 4 bytes first (RFC 8446, section 4). The first hello of a side stands; the
-    /// ClientHello for which a HelloRetryRequest asks replaces the first whole. One that is refused says nothing, and no [stray](Facts::is_stray) one.
+    /// [`Facts::note`] of a whole message by its bytes, its header of 4 bytes first (RFC 8446, section 4). One that isn't whole says nothing.
     ///
     /// `AllocError` where it could not be held.
     pub fn note_message(
@@ -345,9 +351,9 @@ impl Facts {
     ) -> Result<(), AllocError>
         ensures { OnOk result (view_facts self.new ≡ of_bytes side message.now (view_facts self.old)) }
     {
-        match RawHandshake::read(message) {
-            Ok((_, raw)) => self.note_body(alloc, side, raw.msg_type, raw.body),
-            Err(_) => Ok(()),
+        match HandshakeMessage::read(message) {
+            Some(message) => self.note(alloc, side, &message),
+            None => Ok(()),
         }
     }
 
@@ -378,8 +384,33 @@ impl Facts {
         self.ask(alloc, side, &hello)
     }
 
-    /// The same of a whole handshake message of DTLS, by its type and its body (RFC 6347, section 4.2.2). A HelloVerifyRequest asks for
-    /// another ClientHello too.
+    /// [`Facts::note`] of a message of DTLS (RFC 6347, section 4.2.2). A HelloVerifyRequest asks for another ClientHello too.
+    ///
+    /// `AllocError` where it could not be held.
+    pub fn note_datagrams(
+        &mut self,
+        alloc: Global,
+        side: Direction,
+        message: &HandshakeMessage<'_>,
+    ) -> Result<(), AllocError>
+        ensures { OnOk result (view_facts self.new ≡ of_datagrams side (view_heard message.now) (view_facts self.old)) }
+    {
+        match message.msg_type {
+            TlsHandshakeType::ClientHello => {
+                self.note_datagram_client_hello(alloc, side, message.body)
+            }
+            TlsHandshakeType::ServerHello => {
+                self.note_server_hello(alloc, side, &message.server_hello)
+            }
+            TlsHandshakeType::HelloVerifyRequest => {
+                self.verify(side);
+                Ok(())
+            }
+            _ => self.note_other(alloc, side, message.msg_type, message.body),
+        }
+    }
+
+    /// The same of a whole message, by its type and its body.
     ///
     /// `AllocError` where it could not be held.
     pub fn note_datagram_message(
@@ -391,18 +422,7 @@ impl Facts {
     ) -> Result<(), AllocError>
         ensures { OnOk result (view_facts self.new ≡ of_datagram_message side msg_type.0 body.now (view_facts self.old)) }
     {
-        match msg_type {
-            TlsHandshakeType::ClientHello => self.note_datagram_client_hello(alloc, side, body),
-            TlsHandshakeType::ServerHello => match server_hello_any(body) {
-                Ok((_, hello)) => self.choose(alloc, side, &hello),
-                Err(_) => Ok(()),
-            },
-            TlsHandshakeType::HelloVerifyRequest => {
-                self.verify(side);
-                Ok(())
-            }
-            _ => self.note_other(alloc, side, msg_type, body),
-        }
+        self.note_datagrams(alloc, side, &HandshakeMessage::of_datagrams(msg_type, body))
     }
 
     /// Notes an alert (RFC 8446, section 6).

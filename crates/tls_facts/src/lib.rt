@@ -13,5 +13,5 @@ mod told;
 
 pub use exchange::{has_hint, names_curve};
 pub use facts::Facts;
-pub use parts::{CertificateFacts, ClientParts, ServerParts};
+pub use parts::{CertificateFacts, CertificateFault, ClientParts, ServerParts, certificate_fault};
 pub use told::{DELEGATED_CREDENTIAL, ENCRYPTED_CLIENT_HELLO};

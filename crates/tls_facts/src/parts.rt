@@ -5,13 +5,16 @@ ghost use Rattle.tls_fields.specs.Items.{items_in};
 ghost use Rattle.tls_fields.specs.Layout.{counted};
 ghost use Rattle.tls_hs.specs.InPlace.{view_client_hello_in_place};
 ghost use Rattle.tls_hs.specs.ServerHello.{view_server_hello};
-ghost use Rattle.tls_facts.specs.Parts.{facts_of_all, view_client, view_server};
+ghost use Rattle.tls_fields.specs.Reading.{reading};
+ghost use Rattle.x509.specs.Certificate.{certificate};
+ghost use Rattle.tls_facts.specs.Parts.{facts_of as facts_by, facts_of_all, fault_by, first_of, view_client, view_server};
 
 use sha2::{Digest, Sha256};
 use std::alloc::{AllocError, Global};
 use tls_base::{TlsCipherSuiteID, TlsCompressionID, TlsVersion};
-use tls_fields::Items;
+use tls_fields::{Err, ErrorKind, Items};
 use tls_hs::{ClientHelloView, RawCertificate, TlsServerHelloContents};
+use x509::parse_certificate;
 
 /// What is kept of a ClientHello (RFC 8446, section 4.1.2): all of it.
 #[derive(Debug, PartialEq, Drop)]
@@ -47,6 +50,17 @@ pub struct ServerParts {
     pub ext: Option<Vec<u8>>,
 }
 
+/// Why a certificate isn't read.
+#[derive(Clone, Copy, Debug, PartialEq, Eq)]
+pub enum CertificateFault {
+    /// It ends before its length says so.
+    Incomplete,
+    /// It breaks a rule of this kind, of those that [`parse_certificate`] names.
+    Broken(ErrorKind),
+    /// Bytes stand behind it.
+    Trailing,
+}
+
 /// What is kept of a certificate.
 #[derive(Clone, Copy, Debug, PartialEq, Eq)]
 pub struct CertificateFacts {
@@ -54,6 +68,8 @@ pub struct CertificateFacts {
     pub length: usize,
     /// The SHA-256 of these bytes (FIPS 180-4).
     pub sha256: [u8; 32],
+    /// Why it isn't read (RFC 5280, section 4.1), where it isn't.
+    pub fault: Option<CertificateFault>,
 }
 
 /// The bytes, copied.
@@ -110,8 +126,32 @@ impl ServerParts {
     }
 }
 
+/// Why bytes aren't read as one certificate (RFC 5280, section 4.1); `None` where they are.
+pub fn certificate_fault(bytes: &[u8]) -> Option<CertificateFault>
+    ensures { result ≡ fault_by (reading certificate bytes.now) }
+{
+    match parse_certificate(bytes) {
+        Ok(([], _)) => None,
+        Ok(_) => Some(CertificateFault::Trailing),
+        Err(Err::Error(error)) | Err(Err::Failure(error)) => {
+            Some(CertificateFault::Broken(error.code))
+        }
+        Err(_) => Some(CertificateFault::Incomplete),
+    }
+}
+
+fn facts_of_one(bytes: &[u8]) -> CertificateFacts
+    ensures { result ≡ facts_by bytes.now }
+{
+    CertificateFacts {
+        length: bytes.len(),
+        sha256: Sha256::digest(bytes),
+        fault: certificate_fault(bytes),
+    }
+}
+
 /// The facts of certificates, in their order.
-pub(crate) fn facts_of<'a>(
+fn facts_of<'a>(
     alloc: Global,
     chain: Items<'a, RawCertificate<'a>>,
 ) -> Result<Vec<CertificateFacts>, AllocError>
@@ -119,10 +159,35 @@ pub(crate) fn facts_of<'a>(
 {
     let mut facts = Vec::new(alloc);
     for certificate in chain {
-        facts.push(CertificateFacts {
-            length: certificate.bytes.len(),
-            sha256: Sha256::digest(certificate.bytes),
-        })?;
+        facts.push(facts_of_one(certificate.bytes))?;
     }
     Ok(facts)
+}
+
+/// The first certificate of a list.
+fn first_certificate<'a>(list: &'a [u8]) -> Option<&'a [u8]>
+    ensures { option_map (λ x. x.now) result ≡ first_of (items_in (counted 3) list.now) }
+{
+    let mut walk: Items<RawCertificate> = Items::new(list);
+    match walk.next() {
+        Some(certificate) => Some(certificate.bytes),
+        None => None,
+    }
+}
+
+/// What is kept of a chain: the facts of its certificates, and the first of them.
+#[derive(Drop)]
+pub(crate) struct Chain {
+    pub(crate) facts: Vec<CertificateFacts>,
+    pub(crate) own: Option<Vec<u8>>,
+}
+
+/// What is kept of a chain, by the bytes of its list.
+pub(crate) fn chain_of(alloc: Global, list: &[u8]) -> Result<Chain, AllocError>
+    ensures facts { IfOk result (λ c. c.facts.items ≡ facts_of_all (items_in (counted 3) list.now)) }
+    ensures own { IfOk result (λ c. option_map (λ x. x.items) c.own ≡ first_of (items_in (counted 3) list.now)) }
+{
+    let facts = facts_of(alloc, Items::new(list))?;
+    let own = copied_if(alloc, first_certificate(list))?;
+    Ok(Chain { facts, own })
 }

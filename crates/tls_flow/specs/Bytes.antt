@@ -1,11 +1,15 @@
 -- Handshake messages as letters by their bytes.
-use Rattle.std.specs.Prelude.{ℕ, ◌∷◌, drop, Ok, Err, if◌then◌else◌, ◌==◌}
+use Rattle.std.specs.Prelude.{ℕ, Option, Some, None, Ok, Err, if◌then◌else◌, ◌==◌}
+use Rattle.std.specs.Option.{option_map}
 use Rattle.tls_fields.specs.Bytes.{Bytes}
+use Rattle.tls_fields.specs.Framed.{Framed}
 use Rattle.tls_fields.specs.Meaning.{Answer}
 use Rattle.tls_fields.specs.Reading.{reading}
 use Rattle.tls_hs.specs.Handshake as handshakes
+use Rattle.tls_hs.specs.InPlace.{raw_handshake}
 use Rattle.tls_hs.specs.ServerHello as servers
-use Rattle.tls_flow.specs.Messages.{kind_of_handshake, kind_of_server_hello}
+use Rattle.tls_flow.specs.Messages.{kind_of_handshake}
+use Rattle.tls_flow.specs.declared.handshake.HandshakeMessage as rust
 use Rattle.tls_flow.specs.declared.letter.Kind.{Kind}
 use Rattle.tls_flow.specs.declared.letter.Kind.TheVariants as kind
 
@@ -33,31 +37,94 @@ kind_of_type n =
     else if n == 67 then kind.Other
     else kind.Unknown
 
-abbrev pub kind_of_read : Answer handshakes.Handshake → Kind
-kind_of_read (Ok x) = kind_of_handshake x.0
-kind_of_read (Err e) = kind.Unknown
+-- A whole handshake message (RFC 8446, 4): its type, its body, and the ServerHello that it is, where that is read.
+pub record HandshakeMessage : Type 0 where
+  pub msg_type : ℕ
+  pub body : Bytes
+  pub server_hello : Option handshakes.Handshake
 
--- A ServerHello is told apart by its content; one that is refused is that of a draft of TLS 1.3, or isn't known.
-abbrev pub kind_of_hello : Answer handshakes.Handshake → Bytes → Kind
-kind_of_hello (Ok x) body = kind_of_handshake x.0
-kind_of_hello (Err e) body = kind_of_read (reading handshakes.server_hello_of_draft_body body)
+abbrev pub view_heard : rust.HandshakeMessage → HandshakeMessage
+view_heard m = record {
+  msg_type = m.msg_type.0;
+  body = m.body.now;
+  server_hello = option_map (λ h. handshakes.view_handshake h.message) m.server_hello;
+}
 
--- The kind of a message of TLS with that type and body.
+-- A ServerHello of TLS that is refused may be that of a draft of TLS 1.3. What stands behind it isn't looked at.
+abbrev pub draft_hello : Answer handshakes.Handshake → Option handshakes.Handshake
+draft_hello (Ok x) = Some x.0
+draft_hello (Err e) = None
+
+abbrev pub hello_or_draft : Answer handshakes.Handshake → Bytes → Option handshakes.Handshake
+hello_or_draft (Ok x) body = Some x.0
+hello_or_draft (Err e) body = draft_hello (reading handshakes.server_hello_of_draft_body body)
+
+abbrev pub server_hello_in : Bytes → Option handshakes.Handshake
+server_hello_in body = hello_or_draft (reading handshakes.server_hello_body body) body
+
+-- The message of TLS with that type and body.
+abbrev pub stream_message : ℕ → Bytes → HandshakeMessage
+stream_message n body = record {
+  msg_type = n;
+  body = body;
+  server_hello = if n == 2 then server_hello_in body else None;
+}
+
+abbrev pub kind_of_hello : Option handshakes.Handshake → Kind
+kind_of_hello (Some h) = kind_of_handshake h
+kind_of_hello None = kind.Unknown
+
+-- Its kind: a ServerHello is told apart by its content, and one that is refused isn't known.
+abbrev pub kind_in_stream : HandshakeMessage → Kind
+kind_in_stream m = if m.msg_type == 2 then kind_of_hello m.server_hello else kind_of_type m.msg_type
+
 abbrev pub kind_of_body : ℕ → Bytes → Kind
-kind_of_body n body =
-    if n == 2 then kind_of_hello (reading handshakes.server_hello_body body) body else kind_of_type n
+kind_of_body n body = kind_in_stream (stream_message n body)
 
--- In DTLS a ServerHello is read whatever its version, and one that is refused counts by its type.
-abbrev pub kind_of_datagram_hello : Answer servers.ServerHello → Kind
-kind_of_datagram_hello (Ok x) = kind_of_server_hello x.0
-kind_of_datagram_hello (Err e) = kind.ServerHello
+-- In DTLS a ServerHello is read whatever its version.
+abbrev pub hello_of_any : Answer servers.ServerHello → Option handshakes.Handshake
+hello_of_any (Ok x) = Some (handshakes.ServerHello x.0)
+hello_of_any (Err e) = None
 
--- The kind of a message of DTLS with that type and body.
+abbrev pub datagram_hello_in : Bytes → Option handshakes.Handshake
+datagram_hello_in body = hello_of_any (reading servers.server_hello_any body)
+
+-- The message of DTLS with that type and body.
+abbrev pub datagram_message : ℕ → Bytes → HandshakeMessage
+datagram_message n body = record {
+  msg_type = n;
+  body = body;
+  server_hello = if n == 2 then datagram_hello_in body else None;
+}
+
+-- Its kind: a ServerHello that is refused counts by its type.
+abbrev pub kind_of_datagram_hello : Option handshakes.Handshake → Kind
+kind_of_datagram_hello (Some h) = kind_of_handshake h
+kind_of_datagram_hello None = kind.ServerHello
+
+abbrev pub kind_in_datagrams : HandshakeMessage → Kind
+kind_in_datagrams m =
+    if m.msg_type == 2 then kind_of_datagram_hello m.server_hello else kind_of_type m.msg_type
+
 abbrev pub kind_of_datagram_body : ℕ → Bytes → Kind
-kind_of_datagram_body n body =
-    if n == 2 then kind_of_datagram_hello (reading servers.server_hello_any body) else kind_of_type n
+kind_of_datagram_body n body = kind_in_datagrams (datagram_message n body)
 
--- The kind of a whole handshake message of TLS: its type, 3 bytes of length, and its body.
+abbrev pub kind_of_datagrams : Option HandshakeMessage → Kind
+kind_of_datagrams (Some m) = kind_in_datagrams m
+kind_of_datagrams None = kind.Unknown
+
+-- The message of TLS that stands in bytes: its type, 3 bytes of length, and its body.
+abbrev pub message_of_raw : Answer Framed → Option HandshakeMessage
+message_of_raw (Ok x) = Some (stream_message x.0.kind x.0.content)
+message_of_raw (Err e) = None
+
+abbrev pub message_of : Bytes → Option HandshakeMessage
+message_of b = message_of_raw (reading raw_handshake b)
+
+-- The kind of one by its bytes: where it isn't whole it isn't known.
+abbrev pub kind_of_message : Option HandshakeMessage → Kind
+kind_of_message (Some m) = kind_in_stream m
+kind_of_message None = kind.Unknown
+
 abbrev pub kind_of_bytes : Bytes → Kind
-kind_of_bytes (n ∷ a ∷ b ∷ c ∷ body) = kind_of_body n body
-kind_of_bytes _ = kind.Unknown
+kind_of_bytes b = kind_of_message (message_of b)

@@ -7,7 +7,7 @@
 //!
 //! | said | event |
 //! |---|---|
-//! | a handshake message of TLS, whole and in the clear | `Event::of_handshake(bytes, direction)` |
+//! | a handshake message of TLS, whole and in the clear | `Event::of_handshake(bytes, direction)`, or by the `kind` of a [`HandshakeMessage`] that others hear too |
 //! | the same of DTLS up to 1.2, of any order of its fragments, once | `Event::new(Kind::of_type(msg_type), direction)` |
 //! | an alert in the clear | `Event::of_alert(&alert, direction)` |
 //! | its ChangeCipherSpec, a heartbeat | `Kind::ChangeCipherSpec`, `Kind::Heartbeat` |
@@ -19,6 +19,7 @@
 mod bytes;
 mod event;
 mod flow;
+mod handshake;
 pub mod laws;
 mod letter;
 mod message;
@@ -28,6 +29,7 @@ mod table;
 
 pub use event::Event;
 pub use flow::{Flow, Stop, outcome_of};
+pub use handshake::{HandshakeMessage, ReadServerHello};
 pub use letter::{Direction, Kind, Letter};
 pub use message::{letter_of, picks_tls13};
 pub use state::{Outcome, State};

@@ -72,7 +72,7 @@ pub fn picks_tls13(block: &[u8]) -> bool
 
 /// The kind of a ServerHello: a HelloRetryRequest by its random, one of TLS 1.3 by its extension supported_versions.
 #[inline(never)]
-pub(crate) fn kind_of_hello(hello: &TlsServerHelloContents<'_>) -> Kind
+fn kind_of_hello(hello: &TlsServerHelloContents<'_>) -> Kind
     ensures { result ≡ kind_of_server_hello (view_server_hello hello.now) }
 {
     if hello.random == HELLO_RETRY_RANDOM.as_slice() {

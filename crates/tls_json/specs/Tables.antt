@@ -99,9 +99,12 @@ retry_fields request = object_of (
     ∷ hexadecimal (codes "cipher_suite") request.cipher.0
     ∷ extensions_fields request.ext)
 
--- A certificate chain in the bytes of its list, and what it leaves of them (RFC 5246, section 7.4.2).
+-- A certificate chain in the bytes of its list, what its certificates say, and what it leaves of them (RFC 5246, section 7.4.2).
 abbrev pub chain_fields : List ℕ → Data
-chain_fields b = object_of (list (codes "certificate_list") ∷ some_bytes (codes "rest") (left_in (counted 3) b))
+chain_fields b = object_of (
+    list (codes "certificate_list")
+    ∷ list (codes "certificates")
+    ∷ some_bytes (codes "rest") (left_in (counted 3) b))
 
 -- A list, where there is one.
 abbrev pub list_if : {A : Type 0} → List ℕ → Option A → Entries

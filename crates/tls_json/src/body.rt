@@ -6,6 +6,7 @@ ghost use Rattle.tls_fields.specs.Layout.{counted};
 ghost use Rattle.tls_json.specs.Outline.{Shows, Entries, list, HasNames, HasFields};
 ghost use Rattle.tls_json.specs.Tables.{chain_fields, list_if, request_fields, ticket_fields, status_fields, next_protocol_names, verify_request_fields, finished_fields, key_update_fields};
 
+use crate::certificate::certificate;
 use crate::chosen::Chosen;
 use crate::datagrams::whole_message;
 use crate::hello::{client_hello, hello_retry_request, server_hello, server_hello_of_draft};
@@ -16,6 +17,7 @@ use crate::text::{blob, blobs, codes, escaped, numbers};
 use std::alloc::{AllocError, Global};
 use tls_base::{TlsHandshakeType, TlsVersion};
 use tls_fields::{Items, counted2, number4};
+use tls_flow::{HandshakeMessage, ReadServerHello};
 use tls_hs::{
     CertificateRequestView, ClientHelloView, HandshakeView, RawCertificate, RawHandshake,
     TlsCertificateStatusContents, TlsMessageHandshake, TlsNextProtocolContent,
@@ -45,6 +47,18 @@ fn certificates<'a>(alloc: Global, list: &'a [u8]) -> Result<Value, AllocError>
     all.finish()
 }
 
+/// What each certificate says.
+fn said_by_certificates<'a>(alloc: Global, list: &'a [u8]) -> Result<Value, AllocError>
+    ensures { IfOk result (Shows (array no_items)) }
+{
+    let walk: Items<RawCertificate> = Items::new(list);
+    let mut all = Values::new(alloc);
+    for one in walk {
+        all = all.add(certificate(alloc, one.bytes));
+    }
+    all.finish()
+}
+
 /// What a list of certificates leaves behind the last that is whole.
 fn rest_of_chain<'a>(list: &'a [u8]) -> &'a [u8]
     ensures { result.now ≡ left_in (counted 3) list.now }
@@ -53,12 +67,13 @@ fn rest_of_chain<'a>(list: &'a [u8]) -> &'a [u8]
     walk.rest()
 }
 
-/// A certificate chain (RFC 5246, section 7.4.2), and the bytes that it leaves of its list.
+/// A certificate chain (RFC 5246, section 7.4.2), what its certificates say, and the bytes that it leaves of its list.
 fn chain(alloc: Global, list: &[u8]) -> Result<Value, AllocError>
     ensures { IfOk result (Shows (chain_fields list.now)) }
 {
     Table::new(alloc)
         .add("certificate_list", certificates(alloc, list))
+        .add("certificates", said_by_certificates(alloc, list))
         .some_bytes("rest", rest_of_chain(list))
         .finish()
 }
@@ -202,9 +217,6 @@ fn client_hello_of_datagrams(
 fn other_in_datagrams(alloc: Global, read: &DTLSBodyView<'_>) -> Answer {
     match read {
         DTLSBodyView::ClientHello(hello) => Some(client_hello_of_datagrams(alloc, hello)),
-        DTLSBodyView::Other(DTLSMessageHandshakeBody::ServerHello(hello)) => {
-            Some(server_hello(alloc, hello))
-        }
         DTLSBodyView::Other(DTLSMessageHandshakeBody::HelloVerifyRequest(verify)) => Some(
             verify_request(alloc, verify.server_version, verify.cookie),
         ),
@@ -215,6 +227,22 @@ fn other_in_datagrams(alloc: Global, read: &DTLSBodyView<'_>) -> Answer {
 /// What was read of a message whose body is another in DTLS than in TLS.
 fn body_in_datagrams(alloc: Global, read: DTLSBodyView<'_>) -> Answer {
     other_in_datagrams(alloc, &read)
+}
+
+/// What a ServerHello says, where it was read.
+fn read_hello(alloc: Global, hello: &Option<ReadServerHello<'_>>) -> Answer {
+    match hello {
+        Some(read) => other(alloc, &read.message),
+        None => None,
+    }
+}
+
+/// The bytes that it leaves behind it.
+fn rest_of_hello<'a>(message: &HandshakeMessage<'a>) -> &'a [u8] {
+    match &message.server_hello {
+        Some(read) => read.rest,
+        None => &[],
+    }
 }
 
 impl<'a> Content<'a> {
@@ -266,8 +294,20 @@ impl<'a> Content<'a> {
         }
     }
 
-    /// That of a message of TLS, by its type and its body, and by what the server chose in front of it.
+    /// That of a message of TLS, by what the server chose in front of it.
     pub fn new(
+        alloc: Global,
+        chosen: Option<Chosen>,
+        message: &HandshakeMessage<'a>,
+    ) -> Content<'a> {
+        if message.msg_type == TlsHandshakeType::ServerHello {
+            return Content::of_server_hello(alloc, message);
+        }
+        Content::of_other(alloc, chosen, message.msg_type, message.body)
+    }
+
+    /// That of a message that is no ServerHello.
+    fn of_other(
         alloc: Global,
         chosen: Option<Chosen>,
         msg_type: TlsHandshakeType,
@@ -285,6 +325,12 @@ impl<'a> Content<'a> {
         }
     }
 
+    /// That of a ServerHello, which was read.
+    fn of_server_hello(alloc: Global, message: &HandshakeMessage<'a>) -> Content<'a> {
+        let body = read_hello(alloc, &message.server_hello);
+        Content::of_body(alloc, body, rest_of_hello(message), message.body)
+    }
+
     /// That of a message which needs no other to be read.
     fn of_itself(alloc: Global, msg_type: TlsHandshakeType, body: &'a [u8]) -> Content<'a> {
         let message = RawHandshake { msg_type, body };
@@ -294,20 +340,17 @@ impl<'a> Content<'a> {
         }
     }
 
-    /// That of a message of DTLS. But for the hellos and the HelloVerifyRequest the bodies are those of TLS (RFC 6347, section 4.2).
+    /// That of a message of DTLS. But for the ClientHello and the HelloVerifyRequest the bodies are read as those of TLS (RFC 6347, section 4.2).
     pub fn of_datagrams(
         alloc: Global,
         chosen: Option<Chosen>,
-        msg_type: TlsHandshakeType,
-        body: &'a [u8],
+        message: &HandshakeMessage<'a>,
     ) -> Content<'a> {
-        match msg_type {
-            TlsHandshakeType::ClientHello
-            | TlsHandshakeType::ServerHello
-            | TlsHandshakeType::HelloVerifyRequest => {
-                Content::of_datagrams_alone(alloc, msg_type, body)
+        match message.msg_type {
+            TlsHandshakeType::ClientHello | TlsHandshakeType::HelloVerifyRequest => {
+                Content::of_datagrams_alone(alloc, message.msg_type, message.body)
             }
-            _ => Content::new(alloc, chosen, msg_type, body),
+            _ => Content::new(alloc, chosen, message),
         }
     }
 

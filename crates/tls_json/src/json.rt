@@ -14,6 +14,8 @@ pub type Field = (&'static str, Value);
 pub enum Value {
     /// A number, in decimal.
     Number(u64),
+    /// Whether it is so.
+    Mark(bool),
     /// A name of ours.
     Name(&'static str),
     /// A text.
@@ -40,6 +42,7 @@ fn print<S: Serializer>(value: &Value, out: &mut S) -> Result<(), S::Error>
 {
     match value {
         Value::Number(number) => out.u64(*number),
+        Value::Mark(mark) => out.bool(*mark),
         Value::Name(name) => out.str(name),
         Value::Text(text) => out.str(text.as_str()),
         Value::List(items) => print_items(items, out),

@@ -14,6 +14,7 @@
 
 mod alert;
 mod body;
+mod certificate;
 mod change;
 mod chosen;
 mod content;

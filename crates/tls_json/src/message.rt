@@ -14,8 +14,7 @@ use crate::table::Table;
 use serde::{Described, Serialize, Serializer};
 use std::alloc::{AllocError, Global};
 use tls_base::TlsHandshakeType;
-use tls_fields::InPlace;
-use tls_hs::RawHandshake;
+use tls_flow::HandshakeMessage;
 
 /// A handshake message (RFC 5246, section 7.4; of DTLS RFC 6347, section 4.2.2): its type, the name of that where it has one, the
 /// bytes of its body, in DTLS its number, and what stands in the body.
@@ -57,8 +56,20 @@ fn fields(
 }
 
 impl Message {
-    /// A whole message of TLS, its header of 4 bytes first (RFC 8446, section 4); `None` where it isn't whole. `chosen` is that of the last
-    /// ServerHello in front of it: with none, a key exchange and a CertificateVerify are their bytes.
+    /// A message of TLS (RFC 8446, section 4). `chosen` is that of the last ServerHello in front of it: with none, a key exchange and a
+    /// CertificateVerify are their bytes.
+    ///
+    /// `AllocError` where memory runs out.
+    pub fn of(
+        alloc: Global,
+        chosen: Option<Chosen>,
+        message: &HandshakeMessage<'_>,
+    ) -> Result<Message, AllocError> {
+        let content = Content::new(alloc, chosen, message);
+        Message::with_content(alloc, message, None, content)
+    }
+
+    /// The same by its bytes, its header of 4 bytes first; `None` where it isn't whole.
     ///
     /// `AllocError` where memory runs out.
     pub fn new(
@@ -66,22 +77,26 @@ impl Message {
         chosen: Option<Chosen>,
         message: &[u8],
     ) -> Result<Option<Message>, AllocError> {
-        let Ok((_, raw)) = RawHandshake::read(message) else {
-            return Ok(None);
-        };
-        let content = Content::new(alloc, chosen, raw.msg_type, raw.body);
-        let value = fields(
-            alloc,
-            raw.msg_type,
-            message_name(raw.msg_type),
-            raw.body.len(),
-            None,
-            content,
-        )?;
-        Ok(Some(Message { value }))
+        match HandshakeMessage::read(message) {
+            Some(message) => Ok(Some(Message::of(alloc, chosen, &message)?)),
+            None => Ok(None),
+        }
     }
 
-    /// A whole message of DTLS, by its type, its number and its body, which was put together from its fragments; `chosen` as for TLS.
+    /// A message of DTLS, which was put together from its fragments, and its number; `chosen` as for TLS.
+    ///
+    /// `AllocError` where memory runs out.
+    pub fn of_datagram_message(
+        alloc: Global,
+        chosen: Option<Chosen>,
+        message_seq: u16,
+        message: &HandshakeMessage<'_>,
+    ) -> Result<Message, AllocError> {
+        let content = Content::of_datagrams(alloc, chosen, message);
+        Message::with_content(alloc, message, Some(u64::from(message_seq)), content)
+    }
+
+    /// The same by its type, its number and its body.
     ///
     /// `AllocError` where memory runs out.
     pub fn of_datagrams(
@@ -91,14 +106,22 @@ impl Message {
         message_seq: u16,
         body: &[u8],
     ) -> Result<Message, AllocError> {
-        let content = Content::of_datagrams(alloc, chosen, msg_type, body);
-        let number = Some(u64::from(message_seq));
+        let message = HandshakeMessage::of_datagrams(msg_type, body);
+        Message::of_datagram_message(alloc, chosen, message_seq, &message)
+    }
+
+    fn with_content(
+        alloc: Global,
+        message: &HandshakeMessage<'_>,
+        message_seq: Option<u64>,
+        content: Content<'_>,
+    ) -> Result<Message, AllocError> {
         let value = fields(
             alloc,
-            msg_type,
-            message_name(msg_type),
-            body.len(),
-            number,
+            message.msg_type,
+            message_name(message.msg_type),
+            message.body.len(),
+            message_seq,
             content,
         )?;
         Ok(Message { value })

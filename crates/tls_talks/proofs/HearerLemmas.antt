@@ -24,18 +24,50 @@ use Rattle.std.proofs.Common.{
   subst,
   arith,
 }
+use Rattle.std.specs.Borrow.{Bor}
 use Rattle.std.specs.Global.{Vec}
+use Rattle.std.specs.Option.{option_copied, option_map}
 use Rattle.tls_fields.specs.Bytes.{Bytes}
 use Rattle.tls_events.specs.Item.{Event as Said}
+use Rattle.tls_facts.specs.Facts.{Facts}
+use Rattle.tls_flow.specs.declared.event.Event.{Event}
+use Rattle.tls_flow.specs.declared.flow.Flow.{Flow}
 use Rattle.tls_flow.specs.declared.letter.Direction.{Direction as Side}
 use Rattle.tls_conversations.specs.Conversations.{IsPast, IsFedBy, ear}
+use Rattle.tls_conversations.specs.Events.{event_of, event_with, message_in, message_in_datagram}
+use Rattle.dtls_messages.specs.Messages as datagrams
+use Rattle.tls_talks.specs.Datagrams as in_datagrams
+use Rattle.tls_flow.specs.Bytes.{HandshakeMessage, kind_of_datagrams, kind_of_message}
+use Rattle.tls_flow.specs.declared.letter.Kind.{Kind}
 use Rattle.tls_conversations.specs.Ears.{IsReady, first_in, front_of, says}
 use Rattle.tls_conversations.specs.declared.conversation.Conversation.{Conversation}
 use Rattle.tls_talks.specs.History.{history, letter_of, with_letter}
-use Rattle.tls_talks.specs.Noting.{has_sealed, is_sealed, known}
+use Rattle.tls_talks.specs.Noting.{followed, has_sealed, is_sealed, known, stepped}
 use Rattle.tls_talks.specs.Hearing.{IsFed, IsHeard, IsNextTaken, IsNoted, known_of}
 use Rattle.tls_talks.specs.declared.hearer.Hearer.{Hearer}
 use Rattle.tls_talks.proofs.KnownLemmas.{known_next, known_same}
+
+-- What is seen of a value that is lent is what is seen of the value.
+pub copied_view : {A B : Type 0} (f : A → B) (r : Option (Bor A)) (o : Option A) → option_copied r ≡ o
+    → option_map (λ m. f m.now) r ≡ option_map f o
+copied_view f (Some b) o e = ap (option_map f) e
+copied_view f None o e = ap (option_map f) e
+
+-- An event that is made of the message that was read.
+pub same_event : (s : Side) (v : Said) (m : Option HandshakeMessage) (k : Kind) (e : Event) → m ≡ message_in v
+    → k ≡ kind_of_message m → e ≡ event_with s v k → e ≡ event_of s v
+same_event s v m k e is_m is_k is_e = is_e ∙ ap (event_with s v) (is_k ∙ ap kind_of_message is_m)
+
+pub same_step : (s : Side) (v : Said) (m : Option HandshakeMessage) (k : Kind) (e : Event) (w x : Flow) (f : Facts)
+    → m ≡ message_in v → k ≡ kind_of_message m → e ≡ event_with s v k → x ≡ stepped s w f e → x ≡ followed s w f v
+same_step s v m k e w x f is_m is_k is_e is = is ∙ ap (stepped s w f) (same_event s v m k e is_m is_k is_e)
+
+-- The same of DTLS.
+pub same_step_in_datagram : (s : Side) (v : datagrams.Event) (m : Option HandshakeMessage) (k : Kind) (w x : Flow)
+    → m ≡ message_in_datagram v → k ≡ kind_of_datagrams m → x ≡ in_datagrams.followed_with s w v k
+    → x ≡ in_datagrams.followed s w v
+same_step_in_datagram s v m k w x is_m is_k is =
+    is ∙ ap (in_datagrams.followed_with s w v) (is_k ∙ ap kind_of_datagrams is_m)
 
 -- It was fed, and n events were taken off, followed and noted.
 pub record IsOn (h : Hearer) (s : Side) (p : Bytes) (i : Hearer) (n : ℕ) (b : Bool) : Type 0 where

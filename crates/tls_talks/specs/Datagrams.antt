@@ -14,9 +14,11 @@ use Rattle.tls_flow.specs.declared.event.Event.{Event as Followed}
 use Rattle.tls_flow.specs.declared.flow.Flow.{Flow}
 use Rattle.tls_flow.specs.declared.letter.Direction.{Direction as Side}
 use Rattle.tls_flow.specs.declared.letter.Direction.TheVariants.{ToServer, FromServer}
-use Rattle.tls_conversations.specs.Events.{event_in_datagram}
+use Rattle.tls_conversations.specs.Events.{event_in_datagram_with, kind_in_datagram, message_in_datagram}
+use Rattle.tls_flow.specs.Bytes.{HandshakeMessage}
+use Rattle.tls_flow.specs.declared.letter.Kind.{Kind}
 use Rattle.tls_flow.specs.declared.state.Outcome.{Outcome}
-use Rattle.tls_facts.specs.Facts.{Facts, nothing, of_alert, of_datagram_message, view_facts}
+use Rattle.tls_facts.specs.Facts.{Facts, nothing, of_alert, of_datagrams, view_facts}
 use Rattle.dtls13_records.specs.Ciphertext.{Ciphertext, ciphertext}
 use Rattle.tls_talks.specs.Ends.{is_13}
 use Rattle.tls_facts.specs.Told.{client_session_id, connection_id_length, offers_ticket, server_session_id}
@@ -27,11 +29,18 @@ use Rattle.tls_talks.specs.declared.account.Progress.{Progress}
 use Rattle.tls_talks.specs.declared.speaker.Speaker.{Speaker}
 use Rattle.tls_talks.specs.declared.datagram_talk.DatagramTalk.{DatagramTalk}
 
--- What an event of that side adds to what is known.
+-- What an event of that side adds to what is known, where m is the handshake message that it is.
+abbrev pub noted_by : Side → Option HandshakeMessage → Facts → Facts
+noted_by s (Some m) f = of_datagrams s m f
+noted_by s None f = f
+
+abbrev pub noted_in_datagram_with : Side → Facts → Event → Option HandshakeMessage → Facts
+noted_in_datagram_with s f (Handshake h) m = noted_by s m f
+noted_in_datagram_with s f (Alert a) m = of_alert a.description f
+noted_in_datagram_with s f e m = f
+
 abbrev pub noted_in_datagram : Side → Facts → Event → Facts
-noted_in_datagram s f (Handshake m) = of_datagram_message s m.msg_type m.body f
-noted_in_datagram s f (Alert a) = of_alert a.description f
-noted_in_datagram s f e = f
+noted_in_datagram s f e = noted_in_datagram_with s f e (message_in_datagram e)
 
 abbrev pub is_change : Event → Bool
 is_change ChangeCipherSpec = true
@@ -49,9 +58,12 @@ abbrev pub followed_by : Flow → Option Followed → Flow
 followed_by f (Some e) = follow f e
 followed_by f None = f
 
--- The flow with an event of that side.
+-- The flow with an event of that side, where k is the kind of the handshake message.
+abbrev pub followed_with : Side → Flow → Event → Kind → Flow
+followed_with s f e k = followed_by f (event_in_datagram_with s e k)
+
 abbrev pub followed : Side → Flow → Event → Flow
-followed s f e = followed_by f (event_in_datagram s e)
+followed s f e = followed_with s f e (kind_in_datagram e)
 
 -- What both sides came to, and how far one of them has come: whether it changed its cipher, and whether it said a record that is encrypted.
 pub record Told : Type 0 where

@@ -4,7 +4,7 @@ use Rattle.std.specs.Str.{byte}
 use Rattle.tls_fields.specs.Bytes.{Bytes}
 use Rattle.tls_events.specs.Item as stream
 use Rattle.dtls_messages.specs.Messages as datagrams
-use Rattle.tls_flow.specs.Bytes.{kind_of_bytes, kind_of_datagram_body}
+use Rattle.tls_conversations.specs.Events.{kind_in_datagram, kind_said}
 use Rattle.tls_flow.specs.declared.letter.Direction.{Direction as Side}
 use Rattle.tls_flow.specs.declared.letter.Direction.TheVariants.{ToServer, FromServer}
 use Rattle.tls_flow.specs.declared.letter.Kind.{Kind}
@@ -50,29 +50,35 @@ abbrev pub letter_of_first : Bytes → ℕ
 letter_of_first [] = byte "z"
 letter_of_first (n ∷ b) = letter_of_type n
 
--- The letter of a whole handshake message of TLS. A HelloRetryRequest is a ServerHello of a random of its own (RFC 8446, section 4.1.4).
-abbrev pub letter_of_message : Bytes → ℕ
-letter_of_message b = if is_retry (kind_of_bytes b) then byte "j" else letter_of_first b
+-- The letter of a whole handshake message of TLS of that kind. A HelloRetryRequest is a ServerHello of a random of its own (RFC 8446, section 4.1.4).
+abbrev pub letter_of_message : Kind → Bytes → ℕ
+letter_of_message k b = if is_retry k then byte "j" else letter_of_first b
 
--- The letter of what a side of TLS says. What is encrypted has none, and what is refused.
+-- The letter of what a side of TLS says, where k is the kind of a handshake message. What is encrypted has none, and what is refused.
+abbrev pub letter_with : Kind → stream.Event → Option ℕ
+letter_with k (stream.Handshake b) = Some (letter_of_message k b)
+letter_with k stream.ChangeCipherSpec = Some (byte "i")
+letter_with k (stream.Alert a) = Some (byte "l")
+letter_with k (stream.Heartbeat b) = Some (byte "b")
+letter_with k (stream.ApplicationData b) = Some (byte "d")
+letter_with k _ = None
+
 abbrev pub letter_of : stream.Event → Option ℕ
-letter_of (stream.Handshake b) = Some (letter_of_message b)
-letter_of stream.ChangeCipherSpec = Some (byte "i")
-letter_of (stream.Alert a) = Some (byte "l")
-letter_of (stream.Heartbeat b) = Some (byte "b")
-letter_of (stream.ApplicationData b) = Some (byte "d")
-letter_of _ = None
+letter_of v = letter_with (kind_said v) v
 
 -- The letter of a handshake message of DTLS.
-abbrev pub letter_of_datagram_message : ℕ → Bytes → ℕ
-letter_of_datagram_message n b = if is_retry (kind_of_datagram_body n b) then byte "j" else letter_of_type n
+abbrev pub letter_of_datagram_message : Kind → ℕ → ℕ
+letter_of_datagram_message k n = if is_retry k then byte "j" else letter_of_type n
 
 -- The same of DTLS.
+abbrev pub letter_in_datagram_with : Kind → datagrams.Event → Option ℕ
+letter_in_datagram_with k (datagrams.Handshake m) = Some (letter_of_datagram_message k m.msg_type)
+letter_in_datagram_with k datagrams.ChangeCipherSpec = Some (byte "i")
+letter_in_datagram_with k (datagrams.Alert a) = Some (byte "l")
+letter_in_datagram_with k _ = None
+
 abbrev pub letter_in_datagram : datagrams.Event → Option ℕ
-letter_in_datagram (datagrams.Handshake m) = Some (letter_of_datagram_message m.msg_type m.body)
-letter_in_datagram datagrams.ChangeCipherSpec = Some (byte "i")
-letter_in_datagram (datagrams.Alert a) = Some (byte "l")
-letter_in_datagram _ = None
+letter_in_datagram e = letter_in_datagram_with (kind_in_datagram e) e
 
 -- The client's are in upper case, whose letters stand 32 in front of the others.
 abbrev pub cased : Side → ℕ → ℕ

@@ -1,18 +1,22 @@
 -- What a connection's events say of it, in all.
-use Rattle.std.specs.Prelude.{Bool, true, false, ◌||◌, if◌then◌else◌, List, [], ◌∷◌}
+use Rattle.std.specs.Prelude.{Bool, true, false, ◌||◌, if◌then◌else◌, List, [], ◌∷◌, Option}
 use Rattle.tls_events.specs.Item.{Event as Said, Handshake, Alert, ApplicationData, Encrypted}
 use Rattle.tls_flow.specs.declared.letter.Direction.{Direction as Side}
 use Rattle.tls_flow.specs.Steps.{follow}
 use Rattle.tls_flow.specs.declared.event.Event.{Event}
 use Rattle.tls_flow.specs.declared.flow.Flow.{Flow}
-use Rattle.tls_conversations.specs.Events.{event_of}
-use Rattle.tls_facts.specs.Facts.{Facts, is_stray, of_alert, of_bytes}
+use Rattle.tls_flow.specs.Bytes.{HandshakeMessage}
+use Rattle.tls_conversations.specs.Events.{event_of, message_in}
+use Rattle.tls_facts.specs.Facts.{Facts, is_stray, of_alert, of_message_if}
 
--- One step: what an event of that side adds.
+-- One step: what an event of that side adds, where m is the handshake message that it is.
+abbrev pub noted_with : Side → Facts → Said → Option HandshakeMessage → Facts
+noted_with s f (Handshake b) m = of_message_if s m f
+noted_with s f (Alert a) m = of_alert a.description f
+noted_with s f _ m = f
+
 abbrev pub noted : Side → Facts → Said → Facts
-noted s f (Handshake m) = of_bytes s m f
-noted s f (Alert a) = of_alert a.description f
-noted s f _ = f
+noted s f v = noted_with s f v (message_in v)
 
 -- The handshake behind an event of that side, by what was known in front of it: a hello that is none of the handshake is no step of it.
 abbrev pub stepped : Side → Flow → Facts → Event → Flow

@@ -1,16 +1,20 @@
 //! What both sides of a conversation in DTLS came to say.
 ghost use Rattle.std.specs.Prelude.{◌≡◌, OnOk};
+ghost use Rattle.std.specs.Option.{option_map};
+ghost use Rattle.tls_flow.specs.Bytes.{view_heard};
 ghost use Rattle.dtls_messages.specs.Messages.{view_event, view_events};
 ghost use Rattle.tls_facts.specs.Facts.{view_facts};
+ghost use Rattle.tls_talks.specs.History.{letter_in_datagram, with_letter};
 ghost use Rattle.tls_flow.specs.Table.{is_failed as is_failure, is_waiting as is_still};
-ghost use Rattle.tls_talks.specs.Datagrams.{awaits_change as awaits, behind_change as stands_behind_change, followed, has_come_to_change as comes_to_change, is_change as changes, is_sealed as seals, may_resume as takes_session, noted_in_datagram, said, said_all, saying, told_of};
+ghost use Rattle.tls_talks.specs.Datagrams.{awaits_change as awaits, behind_change as stands_behind_change, followed, followed_with, has_come_to_change as comes_to_change, is_change as changes, is_sealed as seals, may_resume as takes_session, noted_in_datagram, noted_in_datagram_with, said, said_all, saying, told_of};
 
 use crate::history::{add_letter, datagram_letter};
 use crate::witness::Witness;
 use dtls_stream::Event;
 use std::alloc::{AllocError, Global};
-use tls_conversations::{Direction, Flow, Outcome, dtls_event};
+use tls_conversations::{Direction, Flow, Kind, Outcome, datagram_message, dtls_event_with};
 use tls_facts::Facts;
+use tls_flow::HandshakeMessage;
 
 /// How far a side has come.
 #[derive(Clone, Copy, Debug, PartialEq, Eq)]
@@ -42,18 +46,22 @@ fn is_sealed(event: &Event<'_>) -> bool
     matches!(event, Event::Encrypted(_))
 }
 
-/// Notes what one event of a side says.
+/// Notes what one event of a side says, where `message` is the handshake message that it is.
 fn note(
     facts: &mut Facts,
     alloc: Global,
     side: Direction,
     event: &Event<'_>,
+    message: Option<&HandshakeMessage<'_>>,
 ) -> Result<(), AllocError>
-    ensures { OnOk result (view_facts facts.new ≡ noted_in_datagram side (view_facts facts.old) (view_event event.now)) }
+    ensures { OnOk result (view_facts facts.new ≡ noted_in_datagram_with side (view_facts facts.old) (view_event event.now)
+        (option_map (λ m. view_heard m.now) message.entry)) }
 {
     match event {
-        Event::Handshake(message) => {
-            facts.note_datagram_message(alloc, side, message.msg_type, message.body.as_slice())?
+        Event::Handshake(_) => {
+            if let Some(message) = message {
+                facts.note_datagrams(alloc, side, message)?;
+            }
         }
         Event::Alert(alert) => facts.note_alert(alert.code),
         Event::ChangeCipherSpec | Event::Encrypted(_) | Event::Refused(_, _) | Event::Fault(_) => {}
@@ -61,11 +69,11 @@ fn note(
     Ok(())
 }
 
-/// Follows an event, if it counts as one of a conversation.
-fn follow(flow: &mut Flow, event: &Event<'_>, side: Direction)
-    ensures { flow.new ≡ followed side flow.old (view_event event.now) }
+/// Follows an event, if it counts as one of a conversation, where `kind` is that of the handshake message.
+fn follow(flow: &mut Flow, event: &Event<'_>, kind: Kind, side: Direction)
+    ensures { flow.new ≡ followed_with side flow.old (view_event event.now) kind }
 {
-    if let Some(event) = dtls_event(event, side) {
+    if let Some(event) = dtls_event_with(event, kind, side) {
         flow.update(event);
     }
 }
@@ -93,7 +101,7 @@ fn behind_change(flow: &Flow, side: Direction) -> Outcome
     ensures { result ≡ stands_behind_change side flow.now }
 {
     let mut next = Flow::at(flow.state());
-    follow(&mut next, &Event::ChangeCipherSpec, side);
+    follow(&mut next, &Event::ChangeCipherSpec, Kind::Unknown, side);
     next.outcome()
 }
 
@@ -129,7 +137,28 @@ impl Account {
             && has_come_to_change(&self.flow, &self.facts, side)
     }
 
-    /// Follows and notes an event of a side, and puts its letter behind the others.
+    /// Follows and notes an event of a side, and puts its letter behind the others. Its message is read once, for all of these and the witness.
+    fn tell<W: Witness>(
+        &mut self,
+        alloc: Global,
+        side: Direction,
+        event: &Event<'_>,
+        witness: &mut W,
+    ) -> Result<(), AllocError>
+        ensures flow { OnOk result (self.new.flow ≡ followed side self.old.flow (view_event event.now)) }
+        ensures facts { OnOk result (view_facts self.new.facts ≡ noted_in_datagram side (view_facts self.old.facts) (view_event event.now)) }
+        ensures history { OnOk result (self.new.history.items ≡ with_letter side self.old.history.items (letter_in_datagram (view_event event.now))) }
+    {
+        let message = datagram_message(event);
+        let kind = Kind::of_datagrams(message.as_ref());
+        note(&mut self.facts, alloc, side, event, message.as_ref())?;
+        follow(&mut self.flow, event, kind, side);
+        add_letter(&mut self.history, side, datagram_letter(event, kind))?;
+        witness.hear_event(side, event, message.as_ref())?;
+        Ok(())
+    }
+
+    /// The same, and how far the side has come by it.
     fn say<W: Witness>(
         &mut self,
         alloc: Global,
@@ -140,10 +169,7 @@ impl Account {
     ) -> Result<(), AllocError>
         ensures { OnOk result (told_of self.new progress.new ≡ saying side (told_of self.old progress.old) (view_event event.now)) }
     {
-        note(&mut self.facts, alloc, side, event)?;
-        follow(&mut self.flow, event, side);
-        add_letter(&mut self.history, side, datagram_letter(event))?;
-        witness.hear_event(side, event)?;
+        self.tell(alloc, side, event, witness)?;
         progress.has_changed = progress.has_changed || is_change(event);
         progress.is_encrypted = progress.is_encrypted || is_sealed(event);
         Ok(())

@@ -1,21 +1,27 @@
 //! A conversation whose events are noted.
 ghost use Rattle.std.specs.Prelude.{◌≡◌, [], IfOk, OnOk};
+ghost use Rattle.std.specs.Option.{option_map};
 ghost use Rattle.ssl2_hello.specs.ClientHello.{view_client_hello as view_ssl2_hello};
 ghost use Rattle.tls_conversations.specs.Conversations.{IsBegun, ear, views};
 ghost use Rattle.tls_conversations.specs.Ears.{IsReady, front_of};
 ghost use Rattle.tls_conversations.specs.Events.{event_of, view_said};
+ghost use Rattle.tls_flow.specs.Bytes.{view_heard};
 ghost use Rattle.tls_facts.specs.Facts.{nothing, view_facts};
 ghost use Rattle.tls_flow.specs.Steps.{silence};
-ghost use Rattle.tls_talks.specs.Noting.{is_sealed, noted, stepped};
+ghost use Rattle.tls_talks.specs.Noting.{followed, is_sealed, noted, noted_with, stepped};
+ghost use Rattle.tls_talks.specs.History.{letter_of, with_letter};
 ghost use Rattle.tls_talks.specs.Hearing.{IsFed, IsHeard, IsHeardOf, IsHelloNoted, IsNextTaken};
 
 use crate::history::{add_letter, said_letter};
 use crate::witness::{Nobody, Witness};
 use ssl2_hello::Ssl2ClientHello;
 use std::alloc::{AllocError, Global};
-use tls_conversations::{Conversation, Direction, Event, Flow, Kind, Said, tls_event};
+use tls_conversations::{
+    Conversation, Direction, Event, Flow, Kind, Said, said_event_with, said_message,
+};
 use tls_events::DEFAULT_LIMIT;
 use tls_facts::Facts;
+use tls_flow::HandshakeMessage;
 
 /// A conversation, and what its events say of it.
 #[derive(Drop)]
@@ -40,16 +46,6 @@ fn is_encrypted(said: &Said<'_>) -> bool
     }
 }
 
-/// What is said, as an event of a handshake.
-fn flow_event(said: &Said<'_>, side: Direction) -> tls_flow::Event
-    ensures { result ≡ event_of side (view_said said.now) }
-{
-    match said {
-        Said::Event(event) => tls_event(event, side),
-        Said::Fault(_) => tls_flow::Event::new(Kind::Unknown, side),
-    }
-}
-
 /// Follows an event of a side, unless it is a hello that is none of the handshake by what was known in front of it.
 pub(crate) fn step(flow: &mut Flow, facts: &Facts, side: Direction, event: tls_flow::Event)
     ensures { flow.new ≡ stepped side flow.old (view_facts facts.now) event }
@@ -59,17 +55,23 @@ pub(crate) fn step(flow: &mut Flow, facts: &Facts, side: Direction, event: tls_f
     }
 }
 
-/// Notes what one event of a side says.
+/// Notes what one event of a side says, where `message` is the handshake message that it is.
 fn note(
     facts: &mut Facts,
     alloc: Global,
     side: Direction,
     said: &Said<'_>,
+    message: Option<&HandshakeMessage<'_>>,
 ) -> Result<(), AllocError>
-    ensures { OnOk result (view_facts facts.new ≡ noted side (view_facts facts.old) (view_said said.now)) }
+    ensures { OnOk result (view_facts facts.new ≡ noted_with side (view_facts facts.old) (view_said said.now)
+        (option_map (λ m. view_heard m.now) message.entry)) }
 {
     match said {
-        Said::Event(Event::Handshake(message)) => facts.note_message(alloc, side, message)?,
+        Said::Event(Event::Handshake(_)) => {
+            if let Some(message) = message {
+                facts.note(alloc, side, message)?;
+            }
+        }
         Said::Event(Event::Alert(alert)) => facts.note_alert(alert.code),
         Said::Event(Event::ChangeCipherSpec)
         | Said::Event(Event::Heartbeat(_))
@@ -78,6 +80,32 @@ fn note(
         | Said::Fault(_) => {}
     }
     Ok(())
+}
+
+/// Follows and notes what a side says, and puts its letter behind the others: the event that it is. Its message is read once, for all of these and
+/// the witness.
+fn tell<W: Witness>(
+    flow: &mut Flow,
+    facts: &mut Facts,
+    history: &mut Vec<u8>,
+    alloc: Global,
+    side: Direction,
+    said: &Said<'_>,
+    witness: &mut W,
+) -> Result<tls_flow::Event, AllocError>
+    ensures flow { OnOk result (flow.new ≡ followed side flow.old (view_facts facts.old) (view_said said.now)) }
+    ensures facts { OnOk result (view_facts facts.new ≡ noted side (view_facts facts.old) (view_said said.now)) }
+    ensures history { OnOk result (history.new.items ≡ with_letter side history.old.items (letter_of (view_said said.now))) }
+    ensures event { IfOk result (λ e. e ≡ event_of side (view_said said.now)) }
+{
+    let message = said_message(said);
+    let kind = Kind::of_message(message.as_ref());
+    let event = said_event_with(said, kind, side);
+    step(flow, facts, side, event);
+    note(facts, alloc, side, said, message.as_ref())?;
+    add_letter(history, side, said_letter(said, kind))?;
+    witness.hear_said(side, said, message.as_ref())?;
+    Ok(event)
 }
 
 impl Hearer {
@@ -136,17 +164,15 @@ impl Hearer {
         ensures taken { IfOk result (λ r. IsNextTaken (front_of (ear self.old.conversation side)) self.old side r self.new) }
         ensures ready { OnOk result (IsReady (ear self.old.conversation side) → IsReady (ear self.new.conversation side)) }
     {
-        let is_encrypted = match self.conversation.front(side) {
+        let (event, is_encrypted) = match self.conversation.front(side) {
             Some(said) => {
-                step(&mut self.flow, &self.facts, side, flow_event(&said, side));
-                note(&mut self.facts, alloc, side, &said)?;
-                add_letter(&mut self.history, side, said_letter(&said))?;
-                witness.hear_said(side, &said)?;
-                is_encrypted(&said)
+                let (flow, facts) = (&mut self.flow, &mut self.facts);
+                let event = tell(flow, facts, &mut self.history, alloc, side, &said, witness)?;
+                (event, is_encrypted(&said))
             }
             None => return Ok(None),
         };
-        self.conversation.take_front(side);
+        self.conversation.take_front_as(side, event);
         Ok(Some(is_encrypted))
     }
 

@@ -3,7 +3,7 @@ ghost use Rattle.std.specs.Prelude.{◌≡◌, [], OnOk};
 ghost use Rattle.tls_events.specs.Item.{view_event};
 ghost use Rattle.tls_conversations.specs.Events.{view_said};
 ghost use Rattle.dtls_messages.specs.Messages.{view_event as view_in_datagram};
-ghost use Rattle.tls_talks.specs.History.{cased as cased_of, letter_in_datagram, letter_of, letter_of_datagram_message, letter_of_message, letter_of_type as letter_by_type, with_letter};
+ghost use Rattle.tls_talks.specs.History.{cased as cased_of, letter_in_datagram_with, letter_of_datagram_message, letter_of_message, letter_of_type as letter_by_type, letter_with, with_letter};
 
 use std::alloc::AllocError;
 use tls_conversations::{Direction, Event, Kind, Said};
@@ -40,11 +40,11 @@ fn letter_of_type(msg_type: u8) -> u8
     }
 }
 
-/// The letter of a whole handshake message of TLS.
-fn message_letter(message: &[u8]) -> u8
-    ensures { result ≡ letter_of_message message.now }
+/// The letter of a whole handshake message of TLS of that kind.
+fn message_letter(kind: Kind, message: &[u8]) -> u8
+    ensures { result ≡ letter_of_message kind message.now }
 {
-    if matches!(Kind::of_bytes(message), Kind::HelloRetryRequest) {
+    if matches!(kind, Kind::HelloRetryRequest) {
         return b'j';
     }
     match message {
@@ -53,23 +53,22 @@ fn message_letter(message: &[u8]) -> u8
     }
 }
 
-/// The letter of a whole handshake message of DTLS.
-fn datagram_message_letter(message: &dtls_stream::Message) -> u8
-    ensures { result ≡ letter_of_datagram_message message.now.msg_type.0 message.now.body.items }
+/// The letter of a whole handshake message of DTLS of that kind and type.
+fn datagram_message_letter(kind: Kind, msg_type: u8) -> u8
+    ensures { result ≡ letter_of_datagram_message kind msg_type }
 {
-    let kind = Kind::of_datagram_body(message.msg_type, message.body.as_slice());
     if matches!(kind, Kind::HelloRetryRequest) {
         return b'j';
     }
-    letter_of_type(message.msg_type.0)
+    letter_of_type(msg_type)
 }
 
-/// The letter of what a side of TLS says.
-pub(crate) fn said_letter(said: &Said<'_>) -> Option<u8>
-    ensures { result ≡ letter_of (view_said said.now) }
+/// The letter of what a side of TLS says, where `kind` is that of the handshake message.
+pub(crate) fn said_letter(said: &Said<'_>, kind: Kind) -> Option<u8>
+    ensures { result ≡ letter_with kind (view_said said.now) }
 {
     match said {
-        Said::Event(Event::Handshake(message)) => Some(message_letter(message)),
+        Said::Event(Event::Handshake(message)) => Some(message_letter(kind, message)),
         Said::Event(Event::ChangeCipherSpec) => Some(b'i'),
         Said::Event(Event::Alert(_)) => Some(b'l'),
         Said::Event(Event::Heartbeat(_)) => Some(b'b'),
@@ -79,11 +78,13 @@ pub(crate) fn said_letter(said: &Said<'_>) -> Option<u8>
 }
 
 /// The letter of what a side of DTLS says.
-pub(crate) fn datagram_letter(event: &dtls_stream::Event<'_>) -> Option<u8>
-    ensures { result ≡ letter_in_datagram (view_in_datagram event.now) }
+pub(crate) fn datagram_letter(event: &dtls_stream::Event<'_>, kind: Kind) -> Option<u8>
+    ensures { result ≡ letter_in_datagram_with kind (view_in_datagram event.now) }
 {
     match event {
-        dtls_stream::Event::Handshake(message) => Some(datagram_message_letter(message)),
+        dtls_stream::Event::Handshake(message) => {
+            Some(datagram_message_letter(kind, message.msg_type.0))
+        }
         dtls_stream::Event::ChangeCipherSpec => Some(b'i'),
         dtls_stream::Event::Alert(_) => Some(b'l'),
         dtls_stream::Event::Encrypted(_)

@@ -1,17 +1,24 @@
 //! Who hears what both sides say, one event after the other.
 use std::alloc::AllocError;
 use tls_conversations::{Direction, Said};
+use tls_flow::HandshakeMessage;
 
 /// Who hears each event of a talk that counts, once it was followed and noted.
 pub trait Witness {
-    /// A side of TLS says this.
-    fn hear_said(&mut self, side: Direction, said: &Said<'_>) -> Result<(), AllocError>;
+    /// A side of TLS says this. `message` is the handshake message that it is, with its ServerHello read.
+    fn hear_said(
+        &mut self,
+        side: Direction,
+        said: &Said<'_>,
+        message: Option<&HandshakeMessage<'_>>,
+    ) -> Result<(), AllocError>;
 
     /// A side of DTLS says this.
     fn hear_event(
         &mut self,
         side: Direction,
         event: &dtls_stream::Event<'_>,
+        message: Option<&HandshakeMessage<'_>>,
     ) -> Result<(), AllocError>;
 }
 
@@ -20,7 +27,12 @@ pub trait Witness {
 pub struct Nobody;
 
 impl Witness for Nobody {
-    fn hear_said(&mut self, side: Direction, said: &Said<'_>) -> Result<(), AllocError> {
+    fn hear_said(
+        &mut self,
+        side: Direction,
+        said: &Said<'_>,
+        message: Option<&HandshakeMessage<'_>>,
+    ) -> Result<(), AllocError> {
         Ok(())
     }
 
@@ -28,6 +40,7 @@ impl Witness for Nobody {
         &mut self,
         side: Direction,
         event: &dtls_stream::Event<'_>,
+        message: Option<&HandshakeMessage<'_>>,
     ) -> Result<(), AllocError> {
         Ok(())
     }
@@ -35,9 +48,14 @@ impl Witness for Nobody {
 
 /// It hears where it is there.
 impl<W: Witness> Witness for Option<Box<W>> {
-    fn hear_said(&mut self, side: Direction, said: &Said<'_>) -> Result<(), AllocError> {
+    fn hear_said(
+        &mut self,
+        side: Direction,
+        said: &Said<'_>,
+        message: Option<&HandshakeMessage<'_>>,
+    ) -> Result<(), AllocError> {
         match self {
-            Some(witness) => witness.hear_said(side, said),
+            Some(witness) => witness.hear_said(side, said, message),
             None => Ok(()),
         }
     }
@@ -46,9 +64,10 @@ impl<W: Witness> Witness for Option<Box<W>> {
         &mut self,
         side: Direction,
         event: &dtls_stream::Event<'_>,
+        message: Option<&HandshakeMessage<'_>>,
     ) -> Result<(), AllocError> {
         match self {
-            Some(witness) => witness.hear_event(side, event),
+            Some(witness) => witness.hear_event(side, event, message),
             None => Ok(()),
         }
     }

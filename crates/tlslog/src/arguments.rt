@@ -2,7 +2,7 @@
 use crate::failure::Reason;
 use clap::{Arg, ArgAction, ArgMatches, Command};
 use log_connections::Checksums;
-use log_lines::{Format, Lines, Style, StyleError, Suites};
+use log_lines::{Format, LineKind, Lines, Style, StyleError, Suites};
 use std::alloc::{AllocError, Global};
 use std::fmt::{self, Display, Formatter};
 use std::rt::Runtime;
@@ -76,6 +76,14 @@ fn messages<'a>(alloc: Global) -> Arg<'a> {
         .action(ArgAction::SetTrue)
 }
 
+/// Whether certificates have lines.
+fn certificates<'a>(alloc: Global) -> Arg<'a> {
+    Arg::new(alloc, "certificates")
+        .long("certificates")
+        .help("Print a line for each certificate, as it comes, and not for each connection")
+        .action(ArgAction::SetTrue)
+}
+
 /// An option with a value.
 fn option<'a>(alloc: Global, name: &'a str, value: &'a str, help: &'a str) -> Arg<'a> {
     Arg::new(alloc, name)
@@ -117,9 +125,12 @@ fn checksums<'a>(alloc: Global) -> Arg<'a> {
 pub fn matches<'a>(alloc: Global, words: &'a [String]) -> Result<ArgMatches<'a>, clap::Error> {
     Command::new(alloc, "tlslog")
         .version(VERSION)
-        .about("Prints a line for each connection of TLS or DTLS in a capture, or for each message")
+        .about(
+            "Prints a line for each connection of TLS or DTLS in a capture, or for each message or certificate",
+        )
         .arg(captures(alloc))?
         .arg(messages(alloc))?
+        .arg(certificates(alloc))?
         .arg(format(alloc))?
         .arg(fields(alloc))?
         .arg(ciphers(alloc))?
@@ -156,13 +167,25 @@ pub fn checksums_of(matches: &ArgMatches<'_>) -> Checksums {
     }
 }
 
+/// What has a line.
+fn kind_of<'a>(matches: &ArgMatches<'a>) -> Result<LineKind, StyleError<'a>> {
+    match (
+        matches.get_flag("messages"),
+        matches.get_flag("certificates"),
+    ) {
+        (false, false) => Ok(LineKind::Connections),
+        (true, false) => Ok(LineKind::Messages),
+        (false, true) => Ok(LineKind::Certificates),
+        (true, true) => Err(StyleError::TwoKinds),
+    }
+}
+
 /// What the arguments ask for.
 pub fn style_of<'a, R: Runtime + AllocGlobal>(
     rt: &R,
     matches: &ArgMatches<'a>,
 ) -> Result<Style, Refusal<'a>> {
-    let (are_messages, names) = (matches.get_flag("messages"), matches.get_str("fields"));
-    let lines = Lines::new(rt.alloc(), are_messages, names)?;
+    let lines = Lines::new(rt.alloc(), kind_of(matches)?, matches.get_str("fields"))?;
     let suites = match matches.get_str("ciphers") {
         Some(path) => suites_of(rt, path)?,
         None => Suites::new(rt.alloc()),

@@ -1,48 +1,72 @@
 //! What goes with each connection of a capture.
 use connections::{Connection, Side};
-use log_connections::{Heard, Keeper};
-use log_lines::{Party, Speech, Spoken, Summary};
+use log_connections::{Heard, Keeper, Pieces};
+use log_lines::{Chains, Party, Presented, Speech, Spoken, Summary};
 use std::alloc::{AllocError, Global};
 use tls_conversations::Said;
-use tls_flow::Direction;
+use tls_flow::{Direction, HandshakeMessage};
 use tls_talks::Witness;
 
-/// The messages of a connection, until they are printed.
+/// What is kept of a connection until it is printed.
 #[derive(Drop)]
-pub struct Messages {
-    speech: Speech,
+pub enum Kept {
+    /// Its messages.
+    Messages(Speech),
+    /// Its certificates.
+    Certificates(Chains),
 }
 
-impl Keeper for Messages {
-    fn begin(alloc: Global) -> Messages {
-        Messages {
-            speech: Speech::new(alloc),
+impl Keeper for Kept {
+    fn begin(alloc: Global, pieces: Pieces) -> Kept {
+        match pieces {
+            Pieces::Messages => Kept::Messages(Speech::new(alloc)),
+            Pieces::Certificates => Kept::Certificates(Chains::new(alloc)),
         }
     }
 }
 
-impl Witness for Messages {
-    fn hear_said(&mut self, side: Direction, said: &Said<'_>) -> Result<(), AllocError> {
-        self.speech.hear_said(side, said)
+impl Witness for Kept {
+    fn hear_said(
+        &mut self,
+        side: Direction,
+        said: &Said<'_>,
+        message: Option<&HandshakeMessage<'_>>,
+    ) -> Result<(), AllocError> {
+        match self {
+            Kept::Messages(speech) => speech.hear_said(side, said, message),
+            Kept::Certificates(chains) => chains.hear(side, message),
+        }
     }
 
     fn hear_event(
         &mut self,
         side: Direction,
         event: &dtls_stream::Event<'_>,
+        message: Option<&HandshakeMessage<'_>>,
     ) -> Result<(), AllocError> {
-        self.speech.hear_event(side, event)
+        match self {
+            Kept::Messages(speech) => speech.hear_event(side, event, message),
+            Kept::Certificates(chains) => chains.hear(side, message),
+        }
     }
 }
 
-/// What is heard of a connection: what its sides said, and their messages, where these are printed.
-pub type Listener = Heard<Messages>;
+/// What is heard of a connection: what its sides said, and the pieces of it that are printed one by one.
+pub type Listener = Heard<Kept>;
 
 /// Takes out the messages that are kept.
 pub fn take_messages(alloc: Global, listener: &mut Listener) -> Vec<Spoken> {
     match listener.keeper() {
-        Some(messages) => messages.speech.take(),
-        None => Vec::new(alloc),
+        Some(Kept::Messages(speech)) => speech.take(),
+        Some(Kept::Certificates(_)) | None => Vec::new(alloc),
+    }
+}
+
+/// Takes out the certificates that are kept.
+pub fn take_certificates(alloc: Global, listener: &mut Listener) -> Vec<Presented> {
+    match listener.keeper() {
+        Some(Kept::Certificates(chains)) => chains.take(),
+        Some(Kept::Messages(_)) | None => Vec::new(alloc),
     }
 }
 

@@ -4,12 +4,12 @@ ghost use Rattle.tlslog.specs.Output.{Tells};
 ghost use Rattle.tlslog.specs.Run.{EndsBy, Exits, ExitsBy, HasWritten, IsAsBefore, StaysSound};
 
 use crate::failure::{Exit, Failure};
-use crate::listener::{Listener, Messages, summary, take_messages};
+use crate::listener::{Kept, Listener, summary, take_certificates, take_messages};
 use crate::output::{LineError, Output};
 use crate::progress::{STANDARD_INPUT, Source, Watched};
 use connections::Connection;
-use log_connections::{Arrival, Checksums, Counts, Log, add_one};
-use log_lines::{Lines, Spoken, Style, Summary, message_row, row_of};
+use log_connections::{Arrival, Checksums, Counts, Log, Pieces, add_one};
+use log_lines::{Lines, Presented, Spoken, Style, Summary, certificate_row, message_row, row_of};
 use packets::{Packet, PacketVisitor, visit_packets};
 use std::alloc::Global;
 use std::fs;
@@ -56,7 +56,7 @@ fn print_line<W: Write>(
     }
     match &style.lines {
         Lines::Connections(places) => print_row(alloc, style, places.as_slice(), &summary, out),
-        Lines::Messages(_) => Ok(()),
+        Lines::Messages(_) | Lines::Certificates(_) => Ok(()),
     }
 }
 
@@ -92,8 +92,63 @@ fn print_message<W: Write>(
     out.write_line(line)
 }
 
-/// Prints the messages of a connection that were whole at this time, if messages have lines.
+/// Prints the messages of a connection that were whole at this time.
 fn print_messages<W: Write>(
+    alloc: Global,
+    style: &Style,
+    places: &[usize],
+    connection: &mut Connection<Listener>,
+    time: u64,
+    out: &mut Output<W>,
+) -> Result<(), LineError>
+    ensures { Tells out.old.has_failed out.new.has_failed result }
+{
+    let all = take_messages(alloc, &mut connection.listener);
+    let summary = summary(connection);
+    'messages: for spoken in all {
+        print_message(alloc, style, places, &summary, time, spoken, out)?;
+    }
+    Ok(())
+}
+
+/// Prints a certificate that came at this time.
+fn print_certificate<W: Write>(
+    alloc: Global,
+    style: &Style,
+    places: &[usize],
+    summary: &Summary<'_>,
+    time: u64,
+    presented: &Presented,
+    out: &mut Output<W>,
+) -> Result<(), LineError>
+    ensures { Tells out.old.has_failed out.new.has_failed result }
+{
+    let row = certificate_row(alloc, places, summary, time, presented)?;
+    let line = style.text(alloc, &row)?;
+    out.write_line(line)
+}
+
+/// Prints the certificates of a connection that came at this time.
+fn print_certificates<W: Write>(
+    alloc: Global,
+    style: &Style,
+    places: &[usize],
+    connection: &mut Connection<Listener>,
+    time: u64,
+    out: &mut Output<W>,
+) -> Result<(), LineError>
+    ensures { Tells out.old.has_failed out.new.has_failed result }
+{
+    let all = take_certificates(alloc, &mut connection.listener);
+    let summary = summary(connection);
+    'certificates: for presented in &all {
+        print_certificate(alloc, style, places, &summary, time, presented, out)?;
+    }
+    Ok(())
+}
+
+/// Prints the messages or the certificates of a connection that were whole at this time, if these have lines.
+fn print_pieces<W: Write>(
     alloc: Global,
     style: &Style,
     connection: &mut Connection<Listener>,
@@ -102,18 +157,18 @@ fn print_messages<W: Write>(
 ) -> Result<(), LineError>
     ensures { Tells out.old.has_failed out.new.has_failed result }
 {
-    let Lines::Messages(places) = &style.lines else {
-        return Ok(());
-    };
-    let all = take_messages(alloc, &mut connection.listener);
-    let summary = summary(connection);
-    'messages: for spoken in all {
-        print_message(alloc, style, places.as_slice(), &summary, time, spoken, out)?;
+    match &style.lines {
+        Lines::Connections(_) => Ok(()),
+        Lines::Messages(places) => {
+            print_messages(alloc, style, places.as_slice(), connection, time, out)
+        }
+        Lines::Certificates(places) => {
+            print_certificates(alloc, style, places.as_slice(), connection, time, out)
+        }
     }
-    Ok(())
 }
 
-/// Prints the last messages of a connection that is over, and its line, if these have lines.
+/// Prints the last pieces of a connection that is over, and its line, if these have lines.
 fn print_both<W: Write>(
     alloc: Global,
     style: &Style,
@@ -124,7 +179,7 @@ fn print_both<W: Write>(
 ) -> Result<(), LineError>
     ensures { Tells out.old.has_failed out.new.has_failed result }
 {
-    print_messages(alloc, style, connection, time, out)?;
+    print_pieces(alloc, style, connection, time, out)?;
     print_line(alloc, style, counts, connection, out)
 }
 
@@ -145,11 +200,11 @@ fn print_last<W: Write>(
     told
 }
 
-/// Prints the messages that are whole with an arrival, if messages have lines.
+/// Prints the messages or the certificates that are whole with an arrival, if these have lines.
 fn print_spoken<W: Write>(
     alloc: Global,
     style: &Style,
-    log: &mut Log<Messages>,
+    log: &mut Log<Kept>,
     arrival: &Arrival<'_>,
     out: &mut Output<W>,
 ) -> Result<(), LineError>
@@ -159,7 +214,7 @@ fn print_spoken<W: Write>(
         return Ok(());
     }
     match log.connection(arrival) {
-        Some(connection) => print_messages(alloc, style, connection, arrival.time(), out),
+        Some(connection) => print_pieces(alloc, style, connection, arrival.time(), out),
         None => Ok(()),
     }
 }
@@ -168,7 +223,7 @@ fn print_spoken<W: Write>(
 fn log_packet<W: Write>(
     alloc: Global,
     style: &Style,
-    log: &mut Log<Messages>,
+    log: &mut Log<Kept>,
     packet: Packet<'_>,
     out: &mut Output<W>,
 ) -> Result<(), LineError>
@@ -201,7 +256,7 @@ fn log_packet<W: Write>(
 struct Logger<'a, W> {
     alloc: Global,
     style: &'a Style,
-    log: Log<Messages>,
+    log: Log<Kept>,
     out: Output<W>,
 }
 
@@ -233,7 +288,7 @@ fn log_packets<I: Read, W: Write>(logger: &mut Logger<'_, W>, reader: &mut I) ->
 fn print_left<W: Write>(
     alloc: Global,
     style: &Style,
-    log: &mut Log<Messages>,
+    log: &mut Log<Kept>,
     out: &mut Output<W>,
 ) -> Result<(), LineError>
     ensures { Tells out.old.has_failed out.new.has_failed result }
@@ -309,6 +364,15 @@ fn tell_counts<R: Runtime>(rt: &R, name: &str, counts: &Counts, exit: Exit) -> E
     }
 }
 
+/// What is kept of connections until it is printed.
+fn kept_for(lines: &Lines) -> Option<Pieces> {
+    match lines {
+        Lines::Connections(_) => None,
+        Lines::Messages(_) => Some(Pieces::Messages),
+        Lines::Certificates(_) => Some(Pieces::Certificates),
+    }
+}
+
 /// What the arguments ask for.
 #[derive(Drop)]
 pub struct Asked {
@@ -340,8 +404,7 @@ pub fn log_input<R: Runtime + AllocGlobal + RandomSource, I: Read + Source, W: W
             out,
         ),
     };
-    let keeps_messages = matches!(asked.style.lines, Lines::Messages(_));
-    let mut log = match Log::new(rt.alloc(), keys, keeps_messages) {
+    let mut log = match Log::new(rt.alloc(), keys, kept_for(&asked.style.lines)) {
         Ok(log) => log,
         Err(_) => return (tell(rt, name, Failure::OutOfMemory, 0), out),
     };

@@ -1,0 +1,218 @@
+//! What a certificate says, as fields (RFC 5280, section 4.1). Nothing is verified.
+use crate::cell::Cell;
+use crate::columns::Certified;
+use crate::text::{add_text, some_text, some_texts};
+use der::ObjectIdentifier;
+use std::alloc::{AllocError, Global};
+use tls_facts::CertificateFault;
+use tls_fields::{ErrorKind, Items};
+use x509::{
+    BasicConstraints, Certificate, GeneralName, GeneralNames, KeyUsage, SubjectPublicKeyInfo,
+    first_extension, oid, parse_basic_constraints, parse_certificate, parse_extended_key_usage,
+    parse_general_names, parse_key_usage,
+};
+use x509_text::{
+    general_name_text, is_self_issued, key_curve, key_length, key_type, key_usage_bits, name_text,
+    object_short_name, object_text, purpose_id, serial_number_text, time_text, version_number,
+};
+
+/// The certificate that bytes are, if it is read.
+pub fn certificate_of(bytes: Option<&[u8]>) -> Option<Certificate<'_>> {
+    match parse_certificate(bytes?) {
+        Ok((_, certificate)) => Some(certificate),
+        Err(_) => None,
+    }
+}
+
+/// Why a certificate isn't read.
+pub fn fault_name(fault: CertificateFault) -> &'static str {
+    match fault {
+        CertificateFault::Incomplete => "incomplete",
+        CertificateFault::Trailing => "trailing",
+        CertificateFault::Broken(ErrorKind::TooLarge) => "too_large",
+        CertificateFault::Broken(ErrorKind::LengthValue) => "length_value",
+        CertificateFault::Broken(ErrorKind::Verify) => "verify",
+        CertificateFault::Broken(ErrorKind::Switch) => "switch",
+        CertificateFault::Broken(ErrorKind::Tag) => "tag",
+        CertificateFault::Broken(ErrorKind::Complete) => "complete",
+    }
+}
+
+/// The names in its subjectAltName (RFC 5280, section 4.2.1.6): none where it has none, or it can't be read.
+fn alternative_names<'a>(certificate: &Certificate<'a>) -> Items<'a, GeneralNames> {
+    let extensions = certificate.tbs_certificate.extensions;
+    let Some(found) = first_extension(extensions, oid::SUBJECT_ALT_NAME) else {
+        return Items::new(&[]);
+    };
+    match parse_general_names(found.extn_value) {
+        Ok((_, names)) => names,
+        Err(_) => Items::new(&[]),
+    }
+}
+
+/// Whether a name is of the kind that a field lists.
+fn is_listed(name: &GeneralName<'_>, field: &Certified) -> bool {
+    matches!(
+        (field, name),
+        (Certified::DnsNames, GeneralName::DnsName(_))
+            | (Certified::Emails, GeneralName::Rfc822Name(_))
+            | (Certified::Uris, GeneralName::UniformResourceIdentifier(_))
+            | (Certified::Addresses, GeneralName::IpAddress(_))
+            | (Certified::OtherNames, GeneralName::Other(_))
+    )
+}
+
+/// The names of one kind in its subjectAltName.
+fn names_cell(
+    alloc: Global,
+    certificate: &Certificate<'_>,
+    field: &Certified,
+) -> Result<Option<Cell>, AllocError> {
+    let mut all = Vec::new(alloc);
+    for name in alternative_names(certificate) {
+        if is_listed(&name, field) {
+            add_text(&mut all, general_name_text(alloc, name))?;
+        }
+    }
+    Ok(some_texts(all))
+}
+
+/// Its basicConstraints (RFC 5280, section 4.2.1.9), if it has them and they can be read.
+fn constraints<'a>(certificate: &Certificate<'a>) -> Option<BasicConstraints<'a>> {
+    let extensions = certificate.tbs_certificate.extensions;
+    let found = first_extension(extensions, oid::BASIC_CONSTRAINTS)?;
+    match parse_basic_constraints(found.extn_value) {
+        Ok((_, constraints)) => Some(constraints),
+        Err(_) => None,
+    }
+}
+
+/// How many certificates may stand between it and the last one; nothing where there is no limit, or one that no chain can reach.
+fn path_length(certificate: &Certificate<'_>) -> Option<Cell> {
+    match constraints(certificate)?.path_len_constraint {
+        Some([n]) => Some(Cell::Number(u64::from(*n))),
+        _ => None,
+    }
+}
+
+/// Whether it may sign others; nothing where it doesn't say so.
+fn may_be_ca(certificate: &Certificate<'_>) -> Option<Cell> {
+    let constraints = constraints(certificate)?;
+    Some(Cell::Mark(constraints.ca))
+}
+
+/// The same, where what isn't said is false.
+fn is_ca(certificate: &Certificate<'_>) -> bool {
+    match constraints(certificate) {
+        Some(constraints) => constraints.ca,
+        None => false,
+    }
+}
+
+/// The bits of a KeyUsage that are set, by their names.
+fn usage_cell(alloc: Global, usage: KeyUsage) -> Result<Option<Cell>, AllocError> {
+    let mut all = Vec::new(alloc);
+    for (name, is_set) in key_usage_bits(usage) {
+        if is_set {
+            add_text(&mut all, String::from_str(alloc, name))?;
+        }
+    }
+    Ok(some_texts(all))
+}
+
+/// What its key may be used for (RFC 5280, section 4.2.1.3).
+fn key_usage(alloc: Global, certificate: &Certificate<'_>) -> Result<Option<Cell>, AllocError> {
+    let extensions = certificate.tbs_certificate.extensions;
+    let Some(found) = first_extension(extensions, oid::KEY_USAGE) else {
+        return Ok(None);
+    };
+    match parse_key_usage(found.extn_value) {
+        Ok((_, usage)) => usage_cell(alloc, usage),
+        Err(_) => Ok(None),
+    }
+}
+
+/// The name of a purpose, or its numbers with dots.
+fn purpose_text(alloc: Global, id: ObjectIdentifier<'_>) -> Result<String, AllocError> {
+    match object_short_name(id) {
+        Some(name) => String::from_str(alloc, name),
+        None => object_text(alloc, id),
+    }
+}
+
+/// The purposes of its key (RFC 5280, section 4.2.1.12), by their names, or dotted.
+fn purposes(alloc: Global, certificate: &Certificate<'_>) -> Result<Option<Cell>, AllocError> {
+    let extensions = certificate.tbs_certificate.extensions;
+    let Some(found) = first_extension(extensions, oid::EXTENDED_KEY_USAGE) else {
+        return Ok(None);
+    };
+    let Ok((_, list)) = parse_extended_key_usage(found.extn_value) else {
+        return Ok(None);
+    };
+    let mut all = Vec::new(alloc);
+    for purpose in list {
+        add_text(&mut all, purpose_text(alloc, purpose_id(purpose)))?;
+    }
+    Ok(some_texts(all))
+}
+
+/// A time; nothing where the calendar doesn't have it.
+fn time_cell(alloc: Global, seconds: i64) -> Result<Option<Cell>, AllocError> {
+    match time_text(alloc, seconds)? {
+        Some(text) => Ok(Some(Cell::Text(text))),
+        None => Ok(None),
+    }
+}
+
+/// What one field says of its key.
+fn key_cell(
+    alloc: Global,
+    info: SubjectPublicKeyInfo<'_>,
+    field: &Certified,
+) -> Result<Option<Cell>, AllocError> {
+    match field {
+        Certified::KeyAlgorithm => some_text(object_text(alloc, info.algorithm.algorithm)),
+        Certified::KeyLength => match key_length(info) {
+            Some(bits) => Ok(Some(Cell::Number(u64::from(bits)))),
+            None => Ok(None),
+        },
+        Certified::Curve => match key_curve(info) {
+            Some(curve) => some_text(object_text(alloc, curve)),
+            None => Ok(None),
+        },
+        _ => Ok(Some(Cell::Name(key_type(info)))),
+    }
+}
+
+/// What one field says of a certificate; nothing where it is missing.
+pub fn certified_cell(
+    alloc: Global,
+    certificate: &Certificate<'_>,
+    field: &Certified,
+) -> Result<Option<Cell>, AllocError> {
+    let tbs = &certificate.tbs_certificate;
+    match field {
+        Certified::Version => Ok(Some(Cell::Number(u64::from(version_number(certificate))))),
+        Certified::Serial => some_text(serial_number_text(alloc, tbs.serial_number)),
+        Certified::Subject => some_text(name_text(alloc, tbs.subject)),
+        Certified::Issuer => some_text(name_text(alloc, tbs.issuer)),
+        Certified::NotBefore => time_cell(alloc, tbs.validity.not_before),
+        Certified::NotAfter => time_cell(alloc, tbs.validity.not_after),
+        Certified::ValidFrom => Ok(Some(Cell::Whole(tbs.validity.not_before))),
+        Certified::ValidUntil => Ok(Some(Cell::Whole(tbs.validity.not_after))),
+        Certified::KeyAlgorithm | Certified::KeyType | Certified::KeyLength | Certified::Curve =>
+            key_cell(alloc, tbs.subject_public_key_info, field),
+        Certified::SignatureAlgorithm => some_text(object_text(alloc, tbs.signature.algorithm)),
+        Certified::DnsNames
+        | Certified::Uris
+        | Certified::Emails
+        | Certified::Addresses
+        | Certified::OtherNames => names_cell(alloc, certificate, field),
+        Certified::IsCa => Ok(Some(Cell::Mark(is_ca(certificate)))),
+        Certified::MayBeCa => Ok(may_be_ca(certificate)),
+        Certified::PathLength => Ok(path_length(certificate)),
+        Certified::SelfIssued => Ok(Some(Cell::Mark(is_self_issued(certificate)))),
+        Certified::KeyUsage => key_usage(alloc, certificate),
+        Certified::Purposes => purposes(alloc, certificate),
+    }
+}

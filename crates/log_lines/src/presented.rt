@@ -1,0 +1,69 @@
+//! The line of a certificate.
+use crate::cell::{Cell, Row};
+use crate::certificates::{certificate_of, certified_cell, fault_name};
+use crate::chains::Presented;
+use crate::columns::{DETAILS, Detail};
+use crate::line::end_cell;
+use crate::names::sender_name;
+use crate::summary::Summary;
+use crate::text::{hexadecimal, some_mark, some_text};
+use sha2::{Digest, Sha256};
+use std::alloc::{AllocError, Global};
+use tls_facts::certificate_fault;
+use tls_flow::Direction;
+use x509::Certificate;
+
+/// Why a certificate isn't read, where it isn't.
+fn fault_cell(bytes: &[u8]) -> Option<Cell> {
+    let fault = certificate_fault(bytes)?;
+    Some(Cell::Name(fault_name(fault)))
+}
+
+/// What one field says of a certificate that came at this time.
+fn detail_cell(
+    alloc: Global,
+    summary: &Summary<'_>,
+    time: u64,
+    presented: &Presented,
+    certificate: &Option<Certificate<'_>>,
+    detail: &Detail,
+) -> Result<Option<Cell>, AllocError> {
+    let bytes = presented.bytes.as_slice();
+    match detail {
+        Detail::End(field) => end_cell(alloc, summary, time, field),
+        Detail::Side => Ok(Some(Cell::Name(sender_name(presented.direction)))),
+        Detail::Place => Ok(Some(Cell::Number(presented.place))),
+        Detail::Print => some_text(hexadecimal(alloc, Sha256::digest(bytes).as_slice())),
+        Detail::Length => Ok(Some(Cell::Number(bytes.len() as u64))),
+        Detail::Certificate(field) => match certificate {
+            Some(certificate) => certified_cell(alloc, certificate, field),
+            None => Ok(None),
+        },
+        Detail::IsServers => Ok(some_mark(
+            presented.direction == Direction::FromServer && presented.place == 0,
+        )),
+        Detail::IsClients => Ok(some_mark(
+            presented.direction == Direction::ToServer && presented.place == 0,
+        )),
+        Detail::Fault => Ok(fault_cell(bytes)),
+    }
+}
+
+/// The line of a certificate that came at this time, with the fields at these places of [`DETAILS`].
+pub fn certificate_row(
+    alloc: Global,
+    places: &[usize],
+    summary: &Summary<'_>,
+    time: u64,
+    presented: &Presented,
+) -> Result<Row, AllocError> {
+    let certificate = certificate_of(Some(presented.bytes.as_slice()));
+    let mut cells = Vec::with_capacity(alloc, places.len())?;
+    for place in places {
+        if let Some((name, detail)) = DETAILS.get(*place) {
+            let cell = detail_cell(alloc, summary, time, presented, &certificate, detail)?;
+            cells.push((*name, cell))?;
+        }
+    }
+    Ok(Row { cells })
+}
