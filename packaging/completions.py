@@ -65,6 +65,7 @@ _tlslog_files() {
 _tlslog_fields() {
     fields='@FIELDS@'
     [[ " ${COMP_WORDS[*]} " == *' --messages '* ]] && fields='@MESSAGE_FIELDS@'
+    [[ " ${COMP_WORDS[*]} " == *' --certificates '* ]] && fields='@CERTIFICATE_FIELDS@'
     front="${word%"${word##*,}"}"
     compopt -o nospace 2> /dev/null
     for name in $fields; do
@@ -80,6 +81,8 @@ ZSH = """#compdef tlslog
 _tlslog_fields() {
     if (( ${words[(I)--messages]} )); then
         _values -s , field @MESSAGE_FIELDS@
+    elif (( ${words[(I)--certificates]} )); then
+        _values -s , field @CERTIFICATE_FIELDS@
     else
         _values -s , field @FIELDS@
     fi
@@ -93,6 +96,8 @@ FISH = """# Completion of tlslog for fish.
 function __tlslog_fields
     if contains -- --messages (commandline -opc)
         printf '%s\\n' @MESSAGE_FIELDS@
+    else if contains -- --certificates (commandline -opc)
+        printf '%s\\n' @CERTIFICATE_FIELDS@
     else
         printf '%s\\n' @FIELDS@
     end
@@ -142,10 +147,10 @@ def _filled(text, **parts):
     return text
 
 
-def completions_of(text, fields, message_fields):
-    """The file for each shell, of the program's --help and the fields of its two kinds of lines."""
+def completions_of(text, fields, message_fields, certificate_fields):
+    """The file for each shell, of the program's --help and the fields of its three kinds of lines."""
     options = options_of(text)
-    names = {"FIELDS": " ".join(fields), "MESSAGE_FIELDS": " ".join(message_fields)}
+    names = {"FIELDS": " ".join(fields), "MESSAGE_FIELDS": " ".join(message_fields), "CERTIFICATE_FIELDS": " ".join(certificate_fields)}
     cases = "\n".join(
         f"        {option.long})\n            {_bash_case(option)}\n            return\n            ;;"
         for option in options

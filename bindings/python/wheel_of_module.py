@@ -34,8 +34,8 @@ def build_wheel(wheel_directory, config_settings=None, metadata_directory=None):
 
 def write_wheel(folder, library, platform, epoch):
     """Writes the wheel with this library, for systems that are named so, its files of this time. It is the same where these are."""
-    sources = [file for file in sorted((HERE / NAME).iterdir()) if file.suffix in {".py", ".typed"}]
-    files = {f"{NAME}/{file.name}": file.read_bytes() for file in sources}
+    sources = [file for file in sorted((HERE / NAME).rglob("*")) if file.suffix in {".py", ".typed", ".css", ".js"}]
+    files = {file.relative_to(HERE).as_posix(): file.read_bytes() for file in sources}
     files[f"{NAME}/{LIBRARY.name}"] = library.read_bytes()
     files[f"{INFO}/METADATA"] = METADATA.encode()
     tags = "".join(f"Tag: py3-none-{one}\n" for one in platform.split("."))

@@ -4,8 +4,13 @@ import ctypes
 import os
 
 _PATH = os.environ.get("WISPUDDERA_LIBRARY") or os.path.join(os.path.dirname(__file__), "libwispuddera.so")
-# It keeps the interpreter's lock, right for calls as short as these.
-_library = ctypes.PyDLL(_PATH)
+# Why there is no library. Only its calls need it: the module is imported without it, and `wispuddera.report` runs.
+_missing = None
+try:
+    # It keeps the interpreter's lock, right for calls as short as these.
+    _library = ctypes.PyDLL(_PATH)
+except OSError as reason:
+    _missing = reason
 
 READ, INCOMPLETE, NONE, OUTSIDE = 0, 1, 8, 9
 KINDS = {2: "TooLarge", 3: "LengthValue", 4: "Verify", 5: "Switch", 6: "Tag", 7: "Complete"}
@@ -133,7 +138,13 @@ class Flow(ctypes.Structure):
     _fields_ = [("state", _U32)]
 
 
+def _refuse(*_):
+    raise OSError(f"the library of wispuddera isn't there: {_missing}")
+
+
 def _function(name, *arguments, answer=_U32):
+    if _missing:
+        return _refuse
     function = getattr(_library, f"wispuddera_{name}")
     function.argtypes = arguments
     function.restype = answer

@@ -1,0 +1,109 @@
+"""The pictures of the page, as SVG that stands in it."""
+
+from __future__ import annotations
+
+from collections.abc import Iterator
+from typing import NamedTuple
+
+from . import text
+from .tallies import Timeline
+
+
+class Series(NamedTuple):
+    """A part of each bar: its name, and its class in the page's style."""
+
+    name: str
+    style: str
+
+
+# The picture of a timeline, in its own units, and the room around the bars.
+WIDTH, HEIGHT = 1000, 190
+LEFT, RIGHT, TOP, BOTTOM = 60, 6, 12, 26
+# The fewest bars for which there is room: less would be blocks.
+FEWEST = 24
+# Seconds between marks of the time axis, of which there are at most so many.
+_MARKS: tuple[int, ...] = (1, 5, 10, 15, 30, 60, 120, 300, 600, 900, 1800, 3600, 7200, 10800, 21600, 43200, 86400, 172800, 345600, 604800, 1209600)
+_MARKS += (2419200, 4838400, 15724800, 31449600, 62899200, 314496000, 628992000, 3144960000, 62899200000)
+MOST_MARKS = 7
+
+
+def bar(part: int, whole: int, title: str, style: str = "share") -> str:
+    """A bar that is as long as the part."""
+    width = 100 * part / whole if whole else 0
+    return (
+        f'<svg class="bar" viewBox="0 0 100 10" preserveAspectRatio="none" role="img"><title>{text.escaped(title)}</title>'
+        f'<rect class="ground" width="100" height="10"/><rect class="{style}" width="{width:.2f}" height="10"/></svg>'
+    )
+
+
+def legend(series: tuple[Series, ...]) -> str:
+    items = "".join(
+        f'<li><svg class="key" viewBox="0 0 10 10" aria-hidden="true"><rect class="{one.style}" width="10" height="10"/></svg>'
+        f"{text.escaped(one.name)}</li>"
+        for one in series
+    )
+    return f'<ul class="legend">{items}</ul>'
+
+
+def timeline(name: str, title: str, line: Timeline, series: tuple[Series, ...]) -> str:
+    """Bars over time, one for each interval, its parts on one another; the name tells this picture from others on the page."""
+    first, count = line.first, max(line.last - line.first + 1, FEWEST)
+    highest = max(sum(counts) for counts in line.intervals.values())
+    top, marks = scale(highest)
+    parts = [f'<svg class="timeline" viewBox="0 0 {WIDTH} {HEIGHT}" role="img" aria-labelledby="{name}-title">']
+    parts += [f'<title id="{name}-title">{text.escaped(title)}</title>', *_grid(top, marks), *_times(first * line.step, count * line.step)]
+    room = (WIDTH - LEFT - RIGHT) / count
+    for place, counts in sorted(line.intervals.items()):
+        parts.append(_bar(LEFT + (place - first) * room, room, place * line.step, line.step, counts, top, series))
+    return "".join([*parts, "</svg>"])
+
+
+def scale(highest: int) -> tuple[int, list[int]]:
+    """The top of an axis up to that number, and its marks: at most six steps of 1, 2 or 5 times a power of ten."""
+    step, factors = 1, (2, 2.5, 2)
+    turn = 0
+    while highest > 6 * step:
+        step = int(step * factors[turn % 3])
+        turn += 1
+    count = max(-(-highest // step), 1)
+    return step * count, [step * place for place in range(count + 1)]
+
+
+def _height(value: int, top: int) -> float:
+    return (HEIGHT - TOP - BOTTOM) * value / top
+
+
+def _grid(top: int, marks: list[int]) -> Iterator[str]:
+    for mark in marks:
+        y = HEIGHT - BOTTOM - _height(mark, top)
+        yield f'<line class="grid" x1="{LEFT}" x2="{WIDTH - RIGHT}" y1="{y:.1f}" y2="{y:.1f}"/>'
+        yield f'<text class="of-y" x="{LEFT - 8}" y="{y + 4:.1f}">{text.number(mark)}</text>'
+
+
+def _times(start: int, span: int) -> Iterator[str]:
+    """Marks at whole multiples of their distance; a day is written where it begins, and at the first one."""
+    distance = next((mark for mark in _MARKS if span // mark < MOST_MARKS), _MARKS[-1])
+    days: set[str] = set()
+    for at in range(-(-start // distance) * distance, min(start + span, text.END_OF_TIME), distance):
+        x = LEFT + (WIDTH - LEFT - RIGHT) * (at - start) / span
+        day, time = text.time(at).split(" ")
+        words = [] if day in days else [day]
+        if distance % text.DAY:
+            words.append(time if distance % 60 else time[:5])
+        days.add(day)
+        yield f'<line class="mark" x1="{x:.1f}" x2="{x:.1f}" y1="{HEIGHT - BOTTOM}" y2="{HEIGHT - BOTTOM + 4}"/>'
+        anchor = "start" if x - LEFT < 40 else "end" if WIDTH - x < 40 else "middle"
+        yield f'<text class="of-x" text-anchor="{anchor}" x="{x:.1f}" y="{HEIGHT - 6}">{" ".join(words)}</text>'
+
+
+def _bar(x: float, room: float, start: int, step: int, counts: list[int], top: int, series: tuple[Series, ...]) -> str:
+    """The bar of an interval, and its counts as a title."""
+    told = ", ".join(f"{text.number(count)} {one.name.lower()}" for one, count in zip(series, counts))
+    parts = [f"<g><title>{text.time(start)}, {text.duration(step)}: {text.escaped(told)}</title>"]
+    y = float(HEIGHT - BOTTOM)
+    width = max(room - (1 if room > 3 else 0), 0.5)
+    for one, count in zip(series, counts):
+        if count:
+            y -= _height(count, top)
+            parts.append(f'<rect class="{one.style}" x="{x:.2f}" y="{y:.2f}" width="{width:.2f}" height="{_height(count, top):.2f}"/>')
+    return "".join([*parts, "</g>"])

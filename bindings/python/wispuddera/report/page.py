@@ -1,0 +1,227 @@
+"""The page: one file of HTML with its style, its pictures and its script in it, which loads nothing."""
+
+from __future__ import annotations
+
+import base64
+import hashlib
+from collections.abc import Iterator
+from importlib import resources
+from typing import Any, BinaryIO
+
+from . import drawing, sections, text
+from .counting import Counts
+from .drawing import Series
+from .reading import Reader
+from .tables import ROWS, Column, number, table, words
+from .tallies import MOST, Tally
+
+_BY_OUTCOME = (Series("Completed", "good"), Series("Broken off", "broken"), Series("Other", "other"))
+_BY_VERSION = (Series("1.3", "newest"), Series("1.2", "newer"), Series("Older", "older"), Series("None or another", "other"))
+
+
+def report(log: BinaryIO) -> str:
+    """The page of a log."""
+    reader, counts = Reader(log), Counts()
+    counts.add_all(reader)
+    return _page(reader, counts)
+
+
+def _hash(source: str) -> str:
+    return f"'sha256-{base64.b64encode(hashlib.sha256(source.encode()).digest()).decode()}'"
+
+
+def _source(name: str) -> str:
+    return resources.files(__package__).joinpath(name).read_text(encoding="utf-8")
+
+
+def _page(reader: Reader, counts: Counts) -> str:
+    style, script = _source("page.css"), _source("page.js")
+    policy = f"default-src 'none'; style-src {_hash(style)}; script-src {_hash(script)}; base-uri 'none'; form-action 'none'"
+    body = "\n".join([*_header(reader, counts), "<main>", *_main(reader, counts), "</main>"])
+    return (
+        '<!DOCTYPE html>\n<html lang="en"><head><meta charset="utf-8"/>\n'
+        f'<meta http-equiv="Content-Security-Policy" content="{policy}"/>\n'
+        '<meta name="viewport" content="width=device-width, initial-scale=1"/><meta name="color-scheme" content="light dark"/>\n'
+        f"<title>{text.escaped(_title(counts))}</title>\n<style>{style}</style></head>\n<body>\n{body}\n<script>{script}</script>\n</body></html>\n"
+    )
+
+
+def _title(counts: Counts) -> str:
+    if counts.first is None or counts.last is None:
+        return "TLS connections"
+    first, last = text.day(counts.first), text.day(counts.last)
+    return f"TLS connections, {first}" if first == last else f"TLS connections, {first} to {last}"
+
+
+def _header(reader: Reader, counts: Counts) -> Iterator[str]:
+    yield "<header><h1>TLS connections</h1>"
+    if counts.first is not None and counts.last is not None:
+        first, last = text.time(counts.first), text.time(counts.last)
+        span = text.duration(counts.last - counts.first)
+        yield f'<p class="span"><span id="first">{first}</span> to <span id="last">{last}</span> UTC, {span}</p>'
+    unread = sum(reader.unread.values())
+    if unread:
+        told = f'<span id="unread">{text.counted(unread, "line")}</span> of {text.number(reader.lines)} weren’t read'
+        yield f'<p class="notice">{told}: <a href="#about">why</a>.</p>'
+    yield "</header>"
+
+
+def _figure(name: str, title: str, value: str, more: str) -> str:
+    return f'<div><dt>{text.escaped(title)}</dt><dd><span id="{name}">{value}</span><small>{text.escaped(more)}</small></dd></div>'
+
+
+def _figures(counts: Counts) -> str:
+    whole = counts.connections
+    rows = [_figure("connections", "Connections", text.number(whole), _kinds(counts.hosts, "host").lower())]
+    of_all = (("completed", "Handshakes completed", counts.completed), ("broken-off", "Broken off", counts.broken_off), ("resumed", "Resumed", counts.resumed))
+    of_versioned = (("tls13", "TLS or DTLS 1.3", counts.newest), ("old", "Old versions", counts.old), ("weak", "Weak cipher suites", counts.weak))
+    rows += [_figure(name, title, text.number(count), text.share(count, whole)) for name, title, count in of_all]
+    for name, title, count in of_versioned:
+        rows.append(_figure(name, title, text.number(count), f"{text.share(count, counts.versioned)} of those with a ServerHello"))
+    is_told = counts.certified and counts.last is not None
+    value, more = (text.number(len(sections.expiring(counts))), "or expired before") if is_told else ("–", "the log doesn’t tell")
+    rows.append(_figure("expiring", f"Certificates expiring in {sections.SOON} days", value, more))
+    return f'<dl class="figures">{"".join(rows)}</dl>'
+
+
+def _main(reader: Reader, counts: Counts) -> Iterator[str]:
+    yield _figures(counts)
+    yield from _over_time(counts)
+    yield _chosen(counts)
+    yield _failures(counts)
+    yield _hosts(counts)
+    yield _clients(counts)
+    yield _poor(counts)
+    yield _certificates(counts)
+    yield _about(reader, counts)
+
+
+def _section(name: str, title: str, content: str) -> str:
+    return f'<section aria-labelledby="{name}-head"><h2 id="{name}-head">{text.escaped(title)}</h2>{content}</section>'
+
+
+def _paragraph(told: str) -> str:
+    return f"<p>{text.escaped(told)}</p>"
+
+
+def _over_time(counts: Counts) -> Iterator[str]:
+    if counts.first is None:
+        yield _section("time", "Over time", _paragraph("No line has a time (ts)."))
+        return
+    pictures = []
+    kinds = (("outcome", counts.by_outcome, _BY_OUTCOME), ("version", counts.by_version, _BY_VERSION))
+    for name, line, series in kinds:
+        title = f"Connections by {name}, each bar {text.duration(line.step)}"
+        picture = drawing.timeline(f"by-{name}", title, line, series)
+        pictures.append(f"<figure><figcaption>{text.escaped(title)}{drawing.legend(series)}</figcaption>{picture}</figure>")
+    yield _section("time", "Over time", "".join(pictures))
+
+
+def _chosen(counts: Counts) -> str:
+    left, right = sections.outcomes(counts) + sections.groups(counts), sections.versions(counts)
+    pair = f'<div class="pair"><div>{left}</div><div>{right}</div></div>'
+    return _section("chosen", "Outcomes and what was negotiated", pair + sections.suite_table(counts))
+
+
+def _failures(counts: Counts) -> str:
+    title = "Failed handshakes, and why"
+    if not counts.failures.total:
+        return _section("broken", title, _paragraph("No handshake failed."))
+    told = (
+        f"{text.counted(counts.failures.total, 'handshake')} failed. The last alert says why a side gave up. The message that ended the handshake is that "
+        "alert, or one that should not have come. In TLS 1.3 alerts after the ServerHello are encrypted, so they aren’t here."
+    )
+    return _section("broken", title, _paragraph(told) + sections.failures(counts))
+
+
+def _kinds(tally: Tally[Any, Any], noun: str) -> str:
+    """How many different ones there are, as far as that is known."""
+    return f"{'More than ' if tally.missed else ''}{text.counted(len(tally.entries), 'different ' + noun)}"
+
+
+def _hosts(counts: Counts) -> str:
+    if not counts.hosts.total:
+        return _section("by-host", "Hosts", _paragraph("No line has a server_name."))
+    without = counts.connections - counts.hosts.total
+    told = f"{_kinds(counts.hosts, 'host')}. {text.counted(without, 'connection')} asked for none. Clients and servers are counted by address."
+    return _section("by-host", "Hosts", _paragraph(told) + sections.hosts(counts))
+
+
+def _clients(counts: Counts) -> str:
+    if not counts.clients.total:
+        return _section("by-client", "Clients", _paragraph("No line has a ja4."))
+    told = f"{_kinds(counts.clients, 'JA4 fingerprint')}. Programs that use the same library in the same way share one."
+    return _section("by-client", "Clients", _paragraph(told) + sections.clients(counts))
+
+
+def _poor(counts: Counts) -> str:
+    title = "Servers with old versions or weak suites"
+    told = (
+        f"{text.counted(counts.old, 'connection')} with an old version (below TLS 1.2 or DTLS 1.2, RFC 8996), {text.number(counts.weak)} with a weak "
+        "suite. The grade is that of the RFCs: a server must not choose it, or should not."
+    )
+    if counts.unjudged:
+        told += f" Suites of {text.counted(counts.unjudged, 'connection')} have no name here, and weren’t judged."
+    rule = f"<details><summary>The rule for suites</summary>{sections.rule()}</details>"
+    found = sections.poor_servers(counts) if counts.poor.total else ""
+    return _section("weak-servers", title, _paragraph(told) + found + rule)
+
+
+def _certificates(counts: Counts) -> str:
+    title = "Certificates that expire soon"
+    if not counts.certified:
+        return _section("expiry", title, _paragraph("No line has a not_after: the log tells nothing of certificates, or TLS 1.3 encrypted them all."))
+    if counts.last is None:
+        return _section("expiry", title, _paragraph("No line has a time (ts), so nothing tells what is soon."))
+    found = sections.expiring(counts)
+    more = "more than " if counts.certificates.latest is not None else ""
+    kept = f"{more}{text.counted(len(counts.certificates.entries), 'certificate')}"
+    told = (
+        f"{kept} in {text.counted(counts.certified, 'connection')}; {text.number(len(found))} have expired or expire within {sections.SOON} days. Days are "
+        f"counted from the last time in the log, {text.time(counts.last)} UTC, not from today: the same log always gives the same page. TLS 1.3 encrypts "
+        "certificates, so only those of earlier versions are here."
+    )
+    return _section("expiry", title, _paragraph(told[0].upper() + told[1:]) + (sections.certificates(counts) if found else ""))
+
+
+def _about(reader: Reader, counts: Counts) -> str:
+    lines, connections = text.counted(reader.lines, "line"), text.counted(counts.connections, "connection")
+    told = [
+        f"{lines} of the log, {connections}. The time of a connection is that of its first packet.",
+        f"Tables have at most {ROWS} rows. Click the head of a column to sort by it.",
+        f"Characters of the log that can’t be seen are escaped. Text is cut at {text.LONGEST} characters: {text.counted(reader.cut, 'value')}.",
+        *_limits(counts),
+    ]
+    items = "".join(f"<li>{text.escaped(one)}</li>" for one in told)
+    return _section("about", "How this was counted", f'<ul id="about">{items}</ul>{_left_out(reader)}')
+
+
+def _limits(counts: Counts) -> Iterator[str]:
+    """Which limits were reached, and what that does to the counts."""
+    tallies: tuple[tuple[str, Tally[Any, Any]], ...] = (
+        ("hosts", counts.hosts), ("client programs", counts.clients), ("servers", counts.poor), ("reasons", counts.failures),
+        ("outcomes", counts.outcomes), ("versions", counts.versions), ("suites", counts.suites), ("groups", counts.groups),
+    )
+    reached = [(name, tally.missed) for name, tally in tallies if tally.missed]
+    if counts.certificates.latest is not None:
+        yield f"There were more than {text.number(2 * MOST)} certificates: only those that expire first were kept."
+    for name, missed in reached:
+        yield (
+            f"There were more than {text.number(2 * MOST)} different {name}, so the rarest were dropped on the way. Counts with ≥ may be short by up "
+            f"to {text.number(missed)}, others are exact, and none with more than {text.number(missed)} connections is missing."
+        )
+    if not reached and counts.certificates.latest is None:
+        yield f"Up to {text.number(2 * MOST)} different values of a field are held at once. There weren’t more, so all counts are exact."
+
+
+def _left_out(reader: Reader) -> str:
+    parts = []
+    if reader.unread:
+        columns = (Column("Lines that weren’t read"), Column("Lines", True))
+        rows = [[words(reason), number(count)] for reason, count in sorted(reader.unread.items(), key=lambda item: (-item[1], item[0]))]
+        parts.append(table("unread-lines", "Lines that weren’t read, by reason", columns, rows))
+    if reader.misfits:
+        columns = (Column("Field"), Column("Lines", True))
+        rows = [[words(field), number(count)] for field, count in sorted(reader.misfits.items())]
+        parts.append(table("misfits", "Values of another type than the field has, which were left out", columns, rows))
+    return "".join(parts)

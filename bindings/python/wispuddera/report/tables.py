@@ -1,0 +1,97 @@
+"""Tables of the page, which its script can sort."""
+
+from __future__ import annotations
+
+from collections.abc import Iterable, Sequence
+from typing import NamedTuple, Optional, Union
+
+from . import drawing, text
+from .tallies import FEW, Entry, Values
+
+# How many rows a table has at most.
+ROWS = 100
+
+
+class Column(NamedTuple):
+    title: str
+    is_number: bool = False
+    # By which the rows are in order at first: `ascending` or `descending`.
+    order: str = ""
+
+
+class Cell(NamedTuple):
+    """HTML, and the number by which the row is put in order where that isn't the text."""
+
+    html: str
+    place: Optional[Union[int, float]] = None
+
+
+def words(value: Optional[str], none: str = "–") -> Cell:
+    """A text of the log. What isn't there, or is empty, is told in other letters."""
+    return Cell(text.escaped(value) if value else aside(none if value is None else "empty"))
+
+
+def aside(told: str) -> str:
+    return f'<span class="aside">{text.escaped(told)}</span>'
+
+
+def number(value: int, missed: int = 0) -> Cell:
+    """A count, which may be short by what was missed."""
+    return Cell(f"{'≥ ' if missed else ''}{text.number(value)}", value)
+
+
+def counted(entry: Entry) -> Cell:
+    return number(entry.count, entry.missed)
+
+
+def share(part: int, whole: int) -> Cell:
+    told = text.share(part, whole)
+    return Cell(f'<span class="percent">{text.escaped(told)}</span>{drawing.bar(part, whole, told)}', part)
+
+
+def how_many(values: Values) -> Cell:
+    """How many different values there are, as far as they are told apart."""
+    return Cell(f"> {FEW}", FEW + 1) if len(values) > FEW else Cell(text.number(len(values)), len(values))
+
+
+def breakable(name: str) -> str:
+    """A name as HTML, which a narrow column may break behind an underscore."""
+    return text.escaped(name).replace("_", "_<wbr/>")
+
+
+def some(values: Sequence[str], most: int = 3, count: int = 0) -> Cell:
+    """The first of these texts, and how many more there are. `count` is how many there are, if more than are given."""
+    if not values:
+        return Cell(aside("–"))
+    shown = [breakable(value) for value in values[:most]]
+    more = max(len(values), count) - len(shown)
+    is_open = len(values) > FEW
+    rest = f" {aside(f'and {more}+ more' if is_open else f'and {more} more')}" if more else ""
+    return Cell(f"{', '.join(shown)}{rest}")
+
+
+def table(name: str, caption: str, columns: Sequence[Column], rows: Iterable[Sequence[Cell]], foot: Sequence[Cell] = ()) -> str:
+    """A table whose first column names its rows; the foot stays below, however they are put in order."""
+    head = "".join(_head(column) for column in columns)
+    body = "".join(f"<tr>{_row(columns, row)}</tr>" for row in rows)
+    end = f"<tfoot><tr>{_row(columns, foot)}</tr></tfoot>" if foot else ""
+    return (
+        f'<div class="scroll" role="region" aria-label="{text.escaped(caption)}" tabindex="0"><table id="{name}"><caption>{text.escaped(caption)}'
+        f"</caption><thead><tr>{head}</tr></thead><tbody>{body}</tbody>{end}</table></div>"
+    )
+
+
+def _head(column: Column) -> str:
+    order = f' aria-sort="{column.order}"' if column.order else ""
+    style = ' class="number"' if column.is_number else ""
+    return f'<th scope="col"{style}{order}>{text.escaped(column.title)}</th>'
+
+
+def _row(columns: Sequence[Column], cells: Sequence[Cell]) -> str:
+    parts = []
+    for at, (column, cell) in enumerate(zip(columns, cells)):
+        tag, scope = ("th", ' scope="row"') if at == 0 else ("td", "")
+        style = ' class="number"' if column.is_number else ""
+        place = f' data-place="{cell.place}"' if cell.place is not None else ""
+        parts.append(f"<{tag}{scope}{style}{place}>{cell.html}</{tag}>")
+    return "".join(parts)
