@@ -16,10 +16,11 @@ def unescaped(text):
 
 
 def leaves(value, name=None):
-    """The fields that have values, in their order."""
+    """The fields that have values, in their order. What certificates say is none of them (.ci/certificates)."""
     if isinstance(value, dict):
         for field, inner in value.items():
-            yield from leaves(inner, field)
+            if field != "certificates":
+                yield from leaves(inner, field)
     elif isinstance(value, list):
         for inner in value:
             yield from leaves(inner, name)
