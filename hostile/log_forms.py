@@ -11,6 +11,7 @@ from collections import Counter
 from pathlib import Path
 
 import exchange_fields
+import identifiers
 
 TOP = Path(__file__).resolve().parent.parent
 # Some suites by the names of the registry.
@@ -23,7 +24,7 @@ SUITES = """
 c02f:TLS_ECDHE_RSA_WITH_AES_128_GCM_SHA256
 c030:TLS_ECDHE_RSA_WITH_AES_256_GCM_SHA384:ECDHE:RSA
 """
-OF_MESSAGES = "ts id.orig_h id.orig_p id.resp_h id.resp_p proto side place content_type name message".split()
+OF_MESSAGES = "ts uid id.orig_h id.orig_p id.resp_h id.resp_p proto side place content_type name message".split()
 CHANGE, ALERT, HANDSHAKE, HEARTBEAT = 20, 21, 22, 24
 
 
@@ -128,6 +129,25 @@ def messages(ask, files):
     return len(rows), fields_found.total()
 
 
+def ends(line):
+    return tuple(line[f"id.{end}"] for end in ("orig_h", "orig_p", "resp_h", "resp_p"))
+
+
+def identified(ask, files, lines):
+    """Each stored line has the identifiers that hashlib makes, and those of messages and certificates have the uid of their connection."""
+    for line in lines:
+        want(list(line.items()) == list(identifiers.of_connection(line).items()), "identifiers:", line, "wanted are", identifiers.of_connection(line))
+    uids = Counter((*ends(line), line["uid"]) for line in lines)
+    want(len({uid for *_, uid in uids}) == len(lines), "two connections have the same uid")
+    count = 0
+    for kind in ("--messages", "--certificates"):
+        status, text, _ = ask([kind, "--fields", "uid,id.orig_h,id.orig_p,id.resp_h,id.resp_p", *files])
+        found = [json.loads(row) for row in text.splitlines()]
+        want(status == 0 and found and all((*ends(line), line["uid"]) in uids for line in found), kind, "uid", status)
+        count += len(found)
+    return count
+
+
 def counted(values):
     return sorted(f"{count} {value}" for value, count in Counter(values).items())
 
@@ -223,6 +243,7 @@ def check(program, ask, files, lines, room):
     count = fields(ask, files, lines)
     suites(ask, files, lines, room)
     print(f"logs: {count} fields alone, in another order and as comma-separated values, and names of suites, are as they are stored")
+    print(f"logs: {len(lines)} lines have the identifiers that hashlib makes, and {identified(ask, files, lines)} of messages and certificates that of their connection")
     count, with_fields = messages(ask, files)
     print(f"logs: {count} messages are those that tshark has, with their places, also as comma-separated values; {with_fields} of them have the "
           "fields of key exchanges, signatures and keys known before that tshark has")

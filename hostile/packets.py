@@ -197,3 +197,142 @@ def links(segments):
         yield f"PPP as {link} in HDLC, compressed", of(link, lambda s: b"\xff\3" + ppp[s.is_v6][1:])
         yield f"Cisco's HDLC as {link}", of(link, lambda s: b"\x0f\0" + kind[s.is_v6])
         yield f"Cisco's HDLC as {link}, to many", of(link, lambda s: b"\x8f\0" + kind[s.is_v6])
+
+
+# What carries packets from one network to another: addresses of the tunnels' ends.
+ENDS_V4 = bytes([192, 0, 2, 1, 192, 0, 2, 2])
+ENDS_V6 = bytes.fromhex("20010db8000000000000000000000001" "20010db8000000000000000000000002")
+ETHER = {4: b"\x08\x00", 6: b"\x86\xdd"}
+LINK = bytes.fromhex("020000000002" "020000000001")
+
+
+def ipv4(protocol, payload):
+    header = struct.pack(">BBHHHBB", 0x45, 0, 20 + len(payload), 1, 0, 64, protocol)
+    return header + checksum(words(header + ENDS_V4)) + ENDS_V4 + payload
+
+
+def ipv6(protocol, payload):
+    return struct.pack(">IHBB", 0x60000000, len(payload), protocol, 64) + ENDS_V6 + payload
+
+
+def udp(source, destination, payload):
+    """One without a checksum, as VXLAN's mostly are."""
+    return struct.pack(">4H", source, destination, 8 + len(payload), 0) + payload
+
+
+def wrappings():
+    """What wraps a packet, by name: makes of an Ethernet frame the bytes behind the outer link's type, that type, and which tunnels these are, with
+    the number of each (0 where it has none). The headers are those of the RFCs that crates/tunnels names."""
+
+    def datagram(frame):
+        """What the frame carries, and of which version of IP that is."""
+        return frame[LINK_HEADER:], frame[LINK_HEADER] >> 4
+
+    def in_ip(outer, protocol, header=b"", name=None, number=0):
+        """The datagram itself in one of IP, behind a header."""
+
+        def wrap(frame):
+            inner, version = datagram(frame)
+            kind = protocol or {4: 4, 6: 41}[version]
+            return outer(kind, header.replace(b"TT", ETHER[version]) + inner), [name or f"ipv{version}"], [number]
+
+        return wrap
+
+    def over(protocol, header, name, number, outer=ipv4, port=None):
+        """The whole frame in one of IP, or in a user datagram."""
+
+        def wrap(frame):
+            payload = header + frame
+            return outer(protocol, udp(49152, port, payload) if port else payload), [name], [number]
+
+        return wrap
+
+    def on_link(header, name, number, is_frame):
+        def wrap(frame):
+            return header + (frame if is_frame else frame[LINK_HEADER:]), [name], [number]
+
+        return wrap
+
+    def gtp(optional):
+        def wrap(frame):
+            inner, _ = datagram(frame)
+            flags = 0x34 if optional else 0x30
+            message = struct.pack(">BBHI", flags, 255, len(optional) + len(inner), 0xA0B0C0D) + optional + inner
+            return ipv4(17, udp(2152, 2152, message)), ["gtp"], [0xA0B0C0D]
+
+        return wrap
+
+    def geneve(frame):
+        inner, version = datagram(frame)
+        options = bytes.fromhex("0102" "0301" "00000007")
+        return ipv6(17, udp(49152, 6081, b"\x02\0" + ETHER[version] + b"\0\0\x09\0" + options + inner)), ["geneve"], [9]
+
+    def teredo(headers):
+        def wrap(frame):
+            inner, version = datagram(frame)
+            if version == 6:
+                return ipv4(17, udp(49152, 3544, headers + inner)), ["teredo"], [0]
+            return ipv4(17, udp(3544, 49152, headers + ipv6(4, inner))), ["teredo", "ipv4"], [0, 0]
+
+        return wrap
+
+    def authenticated(outer):
+        """An Authentication Header is no tunnel; what it is in front of may be."""
+
+        def wrap(frame):
+            inner, version = datagram(frame)
+            kind = {4: 4, 6: 41}[version]
+            return outer(51, bytes([kind, 4, 0, 0]) + bytes(20) + inner), [f"ipv{version}"], [0]
+
+        return wrap
+
+    def nested(frame):
+        """As many tunnels as are followed, of five kinds."""
+        names, numbers = [], []
+        for wrap in (vxlan, gre_frame, keyed, labels_in_gre, vxlan, gre_frame, keyed):
+            payload, outer_names, outer_numbers = wrap(frame)
+            names, numbers = outer_names + names, outer_numbers + numbers
+            frame = LINK + ETHER[payload[0] >> 4] + payload
+        return payload, names, numbers
+
+    origin, identity = bytes.fromhex("0000" "1234" "c0000203"), bytes.fromhex("0001" "0203" "4142" "515253") + bytes(9)
+    vxlan = over(17, b"\x08\0\0\0\0\x12\x34\0", "vxlan", 0x1234, port=4789)
+    gre_frame = over(47, b"\0\0\x65\x58", "gre", 0)
+    keyed = in_ip(ipv6, 47, b"\x20\0TT\0\0\0\x07", "gre", 7)
+
+    def labels_in_gre(frame):
+        payload = b"\0\0\x88\x47" + bytes.fromhex("00010040" "00020140") + frame[LINK_HEADER:]
+        return ipv4(47, payload), ["gre", "mpls"], [0, 32]
+
+    everywhere = {
+        "IP in IPv4": in_ip(ipv4, None), "IP in IPv6": in_ip(ipv6, None),
+        "GRE": in_ip(ipv4, 47, b"\0\0TT", "gre"), "GRE with all fields": in_ip(ipv6, 47, b"\xb0\0TT" + bytes(4) + b"\0\0\1\0" + bytes(4), "gre", 256),
+        "GRE with frames": gre_frame, "GRE with a key": keyed, "MPLS in GRE": labels_in_gre,
+        "ERSPAN I": over(47, b"\0\0\x88\xbe", "erspan", 0),
+        "ERSPAN II": over(47, bytes.fromhex("100088be" "00000001" "10070123" "00000005"), "erspan", 0x123),
+        "ERSPAN III": over(47, bytes.fromhex("100022eb" "00000001" "20070123" "01020304" "00000000"), "erspan", 0x123),
+        "ERSPAN III with a platform": over(47, bytes.fromhex("100022eb" "00000001" "20070123" "01020304" "00000001" "0000000000000000"), "erspan", 0x123),
+        "VXLAN": vxlan, "VXLAN in Linux": over(17, b"\x08\0\0\0\0\x12\x35\0", "vxlan", 0x1235, ipv6, 8472),
+        "GENEVE": over(17, b"\0\0\x65\x58\0\0\x08\0", "geneve", 8, port=6081), "GENEVE with options": geneve,
+        "GTP-U": gtp(b""), "GTP-U with extensions": gtp(bytes.fromhex("00000085" "01000940" "0201010101010100")),
+        "Teredo": teredo(b""), "Teredo with an origin": teredo(origin), "Teredo with both": teredo(identity + origin),
+        "AH in IPv4": authenticated(ipv4), "AH in IPv6": authenticated(ipv6), "8 tunnels": nested,
+    }
+    for name, wrap in everywhere.items():
+        yield name, wrap, None
+    labels = bytes.fromhex("00010040" "00020140")
+    yield "MPLS", on_link(labels, "mpls", 32, False), b"\x88\x47"
+    yield "MPLS to many", on_link(labels, "mpls", 32, False), b"\x88\x48"
+    yield "MPLS with frames", on_link(labels + bytes(4), "mpls", 32, True), b"\x88\x47"
+    yield "a provider's backbone", on_link(bytes.fromhex("00000100"), "pbb", 256, True), b"\x88\xa8\0\x05\x88\xe7"
+
+
+def tunnels(segments):
+    """The capture wrapped in each way: its name, the capture, and by whether a packet is of IPv6 the tunnels and their numbers."""
+    for name, wrap, kind in wrappings():
+        made, told = [], {}
+        for s in segments:
+            payload, names, numbers = wrap(s.frame())
+            made.append((s.time, LINK + (kind or ETHER[payload[0] >> 4]) + payload))
+            told[s.is_v6] = names, numbers
+        yield name, pcap(made), told

@@ -3,6 +3,7 @@
 import re
 import subprocess
 
+import identifiers
 import wanted_certificates
 import wanted_hellos
 
@@ -12,7 +13,7 @@ FIELDS = """
     handshake.extensions_server_name_type handshake.extensions_server_name handshake.extensions_alpn_str handshake.extension.type record.content_type
     alert_message.level alert_message.desc record.length
 """.split()
-OUTER = ["frame.time_epoch", "ip.src", "ipv6.src", "ip.dst", "ipv6.dst", "_ws.col.Info"]
+OUTER = ["frame.time_epoch", "ip.src", "ipv6.src", "ip.dst", "ipv6.dst", "_ws.col.Info", "communityid"]
 OF_TCP = ["tcp.stream", "tcp.srcport", "tcp.dstport", "tcp.flags.syn", "tcp.flags.fin", "tcp.flags.reset", "tcp.flags.ack", "tcp.seq_raw", "tcp.ack_raw", "tcp.len"]
 OF_UDP = ["udp.stream", "udp.srcport", "udp.dstport", "udp.length"]
 UDP_HEADER = 8
@@ -41,8 +42,8 @@ LETTERS = {
 # Of these, 0 is told too.
 ALWAYS = ["comp_method", "cert_count", "client_cert_count", *wanted_certificates.ALWAYS]
 ORDER = """
-    ts id.orig_h id.orig_p id.resp_h id.resp_p proto duration version cipher curve server_name other_server_names next_protocol resumed
-    established last_alert outcome stop gap ssl_history orig_pkts resp_pkts orig_bytes resp_bytes orig_records resp_records retried
+    ts uid id.orig_h id.orig_p id.resp_h id.resp_p proto community_id duration version cipher curve server_name other_server_names next_protocol
+    resumed established last_alert outcome stop gap ssl_history orig_pkts resp_pkts orig_bytes resp_bytes orig_records resp_records retried
     orig_repeated_bytes resp_repeated_bytes orig_disagreeing_bytes resp_disagreeing_bytes
 """.split() + wanted_hellos.ORDER
 
@@ -69,7 +70,7 @@ def rows(capture, port, udp):
     layer, prefix = ("udp", "dtls") if udp else ("tcp", "tls")
     fields = [*OUTER, *(OF_UDP if udp else OF_TCP), *wanted_hellos.SHARED]
     fields += [f"{prefix}.{field}" for field in (*FIELDS, *wanted_hellos.FIELDS)]
-    command = ["tshark", "-r", str(capture), "-T", "fields", "-E", "separator=/t", "-E", "occurrence=a", "-E", "aggregator=;", "-Y", layer]
+    command = ["tshark", "--enable-protocol", "communityid", "-r", str(capture), "-T", "fields", "-E", "separator=/t", "-E", "occurrence=a", "-E", "aggregator=;", "-Y", layer]
     command += ["-o", "tcp.reassemble_out_of_order:TRUE"]
     if port:
         command += ["-d", f"{layer}.port=={port},{prefix}"]
@@ -147,6 +148,7 @@ class Talk:
     def __init__(self, row, layer):
         self.layer = layer
         self.begun = self.last = float(first(row, "frame.time_epoch"))
+        self.community_id = first(row, "communityid")
         self.ends = self.source(row), (first(row, "ip.dst", "ipv6.dst"), int(first(row, f"{layer}.dstport")))
         self.is_tls, self.said, self.messages = False, {}, 0
         self.closed, self.changed, self.has_done, self.is_13 = set(), [], False, False
@@ -257,10 +259,12 @@ class Talk:
         is_short = self.is_established() and not self.is_13 and not self.has_done
         outcome = "tls13" if self.is_13 else "resumed" if is_short else "full" if self.is_established() else "broken_off" if self.stop else "waiting"
         known = {
-            "ts": round(self.begun, 6), "proto": self.layer, "duration": round(self.last - self.begun, 6),
+            "ts": round(self.begun, 6), "proto": self.layer, "community_id": self.community_id, "duration": round(self.last - self.begun, 6),
             "id.orig_h": self.ends[0][0], "id.orig_p": self.ends[0][1], "id.resp_h": self.ends[1][0], "id.resp_p": self.ends[1][1],
             **self.said, **wanted_certificates.of_talk(self.said.get("server_name"), self.own[False], self.own[True]), "resumed": is_short or (self.is_13 and self.said["resumed"]),
             "established": self.is_established(), "outcome": outcome, "stop": self.stop, "ssl_history": self.history or None,
             **self.sent[True].told("orig"), **self.sent[False].told("resp"),
         }
+        # (tshark has no uid)
+        known["uid"] = identifiers.uid(known)
         return {field: known[field] for field in ORDER if is_told(field, known.get(field))}

@@ -38,7 +38,8 @@ enum {
     WISPUDDERA_TAG = 6,          /* a fixed tag differs */
     WISPUDDERA_COMPLETE = 7,     /* bytes are missing where no further bytes could help */
     WISPUDDERA_NONE = 8,         /* what was asked for isn't there */
-    WISPUDDERA_OUTSIDE = 9       /* the offset lies behind the end of the bytes */
+    WISPUDDERA_OUTSIDE = 9,      /* the offset lies behind the end of the bytes */
+    WISPUDDERA_NO_ROOM = 10      /* the buffer is too short for what is told */
 };
 
 /* A status in words. */
@@ -52,7 +53,8 @@ static inline const char *wispuddera_status_text(uint32_t status) {
                                         "a fixed tag differs",
                                         "bytes are missing where no further bytes could help",
                                         "there is none",
-                                        "the offset lies behind the end of the bytes"};
+                                        "the offset lies behind the end of the bytes",
+                                        "the buffer is too short"};
     return status < sizeof texts / sizeof *texts ? texts[status] : "no status";
 }
 
@@ -157,6 +159,36 @@ typedef struct {
     uint16_t version; /* 0xfeff in DTLS 1.0, 0xfefd in DTLS 1.2 */
     bool has_extensions;
 } wispuddera_dtls_client_hello;
+
+/* A certificate (RFC 5280, section 4.1). An object identifier stands without its tag and its length. */
+typedef struct {
+    size_t missing;
+    wispuddera_place signed_bytes;        /* what is signed, with its tag and its length */
+    wispuddera_place serial_number;       /* in two's complement, the most significant byte first */
+    wispuddera_place signature_algorithm; /* an object identifier */
+    wispuddera_place issuer;              /* a Name, with its tag and its length */
+    wispuddera_place subject;             /* the same */
+    wispuddera_place key_algorithm;       /* an object identifier */
+    wispuddera_place key_parameters;      /* their content: of WISPUDDERA_KEY_EC the curve's object identifier; else often of no bytes */
+    wispuddera_place public_key;          /* without the number of unused bits */
+    wispuddera_place extensions;          /* wispuddera_read_x509_extension; of no bytes where there are none */
+    wispuddera_place signature;           /* without the number of unused bits */
+    int64_t not_before;                   /* the first second in which it is valid, since 1970-01-01 00:00:00 UTC */
+    int64_t not_after;                    /* the last one */
+    size_t next;
+    uint32_t key_bits; /* of WISPUDDERA_KEY_RSA how many bits the modulus has; else 0 */
+    uint8_t key_kind;
+    uint8_t version; /* the version less 1, as it stands there: 2 for v3 */
+} wispuddera_x509;
+
+/* An extension of a certificate (RFC 5280, section 4.2). */
+typedef struct {
+    size_t missing;
+    wispuddera_place oid;   /* its type: an object identifier, without its tag and its length */
+    wispuddera_place value; /* in DER */
+    size_t next;
+    bool critical;
+} wispuddera_x509_extension;
 
 /* ---- What stands at an offset ----
  *
@@ -296,6 +328,33 @@ uint32_t wispuddera_signature_scheme_at(const uint8_t *bytes, size_t count, size
  * isn't whole, or its content has no bytes; WISPUDDERA_LENGTH_VALUE as wispuddera_version_at. */
 uint32_t wispuddera_best_version(const uint8_t *bytes, size_t count, uint16_t version, wispuddera_number *out);
 
+/* ---- Fingerprints of hellos ----
+ *
+ * Each reads the body of a hello in front of `bytes`, and refuses as the function above that reads it, with the count of missing bytes in
+ * `missing`, which is 0 else. The text goes into the front of a buffer of the caller's of `room` bytes, with no 0 behind it; the rest of
+ * the buffer stays as it was, and so does all of it where the status isn't WISPUDDERA_READ. WISPUDDERA_NO_ROOM where `room` is too small:
+ * the hello isn't read then. Numbers of GREASE (RFC 8701) are left out. Extensions are taken up to the first that isn't whole. */
+
+/* How many bytes the texts have. */
+enum { WISPUDDERA_JA3_ROOM = 32, WISPUDDERA_JA3S_ROOM = 32, WISPUDDERA_JA4_ROOM = 36 };
+
+/* JA3 of a ClientHello (Salesforce, 2017): the MD5 of its version, cipher suites, types of extensions, groups and formats of points, in 32
+ * hexadecimal digits. It refuses as wispuddera_read_client_hello, and that of DTLS as wispuddera_read_dtls_client_hello. */
+uint32_t wispuddera_ja3(const uint8_t *bytes, size_t count, uint8_t *digits, size_t room, size_t *missing);
+uint32_t wispuddera_dtls_ja3(const uint8_t *bytes, size_t count, uint8_t *digits, size_t room, size_t *missing);
+
+/* JA3S of a ServerHello: the MD5 of its version, cipher suite and types of extensions. It refuses as wispuddera_read_server_hello, and that
+ * of DTLS as wispuddera_read_dtls_server_hello. */
+uint32_t wispuddera_ja3s(const uint8_t *bytes, size_t count, uint8_t *digits, size_t room, size_t *missing);
+uint32_t wispuddera_dtls_ja3s(const uint8_t *bytes, size_t count, uint8_t *digits, size_t room, size_t *missing);
+
+/* JA4 of a ClientHello (FoxIO, 2023), as t13d1516h2_8daaf6152771_e5627efa2ab1: over TCP, over QUIC (RFC 9001), and of DTLS over UDP. It
+ * refuses as wispuddera_read_client_hello, and that of DTLS as wispuddera_read_dtls_client_hello. Its numbers are sorted in an array on the stack,
+ * which takes 64 KiB. */
+uint32_t wispuddera_ja4(const uint8_t *bytes, size_t count, uint8_t *text, size_t room, size_t *missing);
+uint32_t wispuddera_quic_ja4(const uint8_t *bytes, size_t count, uint8_t *text, size_t room, size_t *missing);
+uint32_t wispuddera_dtls_ja4(const uint8_t *bytes, size_t count, uint8_t *text, size_t room, size_t *missing);
+
 /* ---- A stream that comes in pieces ----
  *
  * A buffer of the caller's holds what isn't read yet, at a place that the caller keeps: {0, 0} at first. One buffer and place a
@@ -399,10 +458,54 @@ void wispuddera_flow_step(wispuddera_flow *flow, const wispuddera_event *event);
 /* How the conversation stands: as wispuddera_outcome tells it of its events so far. */
 uint32_t wispuddera_flow_outcome(const wispuddera_flow *flow);
 
+/* ---- Certificates of X.509 (RFC 5280), in DER ----
+ *
+ * Nothing is verified: no signature, no name against a host, no time against a clock. What is refused: WISPUDDERA_INCOMPLETE where
+ * the element in front isn't whole; WISPUDDERA_TAG where another element is where one is asked for; WISPUDDERA_COMPLETE where an element
+ * doesn't fit in the one that it is in, or one is missing there; WISPUDDERA_LENGTH_VALUE where bytes are left behind the last field of
+ * a structure, or an INTEGER or an object identifier has no bytes; WISPUDDERA_VERIFY where a value breaks its rule, as a length that isn't
+ * the shortest; WISPUDDERA_SWITCH where a length is indefinite, or a tag has more than one byte; WISPUDDERA_TOO_LARGE where a length has
+ * more than 3 bytes behind its first. */
+
+/* Which key a certificate has. */
+enum {
+    WISPUDDERA_KEY_REFUSED = 0, /* an RSAPublicKey that isn't read, or a curve that has no name */
+    WISPUDDERA_KEY_RSA = 1,     /* for any padding, or for PSS alone (RFC 3279, section 2.3.1; RFC 4055, section 1.2) */
+    WISPUDDERA_KEY_EC = 2,      /* of a curve that has a name (RFC 5480, section 2.1.1) */
+    WISPUDDERA_KEY_ED25519 = 3, /* RFC 8410, section 3 */
+    WISPUDDERA_KEY_ED448 = 4,
+    WISPUDDERA_KEY_OTHER = 5
+};
+
+/* The certificate in front of `bytes` (RFC 5280, section 4.1). Names and extensions aren't judged before they are walked. */
+uint32_t wispuddera_read_x509(const uint8_t *bytes, size_t count, wispuddera_x509 *out);
+
+/* The extension that begins at `offset` of the extensions of a certificate (RFC 5280, section 4.2). WISPUDDERA_OUTSIDE where `offset` is above
+ * `count`. */
+uint32_t wispuddera_read_x509_extension(const uint8_t *bytes, size_t count, size_t offset, wispuddera_x509_extension *out);
+
+/* The names in the value of a subjectAltName, 2.5.29.17, or an issuerAltName, 2.5.29.18 (RFC 5280, section 4.2.1.6), without the tag and the
+ * length of their list: wispuddera_read_x509_name. */
+uint32_t wispuddera_find_x509_names(const uint8_t *bytes, size_t count, wispuddera_found *out);
+
+/* Kinds of names: the tag of their element. Of others the content is an element or more. */
+enum {
+    WISPUDDERA_NAME_EMAIL = 0x81,         /* an rfc822Name */
+    WISPUDDERA_NAME_DNS = 0x82,           /* a dNSName */
+    WISPUDDERA_NAME_URI = 0x86,           /* a uniformResourceIdentifier */
+    WISPUDDERA_NAME_IP = 0x87,            /* an iPAddress: 4 or 16 bytes, where it keeps its rule */
+    WISPUDDERA_NAME_REGISTERED_ID = 0x88, /* a registeredID */
+    WISPUDDERA_NAME_OTHER = 0xa0,         /* an otherName */
+    WISPUDDERA_NAME_DIRECTORY = 0xa4      /* a directoryName */
+};
+
+/* The name that begins at `offset` of a list of them; `kind` is its tag. WISPUDDERA_OUTSIDE where `offset` is above `count`. */
+uint32_t wispuddera_read_x509_name(const uint8_t *bytes, size_t count, size_t offset, wispuddera_part *out);
+
 /* ---- This header and the library ----
  *
  * How many bytes a struct takes in the library: of place, record, part, client_hello, server_hello, found, number, dtls_record,
- * dtls_message, dtls_client_hello, event, flow the one at that index; 0 behind the last. */
+ * dtls_message, dtls_client_hello, event, flow, x509, x509_extension the one at that index; 0 behind the last. */
 size_t wispuddera_struct_size(size_t index);
 
 /* Where a field of that struct begins, by its index in this header's order; behind the last field, the size of the struct. */

@@ -3,13 +3,10 @@
 #define _POSIX_C_SOURCE 199309L
 #include "wispuddera.h"
 
-#include <stdio.h>
-#include <stdlib.h>
-#include <string.h>
-#include <time.h>
-
 #define BATCHES 60
 #define LONGEST 16645
+
+#include "../times.h"
 
 uint64_t rattle_names(const uint8_t *bytes, size_t count, size_t rounds);
 uint64_t rattle_places(const uint8_t *bytes, size_t count, size_t rounds);
@@ -28,40 +25,8 @@ __attribute__((noinline)) uint64_t c_names(const uint8_t *bytes, size_t count, s
     return sum;
 }
 
-typedef uint64_t (*side)(const uint8_t *, size_t, size_t);
 static const side sides[] = {c_names, rattle_names, rattle_places};
 enum { SIDES = sizeof sides / sizeof *sides };
-
-/* The processor's time. */
-static double seconds(void) {
-    struct timespec t;
-    clock_gettime(CLOCK_PROCESS_CPUTIME_ID, &t);
-    return (double)t.tv_sec + (double)t.tv_nsec * 1e-9;
-}
-
-static double time_of(side call, const uint8_t *bytes, size_t count, size_t rounds) {
-    volatile uint64_t kept;
-    double begin = seconds();
-    kept = call(bytes, count, rounds);
-    (void)kept;
-    return (seconds() - begin) / (double)rounds;
-}
-
-static int rises(const void *a, const void *b) {
-    double x = *(const double *)a, y = *(const double *)b;
-    return (x > y) - (x < y);
-}
-
-/* Two copies of a file's bytes; 0 where there are none. */
-static size_t two_copies(const char *path, uint8_t *bytes) {
-    FILE *file = fopen(path, "rb");
-    size_t count = file == NULL ? 0 : fread(bytes, 1, LONGEST, file);
-    if (file != NULL) {
-        fclose(file);
-    }
-    memcpy(bytes + count, bytes, count);
-    return 2 * count;
-}
 
 /* A row: the medians of the times, and of the ratios of C's to those of Rattle's with their quartiles. */
 static void show(const char *path, const uint8_t *bytes, size_t count) {

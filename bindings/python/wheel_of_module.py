@@ -40,9 +40,10 @@ def write_wheel(folder, library, platform, epoch):
     files[f"{INFO}/METADATA"] = METADATA.encode()
     tags = "".join(f"Tag: py3-none-{one}\n" for one in platform.split("."))
     files[f"{INFO}/WHEEL"] = f"Wheel-Version: 1.0\nGenerator: {NAME}\nRoot-Is-Purelib: false\n{tags}".encode()
-    license_file = HERE.parents[1] / "LICENSE"
-    if license_file.is_file():
-        files[f"{INFO}/LICENSE"] = license_file.read_bytes()
+    # The license, and those of what the library is linked with.
+    for license_file in (HERE.parents[1] / "LICENSE", HERE.parents[1] / "packaging/THIRD_PARTY"):
+        if license_file.is_file():
+            files[f"{INFO}/{license_file.name}"] = license_file.read_bytes()
     record = [f"{name},sha256={_hash(text)},{len(text)}\n" for name, text in files.items()]
     files[f"{INFO}/RECORD"] = "".join([*record, f"{INFO}/RECORD,,\n"]).encode()
     wheel = f"{NAME}-{VERSION}-py3-none-{platform}.whl"

@@ -133,8 +133,26 @@ static void test_layout(void) {
         static const size_t offsets[] = {offsetof(wispuddera_flow, state)};
         IS_LAID_OUT(11, flow);
     }
-    IS(wispuddera_struct_size(12), 0);
-    IS(wispuddera_field_offset(12, 0), 0);
+    {
+        static const size_t offsets[] = {offsetof(wispuddera_x509, missing), offsetof(wispuddera_x509, signed_bytes),
+                                         offsetof(wispuddera_x509, serial_number),
+                                         offsetof(wispuddera_x509, signature_algorithm), offsetof(wispuddera_x509, issuer),
+                                         offsetof(wispuddera_x509, subject), offsetof(wispuddera_x509, key_algorithm),
+                                         offsetof(wispuddera_x509, key_parameters), offsetof(wispuddera_x509, public_key),
+                                         offsetof(wispuddera_x509, extensions), offsetof(wispuddera_x509, signature),
+                                         offsetof(wispuddera_x509, not_before), offsetof(wispuddera_x509, not_after),
+                                         offsetof(wispuddera_x509, next), offsetof(wispuddera_x509, key_bits),
+                                         offsetof(wispuddera_x509, key_kind), offsetof(wispuddera_x509, version)};
+        IS_LAID_OUT(12, x509);
+    }
+    {
+        static const size_t offsets[] = {offsetof(wispuddera_x509_extension, missing), offsetof(wispuddera_x509_extension, oid),
+                                         offsetof(wispuddera_x509_extension, value), offsetof(wispuddera_x509_extension, next),
+                                         offsetof(wispuddera_x509_extension, critical)};
+        IS_LAID_OUT(13, x509_extension);
+    }
+    IS(wispuddera_struct_size(14), 0);
+    IS(wispuddera_field_offset(14, 0), 0);
 }
 
 static void test_record(void) {
@@ -558,9 +576,159 @@ static void test_what_is_not_refused(void) {
     IS(wispuddera_event_of_alert(3, 90), WISPUDDERA_EVENT_FATAL);
 }
 
+/* Digests of texts that were written by hand, as "771,4865-4866-49199,0-16-43-51,,", by md5sum and sha256sum. */
+static void test_fingerprints(void) {
+    static const uint8_t server[] = {0x03, 0x03, 1, 2, 3, 4, 5, 6, 7, 8, 9, 10, 11, 12, 13, 14, 15, 16, 17, 18, 19, 20, 21, 22, 23, 24, 25, 26,
+                                     27, 28, 29, 30, 31, 32, 0x00, 0xc0, 0x2f, 0x00, 0x00, 0x04, 0x00, 0x17, 0x00, 0x00};
+    static const uint8_t datagram[] = {0xfe, 0xfd, 1, 2, 3, 4, 5, 6, 7, 8, 9, 10, 11, 12, 13, 14, 15, 16, 17, 18, 19, 20, 21, 22, 23, 24, 25, 26,
+                                       27, 28, 29, 30, 31, 32, 0x00, 0x02, 0xe1, 0xe2, 0x00, 0x04, 0xc0, 0x2f, 0x0a, 0x0a, 0x01, 0x00};
+    const uint8_t *body = record + BODY;
+    uint8_t text[40];
+    size_t missing = 9;
+    memset(text, '.', sizeof text);
+    IS(wispuddera_ja3(body, BODY_LENGTH, text, sizeof text, &missing), WISPUDDERA_READ);
+    IS(missing, 0);
+    IS(memcmp(text, "5f671f8e05377b8c8876847f82d52406........", sizeof text), 0);
+    IS(wispuddera_ja4(body, BODY_LENGTH, text, WISPUDDERA_JA4_ROOM, &missing), WISPUDDERA_READ);
+    IS(memcmp(text, "t13d0304h2_40b44b994229_a56c5b993250....", sizeof text), 0);
+    IS(wispuddera_quic_ja4(body, BODY_LENGTH, text, WISPUDDERA_JA4_ROOM, &missing), WISPUDDERA_READ);
+    IS(memcmp(text, "q13d0304h2_40b44b994229_a56c5b993250....", sizeof text), 0);
+    IS(wispuddera_ja3s(server, sizeof server, text, WISPUDDERA_JA3S_ROOM, &missing), WISPUDDERA_READ);
+    IS(memcmp(text, "083a17d1eee567193ca26e03736db9e53250....", sizeof text), 0);
+    /* A number of GREASE counts nowhere. */
+    IS(wispuddera_dtls_ja3(datagram, sizeof datagram, text, WISPUDDERA_JA3_ROOM, &missing), WISPUDDERA_READ);
+    IS(memcmp(text, "16392eee10fbf958359e66f7af4fb797", 32), 0);
+    IS(wispuddera_dtls_ja4(datagram, sizeof datagram, text, WISPUDDERA_JA4_ROOM, &missing), WISPUDDERA_READ);
+    IS(memcmp(text, "dd2i010000_f06271c2b022_000000000000....", sizeof text), 0);
+    /* Where the buffer is too short, or the hello is refused, the buffer stays. */
+    memset(text, '.', sizeof text);
+    missing = 9;
+    IS(wispuddera_ja3(body, BODY_LENGTH, text, 31, &missing), WISPUDDERA_NO_ROOM);
+    IS(missing, 0);
+    IS(wispuddera_dtls_ja3(datagram, 33, text, 31, &missing), WISPUDDERA_NO_ROOM);
+    IS(wispuddera_ja3s(server, 3, text, 0, &missing), WISPUDDERA_NO_ROOM);
+    IS(wispuddera_dtls_ja3s(server, 3, text, 31, &missing), WISPUDDERA_NO_ROOM);
+    IS(wispuddera_ja4(body, BODY_LENGTH, text, 35, &missing), WISPUDDERA_NO_ROOM);
+    IS(wispuddera_quic_ja4(body, BODY_LENGTH, text, 35, &missing), WISPUDDERA_NO_ROOM);
+    IS(wispuddera_dtls_ja4(datagram, sizeof datagram, text, 35, &missing), WISPUDDERA_NO_ROOM);
+    IS(wispuddera_ja3(body, 33, text, sizeof text, &missing), WISPUDDERA_INCOMPLETE);
+    IS(missing, 1);
+    IS(wispuddera_ja4(NULL, 0, text, sizeof text, &missing), WISPUDDERA_INCOMPLETE);
+    IS(missing, 2);
+    IS(wispuddera_dtls_ja3(datagram, 35, text, sizeof text, &missing), WISPUDDERA_INCOMPLETE);
+    IS(missing, 1);
+    IS(wispuddera_dtls_ja4(datagram, 35, text, sizeof text, &missing), WISPUDDERA_INCOMPLETE);
+    IS(wispuddera_ja3s(datagram, sizeof datagram, text, sizeof text, &missing), WISPUDDERA_TAG);
+    IS(missing, 0);
+    IS(wispuddera_dtls_ja3s(datagram, 36, text, sizeof text, &missing), WISPUDDERA_INCOMPLETE);
+    IS(memcmp(text, "........................................", sizeof text), 0);
+    IS(wispuddera_dtls_ja3s(server, sizeof server, text, sizeof text, &missing), WISPUDDERA_READ);
+    IS(memcmp(text, "083a17d1eee567193ca26e03736db9e5........", sizeof text), 0);
+}
+
+/* A certificate of RFC 5280's structs, whose signature is none; `openssl asn1parse` tells the same places. */
+static const uint8_t certificate[] = {
+    0x30, 0x81, 0x8a,                                                                                   /* 0: the certificate */
+    0x30, 0x7c,                                                                                         /* 3: what is signed */
+    0xa0, 0x03, 0x02, 0x01, 0x02,                                                                       /* 5: version 3 */
+    0x02, 0x02, 0x01, 0x05,                                                                             /* 10: the serial number */
+    0x30, 0x05, 0x06, 0x03, 0x2b, 0x65, 0x70,                                                           /* 14: signed with Ed25519 */
+    0x30, 0x0c, 0x31, 0x0a, 0x30, 0x08, 0x06, 0x03, 0x55, 0x04, 0x03, 0x0c, 0x01, 0x61,                 /* 21: the issuer */
+    0x30, 0x1e, 0x17, 0x0d, 0x37, 0x30, 0x30, 0x31, 0x30, 0x31, 0x30, 0x30, 0x30, 0x30, 0x30, 0x31,     /* 35: the validity */
+    0x5a, 0x17, 0x0d, 0x37, 0x30, 0x30, 0x31, 0x30, 0x32, 0x30, 0x30, 0x30, 0x30, 0x30, 0x30, 0x5a,
+    0x30, 0x0c, 0x31, 0x0a, 0x30, 0x08, 0x06, 0x03, 0x55, 0x04, 0x03, 0x0c, 0x01, 0x62,                 /* 67: the subject */
+    0x30, 0x17, 0x30, 0x10, 0x06, 0x07, 0x2a, 0x86, 0x48, 0xce, 0x3d, 0x02, 0x01,                       /* 81: the key: of an elliptic curve, */
+    0x06, 0x05, 0x2b, 0x81, 0x04, 0x00, 0x22,                                                           /* 94: secp384r1 */
+    0x03, 0x03, 0x00, 0x04, 0x05,                                                                       /* 101: and 2 bytes */
+    0xa3, 0x15, 0x30, 0x13,                                                                             /* 106: the extensions */
+    0x30, 0x11, 0x06, 0x03, 0x55, 0x1d, 0x11, 0x01, 0x01, 0xff,                                         /* 110: a critical subjectAltName */
+    0x04, 0x07, 0x30, 0x05, 0x82, 0x03, 0x61, 0x2e, 0x62,                                               /* 120: which has one name */
+    0x30, 0x05, 0x06, 0x03, 0x2b, 0x65, 0x70,                                                           /* 129: signed with Ed25519 */
+    0x03, 0x03, 0x00, 0xb1, 0xb2,                                                                       /* 136: the signature */
+};
+
+enum { CERTIFICATE = 141 };
+
+/* The status of the certificate with one byte changed. */
+static uint32_t status_with(size_t at, uint8_t byte) {
+    uint8_t changed[CERTIFICATE];
+    wispuddera_x509 c = WISPUDDERA_EMPTY;
+    memcpy(changed, certificate, CERTIFICATE);
+    changed[at] = byte;
+    return wispuddera_read_x509(changed, CERTIFICATE, &c);
+}
+
+static void test_certificate(void) {
+    wispuddera_x509 c = WISPUDDERA_EMPTY;
+    wispuddera_x509_extension e = WISPUDDERA_EMPTY;
+    wispuddera_found f = WISPUDDERA_EMPTY;
+    wispuddera_part p = WISPUDDERA_EMPTY;
+    size_t count;
+    IS(wispuddera_read_x509(certificate, CERTIFICATE, &c), WISPUDDERA_READ);
+    IS(c.missing, 0);
+    PLACE(c.signed_bytes, 3, 126);
+    PLACE(c.serial_number, 12, 2);
+    PLACE(c.signature_algorithm, 133, 3);
+    PLACE(c.issuer, 21, 14);
+    PLACE(c.subject, 67, 14);
+    PLACE(c.key_algorithm, 87, 7);
+    PLACE(c.key_parameters, 96, 5);
+    PLACE(c.public_key, 104, 2);
+    PLACE(c.extensions, 110, 19);
+    PLACE(c.signature, 139, 2);
+    IS(c.not_before, 1);
+    IS(c.not_after, 86400);
+    IS(c.next, 141);
+    IS(c.key_bits, 0);
+    IS(c.key_kind, WISPUDDERA_KEY_EC);
+    IS(c.version, 2);
+    /* Behind the three bytes of its tag and its length, it tells all that is missing. */
+    for (count = 0; count < CERTIFICATE; count++) {
+        IS(wispuddera_read_x509(certificate, count, &c), WISPUDDERA_INCOMPLETE);
+        IS(c.missing, count < 3 ? 1 : CERTIFICATE - count);
+    }
+    IS(status_with(0, 0x31), WISPUDDERA_TAG);
+    IS(status_with(1, 0x80), WISPUDDERA_SWITCH);
+    IS(status_with(1, 0x84), WISPUDDERA_TOO_LARGE);
+    IS(status_with(2, 0x7f), WISPUDDERA_VERIFY);
+    IS(status_with(4, 0x7d), WISPUDDERA_LENGTH_VALUE);
+    IS(status_with(9, 0x82), WISPUDDERA_VERIFY);
+    IS(status_with(22, 0x7f), WISPUDDERA_COMPLETE);
+    IS(status_with(41, '3'), WISPUDDERA_VERIFY);
+    /* What is in names and extensions isn't judged before it is walked. */
+    IS(status_with(23, 0x30), WISPUDDERA_READ);
+    IS(status_with(110, 0x31), WISPUDDERA_READ);
+    IS(wispuddera_read_x509_extension(certificate, CERTIFICATE, 110, &e), WISPUDDERA_READ);
+    IS(e.missing, 0);
+    PLACE(e.oid, 114, 3);
+    PLACE(e.value, 122, 7);
+    IS(e.next, 129);
+    IS(e.critical, 1);
+    IS(wispuddera_read_x509_extension(certificate, 128, 110, &e), WISPUDDERA_INCOMPLETE);
+    IS(e.missing, 1);
+    IS(wispuddera_read_x509_extension(certificate, CERTIFICATE, 5, &e), WISPUDDERA_TAG);
+    IS(wispuddera_read_x509_extension(certificate, CERTIFICATE, 142, &e), WISPUDDERA_OUTSIDE);
+    IS(e.missing, 0);
+    IS(wispuddera_find_x509_names(certificate + 122, 7, &f), WISPUDDERA_READ);
+    PLACE(f.place, 2, 5);
+    IS(wispuddera_find_x509_names(certificate + 122, 6, &f), WISPUDDERA_INCOMPLETE);
+    IS(f.missing, 1);
+    IS(wispuddera_find_x509_names(certificate + 120, 9, &f), WISPUDDERA_TAG);
+    IS(wispuddera_read_x509_name(certificate, CERTIFICATE, 124, &p), WISPUDDERA_READ);
+    IS(p.missing, 0);
+    PLACE(p.content, 126, 3);
+    IS(p.next, 129);
+    IS(p.kind, WISPUDDERA_NAME_DNS);
+    IS(wispuddera_read_x509_name(certificate, 128, 124, &p), WISPUDDERA_INCOMPLETE);
+    IS(p.missing, 1);
+    IS(wispuddera_read_x509_name(certificate, CERTIFICATE, 119, &p), WISPUDDERA_SWITCH);
+    IS(wispuddera_read_x509_name(certificate, CERTIFICATE, 142, &p), WISPUDDERA_OUTSIDE);
+    IS(p.missing, 0);
+}
+
 int main(void) {
     uint32_t status;
-    for (status = 0; status <= WISPUDDERA_OUTSIDE; status++) {
+    for (status = 0; status <= WISPUDDERA_NO_ROOM; status++) {
         IS(strcmp(wispuddera_status_text(status), "no status") != 0, 1);
     }
     IS(strcmp(wispuddera_status_text(status), "no status"), 0);
@@ -573,12 +741,14 @@ int main(void) {
     test_numbers();
     test_dtls();
     test_dtls_server_hello();
+    test_certificate();
     test_stream();
     test_outcome();
     test_no_state();
     test_refusals_of_finds();
     test_refusals_of_numbers();
     test_what_is_not_refused();
+    test_fingerprints();
     printf(failures == 0 ? "calls: as counted by hand\n" : "calls: not as counted by hand\n");
     return failures != 0;
 }

@@ -16,6 +16,18 @@ static const uint8_t hello[] = {0x16, 0x03, 0x01, 0x00, 0x61, 0x01, 0x00, 0x00, 
                                 '.',  'b',  0x00, 0x10, 0x00, 0x05, 0x00, 0x03, 0x02, 'h',  '2',  0x00, 0x2b, 0x00, 0x05, 0x04, 0x03,
                                 0x04, 0x03, 0x03, 0x00, 0x33, 0x00, 0x08, 0x00, 0x06, 0x00, 0x1d, 0x00, 0x02, 0xb1, 0xb2};
 
+/* The certificate of calls.c. */
+static const uint8_t certificate[] = {
+    0x30, 0x81, 0x8a, 0x30, 0x7c, 0xa0, 0x03, 0x02, 0x01, 0x02, 0x02, 0x02, 0x01, 0x05, 0x30, 0x05, 0x06, 0x03, 0x2b, 0x65,
+    0x70, 0x30, 0x0c, 0x31, 0x0a, 0x30, 0x08, 0x06, 0x03, 0x55, 0x04, 0x03, 0x0c, 0x01, 0x61, 0x30, 0x1e, 0x17, 0x0d, 0x37,
+    0x30, 0x30, 0x31, 0x30, 0x31, 0x30, 0x30, 0x30, 0x30, 0x30, 0x31, 0x5a, 0x17, 0x0d, 0x37, 0x30, 0x30, 0x31, 0x30, 0x32,
+    0x30, 0x30, 0x30, 0x30, 0x30, 0x30, 0x5a, 0x30, 0x0c, 0x31, 0x0a, 0x30, 0x08, 0x06, 0x03, 0x55, 0x04, 0x03, 0x0c, 0x01,
+    0x62, 0x30, 0x17, 0x30, 0x10, 0x06, 0x07, 0x2a, 0x86, 0x48, 0xce, 0x3d, 0x02, 0x01, 0x06, 0x05, 0x2b, 0x81, 0x04, 0x00,
+    0x22, 0x03, 0x03, 0x00, 0x04, 0x05, 0xa3, 0x15, 0x30, 0x13, 0x30, 0x11, 0x06, 0x03, 0x55, 0x1d, 0x11, 0x01, 0x01, 0xff,
+    0x04, 0x07, 0x30, 0x05, 0x82, 0x03, 0x61, 0x2e, 0x62, 0x30, 0x05, 0x06, 0x03, 0x2b, 0x65, 0x70, 0x03, 0x03, 0x00, 0xb1,
+    0xb2,
+};
+
 static uint32_t seed = 1;
 /* Whether a byte of the block was changed, and how many calls read from such a block. */
 static int is_mutated = 0;
@@ -42,7 +54,7 @@ static void follows(size_t count, size_t next) {
 /* `missing` is read behind the call. */
 static int is_read(uint32_t status, const size_t *missing) {
     calls += is_mutated && status != WISPUDDERA_OUTSIDE;
-    if (status > WISPUDDERA_OUTSIDE || (status == WISPUDDERA_INCOMPLETE) != (*missing > 0)) {
+    if (status > WISPUDDERA_NO_ROOM || (status == WISPUDDERA_INCOMPLETE) != (*missing > 0)) {
         printf("mutated: status %u with %zu missing\n", (unsigned)status, *missing);
         exit(1);
     }
@@ -151,6 +163,61 @@ static void call_others(const uint8_t *b, size_t n, size_t at) {
     is_read(wispuddera_best_version(b, n, (uint16_t)at, &v), &v.missing);
 }
 
+typedef uint32_t (*teller)(const uint8_t *, size_t, uint8_t *, size_t, size_t *);
+
+/* Fingerprints, each in a buffer of its size, which is as it was where none is told. */
+static void call_fingerprints(const uint8_t *b, size_t n) {
+    static const teller tellers[] = {wispuddera_ja3, wispuddera_dtls_ja3, wispuddera_ja3s, wispuddera_dtls_ja3s,
+                                     wispuddera_ja4, wispuddera_quic_ja4, wispuddera_dtls_ja4};
+    size_t i, j;
+    for (i = 0; i < sizeof tellers / sizeof *tellers; i++) {
+        const size_t room = i < 4 ? WISPUDDERA_JA3_ROOM : WISPUDDERA_JA4_ROOM;
+        uint8_t *text = (uint8_t *)malloc(room);
+        size_t missing = 0;
+        int told;
+        if (text == NULL) {
+            exit(2);
+        }
+        memset(text, '!', room);
+        told = is_read(tellers[i](b, n, text, room, &missing), &missing);
+        for (j = 0; j < room; j++) {
+            if ((text[j] == '!') == told) {
+                printf("mutated: a fingerprint of which a character is missing, or told\n");
+                exit(1);
+            }
+        }
+        free(text);
+    }
+}
+
+static void call_certificates(const uint8_t *b, size_t n, size_t at) {
+    wispuddera_x509 c = WISPUDDERA_EMPTY;
+    wispuddera_x509_extension e = WISPUDDERA_EMPTY;
+    wispuddera_found f = WISPUDDERA_EMPTY;
+    wispuddera_part p = WISPUDDERA_EMPTY;
+    if (is_read(wispuddera_read_x509(b, n, &c), &c.missing)) {
+        const wispuddera_place places[] = {c.signed_bytes, c.serial_number, c.signature_algorithm, c.issuer, c.subject,
+                                           c.key_algorithm, c.key_parameters, c.public_key, c.extensions, c.signature};
+        size_t i;
+        for (i = 0; i < sizeof places / sizeof *places; i++) {
+            lies(n, places[i]);
+        }
+        follows(n, c.next);
+    }
+    if (is_read(wispuddera_read_x509_extension(b, n, at, &e), &e.missing)) {
+        lies(n, e.oid);
+        lies(n, e.value);
+        follows(n, e.next);
+    }
+    if (is_read(wispuddera_find_x509_names(b, n, &f), &f.missing)) {
+        lies(n, f.place);
+    }
+    if (is_read(wispuddera_read_x509_name(b, n, at, &p), &p.missing)) {
+        lies(n, p.content);
+        follows(n, p.next);
+    }
+}
+
 static void call_flow(const uint8_t *b, size_t n, size_t at) {
     wispuddera_flow flow = {(uint32_t)(at == 0 ? 0 : n % 40)};
     wispuddera_event *events = n == 0 ? NULL : (wispuddera_event *)malloc(n * sizeof *events);
@@ -200,25 +267,32 @@ static void call_streams(const uint8_t *b, size_t n, size_t at) {
 int main(int argc, char **argv) {
     const long wanted = argc > 1 ? atol(argv[1]) : 10000;
     static const size_t begins[] = {0, 5, 9, 58, 92};
+    static const size_t parts[] = {0, 0, 5, 110, 122, 124};
     while (calls < wanted) {
-        const size_t begin = begins[next_random() % 5];
-        const size_t count = next_random() % (sizeof hello - begin + 1);
+        const int is_hello = next_random() % 4 != 0;
+        const uint8_t *text = is_hello ? hello : certificate;
+        const size_t size = is_hello ? sizeof hello : sizeof certificate;
+        const size_t begin = is_hello ? begins[next_random() % 5] : parts[next_random() % 6];
+        /* A certificate that isn't whole tells nothing but that. */
+        const size_t count = !is_hello && next_random() % 2 == 0 ? size - begin : next_random() % (size - begin + 1);
         const size_t at = next_random() % 4 == 0 ? next_random() % (count + 3) : 0;
         uint32_t changes = 1 + next_random() % 4;
         uint8_t *block = count == 0 ? NULL : (uint8_t *)malloc(count);
         if (block != NULL) {
-            memcpy(block, hello + begin, count);
+            memcpy(block, text + begin, count);
         } else if (count != 0) {
             return 2;
         }
         for (; changes > 0 && count > 0; changes--) {
             block[next_random() % count] = (uint8_t)next_random();
         }
-        is_mutated = count > 0 && memcmp(block, hello + begin, count) != 0;
+        is_mutated = count > 0 && memcmp(block, text + begin, count) != 0;
         call_parts(block, count, at);
         call_others(block, count, at);
+        call_certificates(block, count, at);
         call_streams(block, count, at);
         call_flow(block, count, at);
+        call_fingerprints(block, count);
         free(block);
     }
     printf("mutated: %ld calls on mutated bytes, each with a status and its places within the bytes\n", calls);

@@ -4,6 +4,12 @@ The bytes and their places are those that bindings/test/calls.c counts by hand.
 """
 
 import ctypes
+import hashlib
+import ipaddress
+import json
+import pathlib
+import re
+import struct
 import sys
 import threading
 
@@ -116,6 +122,102 @@ def test_dtls():
     assert hello.extensions == bytes.fromhex("00170000") and refusal_of(w.server_hello, body) == (w.Refused, "Tag")
 
 
+CERTIFICATES = pathlib.Path(__file__).resolve().parents[2] / "tests" / "certificates"
+KEYS = {w.KeyKind.ED25519: "ed25519", w.KeyKind.ED448: "ed448", w.KeyKind.REFUSED: "ec without a name"}
+NAMES = {w.NameKind.DNS: "DNS", w.NameKind.EMAIL: "email", w.NameKind.URI: "URI", w.NameKind.IP: "IP Address"}
+
+
+def dotted(oid):
+    arcs, number = [], 0
+    for byte in oid:
+        number = number << 7 | byte & 127
+        if byte < 128:
+            arcs, number = [*arcs, number], 0
+    root = min(arcs[0] // 40, 2)
+    return ".".join(map(str, [root, arcs[0] - 40 * root, *arcs[1:]]))
+
+
+def elements(content):
+    """The tag, the content and the bytes of each element."""
+    while content:
+        size, at = content[1], 2
+        if size > 127:
+            at += size - 128
+            size = int.from_bytes(content[2:at], "big")
+        yield content[0], content[at : at + size], content[: at + size]
+        content = content[at + size :]
+
+
+def name_text(name):
+    """A Name as `tests/certificates/make` has it of openssl."""
+    sets = []
+    for _, attributes, _ in elements(next(elements(bytes(name)))[1]):
+        pairs = (list(elements(attribute)) for _, attribute, _ in elements(attributes))
+        sets.append("+".join(f"{dotted(kind[1])}=#{value[2].hex().upper()}" for kind, value in pairs))
+    return ",".join(sets)
+
+
+def address_text(content):
+    address = ipaddress.ip_address(bytes(content))
+    return str(address) if address.version == 4 else ":".join(f"{int(it, 16):X}" for it in address.exploded.split(":"))
+
+
+def alt_name_text(name):
+    if name.kind not in NAMES:
+        return f"other {name.kind:X}"
+    return f"{NAMES[name.kind]}:{address_text(name.content) if name.kind == w.NameKind.IP else bytes(name.content).decode()}"
+
+
+def key_text(certificate):
+    kind = certificate.key_kind
+    if kind == w.KeyKind.RSA:
+        return f"rsa {certificate.key_bits}"
+    if kind == w.KeyKind.EC:
+        return f"ec {dotted(certificate.key_parameters)}"
+    return KEYS.get(kind) or f"other {dotted(certificate.key_algorithm)}"
+
+
+def lines_of(text, certificate):
+    """What the module tells of a certificate, as the lines that are openssl's."""
+    yield f"version {certificate.version + 1}"
+    yield f"serial_number {certificate.serial_number.hex().upper()}"
+    yield f"issuer {name_text(certificate.issuer)}"
+    yield f"not_before {certificate.not_before}"
+    yield f"not_after {certificate.not_after}"
+    yield f"subject {name_text(certificate.subject)}"
+    yield f"public_key {key_text(certificate)}"
+    yield f"signature_algorithm {dotted(certificate.signature_algorithm)}"
+    yield f"signature_value {certificate.signature.hex().upper()}"
+    yield f"signed {text.index(bytes(certificate.signed_bytes))} {len(certificate.signed_bytes)}"
+    for it in w.x509_extensions(certificate.extensions):
+        yield f"extension {dotted(it.oid)} {'critical' if it.critical else '-'} {it.value.hex().upper()}"
+    for name in certificate.names() or ():
+        yield f"subject_alt_name {alt_name_text(name)}"
+
+
+def test_certificates():
+    """Each stored certificate, beside what openssl told of it when it was made."""
+    told = re.findall(r'name: "(.*)",\n +bytes: "(.*)",\n +wanted: &\[\n((?: +".*",\n)*)', (CERTIFICATES / "made.rt.unproved").read_text())
+    fields = {line.split()[0] for line in lines_of(*(lambda t: (t, w.read_x509(t)))(bytes.fromhex(next(it[1] for it in told if it[0] == "rsa_1024"))))}
+    assert len(told) == len(list((CERTIFICATES / "stored").glob("*.der"))) > 20
+    for name, text, wanted in told:
+        text = bytes.fromhex(text)
+        wanted = [line for line in re.findall(r'"(.*)",', wanted) if line.split()[0] in fields]
+        certificate = w.read_x509(text)
+        assert [*lines_of(text, certificate)] == wanted, name
+        assert certificate.next == len(text) and w.read_x509(bytearray(text + b"x")).next == len(text)
+        # Cut at each byte it is incomplete: behind the first four bytes, which have tag and length, by all that is missing.
+        for count in range(len(text)):
+            kind, missing = refusal_of(w.read_x509, text[:count])
+            assert kind is w.Incomplete and (count < 4 or missing == len(text) - count), (name, count)
+    text = bytearray(told[0][1] and bytes.fromhex(told[0][1]))
+    for at, byte, kind in ((0, 0x31, "Tag"), (1, 0x80, "Switch"), (1, 0x84, "TooLarge"), (2, 0, "Verify")):
+        assert refusal_of(w.read_x509, text[:at] + bytes([byte]) + text[at + 1 :]) == (w.Refused, kind)
+    assert refusal_of(w.x509_names, b"\x31\x00") == (w.Refused, "Tag")
+    assert refusal_of(next, w.x509_names(b"\x30\x01\x1f")) == (w.Refused, "Switch")
+    assert refusal_of(next, w.x509_extensions(b"\x30\x02\x06")) == (w.Incomplete, 1)
+
+
 def test_outcome():
     kind, to_server = w.EventKind, {1: True, 16: True}
     hello = w.event_of_message(2, b"\x03\x03" + RANDOM + bytes.fromhex("00 c02f 00"))
@@ -129,6 +231,120 @@ def test_outcome():
         flow.step(said_kind, side)
     assert flow.outcome == w.Outcome.FULL
     assert w.event_of_dtls_message(3) == kind.HELLO_VERIFY_REQUEST
+
+
+TOP = pathlib.Path(__file__).resolve().parents[2]
+
+
+def payloads(capture):
+    """The payloads of a stored capture, each with its ends and, over TCP, its sequence number. It reads Ethernet, IP and no fragments."""
+    data, place = capture.read_bytes(), 24
+    order = "<" if data[:4] in (b"\xd4\xc3\xb2\xa1", b"\x4d\x3c\xb2\xa1") else ">"
+    while place < len(data):
+        length = struct.unpack_from(order + "I", data, place + 8)[0]
+        frame = data[place + 16 : place + 16 + length]
+        place += 16 + length
+        if frame[12:14] == b"\x08\x00":
+            header = 14 + frame[14] % 16 * 4
+            addresses, protocol, whole = (frame[26:30], frame[30:34]), frame[23], 14 + int.from_bytes(frame[16:18], "big")
+        elif frame[12:14] == b"\x86\xdd":
+            header = 54
+            addresses, protocol, whole = (frame[22:38], frame[38:54]), frame[20], 54 + int.from_bytes(frame[18:20], "big")
+        else:
+            continue
+        source, target = ((address, frame[header + i : header + i + 2]) for address, i in zip(addresses, (0, 2)))
+        if protocol == 6:
+            payload = frame[header + frame[header + 12] // 16 * 4 : whole]
+            yield "tcp", (source, target), int.from_bytes(frame[header + 4 : header + 8], "big"), payload
+        elif protocol == 17:
+            yield "udp", (source, target), None, frame[header + 8 : whole]
+
+
+def streams(capture):
+    """What each side of the connections of a capture sent over TCP, in the order of its bytes; and over UDP its datagrams."""
+    segments, datagrams = {}, {}
+    for protocol, ends, number, payload in payloads(capture):
+        if protocol == "udp":
+            datagrams.setdefault(ends, []).append(payload)
+        elif payload:
+            segments.setdefault(ends, {}).setdefault(number, payload)
+    return {ends: b"".join(parts[number] for number in sorted(parts)) for ends, parts in segments.items()}, datagrams
+
+
+def hellos(stream):
+    """The bodies of the ClientHellos and ServerHellos that stand in the clear."""
+    messages = w.MessageStream()
+    for record in w.RecordStream().feed(stream):
+        if record.content_type == 20:
+            break
+        if record.content_type == 22:
+            for message in messages.feed(record.fragment):
+                if message.kind in (1, 2):
+                    yield message.kind, bytes(message.body)
+
+
+def test_fingerprints_of_captures():
+    stored = [line for line in map(json.loads, (TOP / "crates/tlslog/stdout").read_text().splitlines()) if line["proto"] == "tcp"]
+    wanted = {(line[name], name) for line in stored for name in ("ja3", "ja3s", "ja4") if name in line}
+    assert len(wanted) > 20
+    found = set()
+    for capture in sorted((TOP / "crates/tlslog/data").glob("*.pcap")):
+        for stream in streams(capture)[0].values():
+            for kind, body in hellos(stream):
+                if kind == 1:
+                    found |= {(w.ja3(body), "ja3"), (w.ja4(body), "ja4")}
+                    assert w.ja4(bytearray(body), "quic") == "q" + w.ja4(body)[1:]
+                else:
+                    found.add((w.ja3s(body), "ja3s"))
+    # Hellos that a HelloRetryRequest answers, and these, have fingerprints too, and no line.
+    assert wanted <= found and len(found - wanted) < 12, (wanted - found, found - wanted)
+    stored = list(map(json.loads, (TOP / "captures/dtls/lines").read_text().splitlines()))
+    wanted = {(line[name], name) for line in stored for name in ("ja3", "ja3s", "ja4") if name in line}
+    assert len(wanted) > 4
+    found = set()
+    for capture in sorted((TOP / "captures/dtls").glob("*.pcap")):
+        for datagrams in streams(capture)[1].values():
+            for body, kind in dtls_hellos(datagrams):
+                if kind == 1:
+                    found |= {(w.ja3(body, dtls=True), "ja3"), (w.ja4(body, "udp"), "ja4")}
+                else:
+                    found.add((w.ja3s(body, dtls=True), "ja3s"))
+    assert wanted <= found, wanted - found
+
+
+def dtls_hellos(datagrams):
+    """The bodies of hellos in datagrams, from the fragments of each."""
+    parts = {}
+    for datagram in datagrams:
+        try:
+            for record in w.dtls_records(datagram):
+                if record.content_type == 22 and record.epoch == 0:
+                    for message in w.dtls_messages(record.fragment):
+                        if message.kind in (1, 2):
+                            body = parts.setdefault((message.message_seq, message.kind), bytearray(message.length))
+                            body[message.fragment_offset : message.fragment_offset + len(message.body)] = message.body
+        except w.Incomplete:
+            continue
+    return [(bytes(body), kind) for (_, kind), body in parts.items()]
+
+
+def test_fingerprints():
+    assert w.ja3(BODY) == "5f671f8e05377b8c8876847f82d52406" and w.ja4(BODY) == "t13d0304h2_40b44b994229_a56c5b993250"
+    for call in (w.ja3, w.ja4):
+        assert refusal_of(call, BODY[:33]) == (w.Incomplete, 1)
+        assert refusal_of(call, BODY[:34] + b"\x21" + BODY[35:]) == (w.Refused, "Verify")
+    assert refusal_of(w.ja3s, b"\xfe\xfd" + bytes(40)) == (w.Refused, "Tag") and len(w.ja3s(b"\xfe\xfd" + bytes(40), dtls=True)) == 32
+    try:
+        w.ja4(BODY, "sctp")
+        raise AssertionError("no error")
+    except ValueError:
+        pass
+    # As many suites as a hello can have, in falling order, and GREASE.
+    suites = b"".join(n.to_bytes(2, "big") for n in range(32767, 0, -1))
+    body = b"\x03\x03" + RANDOM + b"\0" + len(suites).to_bytes(2, "big") + suites + b"\x01\0"
+    kept = [n for n in range(1, 32768) if not (n // 256 == n % 256 and n % 16 == 10)]
+    assert w.ja4(body) == f"t12i990000_{hashlib.sha256(','.join(f'{n:04x}' for n in kept).encode()).hexdigest()[:12]}_000000000000"
+    assert w.ja3(body) == hashlib.md5(f"771,{'-'.join(map(str, reversed(kept)))},,,".encode()).hexdigest()
 
 
 def test_threads():

@@ -19,11 +19,21 @@ from typing import Optional, Union
 
 from . import _library as _c
 
+# Lines of tlslog.
+from ._log import Connection, LogError, Stop, log
+
+# Both sides of a conversation.
+from ._conversation import Conversation, ConversationEvent, ConversationStop
+
 Data = Union[bytes, bytearray, memoryview]
 
 __all__ = [
     "Certificate",
     "ClientHello",
+    "Connection",
+    "Conversation",
+    "ConversationEvent",
+    "ConversationStop",
     "Data",
     "DtlsClientHello",
     "DtlsMessage",
@@ -32,15 +42,23 @@ __all__ = [
     "Extension",
     "Flow",
     "Incomplete",
+    "KeyKind",
     "KeyShare",
+    "LogError",
     "Message",
     "MessageStream",
+    "NameKind",
     "Outcome",
     "Outside",
     "Record",
     "RecordStream",
     "Refused",
+    "SUBJECT_ALT_NAME",
     "ServerHello",
+    "Stop",
+    "X509",
+    "X509Extension",
+    "X509Name",
     "best_version",
     "certificates",
     "client_hello",
@@ -58,13 +76,18 @@ __all__ = [
     "find_body",
     "find_extension",
     "groups",
+    "ja3",
+    "ja3s",
+    "ja4",
     "key_share",
     "key_shares",
+    "log",
     "looks_like_tls",
     "message",
     "messages",
     "outcome",
     "protocols",
+    "read_x509",
     "record",
     "records",
     "server_hello",
@@ -73,6 +96,8 @@ __all__ = [
     "server_name_of_record",
     "signature_schemes",
     "versions",
+    "x509_extensions",
+    "x509_names",
 ]
 
 
@@ -212,6 +237,7 @@ class _Room(threading.local):
         self.client_hello, self.server_hello = _c.ClientHello(), _c.ServerHello()
         self.dtls_record, self.dtls_message = _c.DtlsRecord(), _c.DtlsMessage()
         self.dtls_client_hello = _c.DtlsClientHello()
+        self.x509, self.x509_extension = _c.X509(), _c.X509Extension()
 
 
 _room = _Room()
@@ -526,6 +552,154 @@ def dtls_client_hello(body: Data) -> DtlsClientHello:
         given.part(out.extensions) if out.has_extensions else None,
         out.next,
     )
+
+
+def _fingerprint(call: Callable, body: Data, size: int) -> str:
+    given, text, missing = _Given(body), ctypes.create_string_buffer(size), ctypes.c_size_t()
+    _check(call(given.address, given.count, text, size, missing), missing.value)
+    return text.raw.decode("ascii")
+
+
+def ja3(body: Data, *, dtls: bool = False) -> str:
+    """JA3 of a ClientHello, in its body, or of one of DTLS: 32 hexadecimal digits."""
+    return _fingerprint(_c.dtls_ja3 if dtls else _c.ja3, body, 32)
+
+
+def ja3s(body: Data, *, dtls: bool = False) -> str:
+    """JA3S of a ServerHello, in its body, or of one of DTLS: 32 hexadecimal digits."""
+    return _fingerprint(_c.dtls_ja3s if dtls else _c.ja3s, body, 32)
+
+
+def ja4(body: Data, over: str = "tcp") -> str:
+    """JA4 of a ClientHello, in its body: over "tcp", over "quic", or of one of DTLS over "udp". `ValueError` at any other name."""
+    calls = {"tcp": _c.ja4, "quic": _c.quic_ja4, "udp": _c.dtls_ja4}
+    if over not in calls:
+        raise ValueError(f"a hello comes over tcp, quic or udp, not over {over}")
+    return _fingerprint(calls[over], body, 36)
+
+
+# The object identifier of subjectAltName, 2.5.29.17, without its tag and its length.
+SUBJECT_ALT_NAME = b"\x55\x1d\x11"
+
+
+class KeyKind(enum.IntEnum):
+    """Which key a certificate has. `REFUSED` is an RSAPublicKey that isn't read, or a curve that has no name."""
+
+    REFUSED = 0
+    RSA = 1
+    EC = 2
+    ED25519 = 3
+    ED448 = 4
+    OTHER = 5
+
+
+class NameKind(enum.IntEnum):
+    """Kinds of names, by the tag of their element; a name may have another tag."""
+
+    EMAIL = 0x81
+    DNS = 0x82
+    URI = 0x86
+    IP = 0x87
+    REGISTERED_ID = 0x88
+    OTHER = 0xA0
+    DIRECTORY = 0xA4
+
+
+@dataclass(frozen=True)
+class X509:
+    """A certificate (RFC 5280, section 4.1). Names and what is signed stand with their tag and their length; object identifiers, numbers and
+    keys without these. Times are seconds since 1970. Nothing is verified."""
+
+    version: int  # less 1, as it stands there: 2 for v3
+    signed_bytes: memoryview
+    serial_number: memoryview
+    signature_algorithm: memoryview
+    issuer: memoryview
+    subject: memoryview
+    not_before: int
+    not_after: int
+    key_algorithm: memoryview
+    key_parameters: memoryview  # of `KeyKind.EC` the curve's object identifier
+    key_kind: KeyKind
+    key_bits: int  # of `KeyKind.RSA` those of the modulus; else 0
+    public_key: memoryview
+    extensions: memoryview
+    signature: memoryview
+    next: int
+
+    def names(self) -> Optional[Iterator[X509Name]]:
+        """The names of its first subjectAltName (RFC 5280, section 4.2.1.6)."""
+        for extension in x509_extensions(self.extensions):
+            if extension.oid == SUBJECT_ALT_NAME:
+                return x509_names(extension.value)
+        return None
+
+
+@dataclass(frozen=True)
+class X509Extension:
+    """An extension of a certificate (RFC 5280, section 4.2): its object identifier, without tag and length, and its value, in DER."""
+
+    oid: memoryview
+    critical: bool
+    value: memoryview
+    next: int
+
+
+@dataclass(frozen=True)
+class X509Name:
+    """A name of a subject or an issuer (RFC 5280, section 4.2.1.6): its kind, a `NameKind` or another tag, and its bytes."""
+
+    kind: int
+    content: memoryview
+    next: int
+
+
+def read_x509(data: Data) -> X509:
+    """The certificate in front, in DER. Names and extensions aren't judged before they are walked."""
+    given, out = _Given(data), _room.x509
+    _check(_c.read_x509(given.address, given.count, out), out.missing)
+    return X509(
+        out.version,
+        given.part(out.signed_bytes),
+        given.part(out.serial_number),
+        given.part(out.signature_algorithm),
+        given.part(out.issuer),
+        given.part(out.subject),
+        out.not_before,
+        out.not_after,
+        given.part(out.key_algorithm),
+        given.part(out.key_parameters),
+        KeyKind(out.key_kind),
+        out.key_bits,
+        given.part(out.public_key),
+        given.part(out.extensions),
+        given.part(out.signature),
+        out.next,
+    )
+
+
+def _x509_extension(given: _Given, offset: int) -> X509Extension:
+    out = _room.x509_extension
+    _check(_c.read_x509_extension(given.address, given.count, offset, out), out.missing)
+    return X509Extension(given.part(out.oid), out.critical, given.part(out.value), out.next)
+
+
+def x509_extensions(extensions: Data) -> Iterator[X509Extension]:
+    """The extensions of a certificate (RFC 5280, section 4.2)."""
+    return _walk(_x509_extension, _Given(extensions))
+
+
+def _x509_name(given: _Given, offset: int) -> X509Name:
+    out = _room.part
+    _check(_c.read_x509_name(given.address, given.count, offset, out), out.missing)
+    return X509Name(out.kind, given.part(out.content), out.next)
+
+
+def x509_names(value: Data) -> Iterator[X509Name]:
+    """The names in the value of a subjectAltName or an issuerAltName (RFC 5280, section 4.2.1.6)."""
+    given, out = _Given(value), _room.found
+    _check(_c.find_x509_names(given.address, given.count, out), out.missing)
+    return _walk(_x509_name, _Given(given.part(out.place)))
 
 
 class _Stream:

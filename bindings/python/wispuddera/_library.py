@@ -31,6 +31,7 @@ _SIZE, _U8, _U16, _U32, _U64, _BOOL = (
     ctypes.c_uint64,
     ctypes.c_bool,
 )
+_I64 = ctypes.c_int64
 
 
 class Place(ctypes.Structure):
@@ -138,6 +139,32 @@ class Flow(ctypes.Structure):
     _fields_ = [("state", _U32)]
 
 
+class X509(ctypes.Structure):
+    _fields_ = [
+        ("missing", _SIZE),
+        ("signed_bytes", Place),
+        ("serial_number", Place),
+        ("signature_algorithm", Place),
+        ("issuer", Place),
+        ("subject", Place),
+        ("key_algorithm", Place),
+        ("key_parameters", Place),
+        ("public_key", Place),
+        ("extensions", Place),
+        ("signature", Place),
+        ("not_before", _I64),
+        ("not_after", _I64),
+        ("next", _SIZE),
+        ("key_bits", _U32),
+        ("key_kind", _U8),
+        ("version", _U8),
+    ]
+
+
+class X509Extension(ctypes.Structure):
+    _fields_ = [("missing", _SIZE), ("oid", Place), ("value", Place), ("next", _SIZE), ("critical", _BOOL)]
+
+
 def _refuse(*_):
     raise OSError(f"the library of wispuddera isn't there: {_missing}")
 
@@ -181,10 +208,22 @@ dtls_cipher_suite_at = _function("dtls_cipher_suite_at", _BYTES, _SIZE, _SIZE, _
 version_at = _function("version_at", _BYTES, _SIZE, _SIZE, _OUT(Number))
 group_at = _function("group_at", _BYTES, _SIZE, _SIZE, _OUT(Number))
 signature_scheme_at = _function("signature_scheme_at", _BYTES, _SIZE, _SIZE, _OUT(Number))
+ja3 = _function("ja3", _BYTES, _SIZE, _BYTES, _SIZE, _OUT(_SIZE))
+dtls_ja3 = _function("dtls_ja3", _BYTES, _SIZE, _BYTES, _SIZE, _OUT(_SIZE))
+ja3s = _function("ja3s", _BYTES, _SIZE, _BYTES, _SIZE, _OUT(_SIZE))
+dtls_ja3s = _function("dtls_ja3s", _BYTES, _SIZE, _BYTES, _SIZE, _OUT(_SIZE))
+ja4 = _function("ja4", _BYTES, _SIZE, _BYTES, _SIZE, _OUT(_SIZE))
+quic_ja4 = _function("quic_ja4", _BYTES, _SIZE, _BYTES, _SIZE, _OUT(_SIZE))
+dtls_ja4 = _function("dtls_ja4", _BYTES, _SIZE, _BYTES, _SIZE, _OUT(_SIZE))
 best_version = _function("best_version", _BYTES, _SIZE, _U16, _OUT(Number))
 feed = _function("feed", _BYTES, _SIZE, _OUT(Place), _BYTES, _SIZE, _OUT(_SIZE))
 next_record = _function("next_record", _BYTES, _SIZE, _OUT(Place), _OUT(Record))
 next_message = _function("next_message", _BYTES, _SIZE, _OUT(Place), _OUT(Part))
+
+read_x509 = _function("read_x509", _BYTES, _SIZE, _OUT(X509))
+read_x509_extension = _function("read_x509_extension", _BYTES, _SIZE, _SIZE, _OUT(X509Extension))
+find_x509_names = _function("find_x509_names", _BYTES, _SIZE, _OUT(Found))
+read_x509_name = _function("read_x509_name", _BYTES, _SIZE, _SIZE, _OUT(Part))
 
 event_of_message = _function("event_of_message", _BYTES, _SIZE, _U8, answer=_U8)
 event_of_dtls_message = _function("event_of_dtls_message", _U8, answer=_U8)
@@ -198,3 +237,4 @@ field_offset = _function("field_offset", _SIZE, _SIZE, answer=_SIZE)
 
 # The structs, as the header lists them for `wispuddera_struct_size`.
 STRUCTS = (Place, Record, Part, ClientHello, ServerHello, Found, Number, DtlsRecord, DtlsMessage, DtlsClientHello, Event, Flow)
+STRUCTS += (X509, X509Extension)

@@ -39,9 +39,11 @@
 #[cfg(not(target_pointer_width = "64"))]
 compile_error!("libwispuddera.a is made for processors of 64 bits");
 
+mod certificate;
 mod detection;
 mod dtls;
 mod error;
+mod fingerprint;
 mod found;
 mod hello;
 mod number;
@@ -50,9 +52,11 @@ mod part;
 mod stream;
 mod sys;
 
+pub use certificate::{x509_extensions, x509_names, PublicKey, X509Extension, X509Name, SUBJECT_ALT_NAME, X509};
 pub use detection::looks_like_tls;
 pub use dtls::{dtls_messages, dtls_records, DtlsClientHello, DtlsMessage, DtlsRecord};
 pub use error::{Error, Kind};
+pub use fingerprint::{dtls_ja3, dtls_ja3s, dtls_ja4, ja3, ja3s, ja4, quic_ja4, Fingerprint};
 pub use found::{find_body, find_extension, server_name, server_name_of_hello, server_name_of_record};
 pub use hello::{ClientHello, ServerHello};
 pub use number::{best_version, groups, signature_schemes, versions, Numbers};

@@ -131,6 +131,38 @@ pub struct DtlsClientHello {
 }
 
 #[repr(C)]
+#[derive(Default)]
+pub struct X509 {
+    pub missing: usize,
+    pub signed_bytes: Place,
+    pub serial_number: Place,
+    pub signature_algorithm: Place,
+    pub issuer: Place,
+    pub subject: Place,
+    pub key_algorithm: Place,
+    pub key_parameters: Place,
+    pub public_key: Place,
+    pub extensions: Place,
+    pub signature: Place,
+    pub not_before: i64,
+    pub not_after: i64,
+    pub next: usize,
+    pub key_bits: u32,
+    pub key_kind: u8,
+    pub version: u8,
+}
+
+#[repr(C)]
+#[derive(Default)]
+pub struct X509Extension {
+    pub missing: usize,
+    pub oid: Place,
+    pub value: Place,
+    pub next: usize,
+    pub critical: bool,
+}
+
+#[repr(C)]
 #[derive(Clone, Copy, Debug, PartialEq, Eq, Hash)]
 pub struct Flow {
     pub state: u32,
@@ -140,6 +172,8 @@ pub struct Flow {
 pub type ReadAt<T> = unsafe extern "C" fn(*const u8, usize, usize, *mut T) -> u32;
 /// A call that reads what stands in front, or finds something.
 pub type ReadFront<T> = unsafe extern "C" fn(*const u8, usize, *mut T) -> u32;
+/// A call that puts a fingerprint into a buffer.
+pub type Tell = unsafe extern "C" fn(*const u8, usize, *mut u8, usize, *mut usize) -> u32;
 /// A call that takes what stands in front of a buffer off it.
 pub type Take<T> = unsafe extern "C" fn(*const u8, usize, *mut Place, *mut T) -> u32;
 
@@ -174,6 +208,14 @@ extern "C" {
     pub fn wispuddera_looks_like_tls(bytes: *const u8, count: usize) -> u32;
     pub fn wispuddera_best_version(bytes: *const u8, count: usize, version: u16, out: *mut Number) -> u32;
 
+    pub fn wispuddera_ja3(bytes: *const u8, count: usize, digits: *mut u8, room: usize, missing: *mut usize) -> u32;
+    pub fn wispuddera_dtls_ja3(bytes: *const u8, count: usize, digits: *mut u8, room: usize, missing: *mut usize) -> u32;
+    pub fn wispuddera_ja3s(bytes: *const u8, count: usize, digits: *mut u8, room: usize, missing: *mut usize) -> u32;
+    pub fn wispuddera_dtls_ja3s(bytes: *const u8, count: usize, digits: *mut u8, room: usize, missing: *mut usize) -> u32;
+    pub fn wispuddera_ja4(bytes: *const u8, count: usize, text: *mut u8, room: usize, missing: *mut usize) -> u32;
+    pub fn wispuddera_quic_ja4(bytes: *const u8, count: usize, text: *mut u8, room: usize, missing: *mut usize) -> u32;
+    pub fn wispuddera_dtls_ja4(bytes: *const u8, count: usize, text: *mut u8, room: usize, missing: *mut usize) -> u32;
+
     pub fn wispuddera_feed(buffer: *mut u8, capacity: usize, held: *mut Place, piece: *const u8, count: usize, taken: *mut usize) -> u32;
     pub fn wispuddera_next_record(buffer: *const u8, capacity: usize, held: *mut Place, out: *mut Record) -> u32;
     pub fn wispuddera_next_message(buffer: *const u8, capacity: usize, held: *mut Place, out: *mut Part) -> u32;
@@ -185,6 +227,11 @@ extern "C" {
     pub fn wispuddera_flow_start(flow: *mut Flow);
     pub fn wispuddera_flow_step(flow: *mut Flow, event: *const crate::outcome::Event);
     pub fn wispuddera_flow_outcome(flow: *const Flow) -> u32;
+
+    pub fn wispuddera_read_x509(bytes: *const u8, count: usize, out: *mut X509) -> u32;
+    pub fn wispuddera_read_x509_extension(bytes: *const u8, count: usize, offset: usize, out: *mut X509Extension) -> u32;
+    pub fn wispuddera_find_x509_names(bytes: *const u8, count: usize, out: *mut Found) -> u32;
+    pub fn wispuddera_read_x509_name(bytes: *const u8, count: usize, offset: usize, out: *mut Part) -> u32;
 
     #[cfg(test)]
     pub fn wispuddera_struct_size(index: usize) -> usize;
@@ -237,6 +284,9 @@ mod tests {
                 has_extensions),
             layout!(Event: kind, to_server),
             layout!(Flow: state),
+            layout!(X509: missing, signed_bytes, serial_number, signature_algorithm, issuer, subject, key_algorithm, key_parameters,
+                public_key, extensions, signature, not_before, not_after, next, key_bits, key_kind, version),
+            layout!(X509Extension: missing, oid, value, next, critical),
             ("none", &[0]),
         ];
         for (index, (name, offsets)) in layouts.iter().enumerate() {

@@ -143,6 +143,74 @@ fn dtls_is_read() {
     assert_eq!(ServerHello::read_dtls(&text[..38]), incomplete(1));
 }
 
+/// The certificate of `bindings/test/calls.c`, and those that openssl made.
+#[test]
+fn certificates_are_read() {
+    let head = b"\x30\x81\x8a\x30\x7c\xa0\x03\x02\x01\x02\x02\x02\x01\x05\x30\x05\x06\x03\x2b\x65\x70";
+    let names = b"\x30\x0c\x31\x0a\x30\x08\x06\x03\x55\x04\x03\x0c\x01a\x30\x1e\x17\x0d700101000001Z\x17\x0d700102000000Z\
+        \x30\x0c\x31\x0a\x30\x08\x06\x03\x55\x04\x03\x0c\x01b";
+    let key = b"\x30\x17\x30\x10\x06\x07\x2a\x86\x48\xce\x3d\x02\x01\x06\x05\x2b\x81\x04\x00\x22\x03\x03\x00\x04\x05";
+    let tail = b"\xa3\x15\x30\x13\x30\x11\x06\x03\x55\x1d\x11\x01\x01\xff\x04\x07\x30\x05\x82\x03a.b\
+        \x30\x05\x06\x03\x2b\x65\x70\x03\x03\x00\xb1\xb2";
+    let text = [&head[..], names, key, tail, b"rest"].concat();
+    let (found, rest) = X509::read(&text).unwrap();
+    let wanted = X509 {
+        version: 2,
+        signed_bytes: &text[3..129],
+        serial_number: b"\x01\x05",
+        signature_algorithm: b"\x2b\x65\x70",
+        issuer: &names[..14],
+        subject: &names[46..],
+        not_before: 1,
+        not_after: 86400,
+        key_algorithm: b"\x2a\x86\x48\xce\x3d\x02\x01",
+        key: PublicKey::Ec { curve: b"\x2b\x81\x04\x00\x22" },
+        public_key: b"\x04\x05",
+        extensions: &text[110..129],
+        signature: b"\xb1\xb2",
+    };
+    assert_eq!((found, rest), (wanted, &b"rest"[..]));
+    let extension = X509Extension { oid: SUBJECT_ALT_NAME, critical: true, value: &text[122..129] };
+    assert_eq!(x509_extensions(found.extensions).collect::<Vec<_>>(), [Ok(extension)]);
+    assert_eq!(found.names().unwrap().unwrap().collect::<Vec<_>>(), [Ok(X509Name::Dns(b"a.b"))]);
+    assert_eq!(x509_names(&extension.value[..6]).map(|_| ()), incomplete(1));
+    assert_eq!(X509Name::read(b"\xa4\x00"), Ok((X509Name::Other { tag: 0xa4, content: b"" }, &b""[..])));
+    assert_eq!(X509 { extensions: b"", ..found }.names().map(|it| it.is_none()), Ok(true));
+    assert_eq!(X509 { extensions: b"\x31\x00", ..found }.names().map(|_| ()), Err(Error::Refused(Kind::Tag)));
+    for count in 0..141 {
+        assert_eq!(X509::read(&text[..count]), incomplete(if count < 3 { 1 } else { 141 - count }));
+    }
+}
+
+fn stored(name: &str) -> Vec<u8> {
+    std::fs::read(format!("{}/../../tests/certificates/stored/{name}.der", env!("CARGO_MANIFEST_DIR"))).unwrap()
+}
+
+#[test]
+fn certificates_of_openssl_are_read() {
+    let keys = [
+        ("rsa_1023", PublicKey::Rsa { bits: 1023 }),
+        ("rsa_2048", PublicKey::Rsa { bits: 2048 }),
+        ("rsa_pss", PublicKey::Rsa { bits: 1024 }),
+        ("ec_p256", PublicKey::Ec { curve: b"\x2a\x86\x48\xce\x3d\x03\x01\x07" }),
+        ("ec_explicit", PublicKey::Refused),
+        ("ed25519", PublicKey::Ed25519),
+        ("ed448", PublicKey::Ed448),
+        ("dsa", PublicKey::Other),
+    ];
+    for (name, key) in keys {
+        assert_eq!(X509::read(&stored(name)).unwrap().0.key, key, "{name}");
+    }
+    let text = stored("rsa_1024");
+    let names: Vec<_> = X509::read(&text).unwrap().0.names().unwrap().unwrap().map(Result::unwrap).collect();
+    assert_eq!(names[..3], [X509Name::Dns(b"example.test"), X509Name::Dns(b"*.example.test"), X509Name::Ip(&[192, 0, 2, 1])]);
+    assert_eq!(names[4..6], [X509Name::Email(b"someone@example.test"), X509Name::Uri(b"https://example.test/path")]);
+    assert!(matches!((names[3], names[6]), (X509Name::Ip(ip), X509Name::Other { tag: 0xa0, .. }) if ip.len() == 16));
+    let text = stored("version_1");
+    let certificate = X509::read(&text).unwrap().0;
+    assert_eq!((certificate.version, certificate.extensions), (0, &b""[..]));
+}
+
 #[test]
 fn streams_come_in_pieces() {
     for size in [1, 7, 1000] {
@@ -216,4 +284,21 @@ fn outcomes_are_told() {
     said.insert(1, Event::new(EventKind::Encrypted, true));
     assert_eq!(outcome(&said[..3]), Outcome::Tls13 { retried: false, early_data: true });
     assert_eq!(EventKind::of_dtls_message(3), EventKind::HelloVerifyRequest);
+}
+
+/// Digests of texts that were written by hand, those of `bindings/test/calls.c`.
+#[test]
+fn fingerprints_are_told() {
+    let body = body();
+    assert_eq!(&*ja3(&body).unwrap(), "5f671f8e05377b8c8876847f82d52406");
+    assert_eq!(ja4(&body).unwrap().to_string(), "t13d0304h2_40b44b994229_a56c5b993250");
+    assert_eq!(format!("{:?}", quic_ja4(&body).unwrap()), "\"q13d0304h2_40b44b994229_a56c5b993250\"");
+    let server = [&b"\x03\x03"[..], &random(), b"\x00\xc0\x2f\x00\x00\x04\x00\x17\x00\x00"].concat();
+    assert_eq!(&*ja3s(&server).unwrap(), "083a17d1eee567193ca26e03736db9e5");
+    assert_eq!(dtls_ja3s(&server), ja3s(&server));
+    let datagram = [&b"\xfe\xfd"[..], &random(), b"\x00\x02\xe1\xe2\x00\x04\xc0\x2f\x0a\x0a\x01\x00"].concat();
+    assert_eq!(dtls_ja3(&datagram).unwrap().as_str(), "16392eee10fbf958359e66f7af4fb797");
+    assert_eq!(dtls_ja4(&datagram).unwrap().as_str(), "dd2i010000_f06271c2b022_000000000000");
+    assert_eq!((ja3(&body[..33]), ja4(&[]), dtls_ja4(&datagram[..35])), (incomplete(1), incomplete(2), incomplete(1)));
+    assert_eq!((ja3s(&datagram), dtls_ja3(&datagram[..35])), (Err(Error::Refused(Kind::Tag)), incomplete(1)));
 }

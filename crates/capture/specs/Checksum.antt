@@ -49,7 +49,7 @@ content_checksum d (Udp u) =
     if u.checksum == 0 then checksum_without d.source
     else checksum_by (pseudo_words d 17 u.length) (user_words u) u.checksum
 content_checksum d Fragment = Right
-content_checksum d (Other protocol) = Right
+content_checksum d (Other protocol payload) = Right
 
 -- Wrong where that of a header of IPv4 is.
 abbrev pub checksum_of : Datagram → Checksum

@@ -42,9 +42,22 @@ view_datagram d = record {
 abbrev pub is_fragment_v4 : ℕ → Bool
 is_fragment_v4 flags = nat_le 1 (flags % 16384)
 
+-- The number of the next header; a length, in words of that many bytes; and what is left behind the header's first 8
+-- bytes.
+unfoldable pub skipped : ℕ → Layout ℕ
+skipped word = do
+  next ← number 1
+  len ← number 1
+  block (len * word + 6)
+  done next
+
+-- 51 is the Authentication Header, which says what follows it (RFC 4302, section 2).
+unfoldable pub protected : ℕ → Layout Content
+protected protocol = choose (protocol == 51) (skipped 4 >>= transport) (transport protocol)
+
 -- A part of a datagram holds no header of a protocol, but in the first.
 unfoldable pub content_v4 : ℕ → ℕ → Layout Content
-content_v4 flags protocol = choose (is_fragment_v4 flags) (done Fragment) (transport protocol)
+content_v4 flags protocol = choose (is_fragment_v4 flags) (done Fragment) (protected protocol)
 
 -- The lengths of a header and of its datagram, in bytes, and the sum of the words up to there.
 pub record LengthsV4 : Type 0 where
@@ -119,15 +132,6 @@ ipv4 = do
 -- 8200, section 4).
 unfoldable pub is_extension : ℕ → Bool
 is_extension next = (next == 0) || ((next == 43) || ((next == 60) || (next == 135)))
-
--- The number of the next header; a length, in words of that many bytes; and what is left behind the header's first 8
--- bytes.
-unfoldable pub skipped : ℕ → Layout ℕ
-skipped word = do
-  next ← number 1
-  len ← number 1
-  block (len * word + 6)
-  done next
 
 -- A Fragment header: next header, reserved, offset (13 bits) and the bit M, identification (RFC 8200, section 4.5).
 -- A fragment that is the whole datagram is read (RFC 6946).

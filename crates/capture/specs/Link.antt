@@ -126,23 +126,26 @@ link link_type =
     choose (link_type == 276) sll2 (
     ppp_or_none link_type))))
 
--- A datagram, by its type.
-unfoldable pub datagram : ℕ → Layout (Option Datagram)
-datagram kind = choose (kind == IPV4) (mapped Some ipv4) (choose (kind == IPV6) (mapped Some ipv6) (done None))
-
 -- A packet of a PPPoE session: version and type, code 0, session, length; and PPP (RFC 2516, section 4).
-unfoldable pub pppoe : Layout (Option Datagram)
+unfoldable pub pppoe : Layout ℕ
 pppoe = do
   front ← number 2
   test (front == 0x1100) Verify
   block 4
-  kind ← ppp
-  datagram kind
+  ppp
 
--- What follows, by its type.
-unfoldable pub network : ℕ → Layout (Option Datagram)
-network kind = choose (kind == PPPOE) pppoe (datagram kind)
+-- The type of what follows, in a PPPoE session too.
+unfoldable pub network : ℕ → Layout ℕ
+network kind = choose (kind == PPPOE) pppoe (done kind)
+
+-- The type of what a packet of that link type carries.
+unfoldable pub carried : ℕ → Layout ℕ
+carried link_type = link link_type >>= network
+
+-- A datagram, by its type.
+unfoldable pub datagram : ℕ → Layout (Option Datagram)
+datagram kind = choose (kind == IPV4) (mapped Some ipv4) (choose (kind == IPV6) (mapped Some ipv6) (done None))
 
 -- A packet of that link type.
 unfoldable pub packet : ℕ → Layout (Option Datagram)
-packet link_type = link link_type >>= network
+packet link_type = carried link_type >>= datagram

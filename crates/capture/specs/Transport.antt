@@ -136,18 +136,18 @@ pub data Content : Type 0 where
   Udp : UserDatagram → Content
   -- a part of a datagram that was cut
   Fragment : Content
-  -- of that protocol
-  Other : ℕ → Content
+  -- of that protocol, and the bytes of it
+  Other : ℕ → Bytes → Content
 
 abbrev pub view_content : LentContent → Content
 view_content (content.Tcp s) = Tcp (view_segment s)
 view_content (content.Udp d) = Udp (view_datagram d)
 view_content content.Fragment = Fragment
-view_content (content.Other n) = Other n
+view_content (content.Other n p) = Other n p.now
 
 -- By the number of the protocol (IANA, Assigned Internet Protocol Numbers).
 unfoldable pub transport : ℕ → Layout Content
 transport protocol =
     choose (protocol == 6) (mapped Tcp tcp) (
     choose (protocol == 17) (mapped Udp udp) (
-    done (Other protocol)))
+    mapped (Other protocol) rest))

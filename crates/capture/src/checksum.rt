@@ -215,7 +215,7 @@ impl Datagram<'_> {
         match &self.content {
             Content::Tcp(segment) => self.checksum_of_segment(segment),
             Content::Udp(datagram) => self.checksum_of_user_datagram(datagram),
-            Content::Fragment | Content::Other(_) => Checksum::Right,
+            Content::Fragment | Content::Other(_, _) => Checksum::Right,
         }
     }
 }

@@ -1,12 +1,12 @@
 //! Datagrams of the Internet Protocol (RFC 791; RFC 8200).
-#![tactic(auto, using(tls_fields::proofs::OneAnswerLemmas::read_allowed), unfolding(crate::specs::Ip::content_v4, crate::specs::Ip::front_v6, crate::specs::Ip::skipped, crate::specs::Ip::fragment_header, crate::specs::Ip::step, crate::specs::Ip::address_v6))]
+#![tactic(auto, using(tls_fields::proofs::OneAnswerLemmas::read_allowed), unfolding(crate::specs::Ip::content_v4, crate::specs::Ip::front_v6, crate::specs::Ip::skipped, crate::specs::Ip::protected, crate::specs::Ip::fragment_header, crate::specs::Ip::step, crate::specs::Ip::address_v6))]
 
 ghost use Rattle.std.specs.Prelude.{◌≡◌, ◌⊎◌, ◌<◌, ◌≤◌, ◌^◌, IfOk};
 ghost use Rattle.tls_fields.specs.Layout.{complete};
 ghost use Rattle.tls_fields.specs.Answers.{Gives};
 ghost use Rattle.capture.specs.Transport.{view_content};
 ghost use Rattle.capture.specs.Ip.{content_v4 as content_v4_layout, ipv4, ipv6, view_datagram, view_address};
-ghost use Rattle.capture.specs.Ip.{skipped as skipped_layout, lengths_v4 as lengths_v4_layout, view_lengths_v4, fields_v4 as fields_v4_layout, view_fields_v4, held_v4 as held_v4_layout};
+ghost use Rattle.capture.specs.Ip.{skipped as skipped_layout, protected as protected_layout, lengths_v4 as lengths_v4_layout, view_lengths_v4, fields_v4 as fields_v4_layout, view_fields_v4, held_v4 as held_v4_layout};
 ghost use Rattle.capture.specs.Ip.{address_v6 as address_v6_layout, front_v6 as front_v6_layout, headers as headers_layout, step as step_layout, held_v6 as held_v6_layout};
 ghost use Rattle.capture.specs.Ip.{fragment_header as fragment_header_layout, is_extension as is_extension_number};
 
@@ -71,6 +71,20 @@ enum Step {
     Last,
 }
 
+/// The number of the Authentication Header (RFC 4302, section 2).
+const AUTHENTICATION: u8 = 51;
+
+/// What stands in a datagram of IPv4 that isn't cut, behind an Authentication Header where there is one.
+fn protected(i: &[u8], protocol: u8) -> IResult<&[u8], Content>
+    ensures { Gives view_content (protected_layout protocol) i.now result }
+{
+    if protocol == AUTHENTICATION {
+        let (i, next) = skipped(i, 4)?;
+        return transport(i, next);
+    }
+    transport(i, protocol)
+}
+
 /// What a datagram of IPv4 holds.
 fn content_v4(i: &[u8], flags: u16, protocol: u8) -> IResult<&[u8], Content>
     ensures { Gives view_content (content_v4_layout flags protocol) i.now result }
@@ -78,7 +92,7 @@ fn content_v4(i: &[u8], flags: u16, protocol: u8) -> IResult<&[u8], Content>
     if flags % 16384 >= 1 {
         return Ok((i, Content::Fragment));
     }
-    transport(i, protocol)
+    protected(i, protocol)
 }
 
 /// The same, where no further bytes belong to it.
@@ -233,7 +247,7 @@ fn step_at(i: &[u8], next: u8) -> IResult<&[u8], Step>
         let (i, next) = skipped(i, 8)?;
         return Ok((i, Step::Next(next)));
     }
-    if next == 51 {
+    if next == AUTHENTICATION {
         let (i, next) = skipped(i, 4)?;
         return Ok((i, Step::Next(next)));
     }

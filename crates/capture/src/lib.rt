@@ -22,7 +22,7 @@ pub use block_packet::{
 pub use checksum::Checksum;
 pub use interface::{Interface, parse_interface};
 pub use ip::{Address, Datagram, parse_ipv4, parse_ipv6};
-pub use link::parse_packet;
+pub use link::{parse_link, parse_packet};
 pub use options::{maximum_segment_size, option_of, timestamp, window_scale};
 pub use order::{Order, number2_by, number4_by, number8_by};
 pub use pcap::{

@@ -7,7 +7,7 @@ ghost use Rattle.capture.specs.Link.{vlan_tag, view_packet, ether_type as ether_
 ghost use Rattle.capture.specs.Link.{loopback as loopback_layout, behind_type as behind_type_layout, sll2 as sll2_layout};
 ghost use Rattle.capture.specs.Link.{raw_ip as raw_ip_layout, ppp as ppp_layout, ppp_by as ppp_by_layout, ppp_link as ppp_link_layout};
 ghost use Rattle.capture.specs.Link.{no_link as no_link_layout, ppp_or_none as ppp_or_none_layout, link as link_layout, datagram as datagram_layout};
-ghost use Rattle.capture.specs.Link.{pppoe as pppoe_layout, network as network_layout, packet};
+ghost use Rattle.capture.specs.Link.{pppoe as pppoe_layout, network as network_layout, carried, packet};
 ghost use Rattle.capture.specs.Link.{family as type_of_family, type_of_ppp, is_vlan as is_vlan_type};
 ghost use Rattle.std.specs.Prelude.{◌≡◌};
 
@@ -203,6 +203,42 @@ fn link(i: &[u8], link_type: u16) -> IResult<&[u8], u16>
     }
 }
 
+/// The type of what a packet of a PPPoE session carries (RFC 2516, section 4).
+fn pppoe(i: &[u8]) -> IResult<&[u8], u16>
+    ensures { Gives (λ v. v) pppoe_layout i.now result }
+{
+    let (i, front) = number2(i)?;
+    if front != 0x1100 {
+        return refused(i, ErrorKind::Verify);
+    }
+    let (i, _) = block(i, 4)?;
+    ppp(i)
+}
+
+/// The type of what follows, in a PPPoE session too.
+fn network(i: &[u8], kind: u16) -> IResult<&[u8], u16>
+    ensures { Gives (λ v. v) (network_layout kind) i.now result }
+{
+    if kind == PPPOE {
+        return pppoe(i);
+    }
+    Ok((i, kind))
+}
+
+/// Reads the header of the link in front of the packet `i`: the type of Ethernet of what it carries, where 0x0800 is IPv4 and 0x86dd IPv6. It
+/// is 0 where a link that numbers what it carries in another way carries neither. The link types are those of [`parse_packet`].
+///
+/// - `Incomplete` of what is missing of the first part that isn't whole.
+/// - `Error` of kind `Switch` where the link type is another.
+/// - `Error` of kind `Verify` where a PPPoE packet isn't one of a session, or raw IP has another version.
+#[tactic(auto, using(tls_fields::proofs::OneAnswerLemmas::read_allowed), unfolding(crate::specs::Link::carried))]
+pub fn parse_link(i: &[u8], link_type: u16) -> IResult<&[u8], u16>
+    ensures { Gives (λ v. v) (carried link_type) i.now result }
+{
+    let (i, kind) = link(i, link_type)?;
+    network(i, kind)
+}
+
 /// A datagram, by its type.
 fn datagram(i: &[u8], kind: u16) -> IResult<&[u8], Option<Datagram>>
     ensures { Gives view_packet (datagram_layout kind) i.now result }
@@ -218,29 +254,6 @@ fn datagram(i: &[u8], kind: u16) -> IResult<&[u8], Option<Datagram>>
         }
         _ => Ok((i, None)),
     }
-}
-
-/// A packet of a PPPoE session (RFC 2516, section 4).
-fn pppoe(i: &[u8]) -> IResult<&[u8], Option<Datagram>>
-    ensures { Gives view_packet pppoe_layout i.now result }
-{
-    let (i, front) = number2(i)?;
-    if front != 0x1100 {
-        return refused(i, ErrorKind::Verify);
-    }
-    let (i, _) = block(i, 4)?;
-    let (i, kind) = ppp(i)?;
-    datagram(i, kind)
-}
-
-/// What follows the link's header, by its type.
-fn network(i: &[u8], kind: u16) -> IResult<&[u8], Option<Datagram>>
-    ensures { Gives view_packet (network_layout kind) i.now result }
-{
-    if kind == PPPOE {
-        return pppoe(i);
-    }
-    datagram(i, kind)
 }
 
 /// Reads the packet `i` of a capture with that link type: the link's header, and the datagram of IPv4 or IPv6 that it
@@ -259,6 +272,6 @@ pub fn parse_packet(i: &[u8], link_type: u16) -> IResult<&[u8], Option<Datagram>
     ensures gives { Gives view_packet (packet link_type) i.now result }
     ensures only_one { AllowsOne (packet link_type) i.now }
 {
-    let (i, kind) = link(i, link_type)?;
-    network(i, kind)
+    let (i, kind) = parse_link(i, link_type)?;
+    datagram(i, kind)
 }

@@ -83,8 +83,8 @@ pub enum Content<'a> {
     Udp(UdpDatagram<'a>),
     /// A part of a datagram that was cut; what it holds isn't read.
     Fragment,
-    /// Of another protocol, which has this number; it isn't read.
-    Other(u8),
+    /// Of another protocol, which has this number; these bytes of it aren't read.
+    Other(u8, &'a [u8]),
 }
 
 /// Reads the ports and numbers in front of a segment of TCP.
@@ -199,6 +199,9 @@ pub(crate) fn transport(i: &[u8], protocol: u8) -> IResult<&[u8], Content>
             let (i, datagram) = parse_udp(i)?;
             Ok((i, Content::Udp(datagram)))
         }
-        _ => Ok((i, Content::Other(protocol))),
+        _ => {
+            let (i, payload) = rest(i)?;
+            Ok((i, Content::Other(protocol, payload)))
+        }
     }
 }

@@ -1,5 +1,9 @@
 -- What a packet is to the log: its connection takes it, and that connection's listener hears it.
-use Rattle.std.specs.Prelude.{◌≡◌, Bool, true, false, ◌∷◌}
+use Rattle.std.specs.Prelude.{◌≡◌, Bool, true, false, ◌∷◌, Option, Some, None}
+use Rattle.connection_parts.specs.Part.{falls_to}
+use Rattle.connection_parts.specs.declared.part.Part.{Part}
+use Rattle.connections.specs.declared.ends.End.{End}
+use Rattle.connections.specs.declared.ends.Protocol.{Protocol}
 use Rattle.connections.specs.Connection.{side_of}
 use Rattle.connections.specs.Datagram.{ends_of_datagram}
 use Rattle.connections.specs.Segment.{ends_of}
@@ -12,6 +16,11 @@ use Rattle.connections.specs.declared.segment.Segment.{Segment}
 use Rattle.tls_detection.specs.Front.{held_datagram}
 use Rattle.log_connections.specs.Heard.{HearsDatagram, HearsOn, direction_of}
 use Rattle.log_connections.specs.declared.heard.Heard.{Heard}
+
+-- Without a part, all connections are logged.
+abbrev pub is_logged : Option Part → Protocol → End → End → Bool
+is_logged None protocol one other = true
+is_logged (Some part) protocol one other = falls_to protocol one other part
 
 module _ {K : Type 0} where
   -- The listener hears what a side's stream has next; all else of the connection stays, the other side's stream with it.

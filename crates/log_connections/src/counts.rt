@@ -10,8 +10,12 @@ pub struct Counts {
     pub unread: u64,
     /// Packets of a link type, or of a protocol, that isn't read.
     pub other_protocols: u64,
+    /// Packets of connections that fall to another part than the one that is logged.
+    pub other_parts: u64,
     /// Parts of datagrams that were cut.
     pub fragments: u64,
+    /// Packets in more tunnels, one in another, than are followed.
+    pub in_too_many_tunnels: u64,
     /// Segments of TCP with data that belong to no open connection.
     pub stray_segments: u64,
     /// Connections that are neither TLS nor DTLS.
@@ -32,7 +36,9 @@ impl Counts {
             packets: 0,
             unread: 0,
             other_protocols: 0,
+            other_parts: 0,
             fragments: 0,
+            in_too_many_tunnels: 0,
             stray_segments: 0,
             other_connections: 0,
             gaps: 0,
@@ -50,7 +56,12 @@ impl Counts {
                 self.other_protocols,
                 "packets of another link or protocol than TCP and UDP",
             ),
+            (self.other_parts, "packets of other parts"),
             (self.fragments, "fragments of IP"),
+            (
+                self.in_too_many_tunnels,
+                "packets in more than 8 tunnels, one in another",
+            ),
             (
                 self.stray_segments,
                 "segments with data of no open connection",

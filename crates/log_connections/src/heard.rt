@@ -12,6 +12,7 @@ use tls_detection::{first_message, held_datagram};
 use tls_facts::Facts;
 use tls_flow::{Direction, Outcome, Stop};
 use tls_talks::{DatagramRecords, DatagramTalk, Records, Talk, Witness};
+use tunnels::{Tunnel, Tunnels};
 
 /// The types of the messages with which a handshake begins, of the client and of the server (RFC 8446, section 4).
 const CLIENT_HELLO: u8 = 1;
@@ -52,6 +53,8 @@ pub struct Heard<K> {
     is_turned: bool,
     // Who keeps the messages, where they are kept: in a place of its own, since most logs keep none.
     keeper: Option<Box<K>>,
+    // The tunnels of the first packet that came in some: in a place of their own, since most come in none.
+    tunnels: Option<Box<Tunnels>>,
     // Over TCP, the records of each side, encrypted ones too.
     from_originator: Records,
     from_responder: Records,
@@ -94,6 +97,7 @@ impl<K: Keeper> Listener for Heard<K> {
             said,
             is_turned: false,
             keeper: None,
+            tunnels: None,
             from_originator: Records::new(),
             from_responder: Records::new(),
             by_originator: DatagramRecords::new(),
@@ -189,6 +193,24 @@ impl<K: Keeper> Heard<K> {
             self.keeper = Some(Box::new(self.alloc, keeper)?);
         }
         Ok(())
+    }
+
+    /// Notes the tunnels that a packet of it came in, unless an earlier one came in some.
+    pub(crate) fn note_tunnels(&mut self, tunnels: &Tunnels) -> Result<(), AllocError>
+        ensures { self.new.said ≡ self.old.said }
+    {
+        if self.tunnels.is_none() && !tunnels.is_empty() {
+            self.tunnels = Some(Box::new(self.alloc, *tunnels)?);
+        }
+        Ok(())
+    }
+
+    /// The tunnels of the first packet that came in some, from outside in.
+    pub fn tunnels(&self) -> &[Tunnel] {
+        match &self.tunnels {
+            Some(tunnels) => tunnels.as_slice(),
+            None => &[],
+        }
     }
 
     /// Who keeps the pieces, where they are kept.

@@ -2,23 +2,25 @@
 ghost use Rattle.std.specs.Prelude.{◌≡◌, IfOk, OnOk, is_some};
 ghost use Rattle.connections.specs.Connection.{side_of};
 ghost use Rattle.log_connections.specs.Heard.{HearsNext, HearsOn, direction_of as direction};
-ghost use Rattle.log_connections.specs.Log.{HearsFrom, HearsSide, Logs, LogsDatagram};
+ghost use Rattle.log_connections.specs.Log.{HearsFrom, HearsSide, Logs, LogsDatagram, is_logged};
 
 use crate::counts::{Counts, add_one};
 use crate::heard::{Heard, Keeper, Pieces};
 use capture::{
-    Address, Content, TcpSegment, UdpDatagram, maximum_segment_size, option_of, parse_packet,
-    timestamp, window_scale,
+    Address, Content, TcpSegment, UdpDatagram, maximum_segment_size, option_of, timestamp,
+    window_scale,
 };
+use connection_parts::Part;
 use connections::{
     Checksum, Connection, Connections, Datagram, End, Ends, Judgement, Kept, MAX_WAITING, Options,
-    Segment, Side, Stream, Told,
+    Protocol, Segment, Side, Stream, Told,
 };
 use packets::Packet;
 use std::alloc::{AllocError, Global};
 use std::hash::RandomState;
 use std::net::{IpAddr, Ipv4Addr, Ipv6Addr};
 use tls_flow::Direction;
+use tunnels::{Inside, Tunnels, innermost};
 
 /// The weight of the flag SYN (RFC 9293, section 3.1).
 const SYN: u8 = 2;
@@ -50,6 +52,10 @@ pub struct Log<K> {
     // What is kept of connections until it is taken.
     kept: Option<Pieces>,
     checksums: Checksums,
+    // The part whose connections are logged, where not all are.
+    part: Option<Part>,
+    // Those of the packet that came last.
+    tunnels: Tunnels,
     /// What was read, and what was left out.
     pub counts: Counts,
 }
@@ -61,6 +67,14 @@ fn address(address: Address) -> IpAddr {
         Address::V6(upper, lower) => {
             IpAddr::V6(Ipv6Addr::from_bits(u128::from(upper) << 64 | u128::from(lower)))
         }
+    }
+}
+
+/// An end, by its address and its port.
+fn end(address_there: Address, port: u16) -> End {
+    End {
+        address: address(address_there),
+        port,
     }
 }
 
@@ -104,20 +118,15 @@ fn checksum_of(datagram: &capture::Datagram<'_>, checksums: Checksums) -> Checks
 /// A segment with its ends and its time.
 fn segment_of<'a>(
     time: u64,
-    datagram: &capture::Datagram<'a>,
+    source: End,
+    destination: End,
     tcp: &TcpSegment<'a>,
     checksum: Checksum,
 ) -> Segment<'a> {
     Segment {
         time,
-        source: End {
-            address: address(datagram.source),
-            port: tcp.source,
-        },
-        destination: End {
-            address: address(datagram.destination),
-            port: tcp.destination,
-        },
+        source,
+        destination,
         sequence: tcp.sequence,
         acknowledgment: tcp.acknowledgment,
         flags: tcp.flags,
@@ -132,20 +141,15 @@ fn segment_of<'a>(
 /// A datagram with its ends and its time.
 fn datagram_of<'a>(
     time: u64,
-    datagram: &capture::Datagram<'a>,
+    source: End,
+    destination: End,
     udp: &UdpDatagram<'a>,
     checksum: Checksum,
 ) -> Datagram<'a> {
     Datagram {
         time,
-        source: End {
-            address: address(datagram.source),
-            port: udp.source,
-        },
-        destination: End {
-            address: address(datagram.destination),
-            port: udp.destination,
-        },
+        source,
+        destination,
         checksum,
         payload: udp.payload,
     }
@@ -240,11 +244,13 @@ fn hear<K: Keeper>(
     connection: &mut Connection<Heard<K>>,
     segment: &Segment<'_>,
     kept: Option<Pieces>,
+    tunnels: &Tunnels,
 ) -> Result<(), AllocError>
     ensures { OnOk result (HearsSide (side_of connection.old segment.now.source) connection.old connection.new) }
 {
     let (side, is_opened) = (connection.side_of(segment.source), connection.has_opening());
     let heard = &mut connection.listener;
+    heard.note_tunnels(tunnels)?;
     if let Some(pieces) = kept {
         heard.keep(pieces)?;
     }
@@ -265,12 +271,14 @@ fn hear_from<K: Keeper>(
     exchange: &mut Connection<Heard<K>>,
     datagram: &Datagram<'_>,
     kept: Option<Pieces>,
+    tunnels: &Tunnels,
 ) -> Result<(), AllocError>
     ensures { OnOk result (HearsFrom datagram.now exchange.old exchange.new) }
 {
     let side = exchange.side_of(datagram.source);
     let heard = &mut exchange.listener;
     let direction = heard.direction(side);
+    heard.note_tunnels(tunnels)?;
     if let Some(pieces) = kept {
         heard.keep(pieces)?;
     }
@@ -290,6 +298,8 @@ impl<K: Keeper> Log<K> {
             connections: Connections::new(alloc, keys)?,
             kept,
             checksums: Checksums::Auto,
+            part: None,
+            tunnels: Tunnels::new(),
             counts: Counts::new(),
         })
     }
@@ -299,33 +309,65 @@ impl<K: Keeper> Log<K> {
         self.checksums = checksums;
     }
 
-    /// The segment or the datagram that a packet holds; `None` where it holds none that can be read, which is counted.
-    pub fn arrival<'a>(&mut self, packet: Packet<'a>) -> Option<Arrival<'a>> {
-        add_one(&mut self.counts.packets);
-        let datagram = match parse_packet(packet.bytes, packet.link_type) {
-            Ok((_, Some(datagram))) => datagram,
-            Ok((_, None)) => {
-                add_one(&mut self.counts.other_protocols);
-                return None;
-            }
-            Err(_) => {
-                add_one(&mut self.counts.unread);
-                return None;
-            }
+    /// Logs the connections of this part alone; at first all are logged.
+    pub fn set_part(&mut self, part: Part) {
+        self.part = Some(part);
+    }
+
+    /// Whether connections between these ends are logged; a packet of others is counted.
+    fn is_of_part(&mut self, protocol: Protocol, source: End, destination: End) -> bool
+        ensures { result ≡ is_logged self.old.part protocol source destination }
+    {
+        let is_logged = match &self.part {
+            Some(part) => part.has(protocol, source, destination),
+            None => true,
         };
+        if !is_logged {
+            add_one(&mut self.counts.other_parts);
+        }
+        is_logged
+    }
+
+    /// The innermost datagram of a packet, whose tunnels are noted; `None` where there is none that can be read, which is counted.
+    fn datagram<'a>(&mut self, packet: Packet<'a>) -> Option<capture::Datagram<'a>> {
+        add_one(&mut self.counts.packets);
+        let unwrapped = innermost(packet.bytes, packet.link_type);
+        self.tunnels = unwrapped.tunnels;
+        match unwrapped.inside {
+            Inside::Datagram(datagram) => return Some(datagram),
+            Inside::Other => add_one(&mut self.counts.other_protocols),
+            Inside::Unread => add_one(&mut self.counts.unread),
+            Inside::Deeper => add_one(&mut self.counts.in_too_many_tunnels),
+        }
+        None
+    }
+
+    /// The segment or the datagram that a packet holds; `None` where it holds none that can be read, or one of another part, which is counted.
+    pub fn arrival<'a>(&mut self, packet: Packet<'a>) -> Option<Arrival<'a>> {
         let time = packet.time;
+        let datagram = self.datagram(packet)?;
         match &datagram.content {
             Content::Tcp(tcp) => {
+                let source = end(datagram.source, tcp.source);
+                let destination = end(datagram.destination, tcp.destination);
+                if !self.is_of_part(Protocol::Tcp, source, destination) {
+                    return None;
+                }
                 let checksum = checksum_of(&datagram, self.checksums);
-                let segment = segment_of(time, &datagram, tcp, checksum);
+                let segment = segment_of(time, source, destination, tcp, checksum);
                 Some(Arrival::Segment(segment))
             }
             Content::Udp(udp) => {
+                let source = end(datagram.source, udp.source);
+                let destination = end(datagram.destination, udp.destination);
+                if !self.is_of_part(Protocol::Udp, source, destination) {
+                    return None;
+                }
                 let checksum = checksum_of(&datagram, self.checksums);
-                let datagram = datagram_of(time, &datagram, udp, checksum);
+                let datagram = datagram_of(time, source, destination, udp, checksum);
                 Some(Arrival::Datagram(datagram))
             }
-            Content::Other(_) => {
+            Content::Other(_, _) => {
                 add_one(&mut self.counts.other_protocols);
                 None
             }
@@ -378,10 +420,10 @@ impl<K: Keeper> Log<K> {
         if !self.connections.accept(segment)? {
             return Ok(None);
         }
-        let pieces = self.kept;
+        let (pieces, tunnels) = (self.kept, self.tunnels);
         match self.connections.get_mut(&segment.between()) {
             Some(connection) => {
-                hear(connection, segment, pieces)?;
+                hear(connection, segment, pieces, &tunnels)?;
                 Ok(Some(connection.is_closed()))
             }
             None => Ok(None),
@@ -391,9 +433,10 @@ impl<K: Keeper> Log<K> {
     /// Hears a segment that waited, and whether both sides of its connection said their last then.
     fn hear_kept(&mut self, kept: &Kept) -> Result<(), AllocError> {
         self.connections.accept_kept(kept)?;
-        let (segment, pieces) = (kept.segment(), self.kept);
+        let (pieces, tunnels) = (self.kept, self.tunnels);
+        let segment = kept.segment();
         match self.connections.get_mut(&segment.between()) {
-            Some(connection) => hear(connection, &segment, pieces),
+            Some(connection) => hear(connection, &segment, pieces, &tunnels),
             None => Ok(()),
         }
     }
@@ -511,9 +554,9 @@ impl<K: Keeper> Log<K> {
         ensures { OnOk result (LogsDatagram datagram.now self.old.connections self.new.connections) }
     {
         self.connections.accept_datagram(datagram)?;
-        let pieces = self.kept;
+        let (pieces, tunnels) = (self.kept, self.tunnels);
         match self.connections.get_mut(&datagram.between()) {
-            Some(exchange) => hear_from(exchange, datagram, pieces),
+            Some(exchange) => hear_from(exchange, datagram, pieces, &tunnels),
             None => Ok(()),
         }
     }

@@ -12,8 +12,9 @@ use x509::{
     parse_general_names, parse_key_usage,
 };
 use x509_text::{
-    general_name_text, is_self_issued, key_curve, key_length, key_type, key_usage_bits, name_text,
-    object_short_name, object_text, purpose_id, serial_number_text, time_text, version_number,
+    general_name_text, is_self_issued, key_curve, key_exponent, key_length, key_type,
+    key_usage_bits, name_text, natural_text, object_short_name, object_text, purpose_id,
+    serial_number_text, time_text, version_number,
 };
 
 /// The certificate that bytes are, if it is read.
@@ -176,6 +177,10 @@ fn key_cell(
             Some(bits) => Ok(Some(Cell::Number(u64::from(bits)))),
             None => Ok(None),
         },
+        Certified::Exponent => match key_exponent(info) {
+            Some(exponent) => some_text(natural_text(alloc, exponent)),
+            None => Ok(None),
+        },
         Certified::Curve => match key_curve(info) {
             Some(curve) => some_text(object_text(alloc, curve)),
             None => Ok(None),
@@ -200,8 +205,11 @@ pub fn certified_cell(
         Certified::NotAfter => time_cell(alloc, tbs.validity.not_after),
         Certified::ValidFrom => Ok(Some(Cell::Whole(tbs.validity.not_before))),
         Certified::ValidUntil => Ok(Some(Cell::Whole(tbs.validity.not_after))),
-        Certified::KeyAlgorithm | Certified::KeyType | Certified::KeyLength | Certified::Curve =>
-            key_cell(alloc, tbs.subject_public_key_info, field),
+        Certified::KeyAlgorithm
+        | Certified::KeyType
+        | Certified::KeyLength
+        | Certified::Exponent
+        | Certified::Curve => key_cell(alloc, tbs.subject_public_key_info, field),
         Certified::SignatureAlgorithm => some_text(object_text(alloc, tbs.signature.algorithm)),
         Certified::DnsNames
         | Certified::Uris

@@ -1,18 +1,37 @@
 //! The fields of a line, and their names.
 use connections::Side;
 
+/// What a field is, as logs of Zeek tell it.
+#[derive(Clone, Copy)]
+pub enum Type {
+    Time,
+    Interval,
+    Address,
+    Port,
+    Enum,
+    Text,
+    Mark,
+    Count,
+    Texts,
+    Counts,
+}
+
 /// Who talks, over what, and when.
+#[derive(Clone, Copy)]
 pub enum End {
     Time,
+    Uid,
     Originator,
     OriginatorPort,
     Responder,
     ResponderPort,
     Protocol,
+    CommunityId,
     Duration,
 }
 
 /// What was chosen, asked for and said, by name.
+#[derive(Clone, Copy)]
 pub enum Named {
     Version,
     Cipher,
@@ -24,6 +43,7 @@ pub enum Named {
 }
 
 /// What a connection came to.
+#[derive(Clone, Copy)]
 pub enum Course {
     Resumed,
     Established,
@@ -35,6 +55,7 @@ pub enum Course {
 }
 
 /// What the client offers, by its ClientHello.
+#[derive(Clone, Copy)]
 pub enum Offer {
     Version,
     Versions,
@@ -58,6 +79,7 @@ pub enum Offer {
 }
 
 /// What the server answers, by its ServerHello.
+#[derive(Clone, Copy)]
 pub enum Answer {
     Version,
     SessionId,
@@ -70,6 +92,7 @@ pub enum Answer {
 }
 
 /// The certificates that are read.
+#[derive(Clone, Copy)]
 pub enum Chain {
     ServerCount,
     ServerLengths,
@@ -84,6 +107,7 @@ pub enum Chain {
 }
 
 /// What a certificate says (RFC 5280, section 4.1).
+#[derive(Clone, Copy)]
 pub enum Certified {
     Version,
     Serial,
@@ -96,6 +120,7 @@ pub enum Certified {
     KeyAlgorithm,
     KeyType,
     KeyLength,
+    Exponent,
     Curve,
     SignatureAlgorithm,
     DnsNames,
@@ -112,6 +137,7 @@ pub enum Certified {
 }
 
 /// Fingerprints of hellos.
+#[derive(Clone, Copy)]
 pub enum Print {
     Ja3,
     Ja3Text,
@@ -121,6 +147,7 @@ pub enum Print {
 }
 
 /// What a side sent, counted.
+#[derive(Clone, Copy)]
 pub enum Sent {
     Packets,
     Bytes,
@@ -132,7 +159,15 @@ pub enum Sent {
     Preamble,
 }
 
+/// What a connection came in.
+#[derive(Clone, Copy)]
+pub enum Carried {
+    Tunnels,
+    TunnelIds,
+}
+
 /// A field of a connection's line.
+#[derive(Clone, Copy)]
 pub enum Field {
     End(End),
     Named(Named),
@@ -144,6 +179,7 @@ pub enum Field {
     ClientCertificate(Certified),
     Print(Print),
     Sent(Side, Sent),
+    Carried(Carried),
 }
 
 /// A field of a message's line.
@@ -169,234 +205,475 @@ pub enum Detail {
     Fault,
 }
 
-/// A field and its name.
-pub type Column<T> = (&'static str, T);
+/// A field, its name and what it is.
+pub type Column<T> = (&'static str, Type, T);
 
 /// The fields of a connection's line, in their order. The names are those of Zeek's logs where Zeek has the thing.
 pub static FIELDS: &[Column<Field>] = &[
-    ("ts", Field::End(End::Time)),
-    ("id.orig_h", Field::End(End::Originator)),
-    ("id.orig_p", Field::End(End::OriginatorPort)),
-    ("id.resp_h", Field::End(End::Responder)),
-    ("id.resp_p", Field::End(End::ResponderPort)),
-    ("proto", Field::End(End::Protocol)),
-    ("duration", Field::End(End::Duration)),
-    ("version", Field::Named(Named::Version)),
-    ("cipher", Field::Named(Named::Cipher)),
-    ("curve", Field::Named(Named::Curve)),
-    ("server_name", Field::Named(Named::ServerName)),
-    ("other_server_names", Field::Named(Named::OtherServerNames)),
-    ("next_protocol", Field::Named(Named::NextProtocol)),
-    ("resumed", Field::Course(Course::Resumed)),
-    ("established", Field::Course(Course::Established)),
-    ("last_alert", Field::Named(Named::LastAlert)),
-    ("outcome", Field::Course(Course::Outcome)),
-    ("stop", Field::Course(Course::Stop)),
-    ("gap", Field::Course(Course::Gap)),
-    ("ssl_history", Field::Course(Course::History)),
-    ("orig_pkts", Field::Sent(Side::Originator, Sent::Packets)),
-    ("resp_pkts", Field::Sent(Side::Responder, Sent::Packets)),
-    ("orig_bytes", Field::Sent(Side::Originator, Sent::Bytes)),
-    ("resp_bytes", Field::Sent(Side::Responder, Sent::Bytes)),
-    ("orig_records", Field::Sent(Side::Originator, Sent::Records)),
-    ("resp_records", Field::Sent(Side::Responder, Sent::Records)),
-    ("retried", Field::Course(Course::Retried)),
+    ("ts", Type::Time, Field::End(End::Time)),
+    ("uid", Type::Text, Field::End(End::Uid)),
+    ("id.orig_h", Type::Address, Field::End(End::Originator)),
+    ("id.orig_p", Type::Port, Field::End(End::OriginatorPort)),
+    ("id.resp_h", Type::Address, Field::End(End::Responder)),
+    ("id.resp_p", Type::Port, Field::End(End::ResponderPort)),
+    ("proto", Type::Enum, Field::End(End::Protocol)),
+    ("community_id", Type::Text, Field::End(End::CommunityId)),
+    ("duration", Type::Interval, Field::End(End::Duration)),
+    ("version", Type::Text, Field::Named(Named::Version)),
+    ("cipher", Type::Text, Field::Named(Named::Cipher)),
+    ("curve", Type::Text, Field::Named(Named::Curve)),
+    ("server_name", Type::Text, Field::Named(Named::ServerName)),
+    (
+        "other_server_names",
+        Type::Texts,
+        Field::Named(Named::OtherServerNames),
+    ),
+    (
+        "next_protocol",
+        Type::Text,
+        Field::Named(Named::NextProtocol),
+    ),
+    ("resumed", Type::Mark, Field::Course(Course::Resumed)),
+    (
+        "established",
+        Type::Mark,
+        Field::Course(Course::Established),
+    ),
+    ("last_alert", Type::Text, Field::Named(Named::LastAlert)),
+    ("outcome", Type::Text, Field::Course(Course::Outcome)),
+    ("stop", Type::Text, Field::Course(Course::Stop)),
+    ("gap", Type::Text, Field::Course(Course::Gap)),
+    ("ssl_history", Type::Text, Field::Course(Course::History)),
+    (
+        "orig_pkts",
+        Type::Count,
+        Field::Sent(Side::Originator, Sent::Packets),
+    ),
+    (
+        "resp_pkts",
+        Type::Count,
+        Field::Sent(Side::Responder, Sent::Packets),
+    ),
+    (
+        "orig_bytes",
+        Type::Count,
+        Field::Sent(Side::Originator, Sent::Bytes),
+    ),
+    (
+        "resp_bytes",
+        Type::Count,
+        Field::Sent(Side::Responder, Sent::Bytes),
+    ),
+    (
+        "orig_records",
+        Type::Count,
+        Field::Sent(Side::Originator, Sent::Records),
+    ),
+    (
+        "resp_records",
+        Type::Count,
+        Field::Sent(Side::Responder, Sent::Records),
+    ),
+    ("retried", Type::Mark, Field::Course(Course::Retried)),
     (
         "orig_repeated_bytes",
+        Type::Count,
         Field::Sent(Side::Originator, Sent::Repeated),
     ),
     (
         "resp_repeated_bytes",
+        Type::Count,
         Field::Sent(Side::Responder, Sent::Repeated),
     ),
     (
         "orig_disagreeing_bytes",
+        Type::Count,
         Field::Sent(Side::Originator, Sent::Disagreeing),
     ),
     (
         "resp_disagreeing_bytes",
+        Type::Count,
         Field::Sent(Side::Responder, Sent::Disagreeing),
     ),
     (
         "orig_dropped_pkts",
+        Type::Count,
         Field::Sent(Side::Originator, Sent::Dropped),
     ),
     (
         "resp_dropped_pkts",
+        Type::Count,
         Field::Sent(Side::Responder, Sent::Dropped),
     ),
     (
         "orig_dropped_for",
+        Type::Texts,
         Field::Sent(Side::Originator, Sent::DroppedFor),
     ),
     (
         "resp_dropped_for",
+        Type::Texts,
         Field::Sent(Side::Responder, Sent::DroppedFor),
     ),
     (
         "orig_preamble_bytes",
+        Type::Count,
         Field::Sent(Side::Originator, Sent::Preamble),
     ),
     (
         "resp_preamble_bytes",
+        Type::Count,
         Field::Sent(Side::Responder, Sent::Preamble),
     ),
-    ("client_version", Field::Offer(Offer::Version)),
-    ("client_supported_versions", Field::Offer(Offer::Versions)),
-    ("client_session_id", Field::Offer(Offer::SessionId)),
-    ("client_ciphers", Field::Offer(Offer::Ciphers)),
-    ("client_comp_methods", Field::Offer(Offer::Compressions)),
-    ("ssl_client_exts", Field::Offer(Offer::ExtensionTypes)),
-    ("client_curves", Field::Offer(Offer::Groups)),
-    ("point_formats", Field::Offer(Offer::PointFormats)),
-    ("sigalgs", Field::Offer(Offer::SignatureAlgorithms)),
-    ("orig_alpn", Field::Offer(Offer::Protocols)),
+    ("tunnels", Type::Texts, Field::Carried(Carried::Tunnels)),
+    (
+        "tunnel_ids",
+        Type::Counts,
+        Field::Carried(Carried::TunnelIds),
+    ),
+    ("client_version", Type::Text, Field::Offer(Offer::Version)),
+    (
+        "client_supported_versions",
+        Type::Texts,
+        Field::Offer(Offer::Versions),
+    ),
+    (
+        "client_session_id",
+        Type::Text,
+        Field::Offer(Offer::SessionId),
+    ),
+    ("client_ciphers", Type::Texts, Field::Offer(Offer::Ciphers)),
+    (
+        "client_comp_methods",
+        Type::Counts,
+        Field::Offer(Offer::Compressions),
+    ),
+    (
+        "ssl_client_exts",
+        Type::Texts,
+        Field::Offer(Offer::ExtensionTypes),
+    ),
+    ("client_curves", Type::Texts, Field::Offer(Offer::Groups)),
+    (
+        "point_formats",
+        Type::Counts,
+        Field::Offer(Offer::PointFormats),
+    ),
+    (
+        "sigalgs",
+        Type::Texts,
+        Field::Offer(Offer::SignatureAlgorithms),
+    ),
+    ("orig_alpn", Type::Texts, Field::Offer(Offer::Protocols)),
     (
         "client_key_share_groups",
+        Type::Texts,
         Field::Offer(Offer::KeyShareGroups),
     ),
-    ("psk_key_exchange_modes", Field::Offer(Offer::PskModes)),
-    ("offers_psk", Field::Offer(Offer::Psk)),
-    ("offers_early_data", Field::Offer(Offer::EarlyData)),
-    ("offers_ticket", Field::Offer(Offer::Ticket)),
-    ("cookie", Field::Offer(Offer::Cookie)),
-    ("ech", Field::Offer(Offer::EncryptedClientHello)),
+    (
+        "psk_key_exchange_modes",
+        Type::Counts,
+        Field::Offer(Offer::PskModes),
+    ),
+    ("offers_psk", Type::Mark, Field::Offer(Offer::Psk)),
+    (
+        "offers_early_data",
+        Type::Mark,
+        Field::Offer(Offer::EarlyData),
+    ),
+    ("offers_ticket", Type::Mark, Field::Offer(Offer::Ticket)),
+    ("cookie", Type::Mark, Field::Offer(Offer::Cookie)),
+    ("ech", Type::Mark, Field::Offer(Offer::EncryptedClientHello)),
     (
         "delegated_credential",
+        Type::Mark,
         Field::Offer(Offer::DelegatedCredentials),
     ),
-    ("ssl2_hello", Field::Offer(Offer::Ssl2Hello)),
-    ("server_version", Field::Answer(Answer::Version)),
-    ("server_session_id", Field::Answer(Answer::SessionId)),
-    ("comp_method", Field::Answer(Answer::Compression)),
-    ("ssl_server_exts", Field::Answer(Answer::ExtensionTypes)),
+    ("ssl2_hello", Type::Mark, Field::Offer(Offer::Ssl2Hello)),
+    ("server_version", Type::Text, Field::Answer(Answer::Version)),
+    (
+        "server_session_id",
+        Type::Text,
+        Field::Answer(Answer::SessionId),
+    ),
+    (
+        "comp_method",
+        Type::Count,
+        Field::Answer(Answer::Compression),
+    ),
+    (
+        "ssl_server_exts",
+        Type::Texts,
+        Field::Answer(Answer::ExtensionTypes),
+    ),
     (
         "server_key_share_group",
+        Type::Text,
         Field::Answer(Answer::KeyShareGroup),
     ),
-    ("scts", Field::Answer(Answer::Timestamps)),
-    ("ticket_issued", Field::Answer(Answer::Ticket)),
-    ("ocsp_stapled", Field::Answer(Answer::Status)),
-    ("cert_count", Field::Chain(Chain::ServerCount)),
-    ("cert_lengths", Field::Chain(Chain::ServerLengths)),
-    ("cert_chain_fps", Field::Chain(Chain::ServerPrints)),
-    ("client_cert_requested", Field::Chain(Chain::Requested)),
-    ("client_cert_count", Field::Chain(Chain::ClientCount)),
-    ("client_cert_lengths", Field::Chain(Chain::ClientLengths)),
-    ("client_cert_chain_fps", Field::Chain(Chain::ClientPrints)),
-    ("subject", Field::ServerCertificate(Certified::Subject)),
-    ("issuer", Field::ServerCertificate(Certified::Issuer)),
-    ("serial", Field::ServerCertificate(Certified::Serial)),
-    ("not_before", Field::ServerCertificate(Certified::NotBefore)),
-    ("not_after", Field::ServerCertificate(Certified::NotAfter)),
-    ("san_dns", Field::ServerCertificate(Certified::DnsNames)),
-    ("san_ip", Field::ServerCertificate(Certified::Addresses)),
-    ("key_type", Field::ServerCertificate(Certified::KeyType)),
-    ("key_length", Field::ServerCertificate(Certified::KeyLength)),
-    ("key_curve", Field::ServerCertificate(Certified::Curve)),
+    ("scts", Type::Count, Field::Answer(Answer::Timestamps)),
+    ("ticket_issued", Type::Mark, Field::Answer(Answer::Ticket)),
+    ("ocsp_stapled", Type::Mark, Field::Answer(Answer::Status)),
+    ("cert_count", Type::Count, Field::Chain(Chain::ServerCount)),
+    (
+        "cert_lengths",
+        Type::Counts,
+        Field::Chain(Chain::ServerLengths),
+    ),
+    (
+        "cert_chain_fps",
+        Type::Texts,
+        Field::Chain(Chain::ServerPrints),
+    ),
+    (
+        "client_cert_requested",
+        Type::Mark,
+        Field::Chain(Chain::Requested),
+    ),
+    (
+        "client_cert_count",
+        Type::Count,
+        Field::Chain(Chain::ClientCount),
+    ),
+    (
+        "client_cert_lengths",
+        Type::Counts,
+        Field::Chain(Chain::ClientLengths),
+    ),
+    (
+        "client_cert_chain_fps",
+        Type::Texts,
+        Field::Chain(Chain::ClientPrints),
+    ),
+    (
+        "subject",
+        Type::Text,
+        Field::ServerCertificate(Certified::Subject),
+    ),
+    (
+        "issuer",
+        Type::Text,
+        Field::ServerCertificate(Certified::Issuer),
+    ),
+    (
+        "serial",
+        Type::Text,
+        Field::ServerCertificate(Certified::Serial),
+    ),
+    (
+        "not_before",
+        Type::Text,
+        Field::ServerCertificate(Certified::NotBefore),
+    ),
+    (
+        "not_after",
+        Type::Text,
+        Field::ServerCertificate(Certified::NotAfter),
+    ),
+    (
+        "san_dns",
+        Type::Texts,
+        Field::ServerCertificate(Certified::DnsNames),
+    ),
+    (
+        "san_ip",
+        Type::Texts,
+        Field::ServerCertificate(Certified::Addresses),
+    ),
+    (
+        "key_type",
+        Type::Text,
+        Field::ServerCertificate(Certified::KeyType),
+    ),
+    (
+        "key_length",
+        Type::Count,
+        Field::ServerCertificate(Certified::KeyLength),
+    ),
+    (
+        "key_curve",
+        Type::Text,
+        Field::ServerCertificate(Certified::Curve),
+    ),
     (
         "sig_alg",
+        Type::Text,
         Field::ServerCertificate(Certified::SignatureAlgorithm),
     ),
-    ("is_ca", Field::ServerCertificate(Certified::IsCa)),
+    (
+        "is_ca",
+        Type::Mark,
+        Field::ServerCertificate(Certified::IsCa),
+    ),
     (
         "self_issued",
+        Type::Mark,
         Field::ServerCertificate(Certified::SelfIssued),
     ),
-    ("sni_matches_cert", Field::Chain(Chain::NameMatches)),
-    ("cert_error", Field::Chain(Chain::ServerFaults)),
+    (
+        "sni_matches_cert",
+        Type::Mark,
+        Field::Chain(Chain::NameMatches),
+    ),
+    ("cert_error", Type::Texts, Field::Chain(Chain::ServerFaults)),
     (
         "client_subject",
+        Type::Text,
         Field::ClientCertificate(Certified::Subject),
     ),
-    ("client_issuer", Field::ClientCertificate(Certified::Issuer)),
-    ("client_cert_error", Field::Chain(Chain::ClientFaults)),
-    ("ja3", Field::Print(Print::Ja3)),
-    ("ja3_string", Field::Print(Print::Ja3Text)),
-    ("ja3s", Field::Print(Print::Ja3s)),
-    ("ja3s_string", Field::Print(Print::Ja3sText)),
-    ("ja4", Field::Print(Print::Ja4)),
+    (
+        "client_issuer",
+        Type::Text,
+        Field::ClientCertificate(Certified::Issuer),
+    ),
+    (
+        "client_cert_error",
+        Type::Texts,
+        Field::Chain(Chain::ClientFaults),
+    ),
+    ("ja3", Type::Text, Field::Print(Print::Ja3)),
+    ("ja3_string", Type::Text, Field::Print(Print::Ja3Text)),
+    ("ja3s", Type::Text, Field::Print(Print::Ja3s)),
+    ("ja3s_string", Type::Text, Field::Print(Print::Ja3sText)),
+    ("ja4", Type::Text, Field::Print(Print::Ja4)),
 ];
 
 /// The fields of a message's line, in their order.
 pub static PARTS: &[Column<Part>] = &[
-    ("ts", Part::End(End::Time)),
-    ("id.orig_h", Part::End(End::Originator)),
-    ("id.orig_p", Part::End(End::OriginatorPort)),
-    ("id.resp_h", Part::End(End::Responder)),
-    ("id.resp_p", Part::End(End::ResponderPort)),
-    ("proto", Part::End(End::Protocol)),
-    ("side", Part::Side),
-    ("place", Part::Place),
-    ("content_type", Part::ContentType),
-    ("name", Part::Name),
-    ("message", Part::Message),
+    ("ts", Type::Time, Part::End(End::Time)),
+    ("uid", Type::Text, Part::End(End::Uid)),
+    ("id.orig_h", Type::Address, Part::End(End::Originator)),
+    ("id.orig_p", Type::Port, Part::End(End::OriginatorPort)),
+    ("id.resp_h", Type::Address, Part::End(End::Responder)),
+    ("id.resp_p", Type::Port, Part::End(End::ResponderPort)),
+    ("proto", Type::Enum, Part::End(End::Protocol)),
+    ("side", Type::Text, Part::Side),
+    ("place", Type::Count, Part::Place),
+    ("content_type", Type::Count, Part::ContentType),
+    ("name", Type::Text, Part::Name),
+    ("message", Type::Text, Part::Message),
 ];
 
 /// The fields of a certificate's line, in their order. The names are those of Zeek's x509.log where Zeek has the thing.
 pub static DETAILS: &[Column<Detail>] = &[
-    ("ts", Detail::End(End::Time)),
-    ("id.orig_h", Detail::End(End::Originator)),
-    ("id.orig_p", Detail::End(End::OriginatorPort)),
-    ("id.resp_h", Detail::End(End::Responder)),
-    ("id.resp_p", Detail::End(End::ResponderPort)),
-    ("proto", Detail::End(End::Protocol)),
-    ("side", Detail::Side),
-    ("place", Detail::Place),
-    ("fingerprint", Detail::Print),
-    ("length", Detail::Length),
+    ("ts", Type::Time, Detail::End(End::Time)),
+    ("uid", Type::Text, Detail::End(End::Uid)),
+    ("id.orig_h", Type::Address, Detail::End(End::Originator)),
+    ("id.orig_p", Type::Port, Detail::End(End::OriginatorPort)),
+    ("id.resp_h", Type::Address, Detail::End(End::Responder)),
+    ("id.resp_p", Type::Port, Detail::End(End::ResponderPort)),
+    ("proto", Type::Enum, Detail::End(End::Protocol)),
+    ("side", Type::Text, Detail::Side),
+    ("place", Type::Count, Detail::Place),
+    ("fingerprint", Type::Text, Detail::Print),
+    ("length", Type::Count, Detail::Length),
     (
         "certificate.version",
+        Type::Count,
         Detail::Certificate(Certified::Version),
     ),
-    ("certificate.serial", Detail::Certificate(Certified::Serial)),
+    (
+        "certificate.serial",
+        Type::Text,
+        Detail::Certificate(Certified::Serial),
+    ),
     (
         "certificate.subject",
+        Type::Text,
         Detail::Certificate(Certified::Subject),
     ),
-    ("certificate.issuer", Detail::Certificate(Certified::Issuer)),
+    (
+        "certificate.issuer",
+        Type::Text,
+        Detail::Certificate(Certified::Issuer),
+    ),
     (
         "certificate.not_valid_before",
+        Type::Time,
         Detail::Certificate(Certified::ValidFrom),
     ),
     (
         "certificate.not_valid_after",
+        Type::Time,
         Detail::Certificate(Certified::ValidUntil),
     ),
     (
         "certificate.key_alg",
+        Type::Text,
         Detail::Certificate(Certified::KeyAlgorithm),
     ),
     (
         "certificate.sig_alg",
+        Type::Text,
         Detail::Certificate(Certified::SignatureAlgorithm),
     ),
     (
         "certificate.key_type",
+        Type::Text,
         Detail::Certificate(Certified::KeyType),
     ),
     (
         "certificate.key_length",
+        Type::Count,
         Detail::Certificate(Certified::KeyLength),
     ),
-    ("certificate.curve", Detail::Certificate(Certified::Curve)),
-    ("san.dns", Detail::Certificate(Certified::DnsNames)),
-    ("san.uri", Detail::Certificate(Certified::Uris)),
-    ("san.email", Detail::Certificate(Certified::Emails)),
-    ("san.ip", Detail::Certificate(Certified::Addresses)),
-    ("san.other", Detail::Certificate(Certified::OtherNames)),
+    (
+        "certificate.exponent",
+        Type::Text,
+        Detail::Certificate(Certified::Exponent),
+    ),
+    (
+        "certificate.curve",
+        Type::Text,
+        Detail::Certificate(Certified::Curve),
+    ),
+    (
+        "san.dns",
+        Type::Texts,
+        Detail::Certificate(Certified::DnsNames),
+    ),
+    ("san.uri", Type::Texts, Detail::Certificate(Certified::Uris)),
+    (
+        "san.email",
+        Type::Texts,
+        Detail::Certificate(Certified::Emails),
+    ),
+    (
+        "san.ip",
+        Type::Texts,
+        Detail::Certificate(Certified::Addresses),
+    ),
+    (
+        "san.other",
+        Type::Texts,
+        Detail::Certificate(Certified::OtherNames),
+    ),
     (
         "basic_constraints.ca",
+        Type::Mark,
         Detail::Certificate(Certified::MayBeCa),
     ),
     (
         "basic_constraints.path_len",
+        Type::Count,
         Detail::Certificate(Certified::PathLength),
     ),
-    ("key_usage", Detail::Certificate(Certified::KeyUsage)),
-    ("ext_key_usage", Detail::Certificate(Certified::Purposes)),
-    ("self_issued", Detail::Certificate(Certified::SelfIssued)),
-    ("host_cert", Detail::IsServers),
-    ("client_cert", Detail::IsClients),
-    ("error", Detail::Fault),
+    (
+        "key_usage",
+        Type::Texts,
+        Detail::Certificate(Certified::KeyUsage),
+    ),
+    (
+        "ext_key_usage",
+        Type::Texts,
+        Detail::Certificate(Certified::Purposes),
+    ),
+    (
+        "self_issued",
+        Type::Mark,
+        Detail::Certificate(Certified::SelfIssued),
+    ),
+    ("host_cert", Type::Mark, Detail::IsServers),
+    ("client_cert", Type::Mark, Detail::IsClients),
+    ("error", Type::Text, Detail::Fault),
 ];

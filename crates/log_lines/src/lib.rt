@@ -1,7 +1,7 @@
 //! The lines of a log of connections: what stands in one, and how it is written.
 //!
-//! [`Style`] says which lines there are, with which fields, and writes them: [`row_of`] makes the line of a connection of its [`Summary`],
-//! [`message_row`] that of a message, and [`certificate_row`] that of a certificate. [`Speech`] reads the messages of both sides, and [`Chains`] has their
+//! [`Style`] says which lines there are, with which fields, and writes them: [`Style::connection_text`] is the line of a connection by its [`Summary`],
+//! [`message_row`] makes that of a message, and [`certificate_row`] that of a certificate. [`Speech`] reads the messages of both sides, and [`Chains`] has their
 //! certificates. The names of fields are those of Zeek's logs.
 #![tactic(auto)]
 
@@ -19,11 +19,12 @@ mod spoken;
 mod style;
 mod suites;
 mod summary;
+mod suricata;
 mod text;
+mod zeek;
 
 pub use cell::Row;
 pub use chains::{Chains, Presented};
-pub use line::row_of;
 pub use presented::certificate_row;
 pub use speech::{Speech, Spoken};
 pub use spoken::message_row;

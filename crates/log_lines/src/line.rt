@@ -1,27 +1,56 @@
 //! The line of a connection.
-use crate::cell::{Cell, Row, StopCell};
+use crate::cell::{Cell, Row, Seconds, StopCell};
 use crate::certificates::{certificate_of, certified_cell};
-use crate::columns::{Certified, Course, End, FIELDS, Field, Named, Sent};
+use crate::columns::{Carried, Certified, Course, End, FIELDS, Field, Named, Sent};
 use crate::hellos::{answer_cell, chain_cell, offer_cell, other_names_cell};
-use crate::names::{REASONS, kind_name, outcome_name, reason_name, sender_name};
+use crate::names::{REASONS, kind_name, outcome_name, reason_name, sender_name, tunnel_name};
 use crate::prints::print_cell;
 use crate::suites::Suites;
 use crate::summary::{Party, Summary};
 use crate::text::{
     add_text, escaped, name_or_number, some_escaped, some_group, some_mark, some_text, some_version,
 };
+use connection_ids::{community_id, uid};
 use connections::{Dropped, Protocol, Side};
 use std::alloc::{AllocError, Global};
-use std::num::nearest_u64_to_f64;
 use tls_base::TlsAlertDescription;
 use tls_facts::Facts;
 use tls_flow::Stop;
 use tls_json::alert_name;
+use tunnels::Tunnel;
 use x509::Certificate;
+
+/// Nanoseconds as microseconds, to which lines tell times.
+pub fn microseconds(nanoseconds: u64) -> u64 {
+    nanoseconds / 1000
+}
 
 /// Nanoseconds as seconds, to the microsecond.
 fn seconds(nanoseconds: u64) -> Cell {
-    Cell::Seconds(nearest_u64_to_f64(nanoseconds / 1000) / 1_000_000.0)
+    Cell::Seconds(Seconds {
+        microseconds: microseconds(nanoseconds),
+    })
+}
+
+/// The identifier of a connection, by its ends and its first packet.
+fn uid_cell(alloc: Global, summary: &Summary<'_>) -> Result<Option<Cell>, AllocError> {
+    some_text(uid(
+        alloc,
+        summary.protocol,
+        summary.originator.end,
+        summary.responder.end,
+        microseconds(summary.first_time),
+    ))
+}
+
+/// The Community ID of a connection.
+fn community_id_cell(alloc: Global, summary: &Summary<'_>) -> Result<Option<Cell>, AllocError> {
+    some_text(community_id(
+        alloc,
+        summary.protocol,
+        summary.originator.end,
+        summary.responder.end,
+    ))
 }
 
 /// What carries a connection, as Zeek writes it.
@@ -41,11 +70,13 @@ pub fn end_cell(
 ) -> Result<Option<Cell>, AllocError> {
     match field {
         End::Time => Ok(Some(seconds(time))),
+        End::Uid => uid_cell(alloc, summary),
         End::Originator => some_text(summary.originator.end.address.to_string(alloc)),
         End::OriginatorPort => Ok(Some(Cell::Number(u64::from(summary.originator.end.port)))),
         End::Responder => some_text(summary.responder.end.address.to_string(alloc)),
         End::ResponderPort => Ok(Some(Cell::Number(u64::from(summary.responder.end.port)))),
         End::Protocol => Ok(Some(Cell::Name(proto_name(summary.protocol)))),
+        End::CommunityId => community_id_cell(alloc, summary),
         End::Duration => {
             let duration = summary.last_time.saturating_sub(summary.first_time);
             Ok(Some(seconds(duration)))
@@ -174,13 +205,53 @@ fn sent_cell(
     }
 }
 
+/// What a connection came in; nothing where it came in no tunnel.
+fn carried_cell(
+    alloc: Global,
+    tunnels: &[Tunnel],
+    field: &Carried,
+) -> Result<Option<Cell>, AllocError> {
+    if tunnels.is_empty() {
+        return Ok(None);
+    }
+    match field {
+        Carried::Tunnels => {
+            let mut names = Vec::with_capacity(alloc, tunnels.len())?;
+            for tunnel in tunnels {
+                names.push(String::from_str(alloc, tunnel_name(tunnel.kind))?)?;
+            }
+            Ok(Some(Cell::Texts(names)))
+        }
+        Carried::TunnelIds => {
+            let mut ids = Vec::with_capacity(alloc, tunnels.len())?;
+            for tunnel in tunnels {
+                ids.push(u64::from(tunnel.id.unwrap_or(0)))?;
+            }
+            Ok(Some(Cell::Numbers(ids)))
+        }
+    }
+}
+
 /// A connection, and the certificates of both sides' own, if they are read.
 #[derive(Drop)]
-struct Told<'a> {
+pub struct Told<'a> {
     suites: &'a Suites,
-    summary: &'a Summary<'a>,
-    server: Option<Certificate<'a>>,
+    pub summary: &'a Summary<'a>,
+    pub server: Option<Certificate<'a>>,
     client: Option<Certificate<'a>>,
+}
+
+impl<'a> Told<'a> {
+    /// That connection, by the names of these suites.
+    pub fn new(suites: &'a Suites, summary: &'a Summary<'a>) -> Told<'a> {
+        let facts = summary.facts;
+        Told {
+            suites,
+            summary,
+            server: certificate_of(facts.server_certificate.as_deref()),
+            client: certificate_of(facts.client_certificate.as_deref()),
+        }
+    }
 }
 
 /// What one field says of a certificate, if there is one.
@@ -196,7 +267,7 @@ fn own_cell(
 }
 
 /// What one field says of a connection; nothing where it is missing.
-fn cell_of(alloc: Global, told: &Told<'_>, field: &Field) -> Result<Option<Cell>, AllocError> {
+pub fn cell_of(alloc: Global, told: &Told<'_>, field: &Field) -> Result<Option<Cell>, AllocError> {
     let (suites, summary, facts) = (told.suites, told.summary, told.summary.facts);
     match field {
         Field::End(field) => end_cell(alloc, summary, summary.first_time, field),
@@ -209,6 +280,7 @@ fn cell_of(alloc: Global, told: &Told<'_>, field: &Field) -> Result<Option<Cell>
         Field::ClientCertificate(field) => own_cell(alloc, &told.client, field),
         Field::Print(field) => print_cell(alloc, facts, summary.protocol, field),
         Field::Sent(side, field) => sent_cell(alloc, summary, *side, field),
+        Field::Carried(field) => carried_cell(alloc, summary.tunnels, field),
     }
 }
 
@@ -219,16 +291,10 @@ pub fn row_of(
     places: &[usize],
     summary: &Summary<'_>,
 ) -> Result<Row, AllocError> {
-    let facts = summary.facts;
-    let told = Told {
-        suites,
-        summary,
-        server: certificate_of(facts.server_certificate.as_deref()),
-        client: certificate_of(facts.client_certificate.as_deref()),
-    };
+    let told = Told::new(suites, summary);
     let mut cells = Vec::with_capacity(alloc, places.len())?;
     for place in places {
-        if let Some((name, field)) = FIELDS.get(*place) {
+        if let Some((name, _, field)) = FIELDS.get(*place) {
             let cell = cell_of(alloc, &told, field)?;
             cells.push((*name, cell))?;
         }

@@ -2,6 +2,7 @@
 use connections::Reason;
 use tls_base::TlsVersion;
 use tls_flow::{Direction, Kind, Outcome};
+use tunnels::TunnelKind;
 
 /// A version as Zeek writes it.
 pub fn version_name(version: TlsVersion) -> Option<&'static str> {
@@ -131,6 +132,22 @@ pub fn kind_name(kind: Kind) -> &'static str {
         Kind::Heartbeat => "heartbeat",
         Kind::Unknown => "unknown",
         Kind::Other => "other",
+    }
+}
+
+/// A tunnel by the header that begins it.
+pub fn tunnel_name(kind: TunnelKind) -> &'static str {
+    match kind {
+        TunnelKind::Ipv4 => "ipv4",
+        TunnelKind::Ipv6 => "ipv6",
+        TunnelKind::Gre => "gre",
+        TunnelKind::Erspan => "erspan",
+        TunnelKind::Mpls => "mpls",
+        TunnelKind::Vxlan => "vxlan",
+        TunnelKind::Geneve => "geneve",
+        TunnelKind::GtpU => "gtp",
+        TunnelKind::Teredo => "teredo",
+        TunnelKind::Backbone => "pbb",
     }
 }
 

@@ -60,7 +60,7 @@ pub fn certificate_row(
     let certificate = certificate_of(Some(presented.bytes.as_slice()));
     let mut cells = Vec::with_capacity(alloc, places.len())?;
     for place in places {
-        if let Some((name, detail)) = DETAILS.get(*place) {
+        if let Some((name, _, detail)) = DETAILS.get(*place) {
             let cell = detail_cell(alloc, summary, time, presented, &certificate, detail)?;
             cells.push((*name, cell))?;
         }

@@ -39,7 +39,7 @@ pub fn message_row(
     let mut spoken = spoken;
     let mut cells = Vec::with_capacity(alloc, places.len())?;
     for place in places {
-        if let Some((name, part)) = PARTS.get(*place) {
+        if let Some((name, _, part)) = PARTS.get(*place) {
             let cell = part_cell(alloc, summary, time, &mut spoken, part)?;
             cells.push((*name, cell))?;
         }

@@ -1,8 +1,11 @@
 //! What is printed, and how.
 use crate::cell::{Cell, Row};
 use crate::columns::{Column, DETAILS, FIELDS, PARTS};
+use crate::line::row_of;
 use crate::suites::Suites;
+use crate::summary::Summary;
 use crate::text::add_text;
+use crate::{suricata, zeek};
 use csv::WriterBuilder;
 use std::alloc::{AllocError, Global};
 use std::fmt::{self, Display, Formatter};
@@ -14,6 +17,10 @@ pub enum Format {
     Json,
     /// A record of comma-separated values (RFC 4180), behind one of the names.
     Csv,
+    /// Values with tabs between them, as Zeek writes them, behind lines that name the fields and say what they are, and in front of one that tells the end.
+    Zeek,
+    /// An event of Suricata's eve.json, of a connection alone.
+    Suricata,
 }
 
 /// What has a line of its own.
@@ -60,6 +67,10 @@ pub enum StyleError<'a> {
     UnknownDetail(&'a str),
     /// Both messages and certificates are to have lines.
     TwoKinds,
+    /// Suricata's events are asked for, which have fields of their own, and some of the log's.
+    FieldsOfSuricata,
+    /// Suricata's events are asked for, and that messages or certificates have lines.
+    KindOfSuricata,
     /// That field is named twice.
     DoubledField(&'a str),
     /// Memory ran out.
@@ -109,6 +120,14 @@ impl Display for StyleError<'_> {
             StyleError::TwoKinds => {
                 f.write_str("--messages and --certificates don't go together")
             }
+            StyleError::FieldsOfSuricata => {
+                f.write_str(
+                    "--fields doesn't go with --format suricata, which has fields of its own",
+                )
+            }
+            StyleError::KindOfSuricata => f.write_str(
+                "--format suricata is of connections: neither --messages nor --certificates goes with it",
+            ),
             StyleError::DoubledField(name) => write!(f, "the field {name} is named twice"),
             StyleError::OutOfMemory => f.write_str("out of memory"),
         }
@@ -202,6 +221,40 @@ fn record(alloc: Global, fields: &[String]) -> Result<String, AllocError> {
     Ok(text)
 }
 
+/// What stands in a log of Zeek's in front of its lines.
+fn zeek_header(alloc: Global, lines: &Lines, opened: i64) -> Result<String, AllocError> {
+    match lines {
+        Lines::Connections(places) => {
+            zeek::header(alloc, "ssl", opened, FIELDS, places.as_slice())
+        }
+        Lines::Messages(places) => {
+            zeek::header(alloc, "tls_messages", opened, PARTS, places.as_slice())
+        }
+        Lines::Certificates(places) => {
+            zeek::header(alloc, "x509", opened, DETAILS, places.as_slice())
+        }
+    }
+}
+
+/// The line of names in front of comma-separated values.
+fn csv_header(alloc: Global, lines: &Lines) -> Result<String, AllocError> {
+    let names = match lines {
+        Lines::Connections(places) => names_of(alloc, FIELDS, places.as_slice())?,
+        Lines::Messages(places) => names_of(alloc, PARTS, places.as_slice())?,
+        Lines::Certificates(places) => names_of(alloc, DETAILS, places.as_slice())?,
+    };
+    record(alloc, names.as_slice())
+}
+
+/// A record of comma-separated values, of a row.
+fn csv_line(alloc: Global, row: &Row) -> Result<String, AllocError> {
+    let mut fields = Vec::new(alloc);
+    for (_name, cell) in &row.cells {
+        add_text(&mut fields, field_text(alloc, cell))?;
+    }
+    record(alloc, fields.as_slice())
+}
+
 fn names_of<T>(
     alloc: Global,
     table: &[Column<T>],
@@ -217,28 +270,68 @@ fn names_of<T>(
 }
 
 impl Style {
-    /// The line in front of all, if there is one.
-    pub fn header(&self, alloc: Global) -> Result<Option<String>, AllocError> {
-        if matches!(self.format, Format::Json) {
-            return Ok(None);
+    /// That which is asked for.
+    ///
+    /// Suricata's events are of connections alone, and have all of their fields.
+    pub fn new(
+        alloc: Global,
+        format: Format,
+        kind: LineKind,
+        names: Option<&str>,
+        suites: Suites,
+    ) -> Result<Style, StyleError<'_>> {
+        if matches!(format, Format::Suricata) {
+            if kind != LineKind::Connections {
+                return Err(StyleError::KindOfSuricata);
+            }
+            if names.is_some() {
+                return Err(StyleError::FieldsOfSuricata);
+            }
         }
-        let names = match &self.lines {
-            Lines::Connections(places) => names_of(alloc, FIELDS, places.as_slice())?,
-            Lines::Messages(places) => names_of(alloc, PARTS, places.as_slice())?,
-            Lines::Certificates(places) => names_of(alloc, DETAILS, places.as_slice())?,
-        };
-        Ok(Some(record(alloc, names.as_slice())?))
+        Ok(Style {
+            format,
+            lines: Lines::new(alloc, kind, names)?,
+            suites,
+        })
+    }
+
+    /// What stands in front of all lines, without its last line break, if there is something. The log begins at this time, in seconds since 1970-01-01 00:00 UTC.
+    pub fn header(&self, alloc: Global, opened: i64) -> Result<Option<String>, AllocError> {
+        match self.format {
+            Format::Json | Format::Suricata => Ok(None),
+            Format::Csv => Ok(Some(csv_header(alloc, &self.lines)?)),
+            Format::Zeek => Ok(Some(zeek_header(alloc, &self.lines, opened)?)),
+        }
+    }
+
+    /// The same of what stands behind all, where the log ends at this time.
+    pub fn footer(&self, alloc: Global, closed: i64) -> Result<Option<String>, AllocError> {
+        match self.format {
+            Format::Zeek => Ok(Some(zeek::footer(alloc, closed)?)),
+            Format::Json | Format::Csv | Format::Suricata => Ok(None),
+        }
     }
 
     /// A line, without its line break.
     pub fn text(&self, alloc: Global, row: &Row) -> Result<String, AllocError> {
-        if matches!(self.format, Format::Json) {
-            return in_memory(serde_json::to_string(alloc, row));
+        match self.format {
+            Format::Json | Format::Suricata => in_memory(serde_json::to_string(alloc, row)),
+            Format::Csv => csv_line(alloc, row),
+            Format::Zeek => zeek::line(alloc, row),
         }
-        let mut fields = Vec::new(alloc);
-        for (_name, cell) in &row.cells {
-            add_text(&mut fields, field_text(alloc, cell))?;
+    }
+
+    /// The line of a connection, with the fields at these places of [`FIELDS`], without its line break.
+    pub fn connection_text(
+        &self,
+        alloc: Global,
+        places: &[usize],
+        summary: &Summary<'_>,
+    ) -> Result<String, AllocError> {
+        if matches!(self.format, Format::Suricata) {
+            return suricata::line(alloc, &self.suites, summary);
         }
-        record(alloc, fields.as_slice())
+        let row = row_of(alloc, &self.suites, places, summary)?;
+        self.text(alloc, &row)
     }
 }

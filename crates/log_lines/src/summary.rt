@@ -2,6 +2,7 @@
 use connections::{Dropped, End, Protocol, Side, Stream, Traffic};
 use tls_facts::Facts;
 use tls_flow::{Outcome, Stop};
+use tunnels::Tunnel;
 
 /// One side of a connection.
 #[derive(Clone, Copy)]
@@ -54,6 +55,8 @@ pub struct Summary<'a> {
     pub is_established: bool,
     /// Whether a session was taken up.
     pub is_resumed: bool,
+    /// The tunnels that it came in, from outside in.
+    pub tunnels: &'a [Tunnel],
 }
 
 impl<'a> Summary<'a> {

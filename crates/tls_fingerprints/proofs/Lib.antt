@@ -1,2 +1,4 @@
 pub mod RisingLemmas
 pub mod JoinLemmas
+pub mod RoomLemmas
+pub mod DigestLemmas

@@ -1,5 +1,5 @@
 -- JA4, as FoxIO defined it in 2023.
-use Rattle.std.specs.Prelude.{ℕ, ◌+◌, ◌-◌, ◌/◌, ◌%◌, ◌==◌, Bool, not, ◌&&◌, ◌||◌, min, if◌then◌else◌, List, [], ◌∷◌, ◌++◌, length, filter, take, slice_get, codes, Option, Some, None}
+use Rattle.std.specs.Prelude.{◌≡◌, ◌<◌, ◌⊎◌, ℕ, ◌+◌, ◌-◌, ◌/◌, ◌%◌, ◌==◌, Bool, not, ◌&&◌, ◌||◌, min, if◌then◌else◌, List, [], ◌∷◌, ◌++◌, length, filter, take, slice_get, codes, Option, Some, None}
 use Rattle.std.specs.Char.{is_ascii_alphanumeric}
 use Rattle.std.specs.List.{join_with_byte}
 use Rattle.sha2.specs.Sha256.{sha256}
@@ -55,16 +55,21 @@ abbrev pub protocol_text : Option (List Bytes) → Bytes
 protocol_text (Some (name ∷ names)) = ends_text (slice_get name 0) (slice_get name (length name - 1))
 protocol_text _ = codes "00"
 
--- The first part: what the hello came over, its version, whether it names a host, how many suites and extensions it has, and the first
--- protocol that it asks for (RFC 7301).
-abbrev pub ja4_front_of : Transport → Client → Bytes
-ja4_front_of t h =
+-- The first part, of so many suites and extensions: what the hello came over, its version, whether it names a host, the two counts, and the
+-- first protocol that it asks for (RFC 7301).
+abbrev pub ja4_front_with : Transport → Client → ℕ → ℕ → Bytes
+ja4_front_with t h suites types =
     letter_of t
     ++ version_text (known (best_version h.version h.extensions))
     ++ name_letter (content_in extension_number.server_name h.extensions)
-    ++ two_digits (length (without_grease h.suites))
-    ++ two_digits (length (without_grease (types_in h.extensions)))
+    ++ two_digits suites
+    ++ two_digits types
     ++ protocol_text (known (protocol_names h.extensions))
+
+-- Of as many as it has.
+abbrev pub ja4_front_of : Transport → Client → Bytes
+ja4_front_of t h =
+    ja4_front_with t h (length (without_grease h.suites)) (length (without_grease (types_in h.extensions)))
 
 -- What the second part is made of: the suites in rising order.
 abbrev pub ja4_suites_of : Client → Bytes
@@ -98,3 +103,12 @@ ja4_text_of t h = join_with_byte 95 (ja4_front_of t h ∷ ja4_suites_of h ∷ ja
 -- The first part, and the digests of the others.
 abbrev pub ja4_of : Transport → Client → Bytes
 ja4_of t h = join_with_byte 95 (ja4_front_of t h ∷ short_digest (ja4_suites_of h) ∷ short_digest (ja4_types_of h) ∷ [])
+
+-- So many numbers count, and these are the digits of the text that is made of them.
+pub record IsPart (n : ℕ) (part : Bytes) (ns : List ℕ) (text : Bytes) : Type 0 where
+  pub count : n ≡ length ns
+  pub digits : part ≡ short_digest text
+
+-- It has more suites or extensions than that.
+abbrev pub IsTooLong : ℕ → Client → Type 0
+IsTooLong most h = (most < length (without_grease h.suites)) ⊎ (most < length (without_grease (types_in h.extensions)))

@@ -1,5 +1,5 @@
 -- Lists of numbers, as fingerprints have them.
-use Rattle.std.specs.Prelude.{ℕ, ◌+◌, ◌/◌, ◌%◌, ◌==◌, nat_lt, nat_le, Bool, not, ◌&&◌, if◌then◌else◌, List, [], ◌∷◌, map, filter, decimal}
+use Rattle.std.specs.Prelude.{◌≡◌, ◌≤◌, length, take, ℕ, ◌+◌, ◌/◌, ◌%◌, ◌==◌, nat_lt, nat_le, Bool, true, false, not, ◌&&◌, if◌then◌else◌, List, [], ◌∷◌, map, filter, decimal}
 use Rattle.std.specs.List.{join_with_byte}
 use Rattle.tls_fields.specs.Bytes.{Bytes}
 
@@ -36,3 +36,22 @@ four_digits n = hex_digit (n / 4096) ∷ hex_digit (n / 256 % 16) ∷ hex_digit 
 -- The numbers by their four hexadecimal digits, with `,` between each two.
 abbrev pub hex_list : List ℕ → Bytes
 hex_list ns = join_with_byte 44 (map four_digits ns)
+
+-- A text of a list, behind the byte that stands between its texts where it isn't the first.
+abbrev pub behind_others : ℕ → Bool → Bytes → Bytes
+behind_others c true text = text
+behind_others c false text = c ∷ text
+
+-- What stands in front of a signature algorithm: `_` in front of the first, and else `,`.
+abbrev pub lead_byte : Bool → ℕ
+lead_byte true = 95
+lead_byte false = 44
+
+abbrev pub has_any : List ℕ → Bool
+has_any [] = false
+has_any (n ∷ ns) = true
+
+-- The first n numbers in the room are these.
+pub record IsFilled (room : List ℕ) (n : ℕ) (ns : List ℕ) : Type 0 where
+  pub within : n ≤ length room
+  pub are : take n room ≡ ns

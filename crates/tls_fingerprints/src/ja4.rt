@@ -18,8 +18,9 @@ use tls_fields::Items;
 
 impl Transport {
     /// The letter of the first part.
-    fn letter(self) -> &'static str
-        ensures { result.now ≡ letter_of self }
+    pub(crate) fn letter(self) -> &'static str
+        ensures is { result.now ≡ letter_of self }
+        ensures one { length result.now ≡ 1 }
     {
         match self {
             Transport::Tcp => "t",
@@ -30,8 +31,9 @@ impl Transport {
 }
 
 /// The two characters of a version.
-fn version_text(version: Option<TlsVersion>) -> &'static str
-    ensures { result.now ≡ version_text_of (option_map (λ v. v.0) version) }
+pub(crate) fn version_text(version: Option<TlsVersion>) -> &'static str
+    ensures is { result.now ≡ version_text_of (option_map (λ v. v.0) version) }
+    ensures two { length result.now ≡ 2 }
 {
     let Some(version) = version else {
         return "00";

@@ -7,10 +7,14 @@
 //! A hello is given by its parts ([`ClientHelloParts`], [`ServerHelloParts`]), which any view of a hello has, and bytes that were kept of one.
 #![tactic(auto, using(tls_fields::proofs::OneAnswerLemmas::read_allowed))]
 
+mod digits;
+mod feeding;
 mod hellos;
 mod ja3;
 mod ja4;
 pub mod laws;
 mod numbers;
+mod room;
 
+pub use digits::MOST;
 pub use hellos::{ClientHelloParts, ServerHelloParts, Transport};

@@ -14,7 +14,7 @@ use tls_fields::Items;
 
 /// Whether a number is kept free so that peers ignore what they don't know (RFC 8701, section 2): its two bytes are equal, and end in the
 /// hexadecimal digit a.
-fn is_grease(n: u16) -> bool
+pub(crate) fn is_grease(n: u16) -> bool
     ensures { result ≡ is_grease_number n }
 {
     n / 256 == n % 256 && n % 16 == 10

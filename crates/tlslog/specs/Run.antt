@@ -9,7 +9,7 @@ use Rattle.packets.specs.declared.visit.VisitError.TheVariants as visit
 use Rattle.tlslog.specs.declared.failure.Exit.{Exit}
 use Rattle.tlslog.specs.declared.failure.Exit.TheVariants as exit
 use Rattle.tlslog.specs.declared.failure.Failure.{Failure}
-use Rattle.tlslog.specs.declared.failure.Failure.TheVariants.{Capture, OutOfMemory, Opening, Reading, Endless, Closed, Writing}
+use Rattle.tlslog.specs.declared.failure.Failure.TheVariants.{Capture, OutOfMemory, Reading, Endless, Closed, Writing}
 use Rattle.tlslog.specs.declared.output.LineError.{LineError}
 use Rattle.tlslog.specs.declared.output.LineError.TheVariants as line
 
@@ -63,6 +63,17 @@ ExitsBy f exit.Clean = ⊥
 ExitsBy f exit.Closed = f ≡ Closed
 ExitsBy f exit.Broken = IsOfCapture f
 ExitsBy f exit.Failed = ⊤
+
+-- It isn't a capture that is at fault.
+abbrev pub IsNotOfCapture : Exit → Type 0
+IsNotOfCapture exit.Broken = ⊥
+IsNotOfCapture e = ⊤
+
+-- Where there is no value, the run failed.
+abbrev pub HasFailed : {A : Type 0} → Result A Exit → Type 0
+HasFailed (Ok a) = ⊤
+HasFailed (Err exit.Failed) = ⊤
+HasFailed (Err e) = ⊥
 
 -- It exits as before, or fails.
 abbrev pub IsAsBefore : Exit → Exit → Type 0

@@ -1,8 +1,9 @@
 //! The arguments of the command line.
 use crate::failure::Reason;
 use clap::{Arg, ArgAction, ArgMatches, Command};
+use connection_parts::Part;
 use log_connections::Checksums;
-use log_lines::{Format, LineKind, Lines, Style, StyleError, Suites};
+use log_lines::{Format, LineKind, Style, StyleError, Suites};
 use std::alloc::{AllocError, Global};
 use std::fmt::{self, Display, Formatter};
 use std::rt::Runtime;
@@ -18,6 +19,8 @@ pub enum Refusal<'a> {
     Style(StyleError<'a>),
     /// The file of that name is no list of cipher suites.
     NoList(&'a str),
+    /// That is no part of several.
+    NoPart(&'a str),
     /// The file of that name can't be read.
     Reading(&'a str, io::Error),
 }
@@ -39,6 +42,10 @@ impl Display for Refusal<'_> {
         match self {
             Refusal::Style(e) => Display::fmt(e, f),
             Refusal::NoList(path) => write!(f, "{path}: this is no list of cipher suites"),
+            Refusal::NoPart(text) => write!(
+                f,
+                "--part {text}: write K/N, a number from 1 to N, and how many parts there are"
+            ),
             Refusal::Reading(path, e) => write!(f, "{path}: cannot read: {}", Reason(e)),
         }
     }
@@ -49,13 +56,13 @@ impl Refusal<'_> {
     pub fn status(&self) -> u8 {
         match self {
             Refusal::Style(StyleError::OutOfMemory) | Refusal::Reading(_, _) => 3,
-            Refusal::Style(_) | Refusal::NoList(_) => 2,
+            Refusal::Style(_) | Refusal::NoList(_) | Refusal::NoPart(_) => 2,
         }
     }
 }
 
 /// The names of formats.
-static FORMATS: [&str; 2] = ["json", "csv"];
+static FORMATS: [&str; 4] = ["json", "csv", "zeek", "suricata"];
 
 /// The names of what checksums count, the default first.
 static CHECKSUMS: [&str; 3] = ["auto", "check", "ignore"];
@@ -121,6 +128,20 @@ fn checksums<'a>(alloc: Global) -> Arg<'a> {
         .default_value("auto")
 }
 
+/// Whether the captures are one.
+fn join<'a>(alloc: Global) -> Arg<'a> {
+    Arg::new(alloc, "join")
+        .long("join")
+        .help("Read all captures, in their order, as one that was cut into files")
+        .action(ArgAction::SetTrue)
+}
+
+/// Which part of the connections is logged.
+fn part<'a>(alloc: Global) -> Arg<'a> {
+    let help = "Only the connections of part K of N, by their addresses and ports";
+    option(alloc, "part", "K/N", help)
+}
+
 /// The matches of the command line.
 pub fn matches<'a>(alloc: Global, words: &'a [String]) -> Result<ArgMatches<'a>, clap::Error> {
     Command::new(alloc, "tlslog")
@@ -135,6 +156,8 @@ pub fn matches<'a>(alloc: Global, words: &'a [String]) -> Result<ArgMatches<'a>,
         .arg(fields(alloc))?
         .arg(ciphers(alloc))?
         .arg(checksums(alloc))?
+        .arg(join(alloc))?
+        .arg(part(alloc))?
         .try_get_matches_from(words)
 }
 
@@ -154,6 +177,8 @@ fn suites_of<'a, R: Runtime + AllocGlobal>(rt: &R, path: &'a str) -> Result<Suit
 fn format_of(matches: &ArgMatches<'_>) -> Format {
     match matches.get_str("format") {
         Some("csv") => Format::Csv,
+        Some("zeek") => Format::Zeek,
+        Some("suricata") => Format::Suricata,
         _ => Format::Json,
     }
 }
@@ -164,6 +189,26 @@ pub fn checksums_of(matches: &ArgMatches<'_>) -> Checksums {
         Some("check") => Checksums::Check,
         Some("ignore") => Checksums::Ignore,
         _ => Checksums::Auto,
+    }
+}
+
+/// The part that a text names, as `2/4`.
+fn part_in(text: &str) -> Option<Part> {
+    let (number, count) = text.split_once('/')?;
+    match (number.parse::<u32>(), count.parse::<u32>()) {
+        (Ok(number), Ok(count)) => Part::new(number, count),
+        _ => None,
+    }
+}
+
+/// Which part of the connections is logged, where not all are.
+pub fn part_of<'a>(matches: &ArgMatches<'a>) -> Result<Option<Part>, Refusal<'a>> {
+    let Some(text) = matches.get_str("part") else {
+        return Ok(None);
+    };
+    match part_in(text) {
+        Some(part) => Ok(Some(part)),
+        None => Err(Refusal::NoPart(text)),
     }
 }
 
@@ -185,14 +230,11 @@ pub fn style_of<'a, R: Runtime + AllocGlobal>(
     rt: &R,
     matches: &ArgMatches<'a>,
 ) -> Result<Style, Refusal<'a>> {
-    let lines = Lines::new(rt.alloc(), kind_of(matches)?, matches.get_str("fields"))?;
+    let kind = kind_of(matches)?;
     let suites = match matches.get_str("ciphers") {
         Some(path) => suites_of(rt, path)?,
         None => Suites::new(rt.alloc()),
     };
-    Ok(Style {
-        format: format_of(matches),
-        lines,
-        suites,
-    })
+    let (format, fields) = (format_of(matches), matches.get_str("fields"));
+    Ok(Style::new(rt.alloc(), format, kind, fields, suites)?)
 }

@@ -101,5 +101,6 @@ pub fn summary(connection: &Connection<Listener>) -> Summary<'_> {
         stop: heard.stop(),
         is_established: heard.is_established(),
         is_resumed: heard.is_resumed(),
+        tunnels: heard.tunnels(),
     }
 }

@@ -12,13 +12,16 @@ mod output;
 mod program;
 mod progress;
 
+ghost use Rattle.std.specs.Prelude.{Bool};
 ghost use Rattle.tlslog.specs.Output.{Tells};
 ghost use Rattle.tlslog.specs.Run.{HasWritten};
 
-use crate::arguments::{Refusal, checksums_of, matches, style_of};
+use crate::arguments::{Refusal, checksums_of, matches, part_of, style_of};
 use crate::failure::{Exit, Failure};
 use crate::output::{LineError, Output};
-use crate::program::{Asked, STANDARD_OUTPUT, log_file, log_standard_input, tell};
+use crate::program::{
+    Asked, DASH, Files, STANDARD_OUTPUT, log_file, log_joined, log_standard_input, tell,
+};
 use clap::ArgMatches;
 use clap::error::ErrorKind;
 use log_lines::Style;
@@ -27,20 +30,45 @@ use std::io::{self, Write};
 use std::process::ExitCode;
 use std::random::RandomSource;
 use std::rt::Runtime;
+use std::time::{SystemTime, UNIX_EPOCH};
 
-/// The name of standard input among the captures.
-const DASH: &str = "-";
+/// The seconds since 1970-01-01 00:00 UTC by the system's clock; 0 where it can't be read.
+fn now<R: Runtime>(rt: &R) -> i64 {
+    let Ok(time) = SystemTime::now(rt) else {
+        return 0;
+    };
+    match time.duration_since(UNIX_EPOCH) {
+        Ok(since) => i64::try_from(since.as_secs()).unwrap_or(0),
+        Err(_) => 0,
+    }
+}
 
-/// Writes the line in front of all, if there is one.
+/// Writes what stands in front of all lines, if there is something.
 fn write_header<W: Write>(
     alloc: Global,
     style: &Style,
+    opened: i64,
     out: &mut Output<W>,
 ) -> Result<(), LineError>
     ensures { Tells out.old.has_failed out.new.has_failed result }
 {
-    match style.header(alloc)? {
+    match style.header(alloc, opened)? {
         Some(header) => out.write_line(header),
+        None => Ok(()),
+    }
+}
+
+/// The same of what stands behind all.
+fn write_footer<W: Write>(
+    alloc: Global,
+    style: &Style,
+    closed: i64,
+    out: &mut Output<W>,
+) -> Result<(), LineError>
+    ensures { Tells out.old.has_failed out.new.has_failed result }
+{
+    match style.footer(alloc, closed)? {
+        Some(footer) => out.write_line(footer),
         None => Ok(()),
     }
 }
@@ -61,8 +89,8 @@ fn log_one<R: Runtime + AllocGlobal + RandomSource, W: Write>(
     }
 }
 
-/// Logs each capture that is named, or standard input, behind the line in front of all, as long as somebody reads on what is printed.
-fn log_all<R: Runtime + AllocGlobal + RandomSource, W: Write>(
+/// Logs each capture that is named, or all as one, or standard input, as long as somebody reads on what is printed.
+fn log_each<R: Runtime + AllocGlobal + RandomSource, W: Write>(
     rt: &R,
     asked: &Asked,
     matches: &ArgMatches<'_>,
@@ -70,13 +98,13 @@ fn log_all<R: Runtime + AllocGlobal + RandomSource, W: Write>(
 ) -> (Exit, Output<W>)
     ensures { HasWritten out.has_failed result.0 result.1.has_failed }
 {
-    let mut out = out;
-    if let Err(e) = write_header(rt.alloc(), &asked.style, &mut out) {
-        return (tell(rt, STANDARD_OUTPUT, Failure::from(e), 0), out);
-    }
     let Some(paths) = matches.get_strs("captures") else {
         return log_standard_input(rt, asked, out);
     };
+    if matches.get_flag("join") {
+        return log_joined(rt, asked, &Files { rt, paths }, out);
+    }
+    let mut out = out;
     let mut exit = Exit::Clean;
     'paths: for path in paths {
         let (of_path, behind) = log_one(rt, asked, path, out);
@@ -87,6 +115,45 @@ fn log_all<R: Runtime + AllocGlobal + RandomSource, W: Write>(
         }
     }
     (exit, out)
+}
+
+/// Ends the log behind its last line, as long as lines can be written, and says how the whole run ended.
+fn end_log<R: Runtime + AllocGlobal, W: Write>(
+    rt: &R,
+    style: &Style,
+    exit: Exit,
+    out: Output<W>,
+) -> (Exit, Output<W>)
+    ensures { (was : Bool) → HasWritten was exit out.has_failed → HasWritten was result.0 result.1.has_failed }
+{
+    let mut out = out;
+    if matches!(exit, Exit::Closed) || out.has_failed() {
+        return (exit, out);
+    }
+    match write_footer(rt.alloc(), style, now(rt), &mut out) {
+        Ok(()) => (exit, out),
+        Err(e) => (
+            exit.and(tell(rt, STANDARD_OUTPUT, Failure::from(e), 0)),
+            out,
+        ),
+    }
+}
+
+/// Logs all, between what stands in front of the lines and behind them.
+fn log_all<R: Runtime + AllocGlobal + RandomSource, W: Write>(
+    rt: &R,
+    asked: &Asked,
+    matches: &ArgMatches<'_>,
+    out: Output<W>,
+) -> (Exit, Output<W>)
+    ensures { HasWritten out.has_failed result.0 result.1.has_failed }
+{
+    let mut out = out;
+    if let Err(e) = write_header(rt.alloc(), &asked.style, now(rt), &mut out) {
+        return (tell(rt, STANDARD_OUTPUT, Failure::from(e), 0), out);
+    }
+    let (exit, out) = log_each(rt, asked, matches, out);
+    end_log(rt, &asked.style, exit, out)
 }
 
 /// Tells why the arguments are refused, and which status that is.
@@ -108,14 +175,22 @@ fn tell_error<R: Runtime + AllocGlobal>(rt: &R, error: &clap::Error) -> u8 {
     }
 }
 
+/// What the arguments ask for.
+fn asked_of<'a, R: Runtime + AllocGlobal>(
+    rt: &R,
+    matches: &ArgMatches<'a>,
+) -> Result<Asked, Refusal<'a>> {
+    Ok(Asked {
+        part: part_of(matches)?,
+        style: style_of(rt, matches)?,
+        checksums: checksums_of(matches),
+    })
+}
+
 /// The run that the arguments ask for.
 fn run_by<R: Runtime + AllocGlobal + RandomSource>(rt: &R, matches: &ArgMatches<'_>) -> u8 {
-    match style_of(rt, matches) {
-        Ok(style) => {
-            let asked = Asked {
-                style,
-                checksums: checksums_of(matches),
-            };
+    match asked_of(rt, matches) {
+        Ok(asked) => {
             let (exit, _out) = log_all(rt, &asked, matches, Output::new(io::writer(rt)));
             u8::from(exit)
         }

@@ -57,6 +57,13 @@ impl<W: Write> Output<W> {
         }
     }
 
+    /// Whether a write failed.
+    pub fn has_failed(&self) -> bool
+        ensures { result ≡ self.now.has_failed }
+    {
+        self.has_failed
+    }
+
     /// Writes a line and the line break behind it, by one write where that takes all.
     pub fn write_line(&mut self, line: String) -> Result<(), LineError>
         ensures written { OnOk result (Appends (W.contents self.old.writer) (W.contents self.new.writer)

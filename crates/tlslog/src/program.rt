@@ -1,25 +1,35 @@
 //! The run over one capture.
-ghost use Rattle.std.specs.Prelude.{◌≡◌};
+ghost use Rattle.std.specs.Prelude.{◌≡◌, Bool};
 ghost use Rattle.tlslog.specs.Output.{Tells};
-ghost use Rattle.tlslog.specs.Run.{EndsBy, Exits, ExitsBy, HasWritten, IsAsBefore, StaysSound};
+ghost use Rattle.tlslog.specs.Run.{EndsBy, Exits, ExitsBy, HasFailed, HasWritten, IsAsBefore, IsNotOfCapture, StaysSound};
 
 use crate::failure::{Exit, Failure};
 use crate::listener::{Kept, Listener, summary, take_certificates, take_messages};
 use crate::output::{LineError, Output};
 use crate::progress::{STANDARD_INPUT, Source, Watched};
+use connection_parts::Part;
 use connections::Connection;
 use log_connections::{Arrival, Checksums, Counts, Log, Pieces, add_one};
-use log_lines::{Lines, Presented, Spoken, Style, Summary, certificate_row, message_row, row_of};
+use log_lines::{Lines, Presented, Spoken, Style, Summary, certificate_row, message_row};
 use packets::{Packet, PacketVisitor, visit_packets};
 use std::alloc::Global;
 use std::fs;
 use std::hash::RandomState;
-use std::io::{Read, Write};
+use std::io::{self, ErrorKind, Read, Write};
 use std::random::RandomSource;
 use std::rt::Runtime;
 
 /// What failures to write are of.
 pub const STANDARD_OUTPUT: &str = "standard output";
+
+/// What failures to read are of, where no file is named.
+const STANDARD_INPUT_NAME: &str = "standard input";
+
+/// Under which name captures that are logged as one are told of.
+const JOINED_NAME: &str = "all captures";
+
+/// The name of standard input among the captures.
+pub const DASH: &str = "-";
 
 /// Prints the line of a connection.
 fn print_row<W: Write>(
@@ -31,8 +41,7 @@ fn print_row<W: Write>(
 ) -> Result<(), LineError>
     ensures { Tells out.old.has_failed out.new.has_failed result }
 {
-    let row = row_of(alloc, &style.suites, places, summary)?;
-    let line = style.text(alloc, &row)?;
+    let line = style.connection_text(alloc, places, summary)?;
     out.write_line(line)
 }
 
@@ -324,6 +333,40 @@ pub fn tell<R: Runtime>(rt: &R, name: &str, failure: Failure, packets: u64) -> E
     }
 }
 
+/// Logs all that the reader gives, and says how that ended.
+fn log_source<R: Runtime + AllocGlobal, I: Read + Source, W: Write>(
+    rt: &R,
+    name: &str,
+    logger: &mut Logger<'_, W>,
+    reader: &mut I,
+) -> Exit
+    ensures exits { Exits (I.remaining reader.old) (I.remaining reader.new) result }
+    ensures written { HasWritten logger.old.out.has_failed result logger.new.out.has_failed }
+{
+    match log_packets(logger, reader) {
+        Ok(()) => Exit::Clean,
+        Err(failure) => {
+            let failure = failure.of_source(reader.compression());
+            tell(rt, name, failure, logger.log.counts.packets)
+        }
+    }
+}
+
+/// Logs the connections that are left behind all that was read, and says how that ended.
+fn log_left<R: Runtime + AllocGlobal, W: Write>(
+    rt: &R,
+    name: &str,
+    logger: &mut Logger<'_, W>,
+) -> Exit
+    ensures cause { IsNotOfCapture result }
+    ensures written { HasWritten logger.old.out.has_failed result logger.new.out.has_failed }
+{
+    match print_left(logger.alloc, logger.style, &mut logger.log, &mut logger.out) {
+        Ok(()) => Exit::Clean,
+        Err(e) => tell(rt, name, Failure::from(e), logger.log.counts.packets),
+    }
+}
+
 /// Logs all that the reader gives, and the connections that are left at its end, and says how that ended.
 fn log_whole<R: Runtime + AllocGlobal, I: Read + Source, W: Write>(
     rt: &R,
@@ -334,20 +377,11 @@ fn log_whole<R: Runtime + AllocGlobal, I: Read + Source, W: Write>(
     ensures exits { Exits (I.remaining reader.old) (I.remaining reader.new) result }
     ensures written { HasWritten logger.old.out.has_failed result logger.new.out.has_failed }
 {
-    let exit = match log_packets(logger, reader) {
-        Ok(()) => Exit::Clean,
-        Err(failure) => {
-            let failure = failure.of_source(reader.compression());
-            tell(rt, name, failure, logger.log.counts.packets)
-        }
-    };
+    let exit = log_source(rt, name, logger, reader);
     if matches!(exit, Exit::Failed | Exit::Closed) {
         return exit;
     }
-    match print_left(logger.alloc, logger.style, &mut logger.log, &mut logger.out) {
-        Ok(()) => exit,
-        Err(e) => exit.and(tell(rt, name, Failure::from(e), logger.log.counts.packets)),
-    }
+    exit.and(log_left(rt, name, logger))
 }
 
 /// Tells what was read and left out, unless nobody reads on, or nothing was read of a source that is at fault; it failed where it can't be told.
@@ -380,6 +414,33 @@ pub struct Asked {
     pub style: Style,
     /// Which checksums count.
     pub checksums: Checksums,
+    /// The part whose connections are logged, where not all are.
+    pub part: Option<Part>,
+}
+
+/// The log of what is asked for, of which nothing was read.
+fn begin_log<R: Runtime + AllocGlobal + RandomSource>(
+    rt: &R,
+    asked: &Asked,
+    name: &str,
+) -> Result<Log<Kept>, Exit>
+    ensures { HasFailed result }
+{
+    let keys = match RandomState::new(rt) {
+        Ok(keys) => keys,
+        Err(e) => {
+            return Err(tell(rt, "the system's random numbers", Failure::Reading(e), 0));
+        }
+    };
+    let mut log = match Log::new(rt.alloc(), keys, kept_for(&asked.style.lines)) {
+        Ok(log) => log,
+        Err(_) => return Err(tell(rt, name, Failure::OutOfMemory, 0)),
+    };
+    log.set_checksums(asked.checksums);
+    if let Some(part) = asked.part {
+        log.set_part(part);
+    }
+    Ok(log)
 }
 
 /// Logs a capture that is read from there, under that name, and hands back where its lines go.
@@ -397,18 +458,10 @@ pub fn log_input<R: Runtime + AllocGlobal + RandomSource, I: Read + Source, W: W
     ensures exits { Exits (I.remaining reader.old) (I.remaining reader.new) result.0 }
     ensures written { HasWritten out.has_failed result.0 result.1.has_failed }
 {
-    let keys = match RandomState::new(rt) {
-        Ok(keys) => keys,
-        Err(e) => return (
-            tell(rt, "the system's random numbers", Failure::Reading(e), 0),
-            out,
-        ),
-    };
-    let mut log = match Log::new(rt.alloc(), keys, kept_for(&asked.style.lines)) {
+    let log = match begin_log(rt, asked, name) {
         Ok(log) => log,
-        Err(_) => return (tell(rt, name, Failure::OutOfMemory, 0), out),
+        Err(exit) => return (exit, out),
     };
-    log.set_checksums(asked.checksums);
     let alloc = rt.alloc();
     let mut logger = Logger {
         alloc,
@@ -419,6 +472,114 @@ pub fn log_input<R: Runtime + AllocGlobal + RandomSource, I: Read + Source, W: W
     let exit = log_whole(rt, name, &mut logger, reader);
     let Logger { log, out, .. } = logger;
     let exit = tell_counts(rt, name, &log.counts, exit);
+    drop(log);
+    (exit, out)
+}
+
+/// Who opens captures.
+pub trait Opener {
+    /// What a capture is read from.
+    type Opened: Read + Source + Drop;
+
+    /// The name of the capture of that number, from 0 on; `None` behind the last.
+    fn name(&self, number: usize) -> Option<&str>;
+
+    /// That capture.
+    fn open(&self, number: usize) -> io::Result<Self::Opened>;
+}
+
+/// Who opens files, of which the progress is told where someone looks.
+#[derive(Drop)]
+pub struct Files<'a, R> {
+    /// What opens them.
+    pub rt: &'a R,
+    /// Their paths; standard input is `-`.
+    pub paths: &'a [&'a str],
+}
+
+impl<'a, R: Runtime> Opener for Files<'a, R> {
+    type Opened = Watched<'a, R, R::File>;
+
+    fn name(&self, number: usize) -> Option<&str> {
+        match self.paths.get(number) {
+            Some(&DASH) => Some(STANDARD_INPUT_NAME),
+            Some(path) => Some(path),
+            None => None,
+        }
+    }
+
+    fn open(&self, number: usize) -> io::Result<Watched<'a, R, R::File>> {
+        let Some(path) = self.paths.get(number) else {
+            return Err(io::Error::from(ErrorKind::NotFound));
+        };
+        let place = if *path == DASH { STANDARD_INPUT } else { path };
+        let file = fs::open(self.rt, place)?;
+        Ok(Watched::new(self.rt, path, place, file))
+    }
+}
+
+/// Logs one more of the captures that are logged as one.
+fn log_next<R: Runtime + AllocGlobal, O: Opener, W: Write>(
+    rt: &R,
+    opener: &O,
+    number: usize,
+    name: &str,
+    logger: &mut Logger<'_, W>,
+) -> Exit
+    ensures { HasWritten logger.old.out.has_failed result logger.new.out.has_failed }
+{
+    match opener.open(number) {
+        Ok(mut reader) => log_source(rt, name, logger, &mut reader),
+        Err(e) => tell(rt, name, Failure::Opening(e), 0),
+    }
+}
+
+/// Logs the connections that are left behind the last of these captures, as long as lines can be written.
+fn log_last<R: Runtime + AllocGlobal, W: Write>(
+    rt: &R,
+    exit: Exit,
+    logger: &mut Logger<'_, W>,
+) -> Exit
+    ensures { (was : Bool) → HasWritten was exit logger.old.out.has_failed → HasWritten was result logger.new.out.has_failed }
+{
+    if matches!(exit, Exit::Closed) || logger.out.has_failed() {
+        return exit;
+    }
+    exit.and(log_left(rt, JOINED_NAME, logger))
+}
+
+/// Logs captures as one, in that order: what one leaves open goes on in the next. Where one isn't read whole, the others still are.
+pub fn log_joined<R: Runtime + AllocGlobal + RandomSource, O: Opener, W: Write>(
+    rt: &R,
+    asked: &Asked,
+    opener: &O,
+    out: Output<W>,
+) -> (Exit, Output<W>)
+    ensures { HasWritten out.has_failed result.0 result.1.has_failed }
+{
+    let log = match begin_log(rt, asked, JOINED_NAME) {
+        Ok(log) => log,
+        Err(exit) => return (exit, out),
+    };
+    let mut logger = Logger {
+        alloc: rt.alloc(),
+        style: &asked.style,
+        log,
+        out,
+    };
+    let mut exit = Exit::Clean;
+    'captures: for number in 0..usize::MAX {
+        let Some(name) = opener.name(number) else {
+            break;
+        };
+        exit = exit.and(log_next(rt, opener, number, name, &mut logger));
+        if matches!(exit, Exit::Closed) {
+            break;
+        }
+    }
+    let exit = log_last(rt, exit, &mut logger);
+    let Logger { log, out, .. } = logger;
+    let exit = tell_counts(rt, JOINED_NAME, &log.counts, exit);
     drop(log);
     (exit, out)
 }
@@ -449,7 +610,6 @@ pub fn log_standard_input<R: Runtime + AllocGlobal + RandomSource, W: Write>(
 ) -> (Exit, Output<W>)
     ensures { HasWritten out.has_failed result.0 result.1.has_failed }
 {
-    let name = "standard input";
-    let mut reader = Watched::new(rt, name, STANDARD_INPUT, rt.reader());
-    log_input(rt, asked, name, &mut reader, out)
+    let mut reader = Watched::new(rt, STANDARD_INPUT_NAME, STANDARD_INPUT, rt.reader());
+    log_input(rt, asked, STANDARD_INPUT_NAME, &mut reader, out)
 }

@@ -81,3 +81,24 @@ pub use Rattle.dtls_stream.specs.Datagrams
 pub use Rattle.tls_conversations.specs.Events as BothEvents
 pub use Rattle.tls_conversations.specs.Ears
 pub use Rattle.tls_conversations.specs.Conversations as BothConversations
+pub use Rattle.der.specs.Element
+pub use Rattle.der.specs.Values
+pub use Rattle.der.specs.ObjectIdentifier
+pub use Rattle.der.specs.Time as DerTime
+pub use Rattle.der.specs.Text as DerText
+pub use Rattle.x509.specs.Name as X509Name
+pub use Rattle.x509.specs.Certificate as X509Certificate
+pub use Rattle.x509.specs.GeneralName as X509GeneralName
+pub use Rattle.x509.specs.Extensions as X509Extensions
+pub use Rattle.x509.specs.PublicKey as X509PublicKey
+pub use Rattle.x509_text.specs.Name as X509NameText
+pub use Rattle.x509_text.specs.ObjectText as X509ObjectText
+pub use Rattle.x509_text.specs.GeneralName as X509GeneralNameText
+pub use Rattle.x509_text.specs.Number as X509NumberText
+pub use Rattle.x509_text.specs.Time as X509TimeText
+pub use Rattle.x509_text.specs.Key as X509KeyText
+pub use Rattle.x509_text.specs.Usage as X509UsageText
+pub use Rattle.x509_text.specs.Host as X509Host
+pub use Rattle.x509_places.specs.Place as X509Place
+pub use Rattle.x509_places.specs.Certificate as X509Places
+pub use Rattle.x509_places.specs.Walk as X509Walk

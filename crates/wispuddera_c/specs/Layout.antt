@@ -2,9 +2,10 @@
 use Rattle.std.specs.Prelude.{ℕ, List, [], ◌∷◌, slice_get}
 use Rattle.std.specs.Option.{unwrap_or}
 
--- Place, Record, Part, ClientHello, ServerHello, Found, Number, DtlsRecord, DtlsMessage, DtlsClientHello, Event, Flow.
+-- Place, Record, Part, ClientHello, ServerHello, Found, Number, DtlsRecord, DtlsMessage, DtlsClientHello, Event, Flow, X509,
+-- X509Extension.
 abbrev pub struct_sizes : List ℕ
-struct_sizes = 16 ∷ 40 ∷ 40 ∷ 104 ∷ 72 ∷ 24 ∷ 24 ∷ 48 ∷ 48 ∷ 120 ∷ 2 ∷ 4 ∷ []
+struct_sizes = 16 ∷ 40 ∷ 40 ∷ 104 ∷ 72 ∷ 24 ∷ 24 ∷ 48 ∷ 48 ∷ 120 ∷ 2 ∷ 4 ∷ 200 ∷ 56 ∷ []
 
 abbrev pub size_of_struct : ℕ → ℕ
 size_of_struct index = unwrap_or (slice_get struct_sizes index) 0
@@ -24,6 +25,8 @@ field_offsets =
     ∷ (0 ∷ 8 ∷ 24 ∷ 40 ∷ 56 ∷ 72 ∷ 88 ∷ 104 ∷ 112 ∷ 114 ∷ [])
     ∷ (0 ∷ 1 ∷ [])
     ∷ (0 ∷ [])
+    ∷ (0 ∷ 8 ∷ 24 ∷ 40 ∷ 56 ∷ 72 ∷ 88 ∷ 104 ∷ 120 ∷ 136 ∷ 152 ∷ 168 ∷ 176 ∷ 184 ∷ 192 ∷ 196 ∷ 197 ∷ [])
+    ∷ (0 ∷ 8 ∷ 24 ∷ 40 ∷ 48 ∷ [])
     ∷ []
 
 -- Behind a struct's last field it is the struct's size.

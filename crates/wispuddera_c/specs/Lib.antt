@@ -5,9 +5,11 @@ pub mod Part
 pub mod Hello
 pub mod Found
 pub mod Number
+pub mod Fingerprint
 pub mod Dtls
 pub mod Layout
 pub mod Stream
 pub mod Outcome
 pub mod Flow
 pub mod Detection
+pub mod Certificate

@@ -30,6 +30,10 @@ none = 8
 abbrev pub outside : ℕ
 outside = 9
 
+-- The buffer is too short for what is told.
+abbrev pub no_room : ℕ
+no_room = 10
+
 abbrev pub status_of : Refusal → ℕ
 status_of (Lacks n) = 1
 status_of (Broken kind) = kind_status kind

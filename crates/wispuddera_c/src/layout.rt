@@ -3,6 +3,7 @@ ghost use Rattle.std.specs.Prelude.{◌≡◌, [], slice_get};
 ghost use Rattle.std.specs.Option.{unwrap_or};
 ghost use Rattle.wispuddera_c.specs.Layout.{field_offsets as offsets_of_structs, offset_of_field, size_of_struct};
 
+use crate::certificate::{X509, X509Extension};
 use crate::client_hello::ClientHello;
 use crate::dtls::{DtlsClientHello, DtlsMessage, DtlsRecord};
 use crate::flow::Flow;
@@ -33,6 +34,8 @@ pub extern "C" fn wispuddera_struct_size(index: usize) -> usize
         9 => size_of::<DtlsClientHello>(),
         10 => size_of::<Event>(),
         11 => size_of::<Flow>(),
+        12 => size_of::<X509>(),
+        13 => size_of::<X509Extension>(),
         _ => 0,
     }
 }
@@ -54,6 +57,10 @@ fn field_offsets(index: usize) -> &'static [usize]
         9 => &[0, 8, 24, 40, 56, 72, 88, 104, 112, 114],
         10 => &[0, 1],
         11 => &[0],
+        12 => &[
+            0, 8, 24, 40, 56, 72, 88, 104, 120, 136, 152, 168, 176, 184, 192, 196, 197,
+        ],
+        13 => &[0, 8, 24, 40, 48],
         _ => &[],
     }
 }

@@ -5,9 +5,11 @@
 //! the offset of what follows. Nothing here takes memory, and nothing is kept between calls.
 #![tactic(auto, using(tls_fields::proofs::OneAnswerLemmas::read_allowed))]
 
+mod certificate;
 mod client_hello;
 mod detection;
 mod dtls;
+mod fingerprint;
 mod flow;
 mod found;
 mod layout;

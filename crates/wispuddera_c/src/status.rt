@@ -9,10 +9,14 @@ use tls_fields::{Err, Error, ErrorKind, Needed};
 pub const READ: u32 = 0;
 /// Bytes are missing, as many as `missing` says.
 pub const INCOMPLETE: u32 = 1;
+/// A length is above what its record may have.
+pub const TOO_LARGE: u32 = 2;
 /// There is none.
 pub const NONE: u32 = 8;
 /// The offset lies behind the end of the bytes.
 pub const OUTSIDE: u32 = 9;
+/// The buffer is too short for what is told.
+pub const NO_ROOM: u32 = 10;
 
 /// Why no value was read: a status, and how many bytes are missing, 0 where none could help.
 #[derive(Clone, Copy)]
@@ -28,7 +32,7 @@ fn status_of(kind: ErrorKind) -> u32
     ensures { result ≡ kind_status kind }
 {
     match kind {
-        ErrorKind::TooLarge => 2,
+        ErrorKind::TooLarge => TOO_LARGE,
         ErrorKind::LengthValue => 3,
         ErrorKind::Verify => 4,
         ErrorKind::Switch => 5,

@@ -1,3 +1,4 @@
 pub mod JoinLemmas
 pub mod HostLemmas
 pub mod TimeLemmas
+pub mod ExponentLemmas

@@ -16,3 +16,4 @@ pub mod GeneralName
 pub mod Number
 pub mod Time
 pub mod Usage
+pub mod Exponent

@@ -7,6 +7,7 @@
 #![tactic(auto)]
 
 mod certificate;
+mod exponent;
 mod general_name;
 mod hexadecimal;
 mod host;
@@ -20,6 +21,7 @@ mod usage;
 mod value;
 
 pub use certificate::{is_self_issued, version_number};
+pub use exponent::{key_exponent, natural_text};
 pub use general_name::general_name_text;
 pub use host::matches_host;
 pub use key::{key_curve, key_length, key_type};

@@ -17,7 +17,7 @@ fn is_negative(number: &[u8]) -> bool
 }
 
 /// A number without the 0 in front of it that says that it isn't negative.
-fn without_padding(number: &[u8]) -> &[u8]
+pub(crate) fn without_padding(number: &[u8]) -> &[u8]
     ensures { result.now ≡ without_padding_of number.now }
 {
     match number {

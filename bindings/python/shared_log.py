@@ -1,0 +1,56 @@
+#!/usr/bin/env python3
+"""Logs captures by parts on the workers of a Dask cluster, and prints one log, sorted by time.
+
+    shared_log.py [--scheduler ADDRESS] [--workers N] [--parts N] [--program PATH] CAPTURE..
+
+Each task is one part of one capture. Without --scheduler the workers are processes of this machine. The program and the captures have the same paths
+on all of them.
+"""
+
+import argparse
+import heapq
+import json
+import os
+import subprocess
+import sys
+
+from distributed import Client, LocalCluster
+
+
+def order(line):
+    return json.loads(line)["ts"], line
+
+
+def part_of(program, capture, number, count):
+    """The lines of one part of a capture, in order, and what was left out."""
+    ran = subprocess.run([program, "--part", f"{number}/{count}", capture], stdout=subprocess.PIPE, stderr=subprocess.PIPE, text=True)
+    if ran.returncode not in (0, 1):
+        raise RuntimeError(f"{program}, part {number} of {count}: status {ran.returncode}: {ran.stderr}")
+    return ran.returncode, sorted(ran.stdout.splitlines(), key=order), ran.stderr
+
+
+def arguments():
+    parser = argparse.ArgumentParser(description="Logs captures by parts on the workers of a Dask cluster, and prints one log, sorted by time.")
+    parser.add_argument("--scheduler", help="the address of the cluster's scheduler; without it, workers of this machine")
+    parser.add_argument("--workers", type=int, default=os.cpu_count(), help="how many of this machine")
+    parser.add_argument("--parts", type=int, default=4, help="in how many parts each capture is logged")
+    parser.add_argument("--program", default="tlslog", help="the program tlslog")
+    parser.add_argument("captures", nargs="+")
+    return parser.parse_args()
+
+
+def main():
+    asked = arguments()
+    cluster = asked.scheduler or LocalCluster(n_workers=asked.workers, threads_per_worker=1, dashboard_address=None)
+    with Client(cluster) as client:
+        tasks = [(asked.program, capture, number, asked.parts) for capture in asked.captures for number in range(1, asked.parts + 1)]
+        found = client.gather(client.map(part_of, *zip(*tasks), pure=False))
+    for _, _, told in found:
+        sys.stderr.write(told)
+    for line in heapq.merge(*(lines for _, lines, _ in found), key=order):
+        print(line)
+    sys.exit(max(status for status, _, _ in found))
+
+
+if __name__ == "__main__":
+    main()

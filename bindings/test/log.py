@@ -1,0 +1,148 @@
+"""`wispuddera.log`: its objects have the fields of docs/TLSLOG.md and the values of the stored lines, and its errors say what went wrong.
+
+A program of a few lines stands in for tlslog, and writes the stored lines; where `rt ci` has built tlslog, that is run on the stored captures too.
+"""
+
+import dataclasses
+import itertools
+import json
+import os
+import pathlib
+import re
+import sys
+import tempfile
+import typing
+
+import wispuddera as w
+
+TOP = pathlib.Path(__file__).resolve().parents[2]
+LINES = (TOP / "crates/tlslog/stdout").read_bytes().splitlines()
+FIELDS = {f.name: f for f in dataclasses.fields(w.Connection)}
+TYPES = typing.get_type_hints(w.Connection) if sys.version_info >= (3, 9) else {}
+
+
+def stand_in(folder, body, name="tlslog"):
+    path = pathlib.Path(folder) / name
+    path.write_text(f"#!{sys.executable}\nimport sys\n{body}\n")
+    path.chmod(0o755)
+    return path
+
+
+def fits(value, wanted):
+    """Whether a value has the type that is declared for its field."""
+    kinds = typing.get_args(wanted) if typing.get_origin(wanted) is typing.Union else (wanted,)
+    for kind in kinds:
+        if typing.get_origin(kind) is list:
+            if isinstance(value, list) and all(type(x) is typing.get_args(kind)[0] for x in value):
+                return True
+        elif type(value) is kind or (kind is float and type(value) is int):
+            return True
+    return False
+
+
+def is_line(connection, line):
+    values = json.loads(line)
+    assert connection.more == {}, connection.more
+    for name, value in values.items():
+        found = getattr(connection, name.replace(".", "_"))
+        assert (dataclasses.asdict(found) if name == "stop" else found) == value, name
+        assert fits(found, TYPES[name.replace(".", "_")]), (name, value)
+    absent = FIELDS.keys() - {name.replace(".", "_") for name in values} - {"more"}
+    assert all(getattr(connection, name) is None for name in absent)
+
+
+def test_fields_of_the_page():
+    page = (TOP / "docs/TLSLOG.md").read_text()
+    table = page[page.index("## Fields of a connection") : page.index("### Names")]
+    named = [name for row in re.findall(r"^\| (`.*?) \|", table, re.M) for name in re.findall(r"`([^`]+)`", row)]
+    assert [name.replace(".", "_") for name in named] == [name for name in FIELDS if name != "more"]
+
+
+def test_stored_lines():
+    for line in LINES:
+        is_line(w.Connection.of_line(line), line)
+    assert sum(w.Connection.of_line(line).stop is not None for line in LINES) > 0
+    line = b'{"ts":1.5,"uid":"C","id.orig_h":"a","id.orig_p":1,"id.resp_h":"b","id.resp_p":2,"proto":"tcp","new.field":[3]}'
+    assert w.Connection.of_line(line).more == {"new.field": [3]}
+    for wrong in (b"[]", b'{"ts":1.5}', b"{"):
+        try:
+            w.Connection.of_line(wrong)
+        except ValueError:
+            continue
+        raise AssertionError(wrong)
+
+
+def test_program():
+    with tempfile.TemporaryDirectory() as folder:
+        stored = TOP / "crates/tlslog/stdout"
+        program = stand_in(folder, f"sys.stdout.write(open({str(stored)!r}).read())")
+        connections = list(w.log("a.pcap", program=program))
+        assert len(connections) == len(LINES)
+        for connection, line in zip(connections, LINES):
+            is_line(connection, line)
+        # Found by PATH, and told its words.
+        stand_in(folder, "import json\nprint(json.dumps({'ts': 1, 'uid': 'C', 'id.orig_h': '', 'id.orig_p': 1, 'id.resp_h': '', 'id.resp_p': 1, 'proto': 'tcp',"
+                 " 'words': sys.argv[1:]}))")
+        before = os.environ["PATH"]
+        os.environ["PATH"] = folder
+        try:
+            (told,) = w.log("-a.pcap", pathlib.Path("b.pcap"), ciphers="suites.txt", checksums="ignore")
+        finally:
+            os.environ["PATH"] = before
+        assert told.more["words"] == ["--format", "json", "--ciphers", "suites.txt", "--checksums", "ignore", "--", "-a.pcap", "b.pcap"]
+
+
+def test_errors():
+    with tempfile.TemporaryDirectory() as folder:
+        line = LINES[0].decode()
+        program = stand_in(folder, f"print({line!r})\nsys.stderr.write('tlslog: a.pcap: no capture\\n' * 20000)\nsys.exit(2)")
+        connections = w.log("a.pcap", program=program)
+        is_line(next(connections), line)
+        try:
+            next(connections)
+            raise AssertionError("no error")
+        except w.LogError as e:
+            assert e.status == 2 and e.message.startswith("tlslog: a.pcap: no capture\n") and "status 2" in str(e)
+        try:
+            list(w.log("a.pcap", program=stand_in(folder, "import os, signal\nos.kill(os.getpid(), signal.SIGKILL)")))
+            raise AssertionError("no error")
+        except w.LogError as e:
+            assert e.status == -9 and "SIGKILL" in str(e)
+        # Closed early it is ended, and a program without an end too.
+        endless = w.log("a.pcap", program=stand_in(folder, f"while True:\n    print({line!r})"))
+        assert len(list(itertools.islice(endless, 3))) == 3
+        endless.close()
+        for missing in ({"program": pathlib.Path(folder) / "none"}, {}):
+            before = os.environ["PATH"]
+            os.environ["PATH"] = str(pathlib.Path(folder) / "nowhere")
+            try:
+                list(w.log("a.pcap", **missing))
+                raise AssertionError("no error")
+            except FileNotFoundError:
+                pass
+            finally:
+                os.environ["PATH"] = before
+
+
+def test_built_program():
+    program = TOP / "crates/tlslog/out/tlslog"
+    if not program.exists():
+        print("log: tlslog isn't built, so a stand-in alone was run")
+        return
+    captures = [TOP / "crates/tlslog" / word for word in (TOP / "crates/tlslog/args").read_text().split()]
+    captures = [path if path.exists() else TOP / "crates/tlslog/data" / path.name for path in captures]
+    connections = list(w.log(*captures, program=program))
+    assert len(connections) == len(LINES)
+    for connection, line in zip(connections, LINES):
+        is_line(connection, line)
+    try:
+        list(w.log(TOP / "README.md", program=program))
+        raise AssertionError("no error")
+    except w.LogError as e:
+        assert e.status != 0 and e.message
+
+
+tests = [test for name, test in sorted(globals().items()) if name.startswith("test_")]
+for test in tests:
+    test()
+print(f"log: {len(tests)} tests passed")

@@ -1,0 +1,84 @@
+//! The Community ID, version 1.
+ghost use Rattle.std.specs.Prelude.{◌≡◌, ◌++◌, List, ℕ, IfOk};
+ghost use Rattle.std.specs.String.{string_bytes};
+ghost use Rattle.sha1.specs.Sha1.{sha1, Holds};
+ghost use Rattle.connections.specs.Ends.{address_number};
+ghost use Rattle.connection_ids.specs.Ends.{address_bytes};
+ghost use Rattle.connection_ids.specs.CommunityId.{community_bytes, community_id_of, is_first as is_first_of, ordered_bytes};
+
+use crate::ends::protocol_number;
+use base64::engine::general_purpose::STANDARD;
+use connections::{End, Protocol};
+use sha1::Sha1;
+use std::alloc::{AllocError, Global};
+use std::net::IpAddr;
+
+/// An address as a number.
+fn address_bits(address: IpAddr) -> u128
+    ensures { result ≡ address_number address }
+{
+    match address {
+        IpAddr::V4(four) => u128::from(four.to_bits()),
+        IpAddr::V6(sixteen) => sixteen.to_bits(),
+    }
+}
+
+/// Whether one end stands in front of the other: the smaller address, and then the smaller port.
+fn is_first(one: End, other: End) -> bool
+    ensures { result ≡ is_first_of one other }
+{
+    let (low, high) = (address_bits(one.address), address_bits(other.address));
+    low < high || (low == high && one.port <= other.port)
+}
+
+/// Adds an address to what is hashed.
+fn add_address(hasher: &mut Sha1, address: IpAddr)
+    ensures { (m : List ℕ) → Holds hasher.old m → Holds hasher.new (m ++ address_bytes address) }
+{
+    match address {
+        IpAddr::V4(four) => hasher.update(&four.octets()),
+        IpAddr::V6(sixteen) => hasher.update(&sixteen.octets()),
+    }
+}
+
+/// The SHA-1 of both ends in this order.
+fn ordered_digest(protocol: Protocol, first: End, second: End) -> [u8; 20]
+    ensures { result ≡ sha1 (ordered_bytes protocol first second) }
+{
+    let mut hasher = Sha1::new();
+    hasher.update(&[0, 0]);
+    add_address(&mut hasher, first.address);
+    add_address(&mut hasher, second.address);
+    hasher.update(&[protocol_number(protocol), 0]);
+    hasher.update(&first.port.to_be_bytes());
+    hasher.update(&second.port.to_be_bytes());
+    hasher.finalize()
+}
+
+/// The SHA-1 of both ends, whatever the direction.
+fn digest(protocol: Protocol, one: End, other: End) -> [u8; 20]
+    ensures { result ≡ sha1 (community_bytes protocol one other) }
+{
+    if is_first(one, other) {
+        ordered_digest(protocol, one, other)
+    } else {
+        ordered_digest(protocol, other, one)
+    }
+}
+
+/// The Community ID of the packets between two ends, version 1 with a seed of 0, as `1:kVUbhKrwzAjFcntAEO6zYYEnNiI=`. It is the same for both directions.
+///
+/// `AllocError` where it could not be held.
+pub fn community_id(
+    alloc: Global,
+    protocol: Protocol,
+    one: End,
+    other: End,
+) -> Result<String, AllocError>
+    ensures { IfOk result (λ text. string_bytes text ≡ community_id_of protocol one other) }
+{
+    let digits = STANDARD.encode(alloc, &digest(protocol, one, other))?;
+    let mut text = String::from_str(alloc, "1:")?;
+    text.push_str(digits.as_str())?;
+    Ok(text)
+}

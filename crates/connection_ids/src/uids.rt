@@ -1,0 +1,138 @@
+//! The identifier of a connection in a log.
+ghost use Rattle.std.specs.Prelude.{◌≡◌, ◌<◌, ◌%◌, ◌∷◌, ◌++◌, [], List, ℕ, IfOk, OnOk, drop, take};
+ghost use Rattle.std.specs.Int.{w64, w128, from_be_bytes};
+ghost use Rattle.std.specs.String.{string_bytes};
+ghost use Rattle.sha2.specs.Hashers.{Holds256};
+ghost use Rattle.sha2.specs.Sha256.{sha256};
+ghost use Rattle.connection_ids.specs.Ends.{address_bytes};
+ghost use Rattle.connection_ids.specs.Uid.{base62, digit as digit_of, ends_bytes, flow_id_of, uid_bytes, uid_key, uid_of};
+
+use crate::ends::protocol_number;
+use connections::{End, Protocol};
+use sha2::{Digest, Sha256};
+use std::alloc::{AllocError, Global};
+use std::net::IpAddr;
+
+/// How many digits an identifier has.
+const DIGITS: u32 = 17;
+
+/// Adds an address to what is hashed.
+fn add_address(hasher: &mut Sha256, address: IpAddr)
+    ensures { (m : List ℕ) → Holds256 hasher.old m → Holds256 hasher.new (m ++ address_bytes address) }
+{
+    match address {
+        IpAddr::V4(four) => hasher.update(four.octets()),
+        IpAddr::V6(sixteen) => hasher.update(sixteen.octets()),
+    }
+}
+
+/// Adds the protocol and both ends to what is hashed.
+fn add_ends(hasher: &mut Sha256, protocol: Protocol, originator: End, responder: End)
+    ensures { (m : List ℕ) → Holds256 hasher.old m → Holds256 hasher.new (m ++ ends_bytes protocol originator responder) }
+{
+    add_address(hasher, originator.address);
+    add_address(hasher, responder.address);
+    hasher.update([protocol_number(protocol)]);
+    hasher.update(originator.port.to_be_bytes());
+    hasher.update(responder.port.to_be_bytes());
+}
+
+/// A hasher that has the key.
+#[tactic(auto, unfolding(crate::specs::Uid::uid_key))]
+fn keyed() -> Sha256
+    ensures { Holds256 result uid_key }
+{
+    let mut hasher = Sha256::new();
+    hasher.update(b"wispuddera uid 1");
+    hasher
+}
+
+/// The SHA-256 of both ends and when the first packet came.
+fn digest(protocol: Protocol, originator: End, responder: End, microseconds: u64) -> [u8; 32]
+    ensures { result ≡ sha256 (uid_bytes protocol originator responder microseconds) }
+{
+    let mut hasher = keyed();
+    add_ends(&mut hasher, protocol, originator, responder);
+    hasher.update(microseconds.to_be_bytes());
+    hasher.finalize()
+}
+
+/// The number that the first 16 bytes spell.
+fn front_number(digest: &[u8; 32]) -> u128
+    ensures { result ≡ from_be_bytes w128 (take 16 digest.now) }
+{
+    match digest.split_first_chunk::<16>() {
+        Some((front, _)) => u128::from_be_bytes(*front),
+        None => unreachable!(),
+    }
+}
+
+/// A digit of base 62, in Zeek's order.
+fn digit(n: u8) -> char
+    requires { n < 62 }
+    ensures is { result ≡ digit_of n }
+    ensures ascii { result < 128 }
+{
+    if n < 10 {
+        char::from(b'0' + n)
+    } else if n < 36 {
+        char::from(b'a' + (n - 10))
+    } else {
+        char::from(b'A' + (n - 36))
+    }
+}
+
+/// Adds the lowest digit of a number in base 62.
+fn add_digit(text: &mut String, n: u128) -> Result<(), AllocError>
+    ensures { OnOk result (string_bytes text.new ≡ string_bytes text.old ++ digit_of (n % 62) ∷ []) }
+{
+    text.push(digit((n % 62) as u8))
+}
+
+/// Adds that many of the lowest digits of a number in base 62, the lowest first.
+fn add_digits(text: &mut String, count: u32, n: u128) -> Result<(), AllocError>
+    ensures { OnOk result (string_bytes text.new ≡ string_bytes text.old ++ base62 count n) }
+{
+    if count == 0 {
+        return Ok(());
+    }
+    add_digit(text, n)?;
+    add_digits(text, count - 1, n / 62)
+}
+
+/// The identifier of the connection between these ends whose first packet came so many microseconds after 1970-01-01 00:00 UTC: `C` and 17 digits and letters,
+/// as `CKc5sAsfNpAhXmkqpf`.
+///
+/// `AllocError` where it could not be held.
+pub fn uid(
+    alloc: Global,
+    protocol: Protocol,
+    originator: End,
+    responder: End,
+    microseconds: u64,
+) -> Result<String, AllocError>
+    ensures { IfOk result (λ text. string_bytes text ≡ uid_of protocol originator responder microseconds) }
+{
+    let digest = digest(protocol, originator, responder, microseconds);
+    let mut text = String::from_str(alloc, "C")?;
+    add_digits(&mut text, DIGITS, front_number(&digest))?;
+    Ok(text)
+}
+
+/// The number that the next 8 bytes spell.
+fn next_number(digest: &[u8; 32]) -> u64
+    ensures { result ≡ from_be_bytes w64 (take 8 (drop 16 digest.now)) }
+{
+    let (_, behind) = digest.split_at(16);
+    match behind.split_first_chunk::<8>() {
+        Some((front, _)) => u64::from_be_bytes(*front),
+        None => unreachable!(),
+    }
+}
+
+/// The number by which Suricata's events of such a connection are found: below 2^52, so that each reader of JSON has it exactly.
+pub fn flow_id(protocol: Protocol, originator: End, responder: End, microseconds: u64) -> u64
+    ensures { result ≡ flow_id_of protocol originator responder microseconds }
+{
+    next_number(&digest(protocol, originator, responder, microseconds)) / 4096
+}

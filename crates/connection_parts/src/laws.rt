@@ -1,0 +1,12 @@
+//! What stands of parts. Each function's contract is one law; its body is empty.
+ghost use Rattle.std.specs.Prelude.{◌≡◌};
+ghost use Rattle.connection_parts.specs.Part.{falls_to};
+ghost use Rattle.connection_parts.specs.declared.part.Part.{Part};
+ghost use Rattle.connections.specs.declared.ends.End.{End};
+ghost use Rattle.connections.specs.declared.ends.Protocol.{Protocol};
+
+/// Both directions of a connection fall to the same part.
+#[tactic(auto, using(crate::proofs::HashLemmas::both_directions))]
+pub fn both_directions_fall_to_one_part()
+    ensures { (p : Protocol) (a b : End) (part : Part) → falls_to p a b part ≡ falls_to p b a part }
+{}

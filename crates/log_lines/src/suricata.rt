@@ -1,0 +1,258 @@
+//! Connections as Suricata's eve.json has them (docs.suricata.io, "EVE JSON Format", event type TLS).
+use crate::cell::{Cell, PrintCell, Row};
+use crate::columns::{Certified, End, Field, Named, Offer, Print};
+use crate::line::{Told, cell_of, end_cell, microseconds};
+use crate::suites::Suites;
+use crate::summary::Summary;
+use crate::text::{add_text, escaped, hexadecimal, name_or_number, some_mark, some_text};
+use connection_ids::flow_id;
+use connections::Protocol;
+use serde::{Described, Serialize, Serializer};
+use sha1::Sha1;
+use std::alloc::{AllocError, Global};
+use tls_base::TlsVersion;
+use tls_facts::Facts;
+use x509_text::time_text;
+
+/// A field of the object `tls`.
+enum Said {
+    /// The same as one of the log's own fields.
+    Same(Field),
+    Version,
+    Resumed,
+    Serial,
+    Fingerprint,
+    NotBefore,
+    NotAfter,
+    Ja3,
+    Ja3s,
+    Chosen,
+}
+
+/// The fields of the object `tls`, in their order.
+static TLS: &[(&str, Said)] = &[
+    (
+        "subject",
+        Said::Same(Field::ServerCertificate(Certified::Subject)),
+    ),
+    (
+        "issuerdn",
+        Said::Same(Field::ServerCertificate(Certified::Issuer)),
+    ),
+    ("session_resumed", Said::Resumed),
+    ("serial", Said::Serial),
+    ("fingerprint", Said::Fingerprint),
+    ("sni", Said::Same(Field::Named(Named::ServerName))),
+    ("version", Said::Version),
+    ("notbefore", Said::NotBefore),
+    ("notafter", Said::NotAfter),
+    ("ja3", Said::Ja3),
+    ("ja3s", Said::Ja3s),
+    ("ja4", Said::Same(Field::Print(Print::Ja4))),
+    ("client_alpns", Said::Same(Field::Offer(Offer::Protocols))),
+    ("server_alpns", Said::Chosen),
+];
+
+/// An event of eve.json: what any event has, and the object `tls`.
+#[derive(Drop)]
+struct Event {
+    front: Row,
+    tls: Row,
+}
+
+impl Described for Event {}
+
+impl Serialize for Event {
+    fn serialize<S: Serializer>(&self, out: &mut S) -> Result<(), S::Error> {
+        out.begin_map(None)?;
+        self.front.serialize_fields(out)?;
+        out.key("tls")?;
+        self.tls.serialize(out)?;
+        out.end_map()
+    }
+}
+
+/// A version by Suricata's name.
+fn version_name(version: TlsVersion) -> Option<&'static str> {
+    match version.0 {
+        0x0300 => Some("SSLv3"),
+        0x0301 => Some("TLSv1"),
+        0x0302 => Some("TLS 1.1"),
+        0x0303 => Some("TLS 1.2"),
+        0x0304 => Some("TLS 1.3"),
+        0xfeff => Some("DTLS 1.0"),
+        0xfefd => Some("DTLS 1.2"),
+        0xfefc => Some("DTLS 1.3"),
+        _ => None,
+    }
+}
+
+fn version_cell(alloc: Global, facts: &Facts) -> Result<Option<Cell>, AllocError> {
+    match facts.version() {
+        Some(version) => some_text(name_or_number(alloc, version_name(version), version.0)),
+        None => Ok(None),
+    }
+}
+
+/// Hexadecimal digits with `:` between each two.
+fn with_colons(alloc: Global, digits: &str) -> Result<String, AllocError> {
+    let mut text = String::new(alloc);
+    for (place, digit) in digits.as_bytes().iter().enumerate() {
+        if place != 0 && place % 2 == 0 {
+            text.push(':')?;
+        }
+        text.push(char::from(*digit))?;
+    }
+    Ok(text)
+}
+
+/// The bytes of its serial number.
+fn serial_cell(alloc: Global, told: &Told<'_>) -> Result<Option<Cell>, AllocError> {
+    match &told.server {
+        Some(certificate) => {
+            let digits = hex::encode_upper(alloc, certificate.tbs_certificate.serial_number)?;
+            some_text(with_colons(alloc, digits.as_str()))
+        }
+        None => Ok(None),
+    }
+}
+
+/// The SHA-1 of the certificate.
+fn fingerprint_cell(alloc: Global, facts: &Facts) -> Result<Option<Cell>, AllocError> {
+    match &facts.server_certificate {
+        Some(bytes) => {
+            let digits = hexadecimal(alloc, &Sha1::digest(bytes.as_slice()))?;
+            some_text(with_colons(alloc, digits.as_str()))
+        }
+        None => Ok(None),
+    }
+}
+
+/// A time of the certificate, without its time zone, which is UTC.
+fn date_cell(alloc: Global, told: &Told<'_>, field: Certified) -> Result<Option<Cell>, AllocError> {
+    match cell_of(alloc, told, &Field::ServerCertificate(field))? {
+        Some(Cell::Text(mut text)) => {
+            text.pop();
+            Ok(Some(Cell::Text(text)))
+        }
+        _ => Ok(None),
+    }
+}
+
+/// A fingerprint beside its text.
+fn print_cell(
+    alloc: Global,
+    told: &Told<'_>,
+    hash: Print,
+    string: Print,
+) -> Result<Option<Cell>, AllocError> {
+    let hash = cell_of(alloc, told, &Field::Print(hash))?;
+    let string = cell_of(alloc, told, &Field::Print(string))?;
+    match (hash, string) {
+        (Some(Cell::Text(hash)), Some(Cell::Text(string))) => {
+            Ok(Some(Cell::Print(PrintCell { hash, string })))
+        }
+        _ => Ok(None),
+    }
+}
+
+/// The protocol that the server chose, as a list.
+fn chosen_cell(alloc: Global, facts: &Facts) -> Result<Option<Cell>, AllocError> {
+    let Some(protocol) = facts.next_protocol() else {
+        return Ok(None);
+    };
+    let mut all = Vec::new(alloc);
+    add_text(&mut all, escaped(alloc, protocol))?;
+    Ok(Some(Cell::Texts(all)))
+}
+
+/// What one field of the object `tls` says.
+fn said_cell(alloc: Global, told: &Told<'_>, said: &Said) -> Result<Option<Cell>, AllocError> {
+    let summary = told.summary;
+    match said {
+        Said::Same(field) => cell_of(alloc, told, field),
+        Said::Version => version_cell(alloc, summary.facts),
+        Said::Resumed => Ok(some_mark(summary.is_resumed)),
+        Said::Serial => serial_cell(alloc, told),
+        Said::Fingerprint => fingerprint_cell(alloc, summary.facts),
+        Said::NotBefore => date_cell(alloc, told, Certified::NotBefore),
+        Said::NotAfter => date_cell(alloc, told, Certified::NotAfter),
+        Said::Ja3 => print_cell(alloc, told, Print::Ja3, Print::Ja3Text),
+        Said::Ja3s => print_cell(alloc, told, Print::Ja3s, Print::Ja3sText),
+        Said::Chosen => chosen_cell(alloc, summary.facts),
+    }
+}
+
+/// The time of the first packet, as 2026-11-26T17:00:00.000000+0000.
+fn timestamp_cell(alloc: Global, time: u64) -> Result<Option<Cell>, AllocError> {
+    let Some(mut text) = time_text(alloc, (time / 1_000_000_000) as i64)? else {
+        return Ok(None);
+    };
+    text.pop();
+    let part = microseconds(time) % 1_000_000;
+    text.push_str(format!(in alloc; ".{part:06}+0000")?.as_str())?;
+    Ok(Some(Cell::Text(text)))
+}
+
+fn proto_name(protocol: Protocol) -> &'static str {
+    match protocol {
+        Protocol::Tcp => "TCP",
+        Protocol::Udp => "UDP",
+    }
+}
+
+/// The number by which Suricata's events of one connection are found.
+fn flow_number(summary: &Summary<'_>) -> u64 {
+    flow_id(
+        summary.protocol,
+        summary.originator.end,
+        summary.responder.end,
+        microseconds(summary.first_time),
+    )
+}
+
+/// What any event has.
+fn front_row(alloc: Global, summary: &Summary<'_>) -> Result<Row, AllocError> {
+    let time = summary.first_time;
+    let mut cells = Vec::with_capacity(alloc, 9)?;
+    cells.push(("timestamp", timestamp_cell(alloc, time)?))?;
+    cells.push(("flow_id", Some(Cell::Number(flow_number(summary)))))?;
+    cells.push(("event_type", Some(Cell::Name("tls"))))?;
+    for (name, end) in FRONT {
+        cells.push((*name, end_cell(alloc, summary, time, end)?))?;
+    }
+    cells.push(("proto", Some(Cell::Name(proto_name(summary.protocol)))))?;
+    let community_id = end_cell(alloc, summary, time, &End::CommunityId)?;
+    cells.push(("community_id", community_id))?;
+    Ok(Row { cells })
+}
+
+/// The ends of a connection.
+static FRONT: &[(&str, End)] = &[
+    ("src_ip", End::Originator),
+    ("src_port", End::OriginatorPort),
+    ("dest_ip", End::Responder),
+    ("dest_port", End::ResponderPort),
+];
+
+/// The object `tls`.
+fn tls_row(alloc: Global, told: &Told<'_>) -> Result<Row, AllocError> {
+    let mut cells = Vec::with_capacity(alloc, TLS.len())?;
+    for (name, said) in TLS {
+        cells.push((*name, said_cell(alloc, told, said)?))?;
+    }
+    Ok(Row { cells })
+}
+
+/// The event of a connection, without a line break.
+pub fn line(alloc: Global, suites: &Suites, summary: &Summary<'_>) -> Result<String, AllocError> {
+    let told = Told::new(suites, summary);
+    let event = Event {
+        front: front_row(alloc, summary)?,
+        tls: tls_row(alloc, &told)?,
+    };
+    match serde_json::to_string(alloc, &event) {
+        Ok(text) => Ok(text),
+        Err(_) => Err(AllocError),
+    }
+}

@@ -1,0 +1,223 @@
+//! Lines as Zeek writes its logs: values with tabs between them, behind lines that name the fields and what they are
+//! (docs.zeek.org, "Zeek Log Formats and Inspection").
+use crate::cell::{Cell, Row};
+use crate::columns::{Column, Type};
+use std::alloc::{AllocError, Global};
+use x509_text::time_text;
+
+/// What stands for a field that is missing.
+const UNSET: &str = "-";
+
+/// What stands for a text or a list that is empty.
+const EMPTY: &str = "(empty)";
+
+/// What stands in front of lines that aren't values.
+const META: char = '#';
+
+impl Type {
+    /// Its name.
+    fn name(self) -> &'static str {
+        match self {
+            Type::Time => "time",
+            Type::Interval => "interval",
+            Type::Address => "addr",
+            Type::Port => "port",
+            Type::Enum => "enum",
+            Type::Text => "string",
+            Type::Mark => "bool",
+            Type::Count => "count",
+            Type::Texts => "vector[string]",
+            Type::Counts => "vector[count]",
+        }
+    }
+}
+
+/// A time as its lines have it, as 2026-11-26-17-00-00, in UTC.
+fn clock_text(alloc: Global, seconds: i64) -> Result<String, AllocError> {
+    let mut text = String::new(alloc);
+    let Some(time) = time_text(alloc, seconds)? else {
+        return String::from_str(alloc, UNSET);
+    };
+    for byte in time.as_bytes() {
+        match *byte {
+            b'T' | b':' => text.push('-')?,
+            b'Z' => {}
+            other => text.push(char::from(other))?,
+        }
+    }
+    Ok(text)
+}
+
+/// Adds the names and then the kinds of the fields at these places, in two lines.
+fn add_fields<T>(
+    header: &mut String,
+    table: &[Column<T>],
+    places: &[usize],
+) -> Result<(), AllocError> {
+    header.push_str("\n#fields")?;
+    for place in places {
+        if let Some(column) = table.get(*place) {
+            header.push('\t')?;
+            header.push_str(column.0)?;
+        }
+    }
+    header.push_str("\n#types")?;
+    for place in places {
+        if let Some(column) = table.get(*place) {
+            header.push('\t')?;
+            header.push_str(column.1.name())?;
+        }
+    }
+    Ok(())
+}
+
+/// The lines in front of all, without the last line break: of the log of that name, which is opened at this time.
+pub fn header<T>(
+    alloc: Global,
+    path: &str,
+    opened: i64,
+    table: &[Column<T>],
+    places: &[usize],
+) -> Result<String, AllocError> {
+    let mut header = String::from_str(
+        alloc,
+        "#separator \\x09\n#set_separator\t,\n#empty_field\t(empty)\n#unset_field\t-\n#path\t",
+    )?;
+    header.push_str(path)?;
+    header.push_str("\n#open\t")?;
+    header.push_str(clock_text(alloc, opened)?.as_str())?;
+    add_fields(&mut header, table, places)?;
+    Ok(header)
+}
+
+/// The line behind all, of a log that is closed at this time.
+pub fn footer(alloc: Global, closed: i64) -> Result<String, AllocError> {
+    let mut footer = String::from_str(alloc, "#close\t")?;
+    footer.push_str(clock_text(alloc, closed)?.as_str())?;
+    Ok(footer)
+}
+
+/// Adds a byte by its two hexadecimal digits.
+fn add_hexadecimal(alloc: Global, line: &mut String, byte: u8) -> Result<(), AllocError> {
+    let digits = format!(in alloc; "\\x{byte:02x}")?;
+    line.push_str(digits.as_str())
+}
+
+/// Adds a byte of a text, or of a text in a list, by its digits where it separates or can't be printed.
+fn add_byte(alloc: Global, line: &mut String, byte: u8, is_listed: bool) -> Result<(), AllocError> {
+    match byte {
+        b'\\' => line.push_str("\\\\"),
+        b',' if is_listed => add_hexadecimal(alloc, line, byte),
+        b' '..=b'~' => line.push(char::from(byte)),
+        _ => add_hexadecimal(alloc, line, byte),
+    }
+}
+
+/// Adds a text. One that could be taken for something else is told by the digits of its first byte.
+fn add_text(
+    alloc: Global,
+    line: &mut String,
+    text: &str,
+    is_listed: bool,
+) -> Result<(), AllocError> {
+    if text.is_empty() {
+        return line.push_str(EMPTY);
+    }
+    let is_meta = line.is_empty() && text.starts_with(META);
+    let mut is_other = is_meta || text == UNSET || text == EMPTY;
+    for byte in text.as_bytes() {
+        if is_other {
+            add_hexadecimal(alloc, line, *byte)?;
+        } else {
+            add_byte(alloc, line, *byte, is_listed)?;
+        }
+        is_other = false;
+    }
+    Ok(())
+}
+
+/// Adds a list of texts.
+fn add_texts(alloc: Global, line: &mut String, texts: &[String]) -> Result<(), AllocError> {
+    if texts.is_empty() {
+        return line.push_str(EMPTY);
+    }
+    let mut is_first = true;
+    for text in texts {
+        if !is_first {
+            line.push(',')?;
+        }
+        add_text(alloc, line, text.as_str(), true)?;
+        is_first = false;
+    }
+    Ok(())
+}
+
+/// Adds a list of numbers.
+fn add_numbers(alloc: Global, line: &mut String, numbers: &[u64]) -> Result<(), AllocError> {
+    if numbers.is_empty() {
+        return line.push_str(EMPTY);
+    }
+    let mut is_first = true;
+    for number in numbers {
+        if !is_first {
+            line.push(',')?;
+        }
+        line.push_str(format!(in alloc; "{number}")?.as_str())?;
+        is_first = false;
+    }
+    Ok(())
+}
+
+/// A number, a time or a mark.
+fn plain_text(alloc: Global, cell: &Cell) -> Result<String, AllocError> {
+    match cell {
+        Cell::Number(n) => format!(in alloc; "{n}"),
+        // (of whole seconds)
+        Cell::Whole(n) => format!(in alloc; "{n}.000000"),
+        Cell::Seconds(seconds) => {
+            let whole = seconds.microseconds / 1_000_000;
+            let part = seconds.microseconds % 1_000_000;
+            format!(in alloc; "{whole}.{part:06}")
+        }
+        Cell::Mark(true) => String::from_str(alloc, "T"),
+        Cell::Mark(false) => String::from_str(alloc, "F"),
+        _ => Ok(String::new(alloc)),
+    }
+}
+
+/// Adds what a field says; what has fields of its own as JSON.
+fn add_cell(alloc: Global, line: &mut String, cell: &Option<Cell>) -> Result<(), AllocError> {
+    match cell {
+        None => line.push_str(UNSET),
+        Some(Cell::Name(name)) => add_text(alloc, line, name, false),
+        Some(Cell::Text(text)) => add_text(alloc, line, text.as_str(), false),
+        Some(Cell::Texts(texts)) => add_texts(alloc, line, texts.as_slice()),
+        Some(Cell::Numbers(numbers)) => add_numbers(alloc, line, numbers.as_slice()),
+        Some(Cell::Stop(_) | Cell::Message(_) | Cell::Print(_)) => {
+            add_text(alloc, line, json_text(alloc, cell)?.as_str(), false)
+        }
+        Some(other) => line.push_str(plain_text(alloc, other)?.as_str()),
+    }
+}
+
+/// What a field says, as JSON.
+fn json_text(alloc: Global, cell: &Option<Cell>) -> Result<String, AllocError> {
+    match serde_json::to_string(alloc, cell) {
+        Ok(text) => Ok(text),
+        Err(_) => Err(AllocError),
+    }
+}
+
+/// A line, without its line break.
+pub fn line(alloc: Global, row: &Row) -> Result<String, AllocError> {
+    let mut line = String::new(alloc);
+    let mut is_first = true;
+    for (_name, cell) in &row.cells {
+        if !is_first {
+            line.push('\t')?;
+        }
+        add_cell(alloc, &mut line, cell)?;
+        is_first = false;
+    }
+    Ok(line)
+}

@@ -1,0 +1,14 @@
+use Rattle.std.proofs.Common.{◌≡◌, ◌≤◌, ◌++◌, length, take}
+use Rattle.tls_fields.specs.Items.{items_in}
+use Rattle.tls_fields.specs.Layout.{number}
+use Rattle.tls_fingerprints.specs.Numbers.{without_grease}
+use Rattle.tls_fingerprints.proofs.room.kept_in.Given as goal
+
+abbrev pub invariant-loop-n : goal.invariant-loop-n
+invariant-loop-n l = record {
+  can_next : (goal.iterator-loop-n).can_next l.n-iterator;
+  is_finite : (goal.iterator-loop-n).is_finite l.n-iterator;
+  within : l.count ≤ length l.room;
+  kept : take l.count l.room ++ without_grease (items_in (number 2) l.n-iterator.bytes.now)
+      ≡ without_grease (items_in (number 2) l.fn.numbers.bytes.now);
+}

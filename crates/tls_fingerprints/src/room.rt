@@ -1,0 +1,77 @@
+//! Numbers held in room of the caller's.
+ghost use Rattle.std.specs.Prelude.{◌≡◌, ◌<◌, length, IfSome, IfNone};
+ghost use Rattle.tls_fields.specs.Items.{items_in};
+ghost use Rattle.tls_fields.specs.Layout.{number};
+ghost use Rattle.tls_ext.specs.InPlace.{extension_type};
+ghost use Rattle.tls_fingerprints.specs.Ja4.{is_told_before as is_told_before_in_front, other_types};
+ghost use Rattle.tls_fingerprints.specs.Numbers.{IsFilled, without_grease};
+
+use crate::numbers::is_grease;
+use tls_ext::ExtensionType;
+use tls_fields::Items;
+
+#[tactic(auto, using(crate::proofs::RoomLemmas::room_ends, crate::proofs::RoomLemmas::room_full))]
+/// Puts the numbers that aren't of GREASE to the front of `room`, in their order, and answers how many; `None` where there are more than it
+/// takes.
+pub(crate) fn kept_in(numbers: Items<u16>, room: &mut [u16]) -> Option<usize>
+    ensures size { length room.new ≡ length room.old }
+    ensures some { IfSome result (λ n. IsFilled room.new n (without_grease (items_in (number 2) numbers.entry.bytes.now))) }
+    ensures none { IfNone result (length room.old < length (without_grease (items_in (number 2) numbers.entry.bytes.now))) }
+{
+    let mut count = 0;
+    for n in numbers {
+        if is_grease(n) {
+            continue;
+        }
+        if count == room.len() {
+            return None;
+        }
+        room[count] = n;
+        count += 1;
+    }
+    Some(count)
+}
+
+/// Whether the first part of JA4 tells of that type.
+fn is_told_before(kind: u16) -> bool
+    ensures { result ≡ is_told_before_in_front kind }
+{
+    kind == 0 || kind == 16
+}
+
+/// How many types of extensions there are.
+#[derive(Clone, Copy)]
+pub(crate) struct Types {
+    /// Those that aren't of GREASE.
+    pub(crate) all: usize,
+    /// Those of them that the first part of JA4 doesn't tell.
+    pub(crate) others: usize,
+}
+
+#[tactic(auto, using(crate::proofs::RoomLemmas::room_ends, crate::proofs::RoomLemmas::counted_full, crate::proofs::RoomLemmas::counted_all))]
+/// Puts the types that aren't of GREASE, and that the first part of JA4 doesn't tell, to the front of `room`, in their order, and answers how
+/// many; `None` where there are more than it takes, those that it tells counted too.
+pub(crate) fn other_types_in(types: Items<ExtensionType>, room: &mut [u16]) -> Option<Types>
+    ensures size { length room.new ≡ length room.old }
+    ensures some { IfSome result (λ t. (t.all ≡ length (without_grease (items_in extension_type types.entry.bytes.now)))
+        × IsFilled room.new t.others (other_types (without_grease (items_in extension_type types.entry.bytes.now)))) }
+    ensures none { IfNone result (length room.old < length (without_grease (items_in extension_type types.entry.bytes.now))) }
+{
+    let mut all = 0;
+    let mut others = 0;
+    for kind in types {
+        if is_grease(kind.0) {
+            continue;
+        }
+        if all == room.len() {
+            return None;
+        }
+        all += 1;
+        if is_told_before(kind.0) {
+            continue;
+        }
+        room[others] = kind.0;
+        others += 1;
+    }
+    Some(Types { all, others })
+}

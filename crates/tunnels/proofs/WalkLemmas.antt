@@ -1,0 +1,41 @@
+-- What is read in front, by how many tunnels may still come.
+use Rattle.std.proofs.Common.{◌≡◌, ◌≢◌, ℕ, zero, suc, ◌-◌, List, [], ◌∷◌, ◌++◌, Ok, Err, refl, ap, arith}
+use Rattle.tls_fields.specs.Bytes.{Bytes}
+use Rattle.tls_fields.specs.Meaning.{Refusal}
+use Rattle.tls_fields.specs.Reading.{reading}
+use Rattle.capture.specs.Ip.{Datagram}
+use Rattle.tunnels.specs.Tunnel.{Header}
+use Rattle.tunnels.specs.Walk.{followed, inner_layer, Wraps, Holds, Unknown, Held, Other, Unread, Deeper}
+use Rattle.tunnels.specs.declared.tunnel.Tunnel.{Tunnel}
+
+pub refused : (n : ℕ) (found : List Tunnel) (e : Refusal)
+    → followed n found (Err e) ≡ record { tunnels = found; inside = Unread }
+unfolding followed
+refused zero found e = refl
+refused (suc n) found e = refl
+
+pub unknown : (n : ℕ) (found : List Tunnel) (b : Bytes)
+    → followed n found (Ok (Unknown, b)) ≡ record { tunnels = found; inside = Other }
+unfolding followed
+unknown zero found b = refl
+unknown (suc n) found b = refl
+
+pub holds : (n : ℕ) (found : List Tunnel) (d : Datagram) (b : Bytes)
+    → followed n found (Ok (Holds d, b)) ≡ record { tunnels = found; inside = Held d }
+unfolding followed
+holds zero found d b = refl
+holds (suc n) found d b = refl
+
+pub deeper : (found : List Tunnel) (h : Header) (b : Bytes)
+    → followed 0 found (Ok (Wraps h, b)) ≡ record { tunnels = found; inside = Deeper }
+unfolding followed
+deeper found h b = refl
+
+pub one_more : (n : ℕ) (found : List Tunnel) (h : Header) (b : Bytes) → n ≢ 0
+    → followed n found (Ok (Wraps h, b))
+    ≡ followed (n - 1) (found ++ h.tunnel ∷ []) (reading (inner_layer h.kind) h.inside)
+unfolding followed
+one_more zero found h b some = absurd (some refl)
+one_more (suc n) found h b some =
+    let same : n ≡ suc n - 1 = omega arith in
+    ap (λ k. followed k (found ++ h.tunnel ∷ []) (reading (inner_layer h.kind) h.inside)) same

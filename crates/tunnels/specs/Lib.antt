@@ -1,0 +1,13 @@
+pub mod Tunnel
+pub mod Gre
+pub mod Labels
+pub mod Overlay
+pub mod Gtp
+pub mod Teredo
+pub mod Carriers
+pub mod Walk
+pub use Rattle.tls_fields.specs.Bytes
+pub use Rattle.tls_fields.specs.Layout
+pub use Rattle.tls_fields.specs.Meaning
+pub use Rattle.tls_fields.specs.Reading
+pub use Rattle.tls_fields.specs.Answers

@@ -1,0 +1,41 @@
+-- Networks laid over UDP: VXLAN (RFC 7348), GENEVE (RFC 8926).
+use Rattle.std.specs.Prelude.{ℕ, ◌+◌, ◌*◌, ◌%◌, ◌==◌, ◌||◌, nat_le, Bool, Some}
+use Rattle.tls_fields.specs.Layout.{Layout, done, number, block, test, ◌>>=◌, ◌>>◌}
+use Rattle.tls_fields.specs.declared.result.ErrorKind.TheVariants.{Verify}
+use Rattle.capture.specs.Link.{IPV4, IPV6}
+use Rattle.tunnels.specs.Tunnel.{Header, ETHERNET, carrying}
+use Rattle.tunnels.specs.declared.tunnel.TunnelKind.TheVariants.{Vxlan, Geneve}
+
+-- Flags, of which I is set (RFC 7348, section 5), and G may be, which says that a group stands in the next 3 bytes
+-- (draft-smith-vxlan-group-policy); network (24 bits); reserved.
+unfoldable pub vxlan : Layout Header
+vxlan = do
+  flags ← number 1
+  test ((flags == 0x08) || (flags == 0x88)) Verify
+  block 3
+  network ← number 3
+  block 1
+  carrying (record { kind = Vxlan; id = Some network }) ETHERNET
+
+abbrev pub is_overlaid : ℕ → Bool
+is_overlaid kind = (kind == ETHERNET) || ((kind == IPV4) || (kind == IPV6))
+
+-- Version 0, and the length of the options in words of 4 bytes; flags O and C, and none of the reserved ones; the type of Ethernet of
+-- what is carried (RFC 8926, section 3.4): the length and the type.
+unfoldable pub geneve_front : Layout (ℕ × ℕ)
+geneve_front = do
+  words ← number 1
+  test (nat_le words 63) Verify
+  flags ← number 1
+  test (flags % 64 == 0) Verify
+  kind ← number 2
+  test (is_overlaid kind) Verify
+  done (words, kind)
+
+-- The same, network (24 bits), reserved, options.
+unfoldable pub geneve : Layout Header
+geneve = do
+  front ← geneve_front
+  network ← number 3
+  block (front.0 * 4 + 1)
+  carrying (record { kind = Geneve; id = Some network }) front.1

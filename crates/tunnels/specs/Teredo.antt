@@ -1,0 +1,30 @@
+-- IPv6 through NATs, over UDP (RFC 4380).
+use Rattle.std.specs.Prelude.{ℕ, ◌+◌, ◌/◌, ◌==◌, None}
+use Rattle.tls_fields.specs.Layout.{Layout, done, number, block, look, test, choose, mapped, ◌>>=◌, ◌>>◌}
+use Rattle.tls_fields.specs.declared.result.ErrorKind.TheVariants.{Verify}
+use Rattle.capture.specs.Link.{IPV6}
+use Rattle.tunnels.specs.Tunnel.{Header, carrying, skipped_if}
+use Rattle.tunnels.specs.declared.tunnel.TunnelKind.TheVariants.{Teredo}
+
+-- Type 1; the lengths of the client's name and of the value that shows who it is; these two, a nonce of 8 bytes and a
+-- byte (section 5.1.1).
+unfoldable pub authentication : Layout Unit
+authentication = do
+  block 2
+  name ← number 1
+  value ← number 1
+  mapped (λ _. tt) (block (name + value + 9))
+
+unfoldable pub authentication_if : ℕ → Layout Unit
+authentication_if front = choose (front == 1) authentication (done tt)
+
+-- An authentication, where there is one; type 0, a port and an address of the origin, where they are there; the datagram.
+unfoldable pub teredo : Layout Header
+teredo = do
+  front ← look (number 2)
+  authentication_if front
+  behind ← look (number 2)
+  skipped_if (behind == 0) 8
+  first ← look (number 1)
+  test (first / 16 == 6) Verify
+  carrying (record { kind = Teredo; id = None }) IPV6

@@ -1,0 +1,53 @@
+//! Which headers stand behind which numbers.
+#![tactic(auto, using(tls_fields::proofs::OneAnswerLemmas::read_allowed), unfolding(crate::specs::Carriers::by_protocol, crate::specs::Carriers::by_ports))]
+
+ghost use Rattle.std.specs.Prelude.{◌≡◌, None};
+ghost use Rattle.tls_fields.specs.Answers.{Gives};
+ghost use Rattle.tunnels.specs.Tunnel.{view_header};
+ghost use Rattle.tunnels.specs.Carriers.{by_protocol as by_protocol_layout, by_ports as by_ports_layout};
+
+use crate::gre::parse_gre;
+use crate::gtp::parse_gtp;
+use crate::labels::parse_mpls;
+use crate::overlay::{parse_geneve, parse_vxlan};
+use crate::teredo::parse_teredo;
+use crate::tunnel::{Header, IPV4, IPV6, Tunnel, TunnelKind, carrying};
+use tls_fields::{ErrorKind, IResult, refused};
+
+/// The port of Teredo.
+const TEREDO: u16 = 3544;
+
+/// A tunnel of datagrams of that version, in others.
+fn of_version(kind: TunnelKind) -> Tunnel
+    ensures kind { result.kind ≡ kind }
+    ensures id { result.id ≡ None }
+{
+    Tunnel { kind, id: None }
+}
+
+/// What a protocol of IP carries.
+pub(crate) fn by_protocol(i: &[u8], protocol: u8) -> IResult<&[u8], Header>
+    ensures { Gives view_header (by_protocol_layout protocol) i.now result }
+{
+    match protocol {
+        4 => carrying(i, of_version(TunnelKind::Ipv4), IPV4),
+        41 => carrying(i, of_version(TunnelKind::Ipv6), IPV6),
+        47 => parse_gre(i),
+        137 => parse_mpls(i),
+        _ => refused(i, ErrorKind::Switch),
+    }
+}
+
+/// What a user datagram carries, by the ports that it comes from and goes to.
+pub(crate) fn by_ports(i: &[u8], source: u16, destination: u16) -> IResult<&[u8], Header>
+    ensures { Gives view_header (by_ports_layout source destination) i.now result }
+{
+    match destination {
+        4789 | 8472 => parse_vxlan(i),
+        6081 => parse_geneve(i),
+        2152 => parse_gtp(i),
+        TEREDO => parse_teredo(i),
+        _ if source == TEREDO => parse_teredo(i),
+        _ => refused(i, ErrorKind::Switch),
+    }
+}

@@ -1,0 +1,140 @@
+//! Generic Routing Encapsulation (RFC 2784; RFC 2890), and the copies of frames that switches send in it (draft-foschiano-erspan).
+#![tactic(auto, using(tls_fields::proofs::OneAnswerLemmas::read_allowed), unfolding(crate::specs::Gre::key_if, crate::specs::Gre::erspan2, crate::specs::Gre::erspan, crate::specs::Gre::copied, crate::specs::Gre::gre_payload))]
+
+ghost use Rattle.std.specs.Prelude.{◌≡◌};
+ghost use Rattle.tls_fields.specs.Answers.{Gives};
+ghost use Rattle.tunnels.specs.Tunnel.{view_header};
+ghost use Rattle.tunnels.specs.Gre.{gre, gre_payload as gre_payload_layout, erspan as erspan_layout, erspan2 as erspan2_layout, erspan3 as erspan3_layout, copied as copied_layout, key_if as key_if_layout, is_plain as is_plain_flags, erspan_tunnel as erspan_tunnel_of};
+
+use crate::tunnel::{ETHERNET, Header, Tunnel, TunnelKind, carrying, skipped_if, version_type};
+use tls_fields::{ErrorKind, IResult, block, number2, number4, refused};
+
+/// The protocol of frames in ERSPAN of types I and II.
+const ERSPAN: u16 = 0x88be;
+
+/// The same of type III.
+const ERSPAN3: u16 = 0x22eb;
+
+/// Whether flags are those of version 0, without the routing of RFC 1701.
+fn is_plain(flags: u16) -> bool
+    ensures { result ≡ is_plain_flags flags }
+{
+    flags % 8 == 0 && flags / 0x4000 % 2 == 0 && flags / 0x400 % 4 == 0
+}
+
+/// The key, where it is there.
+fn key_if(i: &[u8], present: bool) -> IResult<&[u8], Option<u32>>
+    ensures { Gives (λ v. v) (key_if_layout present) i.now result }
+{
+    if present {
+        let (i, key) = number4(i)?;
+        return Ok((i, Some(key)));
+    }
+    Ok((i, None))
+}
+
+/// The tunnel of copies of that session.
+fn erspan_tunnel(id: Option<u32>) -> Tunnel
+    ensures { result ≡ erspan_tunnel_of id }
+{
+    Tunnel {
+        kind: TunnelKind::Erspan,
+        id,
+    }
+}
+
+/// Behind a header of type II.
+fn erspan2(i: &[u8]) -> IResult<&[u8], Header>
+    ensures { Gives view_header erspan2_layout i.now result }
+{
+    let (i, front) = number2(i)?;
+    if front / 4096 != 1 {
+        return refused(i, ErrorKind::Verify);
+    }
+    let (i, session) = number2(i)?;
+    let (i, _) = block(i, 4)?;
+    carrying(i, erspan_tunnel(Some(u32::from(session % 1024))), ETHERNET)
+}
+
+/// Of types I and II.
+fn erspan(i: &[u8], is_numbered: bool) -> IResult<&[u8], Header>
+    ensures { Gives view_header (erspan_layout is_numbered) i.now result }
+{
+    if is_numbered {
+        return erspan2(i);
+    }
+    carrying(i, erspan_tunnel(None), ETHERNET)
+}
+
+/// What a copy is of that frame type.
+fn copied(i: &[u8], frame_type: u16) -> IResult<&[u8], u16>
+    ensures { Gives (λ v. v) (copied_layout frame_type) i.now result }
+{
+    match frame_type {
+        0 => Ok((i, ETHERNET)),
+        2 => version_type(i),
+        _ => Ok((i, 0)),
+    }
+}
+
+/// Behind a header of type III.
+#[tactic(auto, using(tls_fields::proofs::OneAnswerLemmas::read_allowed), unfolding(crate::specs::Gre::erspan3))]
+fn erspan3(i: &[u8]) -> IResult<&[u8], Header>
+    ensures { Gives view_header erspan3_layout i.now result }
+{
+    let (i, front) = number2(i)?;
+    if front / 4096 != 2 {
+        return refused(i, ErrorKind::Verify);
+    }
+    let (i, session) = number2(i)?;
+    let (i, _) = block(i, 6)?;
+    let (i, last) = number2(i)?;
+    let (i, _) = skipped_if(i, last % 2 == 1, 8)?;
+    let (i, kind) = copied(i, last / 1024 % 32)?;
+    carrying(i, erspan_tunnel(Some(u32::from(session % 1024))), kind)
+}
+
+/// What stands behind the header, by its protocol.
+fn gre_payload(
+    i: &[u8],
+    protocol: u16,
+    is_numbered: bool,
+    key: Option<u32>,
+) -> IResult<&[u8], Header>
+    ensures { Gives view_header (gre_payload_layout protocol is_numbered key) i.now result }
+{
+    match protocol {
+        ERSPAN => erspan(i, is_numbered),
+        ERSPAN3 => erspan3(i),
+        _ => {
+            let tunnel = Tunnel {
+                kind: TunnelKind::Gre,
+                id: key,
+            };
+            carrying(i, tunnel, protocol)
+        }
+    }
+}
+
+/// Reads a header of GRE (RFC 2784, section 2; RFC 2890, section 2): 4 bytes; checksum, key and sequence number, where their flags are set;
+/// and all behind it. Behind the protocols 0x88be and 0x22eb ERSPAN's own header is read too (draft-foschiano-erspan, section 4), and the
+/// tunnel is ERSPAN's. The checksum isn't verified.
+///
+/// - `Incomplete` of what is missing of the headers.
+/// - `Error` of kind `Verify` where the version isn't 0, or one of the bits 1, 4 and 5 is set (RFC 2784, section 2.3); or where the
+///   version of ERSPAN is another than the protocol says.
+#[tactic(auto, using(tls_fields::proofs::OneAnswerLemmas::read_allowed), unfolding(crate::specs::Gre::gre))]
+pub fn parse_gre(i: &[u8]) -> IResult<&[u8], Header>
+    ensures { Gives view_header gre i.now result }
+{
+    let (i, flags) = number2(i)?;
+    if !is_plain(flags) {
+        return refused(i, ErrorKind::Verify);
+    }
+    let (i, protocol) = number2(i)?;
+    let (i, _) = skipped_if(i, flags / 0x8000 == 1, 4)?;
+    let (i, key) = key_if(i, flags / 0x2000 % 2 == 1)?;
+    let is_numbered = flags / 0x1000 % 2 == 1;
+    let (i, _) = skipped_if(i, is_numbered, 4)?;
+    gre_payload(i, protocol, is_numbered, key)
+}

@@ -1,0 +1,127 @@
+//! Tunnels of mobile networks: GTP-U (3GPP TS 29.281).
+#![tactic(auto, using(tls_fields::proofs::OneAnswerLemmas::read_allowed), unfolding(crate::specs::Gtp::extension, crate::specs::Gtp::further_extension, crate::specs::Gtp::extensions_if, crate::specs::Gtp::optional_fields, crate::specs::Gtp::gtp_payload))]
+
+ghost use Rattle.tls_fields.specs.Layout.{complete};
+ghost use Rattle.tls_fields.specs.Answers.{Gives};
+ghost use Rattle.tunnels.specs.Tunnel.{view_header};
+ghost use Rattle.tunnels.specs.Gtp.{extension as extension_layout, extensions as extensions_layout, extensions_if as extensions_if_layout, further_extension, gtp, gtp_payload as gtp_payload_layout, optional_fields as optional_fields_layout};
+
+use crate::tunnel::{Header, Tunnel, TunnelKind, carrying, version_type};
+use tls_fields::{
+    Err, ErrorKind, IResult, InPlace, Items, block, number1, number2, number4, refused,
+};
+
+/// The message type of what users send.
+const USER_DATA: u8 = 255;
+
+/// An extension header: the type of the next one.
+fn extension(i: &[u8]) -> IResult<&[u8], u8>
+    ensures { Gives (λ v. v) extension_layout i.now result }
+{
+    let (i, words) = number1(i)?;
+    if words < 1 {
+        return refused(i, ErrorKind::LengthValue);
+    }
+    let (i, _) = block(i, words as usize * 4 - 2)?;
+    number1(i)
+}
+
+/// An extension header that another follows.
+struct FurtherExtension;
+
+impl<'a> InPlace<'a> for FurtherExtension {
+    type Read = ();
+
+    ghost Value = { Unit };
+
+    ghost view = { λ v. v };
+
+    ghost layout = { further_extension };
+
+    fn read(i: &'a [u8]) -> IResult<&'a [u8], ()> {
+        let (i, next) = extension(i)?;
+        if next == 0 {
+            return refused(i, ErrorKind::Tag);
+        }
+        Ok((i, ()))
+    }
+}
+
+/// Extension headers, to the last.
+#[tactic(auto, using(tls_fields::proofs::OneAnswerLemmas::read_allowed), unfolding(crate::specs::Gtp::extensions))]
+fn extensions(i: &[u8]) -> IResult<&[u8], u8>
+    ensures { Gives (λ v. v) extensions_layout i.now result }
+{
+    extension(Items::<FurtherExtension>::new(i).rest())
+}
+
+/// The same, where they are there.
+fn extensions_if(i: &[u8], present: bool) -> IResult<&[u8], u8>
+    ensures { Gives (λ v. v) (extensions_if_layout present) i.now result }
+{
+    if present {
+        return extensions(i);
+    }
+    Ok((i, 0))
+}
+
+/// The fields that stand there where one of these flags is set, and the extension headers.
+fn optional_fields(i: &[u8], flags: u8) -> IResult<&[u8], u8>
+    ensures { Gives (λ v. v) (optional_fields_layout flags) i.now result }
+{
+    if flags == 0 {
+        return Ok((i, 0));
+    }
+    let (i, _) = block(i, 3)?;
+    let (i, next) = number1(i)?;
+    extensions_if(i, flags / 4 == 1 && next != 0)
+}
+
+/// The same, and a datagram.
+fn gtp_payload(i: &[u8], flags: u8, id: u32) -> IResult<&[u8], Header>
+    ensures { Gives view_header (gtp_payload_layout flags id) i.now result }
+{
+    let (i, _) = optional_fields(i, flags)?;
+    let (i, kind) = version_type(i)?;
+    let tunnel = Tunnel {
+        kind: TunnelKind::GtpU,
+        id: Some(id),
+    };
+    carrying(i, tunnel, kind)
+}
+
+/// The same, where no further bytes belong to it.
+fn whole_payload(i: &[u8], flags: u8, id: u32) -> IResult<&[u8], Header>
+    ensures { Gives view_header (complete (gtp_payload_layout flags id)) i.now result }
+{
+    match gtp_payload(i, flags, id) {
+        Err(Err::Incomplete(_)) => refused(i, ErrorKind::Complete),
+        answer => answer,
+    }
+}
+
+/// Reads a message of GTP-U that carries what users send (TS 29.281, section 5.1): 8 bytes, sequence number and extension headers where flags
+/// say so, and the datagram behind them, to the end that the length says.
+///
+/// - `Incomplete` of what is missing of the 8 bytes, or of those that the length counts.
+/// - `Error` of kind `Verify` where the version isn't 1, or that of GTP', or the message type isn't 255.
+/// - `Error` of kind `LengthValue` where an extension header says the length 0.
+/// - `Error` of kind `Complete` where the fields and a first byte don't fit in the length.
+#[tactic(auto, using(tls_fields::proofs::OneAnswerLemmas::read_allowed), unfolding(crate::specs::Gtp::gtp))]
+pub fn parse_gtp(i: &[u8]) -> IResult<&[u8], Header>
+    ensures { Gives view_header gtp i.now result }
+{
+    let (i, first) = number1(i)?;
+    if first / 16 != 3 {
+        return refused(i, ErrorKind::Verify);
+    }
+    let (i, message) = number1(i)?;
+    if message != USER_DATA {
+        return refused(i, ErrorKind::Verify);
+    }
+    let (i, len) = number2(i)?;
+    let (i, id) = number4(i)?;
+    let (i, held) = block(i, len as usize)?;
+    let (_, header) = whole_payload(held, first % 8, id)?;
+    Ok((i, header))
+}

@@ -1,0 +1,12 @@
+//! What holds of the definitions alone. Each function's contract is one law; its body is empty.
+
+ghost use Rattle.std.specs.Prelude.{ℕ};
+ghost use Rattle.tls_fields.specs.Bytes.{Bytes};
+ghost use Rattle.capture.specs.Ip.{Datagram};
+ghost use Rattle.tunnels.specs.Walk.{IsReadAlone};
+
+/// A datagram that is found in no tunnel is the one that [`capture::parse_packet`] reads.
+#[tactic(auto, using(crate::proofs::PlainLemmas::plain))]
+pub fn what_is_in_no_tunnel_is_read_alone()
+    ensures { (link_type : ℕ) (b : Bytes) (d : Datagram) → IsReadAlone link_type b d }
+{}

@@ -1,0 +1,77 @@
+//! Networks laid over UDP: VXLAN (RFC 7348), GENEVE (RFC 8926).
+#![tactic(auto, using(tls_fields::proofs::OneAnswerLemmas::read_allowed), unfolding(crate::specs::Overlay::vxlan, crate::specs::Overlay::geneve_front))]
+
+ghost use Rattle.std.specs.Prelude.{◌≡◌, ◌<◌, IfOk};
+ghost use Rattle.tls_fields.specs.Answers.{Gives};
+ghost use Rattle.tunnels.specs.Tunnel.{view_header};
+ghost use Rattle.tunnels.specs.Overlay.{geneve, geneve_front as geneve_front_layout, is_overlaid as is_overlaid_type, vxlan};
+
+use crate::tunnel::{ETHERNET, Header, IPV4, IPV6, Tunnel, TunnelKind, carrying};
+use tls_fields::{ErrorKind, IResult, block, number1, number2, number3, refused};
+
+/// Reads a header of VXLAN (RFC 7348, section 5), of 8 bytes, and the frame of Ethernet behind it.
+///
+/// - `Incomplete` of what is missing of the header.
+/// - `Error` of kind `Verify` where the flags are others than I, with or without G.
+pub fn parse_vxlan(i: &[u8]) -> IResult<&[u8], Header>
+    ensures { Gives view_header vxlan i.now result }
+{
+    let (i, flags) = number1(i)?;
+    if flags != 0x08 && flags != 0x88 {
+        return refused(i, ErrorKind::Verify);
+    }
+    let (i, _) = block(i, 3)?;
+    let (i, network) = number3(i)?;
+    let (i, _) = block(i, 1)?;
+    let tunnel = Tunnel {
+        kind: TunnelKind::Vxlan,
+        id: Some(network),
+    };
+    carrying(i, tunnel, ETHERNET)
+}
+
+/// Whether what has this type of Ethernet is carried.
+fn is_overlaid(kind: u16) -> bool
+    ensures { result ≡ is_overlaid_type kind }
+{
+    kind == ETHERNET || kind == IPV4 || kind == IPV6
+}
+
+/// The length of the options in words of 4 bytes, and the type of what is carried.
+fn geneve_front(i: &[u8]) -> IResult<&[u8], (u8, u16)>
+    ensures gives { Gives (λ v. v) geneve_front_layout i.now result }
+    ensures bound { IfOk result (λ x. x.1.0 < 64) }
+{
+    let (i, words) = number1(i)?;
+    if words > 63 {
+        return refused(i, ErrorKind::Verify);
+    }
+    let (i, flags) = number1(i)?;
+    if flags % 64 != 0 {
+        return refused(i, ErrorKind::Verify);
+    }
+    let (i, kind) = number2(i)?;
+    if !is_overlaid(kind) {
+        return refused(i, ErrorKind::Verify);
+    }
+    Ok((i, (words, kind)))
+}
+
+/// Reads a header of GENEVE (RFC 8926, section 3.4), of 8 bytes and options, and all behind it.
+///
+/// - `Incomplete` of what is missing of the header or the options.
+/// - `Error` of kind `Verify` where the version isn't 0, a reserved flag is set, or what is carried is neither a frame of Ethernet nor
+///   IPv4 nor IPv6.
+#[tactic(auto, using(tls_fields::proofs::OneAnswerLemmas::read_allowed), unfolding(crate::specs::Overlay::geneve))]
+pub fn parse_geneve(i: &[u8]) -> IResult<&[u8], Header>
+    ensures { Gives view_header geneve i.now result }
+{
+    let (i, (words, kind)) = geneve_front(i)?;
+    let (i, network) = number3(i)?;
+    let (i, _) = block(i, words as usize * 4 + 1)?;
+    let tunnel = Tunnel {
+        kind: TunnelKind::Geneve,
+        id: Some(network),
+    };
+    carrying(i, tunnel, kind)
+}

@@ -1,0 +1,54 @@
+//! IPv6 through NATs, over UDP (RFC 4380).
+#![tactic(auto, using(tls_fields::proofs::OneAnswerLemmas::read_allowed), unfolding(crate::specs::Teredo::authentication, crate::specs::Teredo::authentication_if))]
+
+ghost use Rattle.tls_fields.specs.Answers.{Gives};
+ghost use Rattle.tunnels.specs.Tunnel.{view_header};
+ghost use Rattle.tunnels.specs.Teredo.{authentication as authentication_layout, authentication_if as authentication_if_layout, teredo};
+
+use crate::tunnel::{Header, IPV6, Tunnel, TunnelKind, carrying, skipped_if};
+use tls_fields::{ErrorKind, IResult, block, number1, number2, refused};
+
+/// What shows who the client is.
+fn authentication(i: &[u8]) -> IResult<&[u8], ()>
+    ensures { Gives (λ v. v) authentication_layout i.now result }
+{
+    let (i, _) = block(i, 2)?;
+    let (i, name) = number1(i)?;
+    let (i, value) = number1(i)?;
+    let (i, _) = block(i, name as usize + value as usize + 9)?;
+    Ok((i, ()))
+}
+
+/// The same, where these 2 bytes are its type.
+fn authentication_if(i: &[u8], front: u16) -> IResult<&[u8], ()>
+    ensures { Gives (λ v. v) (authentication_if_layout front) i.now result }
+{
+    if front == 1 {
+        return authentication(i);
+    }
+    Ok((i, ()))
+}
+
+/// Reads what Teredo puts in front of a datagram of IPv6 (RFC 4380, section 5.1.1): an authentication and the origin, each where it is there;
+/// and all behind it.
+///
+/// - `Incomplete` of what is missing of the first part that isn't whole.
+/// - `Error` of kind `Verify` where what follows isn't of version 6.
+#[tactic(auto, using(tls_fields::proofs::OneAnswerLemmas::read_allowed), unfolding(crate::specs::Teredo::teredo))]
+pub fn parse_teredo(i: &[u8]) -> IResult<&[u8], Header>
+    ensures { Gives view_header teredo i.now result }
+{
+    let (_, front) = number2(i)?;
+    let (i, _) = authentication_if(i, front)?;
+    let (_, behind) = number2(i)?;
+    let (i, _) = skipped_if(i, behind == 0, 8)?;
+    let (_, first) = number1(i)?;
+    if first / 16 != 6 {
+        return refused(i, ErrorKind::Verify);
+    }
+    let tunnel = Tunnel {
+        kind: TunnelKind::Teredo,
+        id: None,
+    };
+    carrying(i, tunnel, IPV6)
+}

@@ -1,0 +1,161 @@
+//! Tunnels, and the headers that begin them.
+#![tactic(auto, using(tls_fields::proofs::OneAnswerLemmas::read_allowed), unfolding(crate::specs::Tunnel::carrying, crate::specs::Tunnel::skipped_if, crate::specs::Tunnel::version_type))]
+
+ghost use Rattle.std.specs.Prelude.{◌≡◌, ◌≤◌, ◌<◌, ◌+◌, ◌++◌, ◌∷◌, ◌==◌, [], length};
+ghost use Rattle.tls_fields.specs.Answers.{Gives};
+ghost use Rattle.tunnels.specs.Tunnel.{carrying as carrying_layout, listed, skipped_if as skipped_if_layout, version_type as version_type_layout, type_of_version as type_of_version_number, view_header};
+
+use tls_fields::{IResult, block, number1, rest};
+
+/// The most tunnels, one in another, that are followed.
+pub const MAX_TUNNELS: usize = 8;
+
+/// The type of Ethernet of a frame of Ethernet in another header (Transparent Ethernet Bridging; RFC 1701, section 1).
+pub const ETHERNET: u16 = 0x6558;
+
+/// The type of Ethernet of IPv4.
+pub(crate) const IPV4: u16 = 0x0800;
+
+/// The type of Ethernet of IPv6.
+pub(crate) const IPV6: u16 = 0x86dd;
+
+/// By which header a tunnel begins.
+#[derive(Clone, Copy, Debug, PartialEq, Eq)]
+pub enum TunnelKind {
+    /// IPv4 in a datagram (RFC 2003; RFC 2473): it has no header of its own.
+    Ipv4,
+    /// IPv6 in a datagram (RFC 2473; RFC 4213): it has no header of its own.
+    Ipv6,
+    /// Generic Routing Encapsulation (RFC 2784; RFC 2890). Its number is the key.
+    Gre,
+    /// A switch's copy of a frame, in GRE (draft-foschiano-erspan). Its number is the session.
+    Erspan,
+    /// Labels of MPLS (RFC 3032). Its number is the last label.
+    Mpls,
+    /// VXLAN (RFC 7348). Its number is the network (VNI).
+    Vxlan,
+    /// GENEVE (RFC 8926). Its number is the network (VNI).
+    Geneve,
+    /// GTP-U (3GPP TS 29.281). Its number is the tunnel endpoint (TEID).
+    GtpU,
+    /// Teredo (RFC 4380).
+    Teredo,
+    /// A provider's backbone (IEEE 802.1Q, section 9.7). Its number is the service (I-SID).
+    Backbone,
+}
+
+/// A tunnel.
+#[derive(Clone, Copy, Debug, PartialEq, Eq)]
+pub struct Tunnel {
+    /// By which header it begins.
+    pub kind: TunnelKind,
+    /// The number by which its ends tell it from others, where the header has one.
+    pub id: Option<u32>,
+}
+
+/// A header that begins a tunnel.
+#[derive(Clone, Copy, Debug, PartialEq)]
+pub struct Header<'a> {
+    /// Which tunnel.
+    pub tunnel: Tunnel,
+    /// The type of Ethernet of what stands in it: 0x0800 for IPv4, 0x86dd for IPv6, [`ETHERNET`] for a frame; 0 for what isn't known.
+    pub kind: u16,
+    /// What stands in it.
+    pub inside: &'a [u8],
+}
+
+/// The tunnels that a packet comes in, from outside in, at most [`MAX_TUNNELS`].
+#[derive(Clone, Copy, Debug)]
+pub struct Tunnels {
+    pub(crate) slots: [Tunnel; MAX_TUNNELS],
+    pub(crate) count: usize,
+}
+
+impl Tunnels {
+    /// None.
+    pub fn new() -> Tunnels
+        ensures listed { listed result ≡ [] }
+        ensures count { result.count ≡ 0 }
+    {
+        let none = Tunnel {
+            kind: TunnelKind::Ipv4,
+            id: None,
+        };
+        Tunnels {
+            slots: [none; MAX_TUNNELS],
+            count: 0,
+        }
+    }
+
+    /// One more, inside the others.
+    pub(crate) fn push(&mut self, tunnel: Tunnel)
+        requires { self.old.count < 8 }
+        ensures listed { listed self.new ≡ listed self.old ++ tunnel ∷ [] }
+        ensures count { self.new.count ≡ self.old.count + 1 }
+    {
+        self.slots[self.count] = tunnel;
+        self.count += 1;
+    }
+
+    /// Whether there is none.
+    pub fn is_empty(&self) -> bool
+        ensures { result ≡ (length (listed self.now) == 0) }
+    {
+        self.count == 0
+    }
+
+    /// The tunnels.
+    pub fn as_slice(&self) -> &[Tunnel]
+        ensures { result.now ≡ listed self.now }
+    {
+        match self.slots.get(..self.count) {
+            Some(tunnels) => tunnels,
+            None => &self.slots,
+        }
+    }
+}
+
+/// All of `i`, in that tunnel.
+pub(crate) fn carrying(i: &[u8], tunnel: Tunnel, kind: u16) -> IResult<&[u8], Header>
+    ensures { Gives view_header (carrying_layout tunnel kind) i.now result }
+{
+    let (i, inside) = rest(i)?;
+    Ok((
+        i,
+        Header {
+            tunnel,
+            kind,
+            inside,
+        },
+    ))
+}
+
+/// That many bytes, where they are there.
+pub(crate) fn skipped_if(i: &[u8], present: bool, count: usize) -> IResult<&[u8], ()>
+    ensures { Gives (λ v. v) (skipped_if_layout present count) i.now result }
+{
+    if present {
+        let (i, _) = block(i, count)?;
+        return Ok((i, ()));
+    }
+    Ok((i, ()))
+}
+
+/// The type of a datagram with this version; 0 for another.
+pub(crate) fn type_of_version(version: u8) -> u16
+    ensures { result ≡ type_of_version_number version }
+{
+    match version {
+        4 => IPV4,
+        6 => IPV6,
+        _ => 0,
+    }
+}
+
+/// The type of a datagram, by the version that it says.
+pub(crate) fn version_type(i: &[u8]) -> IResult<&[u8], u16>
+    ensures { Gives (λ v. v) version_type_layout i.now result }
+{
+    let (_, first) = number1(i)?;
+    Ok((i, type_of_version(first / 16)))
+}

@@ -1,0 +1,171 @@
+//! From a packet's link down to the innermost datagram.
+#![tactic(auto, using(tls_fields::proofs::OneAnswerLemmas::read_allowed), unfolding(crate::specs::Walk::layer_of_type, crate::specs::Walk::packet_layer, crate::specs::Walk::inner_layer))]
+
+ghost use Rattle.std.specs.Prelude.{◌≡◌, ◌≤◌, ◌+◌};
+ghost use Rattle.tls_fields.specs.Answers.{Gives, IsAnswer, answer_of};
+ghost use Rattle.capture.specs.Ip.{view_datagram};
+ghost use Rattle.tunnels.specs.Tunnel.{listed, view_header};
+ghost use Rattle.tunnels.specs.Walk.{datagram_layer as datagram_layer_of, followed, inner_layer as inner_layer_layout, layer_of_type as layer_of_type_layout, packet_layer as packet_layer_layout, unwrapped, view_inside, view_layer, view_unwrapped, wrapped_or as wrapped_or_by};
+
+use crate::carriers::{by_ports, by_protocol};
+use crate::labels::{parse_backbone, parse_mpls};
+use crate::tunnel::{ETHERNET, Header, IPV4, IPV6, MAX_TUNNELS, Tunnels};
+use capture::{Content, Datagram, parse_ipv4, parse_ipv6, parse_link};
+use tls_fields::IResult;
+
+/// The types of Ethernet of MPLS: to one receiver, and to many.
+const MPLS: u16 = 0x8847;
+
+const MPLS_TO_MANY: u16 = 0x8848;
+
+/// The type of Ethernet of an I-TAG.
+const BACKBONE: u16 = 0x88e7;
+
+/// The link type of Ethernet.
+const LINK_ETHERNET: u16 = 1;
+
+/// What stands in front.
+enum Layer<'a> {
+    /// A header that begins a tunnel.
+    Wraps(Header<'a>),
+    /// A datagram that holds no such header.
+    Holds(Datagram<'a>),
+    /// Another protocol.
+    Unknown,
+}
+
+/// What a packet holds, behind all headers.
+#[derive(Clone, Copy, Debug, PartialEq)]
+pub enum Inside<'a> {
+    /// The innermost datagram.
+    Datagram(Datagram<'a>),
+    /// Another protocol, which isn't read.
+    Other,
+    /// What wasn't captured whole, or breaks a rule of a header.
+    Unread,
+    /// One more tunnel than [`MAX_TUNNELS`].
+    Deeper,
+}
+
+/// A packet's tunnels, and what it holds.
+#[derive(Clone, Copy, Debug)]
+pub struct Unwrapped<'a> {
+    /// The tunnels, from outside in.
+    pub tunnels: Tunnels,
+    /// What stands in the innermost.
+    pub inside: Inside<'a>,
+}
+
+/// A datagram, unless this header that begins a tunnel was read in it.
+#[inline(always)]
+fn wrapped_or<'a>(datagram: Datagram<'a>, header: IResult<&'a [u8], Header<'a>>) -> Layer<'a>
+    requires { IsAnswer header }
+    ensures { view_layer result ≡ wrapped_or_by (view_datagram datagram.entry) (answer_of view_header header.entry) }
+{
+    match header {
+        Ok((_, header)) => Layer::Wraps(header),
+        Err(_) => Layer::Holds(datagram),
+    }
+}
+
+/// A datagram, or the header in it that begins a tunnel.
+#[inline(always)]
+fn datagram_layer(datagram: Datagram<'_>) -> Layer<'_>
+    ensures { view_layer result ≡ datagram_layer_of (view_datagram datagram.entry) }
+{
+    match &datagram.content {
+        Content::Udp(udp) => {
+            let header = by_ports(udp.payload, udp.source, udp.destination);
+            wrapped_or(datagram, header)
+        }
+        Content::Other(protocol, payload) => {
+            wrapped_or(datagram, by_protocol(payload, *protocol))
+        }
+        Content::Tcp(_) | Content::Fragment => Layer::Holds(datagram),
+    }
+}
+
+/// What stands in front, by its type of Ethernet.
+#[inline(always)]
+fn layer_of_type(i: &[u8], kind: u16) -> IResult<&[u8], Layer>
+    ensures { Gives view_layer (layer_of_type_layout kind) i.now result }
+{
+    match kind {
+        IPV4 => {
+            let (i, datagram) = parse_ipv4(i)?;
+            Ok((i, datagram_layer(datagram)))
+        }
+        IPV6 => {
+            let (i, datagram) = parse_ipv6(i)?;
+            Ok((i, datagram_layer(datagram)))
+        }
+        MPLS | MPLS_TO_MANY => {
+            let (i, header) = parse_mpls(i)?;
+            Ok((i, Layer::Wraps(header)))
+        }
+        BACKBONE => {
+            let (i, header) = parse_backbone(i)?;
+            Ok((i, Layer::Wraps(header)))
+        }
+        _ => Ok((i, Layer::Unknown)),
+    }
+}
+
+/// The same of a packet of that link type.
+#[inline(always)]
+fn packet_layer(i: &[u8], link_type: u16) -> IResult<&[u8], Layer>
+    ensures { Gives view_layer (packet_layer_layout link_type) i.now result }
+{
+    let (i, kind) = parse_link(i, link_type)?;
+    layer_of_type(i, kind)
+}
+
+/// The same of what stands in a tunnel.
+fn inner_layer(i: &[u8], kind: u16) -> IResult<&[u8], Layer>
+    ensures { Gives view_layer (inner_layer_layout kind) i.now result }
+{
+    if kind == ETHERNET {
+        return packet_layer(i, LINK_ETHERNET);
+    }
+    layer_of_type(i, kind)
+}
+
+/// What a packet holds behind these tunnels and what was read in front, through at most so many tunnels more, which are added.
+#[tactic(auto, using(crate::proofs::WalkLemmas::refused, crate::proofs::WalkLemmas::unknown, crate::proofs::WalkLemmas::holds, crate::proofs::WalkLemmas::deeper, crate::proofs::WalkLemmas::one_more))]
+fn follow<'a>(read: IResult<&'a [u8], Layer<'a>>, tunnels: &mut Tunnels, most: u8) -> Inside<'a>
+    requires is_answer { IsAnswer read }
+    requires fits { tunnels.old.count + most ≤ 8 }
+    ensures { followed most (listed tunnels.old) (answer_of view_layer read.entry) ≡ record { tunnels = listed tunnels.new; inside = view_inside result } }
+{
+    match read {
+        Err(_) => Inside::Unread,
+        Ok((_, Layer::Unknown)) => Inside::Other,
+        Ok((_, Layer::Holds(datagram))) => Inside::Datagram(datagram),
+        Ok((_, Layer::Wraps(header))) => {
+            if most == 0 {
+                return Inside::Deeper;
+            }
+            tunnels.push(header.tunnel);
+            follow(inner_layer(header.inside, header.kind), tunnels, most - 1)
+        }
+    }
+}
+
+/// What the packet `i` of a capture with that link type holds: the innermost datagram, and the tunnels that it comes in. The link types are those
+/// of [`capture::parse_packet`], which says what is read of links and of datagrams.
+///
+/// A tunnel is IPv4 or IPv6 in a datagram (protocols 4 and 41), GRE (47) with or without ERSPAN, MPLS (types of Ethernet 0x8847 and
+/// 0x8848, protocol 137), a provider's backbone (0x88e7), VXLAN (to UDP's ports 4789 and 8472), GENEVE (6081), GTP-U (2152), Teredo (3544). Where
+/// what a datagram holds isn't such a header, the datagram is the innermost.
+#[tactic(auto, using(crate::proofs::WalkLemmas::holds))]
+pub fn innermost(i: &[u8], link_type: u16) -> Unwrapped
+    ensures { view_unwrapped result ≡ unwrapped link_type i.now }
+{
+    let mut tunnels = Tunnels::new();
+    let inside = match packet_layer(i, link_type) {
+        // (most packets come in no tunnel)
+        Ok((_, Layer::Holds(datagram))) => Inside::Datagram(datagram),
+        read => follow(read, &mut tunnels, MAX_TUNNELS as u8),
+    };
+    Unwrapped { tunnels, inside }
+}

@@ -1,0 +1,20 @@
+use Rattle.std.proofs.Common.{◌++◌, drop, refl, sym, ◌∙◌, ap, subst, arith}
+use Rattle.tls_fields.specs.Meaning.{Answer}
+use Rattle.tls_fingerprints.specs.Hellos.{Client}
+use Rattle.tls_fingerprints.specs.Ja4.{IsTooLong, ja4_of}
+use Rattle.tls_hs.specs.Hello.{ClientHello}
+use Rattle.tls_hs.specs.InPlace.{view_client_hello_in_place}
+use Rattle.wispuddera_c.specs.Fingerprint.{IsWritten, client_of}
+use Rattle.wispuddera_c.proofs.FingerprintLemmas.{never_too_long}
+use Rattle.wispuddera_c.proofs.fingerprint.ja4_over.Goals as goal
+
+pub returns-in-Ok : goal.returns-in-Ok
+returns-in-Ok c =
+    let told = c.tell_ja4.ensures (subst (λ (h : Client). IsTooLong 32767 h → ⊥) (sym c.client_parts.ensures)
+    (never_too_long c.args.bytes.now (view_client_hello_in_place c.in-Ok.hello) c.in-Ok.field-0-0.now c.in-Ok.ensures.allowed)) in
+    record {
+      room = λ fits. subst (λ (a : Answer ClientHello). IsWritten (λ h. ja4_of c.args.transport (client_of h)) 36 a
+          c.args.text.now c.tell_ja4.new.text c.tell_ja4.result 0) (sym c.in-Ok.ensures.read)
+          (told.0, refl, told.1 ∙ ap (λ h. ja4_of c.args.transport h ++ drop 36 c.args.text.now) c.client_parts.ensures);
+      short = λ less. absurd (omega (arith, less));
+    }

@@ -1,0 +1,3 @@
+pub mod PlaceLemmas
+pub mod LastLemmas
+pub mod NameLemmas

@@ -1,0 +1,4 @@
+pub mod Place
+pub mod Certificate
+pub mod Fields
+pub mod Walk

@@ -1,0 +1,45 @@
+//! Where parts stand in the bytes that a certificate was read from.
+//!
+//! An element's content is read alone, so its end isn't that of the bytes: `behind` is how many bytes of `whole` follow it.
+
+ghost use Rattle.std.specs.Prelude.{◌≡◌, ◌++◌, ◌-◌, length, take};
+ghost use Rattle.tls_fields.specs.Bytes.{Bytes};
+ghost use Rattle.tls_fields.specs.Meaning.{EndsWith};
+ghost use Rattle.x509_places.specs.Place.{IsBefore, Stands};
+
+use tls_fields::Place;
+
+/// Where `part` stands in `whole`, in front of `rest`, which `behind` bytes follow.
+#[inline(always)]
+pub(crate) fn place_before(whole: &[u8], behind: usize, part: &[u8], rest: &[u8]) -> Place
+    ensures { IsBefore whole.now behind (part.now ++ rest.now) → Stands whole.now result part.now }
+{
+    let end = whole.len().saturating_sub(behind);
+    let after = end.saturating_sub(rest.len());
+    let offset = after.saturating_sub(part.len());
+    Place {
+        offset,
+        length: part.len(),
+    }
+}
+
+/// How many bytes of `whole` follow a part in front of `rest`, which `behind` bytes follow.
+#[inline(always)]
+pub(crate) fn behind_part(whole: &[u8], behind: usize, rest: &[u8]) -> usize
+    ensures { (x : Bytes) → IsBefore whole.now behind (x ++ rest.now) → IsBefore whole.now result x }
+{
+    let end = whole.len().saturating_sub(behind);
+    let after = end.saturating_sub(rest.len());
+    whole.len().saturating_sub(after)
+}
+
+/// What was taken of `i`, of which `rest` is left, and where it stands in `whole`.
+#[tactic(auto, using(crate::proofs::PlaceLemmas::taken_before))]
+#[inline(always)]
+pub(crate) fn taken<'a>(whole: &[u8], behind: usize, i: &'a [u8], rest: &[u8]) -> (&'a [u8], Place)
+    ensures is { result.0.now ≡ take (length i.now - length rest.now) i.now }
+    ensures stands { IsBefore whole.now behind i.now → EndsWith i.now rest.now → Stands whole.now result.1 result.0.now }
+{
+    let (front, _) = i.split_at(i.len().saturating_sub(rest.len()));
+    (front, place_before(whole, behind, front, rest))
+}

@@ -1,0 +1,117 @@
+//! The public exponent of RSA's keys (RFC 8017, section A.1.1).
+#![tactic(auto, using(tls_fields::proofs::OneAnswerLemmas::read_allowed))]
+
+ghost use Rattle.std.specs.Prelude.{◌≡◌, ◌++◌, IfOk};
+ghost use Rattle.std.specs.Option.{option_map};
+ghost use Rattle.std.specs.String.{string_bytes};
+ghost use Rattle.tls_fields.specs.Answers.{Gives};
+ghost use Rattle.tls_fields.specs.Bytes.{Bytes, number_of};
+ghost use Rattle.x509.specs.Certificate.{view_key_info};
+ghost use Rattle.x509_text.specs.Exponent.{exponent_content, exponent_of, natural, natural_text as natural_text_of, rsa_exponent as rsa_exponent_layout, small};
+
+use crate::number::without_padding;
+use der::{Integer, tag, tagged};
+use itoa::Buffer;
+use std::alloc::{AllocError, Global};
+use tls_fields::{ErrorKind, IResult, InPlace, number1, refused};
+use x509::{SubjectPublicKeyInfo, oid};
+
+/// An INTEGER that isn't below 0.
+struct Natural;
+
+impl<'a> InPlace<'a> for Natural {
+    type Read = &'a [u8];
+
+    ghost Value = { Bytes };
+
+    ghost view = { λ v. v.now };
+
+    ghost layout = { natural };
+
+    #[tactic(auto, using(tls_fields::proofs::OneAnswerLemmas::read_allowed), unfolding(crate::specs::Exponent::natural))]
+    fn read(i: &'a [u8]) -> IResult<&'a [u8], &'a [u8]> {
+        let (_, _) = Integer::read(i)?;
+        let (_, first) = number1(i)?;
+        if first >= 128 {
+            return refused(i, ErrorKind::Verify);
+        }
+        Integer::read(i)
+    }
+}
+
+/// What is in an RSAPublicKey; of it the exponent.
+struct ExponentContent;
+
+impl<'a> InPlace<'a> for ExponentContent {
+    type Read = &'a [u8];
+
+    ghost Value = { Bytes };
+
+    ghost view = { λ v. v.now };
+
+    ghost layout = { exponent_content };
+
+    #[tactic(auto, using(tls_fields::proofs::OneAnswerLemmas::read_allowed), unfolding(crate::specs::Exponent::exponent_content))]
+    fn read(i: &'a [u8]) -> IResult<&'a [u8], &'a [u8]> {
+        let (i, _) = tagged::<Integer>(i, tag::INTEGER)?;
+        tagged::<Natural>(i, tag::INTEGER)
+    }
+}
+
+/// Reads an RSAPublicKey; of it the exponent.
+#[tactic(auto, using(tls_fields::proofs::OneAnswerLemmas::read_allowed), unfolding(crate::specs::Exponent::rsa_exponent))]
+fn rsa_exponent(i: &[u8]) -> IResult<&[u8], &[u8]>
+    ensures { Gives (λ v. v.now) rsa_exponent_layout i.now result }
+{
+    tagged::<ExponentContent>(i, tag::SEQUENCE)
+}
+
+/// The public exponent of a key of RSA, for any padding or for PSS alone: the bytes of its INTEGER.
+///
+/// `None` of other keys, and where modulus and exponent aren't two INTEGERs, or the exponent is below 0.
+pub fn key_exponent<'a>(info: SubjectPublicKeyInfo<'a>) -> Option<&'a [u8]>
+    ensures { option_map (λ e. e.now) result ≡ exponent_of (view_key_info info.entry) }
+{
+    let algorithm = info.algorithm.algorithm.content;
+    if algorithm == oid::RSA_ENCRYPTION.content || algorithm == oid::RSASSA_PSS.content {
+        match rsa_exponent(info.subject_public_key.bytes) {
+            Ok((_, exponent)) => Some(exponent),
+            Err(_) => None,
+        }
+    } else {
+        None
+    }
+}
+
+/// A number by its bytes, if it is below 2^64.
+fn small_number(bytes: &[u8]) -> Option<u64>
+    ensures { result ≡ small (number_of bytes.now) }
+{
+    let mut number: u64 = 0;
+    for byte in bytes {
+        let shifted = number.checked_mul(256)?;
+        number = shifted.checked_add(u64::from(*byte))?;
+    }
+    Some(number)
+}
+
+/// A number that isn't below 0 as text, by the bytes of its INTEGER: in decimal where it is below 2^64, else in hexadecimal behind `0x`, in lower case.
+///
+/// `AllocError` where the text could not be held.
+pub fn natural_text(alloc: Global, number: &[u8]) -> Result<String, AllocError>
+    ensures { IfOk result (λ text. string_bytes text ≡ natural_text_of number.now) }
+{
+    let mut text = String::new(alloc);
+    match small_number(number) {
+        Some(small) => {
+            let mut buffer = Buffer::new();
+            text.push_str(buffer.format(small))?;
+        }
+        None => {
+            text.push_str("0x")?;
+            let digits = hex::encode(alloc, without_padding(number))?;
+            text.push_str(digits.as_str())?;
+        }
+    }
+    Ok(text)
+}

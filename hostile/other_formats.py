@@ -1,0 +1,161 @@
+"""What `--format zeek` and `--format suricata` print, beside the lines of JSON: each field, by docs/TLSLOG.md ("Formats")."""
+
+import hashlib
+import json
+import subprocess
+from dataclasses import replace
+from datetime import datetime, timezone
+
+import identifiers
+import packets
+import zeek_log
+
+PATHS = {(): "ssl", ("--messages",): "tls_messages", ("--certificates",): "x509"}
+# zeek-cut of two fields, as a program of awk.
+CUT = r"""BEGIN { FS = OFS = "\t" } /^#fields/ { for (i = 2; i <= NF; i++) at[$i] = i - 1 } !/^#/ { print $at["uid"], $at["id.resp_p"] }"""
+VERSIONS = {
+    "SSLv3": "SSLv3", "TLSv10": "TLSv1", "TLSv11": "TLS 1.1", "TLSv12": "TLS 1.2", "TLSv13": "TLS 1.3",
+    "DTLSv10": "DTLS 1.0", "DTLSv12": "DTLS 1.2", "DTLSv13": "DTLS 1.3",
+}
+
+
+# Names that could be taken for something else, or cut a line or a column.
+NAMES = [b"-", b"(empty)", b"#close", b"#fields\ta", b"a,b", b"\t\n\r\0\x7f\xff", b"\\x2d", b"\\", b"\"'", b"--", b"(empty),", b" ", b","]
+
+
+def want(is_so, *words):
+    if not is_so:
+        raise zeek_log.Wrong(" ".join(map(str, words)))
+
+
+def kind_of(field, value):
+    """The type in which Zeek has a value of JSON."""
+    if field in ("ts", "certificate.not_valid_before", "certificate.not_valid_after"):
+        return "time"
+    if field.startswith("id."):
+        return "port" if field.endswith("_p") else "addr"
+    if field in ("duration", "proto"):
+        return {"duration": "interval", "proto": "enum"}[field]
+    if isinstance(value, list):
+        return "vector[string]" if isinstance(value[0], str) else "vector[count]"
+    return {bool: "bool", int: "count", str: "string", dict: "string"}[type(value)]
+
+
+def as_zeek(value):
+    return json.dumps(value, separators=(",", ":")) if isinstance(value, dict) else value
+
+
+def rows(ask, *words):
+    status, text, told = ask([*words])
+    want(status == 0, *words, "status", status, told)
+    return text
+
+
+def zeek(ask, files):
+    """Each log has the fields and the values of the lines of JSON; chosen fields stand in their order, and awk cuts as zeek-cut does."""
+    count = 0
+    for words, path in PATHS.items():
+        lines = [json.loads(line) for line in rows(ask, *words, *files).splitlines()]
+        log = zeek_log.Log(rows(ask, *words, "--format", "zeek", *files))
+        want(log.path == path and len(log.rows) == len(lines) and lines, "the log", log.path, len(log.rows), len(lines))
+        for row, line in zip(log.rows, lines):
+            want(row == {field: as_zeek(value) for field, value in line.items()}, "zeek:", row, line)
+            kinds = dict(zip(log.fields, log.types))
+            for field, value in line.items():
+                want(kinds[field] == kind_of(field, value), field, "is", kinds[field])
+            count += len(line)
+        header = rows(ask, *words, "--format", "csv", *files).splitlines()[0]
+        want(",".join(log.fields) == header, "fields of", path, log.fields)
+    chosen = zeek_log.Log(rows(ask, "--format", "zeek", "--fields", "id.resp_p,server_name,uid", *files))
+    want(chosen.fields == ["id.resp_p", "server_name", "uid"], "chosen fields", chosen.fields)
+    lines = [json.loads(line) for line in rows(ask, *files).splitlines()]
+    cut = subprocess.run(["awk", CUT], input=rows(ask, "--format", "zeek", *files), stdout=subprocess.PIPE, text=True, check=True).stdout
+    want(cut.splitlines() == [f"{line['uid']}\t{line['id.resp_p']}" for line in lines], "awk:", cut[:300])
+    return count
+
+
+def counted(size, content):
+    return len(content).to_bytes(size, "big") + content
+
+
+def hello(name, protocols):
+    """A record with a ClientHello that asks for this name and these protocols (RFC 8446, 4.1.2; RFC 6066, 3; RFC 7301, 3.1)."""
+    extensions = [(0, counted(2, b"\0" + counted(2, name))), (16, counted(2, b"".join(counted(1, one) for one in protocols)))]
+    block = b"".join(kind.to_bytes(2, "big") + counted(2, content) for kind, content in extensions)
+    body = b"\3\3" + bytes(32) + b"\0" + counted(2, b"\xc0\x2f") + b"\1\0" + counted(2, block)
+    return b"\x16\3\1" + counted(2, b"\1" + counted(3, body))
+
+
+def hostile(ask, capture, room):
+    """Each name, also in a list, and in front of its line, is read as the text that JSON has. The capture is one of which a hello is the first payload."""
+    segments = packets.read(capture.read_bytes())
+    place = next(place for place, segment in enumerate(segments) if segment.payload)
+    files = []
+    for number, name in enumerate(NAMES):
+        made = [*segments[:place], replace(segments[place], payload=hello(name, [name, b"h2", name]))]
+        files.append(room / f"name-{number}.pcap")
+        files[-1].write_bytes(packets.pcap([(segment.time, segment.frame()) for segment in made]))
+    for words in ([], ["--fields", "server_name,orig_alpn"], ["--fields", "server_name"], ["--messages"]):
+        lines = [json.loads(line) for line in rows(ask, *words, *files).splitlines()]
+        log = zeek_log.Log(rows(ask, *words, "--format", "zeek", *files))
+        want(len(lines) == len(NAMES), len(lines), "lines of hostile names")
+        want(log.rows == [{field: as_zeek(value) for field, value in line.items()} for line in lines], "hostile names:", log.rows)
+    events = [json.loads(line) for line in rows(ask, "--format", "suricata", *files).splitlines()]
+    lines = [json.loads(line) for line in rows(ask, *files).splitlines()]
+    want([event["tls"]["sni"] for event in events] == [line["server_name"] for line in lines], "hostile names of Suricata's")
+    return len(NAMES)
+
+
+def colons(digits):
+    return ":".join(digits[at : at + 2] for at in range(0, len(digits), 2))
+
+
+def own_certificates(messages):
+    """The SHA-1 of each certificate of a message, by its SHA-256."""
+    found = {}
+    for message in messages:
+        if message.get("name") == "certificate" and isinstance(message["message"].get("body"), dict):
+            for digits in message["message"]["body"]["certificate_list"]:
+                one = bytes.fromhex(digits)
+                found[hashlib.sha256(one).hexdigest()] = hashlib.sha1(one).hexdigest()
+    return found
+
+
+def date(text):
+    return text.removesuffix("Z") if text else None
+
+
+def event_of(line, prints):
+    """The event that is wanted of a connection."""
+    time = datetime.fromtimestamp(round(line["ts"] * 1_000_000) // 1_000_000, timezone.utc)
+    serial, chain = line.get("serial"), line.get("cert_chain_fps")
+    pair = lambda name: {"hash": line[name], "string": line[f"{name}_string"]} if name in line else None  # noqa: E731
+    tls = {
+        "subject": line.get("subject"), "issuerdn": line.get("issuer"), "session_resumed": line["resumed"] or None,
+        # (the bytes of a number whose first bit is set begin with one of zeros)
+        "serial": serial and colons("00" + serial if int(serial[0], 16) >= 8 else serial),
+        "fingerprint": chain and colons(prints[chain[0]]), "sni": line.get("server_name"),
+        "version": VERSIONS.get(line.get("version"), line.get("version")),
+        "notbefore": date(line.get("not_before")), "notafter": date(line.get("not_after")), "ja3": pair("ja3"), "ja3s": pair("ja3s"),
+        "ja4": line.get("ja4"), "client_alpns": line.get("orig_alpn"), "server_alpns": [line["next_protocol"]] if "next_protocol" in line else None,
+    }
+    return {
+        "timestamp": f"{time:%Y-%m-%dT%H:%M:%S}.{round(line['ts'] * 1_000_000) % 1_000_000:06}+0000", "flow_id": identifiers.flow_id(line), "event_type": "tls",
+        "src_ip": line["id.orig_h"], "src_port": line["id.orig_p"], "dest_ip": line["id.resp_h"], "dest_port": line["id.resp_p"],
+        "proto": line["proto"].upper(), "community_id": line["community_id"], "tls": {name: value for name, value in tls.items() if value is not None},
+    }
+
+
+def suricata(ask, files):
+    """Each event says what the line of JSON says; SHA-1 is by hashlib, of the certificates whose SHA-256 the line has."""
+    lines = [json.loads(line) for line in rows(ask, *files).splitlines()]
+    prints = own_certificates(json.loads(line) for line in rows(ask, "--messages", *files).splitlines())
+    events = [json.loads(line) for line in rows(ask, "--format", "suricata", *files).splitlines()]
+    want(len(events) == len(lines), len(events), "events of", len(lines), "connections")
+    for event, line in zip(events, lines):
+        wanted = event_of(line, prints)
+        want(event == wanted and list(event) == list(wanted) and list(event["tls"]) == list(wanted["tls"]), "suricata:", event, "wanted is", wanted)
+    for words, told in [(["--fields", "ts"], "--fields doesn't go with"), (["--messages"], "neither --messages"), (["--certificates"], "nor --certificates")]:
+        status, text, error = ask(["--format", "suricata", *words, *files])
+        want((status, text) == (2, "") and told in error, "suricata", *words, status, error)
+    return len(events)
