@@ -313,6 +313,72 @@ fn listed_shares(bytes: &[u8]) -> Answer {
     Ok(("_".to_owned(), shares))
 }
 
+fn key(key: PublicKey<'_>) -> String {
+    match key {
+        PublicKey::Rsa { bits } => format!("Rsa {{ bits: {bits} }}"),
+        PublicKey::Ec { curve } => format!("Ec {{ curve: {} }}", shown(curve)),
+        other => format!("{other:?}"),
+    }
+}
+
+fn read_x509(bytes: &[u8]) -> Answer {
+    let (c, rest) = X509::read(bytes)?;
+    let front = format!(
+        "version: {}, signed_bytes: {}, serial_number: {}, signature_algorithm: {}, issuer: {}, subject: {}",
+        c.version,
+        shown(c.signed_bytes),
+        shown(c.serial_number),
+        shown(c.signature_algorithm),
+        shown(c.issuer),
+        shown(c.subject)
+    );
+    let behind = format!(
+        "key_algorithm: {}, key: {}, public_key: {}, extensions: {}, signature: {}",
+        shown(c.key_algorithm),
+        key(c.key),
+        shown(c.public_key),
+        shown(c.extensions),
+        shown(c.signature)
+    );
+    let times = format!("not_before: {}, not_after: {}", c.not_before, c.not_after);
+    Ok((
+        rest.len().to_string(),
+        format!("X509 {{ {front}, {times}, {behind} }}"),
+    ))
+}
+
+fn read_x509_extension(bytes: &[u8]) -> Answer {
+    let (e, rest) = X509Extension::read(bytes)?;
+    let value = format!(
+        "X509Extension {{ oid: {}, critical: {}, value: {} }}",
+        shown(e.oid),
+        e.critical,
+        shown(e.value)
+    );
+    Ok((rest.len().to_string(), value))
+}
+
+fn name_of_x509(name: &X509Name<'_>) -> String {
+    let (tag, content) = match *name {
+        X509Name::Email(text) => (0x81, text),
+        X509Name::Dns(text) => (0x82, text),
+        X509Name::Uri(text) => (0x86, text),
+        X509Name::Ip(address) => (0x87, address),
+        X509Name::Other { tag, content } => (tag, content),
+    };
+    format!("{tag:#04x} {}", shown(content))
+}
+
+fn read_x509_name(bytes: &[u8]) -> Answer {
+    let (name, rest) = X509Name::read(bytes)?;
+    Ok((rest.len().to_string(), name_of_x509(&name)))
+}
+
+fn listed_x509_names(bytes: &[u8]) -> Answer {
+    let names = whole(x509_names(bytes)?, |name| name_of_x509(&name));
+    Ok(("_".to_owned(), names))
+}
+
 /// What is asked with a number behind the call's name.
 fn numbered(call: &str, number: u16, bytes: &[u8]) -> Answer {
     match call {
@@ -363,6 +429,10 @@ fn answer(call: &str, bytes: &[u8]) -> Answer {
         "best_version" => some(best_version(0x0303, bytes)?.map(|version| version.to_string())),
         "key_share" => key_share(bytes),
         "key_shares" => listed_shares(bytes),
+        "read_x509" => read_x509(bytes),
+        "read_x509_extension" => read_x509_extension(bytes),
+        "read_x509_name" => read_x509_name(bytes),
+        "x509_names" => listed_x509_names(bytes),
         _ => panic!("no call {call} is known here"),
     }
 }

@@ -1,4 +1,4 @@
-"""The rows of crates/tlscall/data (docs/ROWS.md) through the Python module: values, places, kinds of refusals, and missing counts.
+"""The rows of crates/tlscall/data (docs/ROWS.md), and those of certificates beside this file, through the Python module: values, places, kinds of refusals, and missing counts.
 
     rows.py [PROGRAM]
 
@@ -19,7 +19,8 @@ from pathlib import Path
 
 import wispuddera as w
 
-DATA = Path(__file__).resolve().parent.parent.parent / "crates/tlscall/data"
+HERE = Path(__file__).resolve().parent
+DATA = HERE.parent.parent / "crates/tlscall/data"
 CLAUSE = re.compile(r"\s(=>|cut:|within:|inside:|written:)")
 
 
@@ -237,6 +238,35 @@ def is_fragment(data):
     return m.next, "true" if m.is_part else "false"
 
 
+def read_x509(data):
+    c = w.read_x509(data)
+    kinds = {w.KeyKind.RSA: f"Rsa {{ bits: {c.key_bits} }}", w.KeyKind.EC: f"Ec {{ curve: {shown(c.key_parameters)} }}"}
+    key = kinds.get(c.key_kind) or c.key_kind.name.capitalize()
+    front = f"version: {c.version}, signed_bytes: {shown(c.signed_bytes)}, serial_number: {shown(c.serial_number)}"
+    names = f"signature_algorithm: {shown(c.signature_algorithm)}, issuer: {shown(c.issuer)}, subject: {shown(c.subject)}"
+    keys = f"key_algorithm: {shown(c.key_algorithm)}, key: {key}, public_key: {shown(c.public_key)}"
+    behind = f"extensions: {shown(c.extensions)}, signature: {shown(c.signature)}"
+    return c.next, f"X509 {{ {front}, {names}, not_before: {c.not_before}, not_after: {c.not_after}, {keys}, {behind} }}"
+
+
+def read_x509_extension(data):
+    e = w._x509_extension(w._Given(data), 0)
+    return e.next, f"X509Extension {{ oid: {shown(e.oid)}, critical: {str(bool(e.critical)).lower()}, value: {shown(e.value)} }}"
+
+
+def name_of_x509(name):
+    return f"{name.kind:#04x} {shown(name.content)}"
+
+
+def read_x509_name(data):
+    name = w._x509_name(w._Given(data), 0)
+    return name.next, name_of_x509(name)
+
+
+def x509_names(data):
+    return None, f"[{', '.join(map(name_of_x509, whole(w.x509_names(data))))}]"
+
+
 # Calls whose answer the module tells whole: the end of what was read (None where that isn't told), and the value.
 WHOLE = {
     "parse_tls_raw_record": raw_record,
@@ -247,6 +277,10 @@ WHOLE = {
     "parse_tls_extension_elliptic_curves_content": groups,
     "parse_tls_extension_signature_algorithms_content": signature_schemes,
     "parse_tls_extension_alpn_content": names_of_protocols,
+    "read_x509": read_x509,
+    "read_x509_extension": read_x509_extension,
+    "read_x509_name": read_x509_name,
+    "x509_names": x509_names,
 }
 # Bodies of DTLS's messages, by type, of which the rows of the call on whole messages tell the cuts, and in part the value.
 BODIES = {1: "dtls_client_hello", 2: "dtls_server_hello"}
@@ -488,7 +522,7 @@ ALSO = {
 
 
 def main():
-    for file in sorted(DATA.glob("*.rows")):
+    for file in sorted([*DATA.glob("*.rows"), *HERE.glob("*.rows")]):
         for number, (calls, text, clauses, names) in enumerate(rows(file), 1):
             if (EXTENSIONS | counts.keys() | ALSO.keys()) & set(calls) and dict(clauses).keys() & {"=>", "cut:"}:
                 ask_row(calls, bytes_of(text, names), clauses, f"{file.name}, row {number}")
