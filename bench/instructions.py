@@ -12,6 +12,12 @@ import re
 import subprocess
 import sys
 from collections import Counter
+from pathlib import Path
+
+sys.path.insert(0, str(Path(__file__).resolve().parents[1]))
+from hostile import script  # noqa: E402
+
+script.answer_help(__doc__)
 
 
 def total(folder, number):

@@ -7,6 +7,12 @@ import random
 import subprocess
 import sys
 import tempfile
+from pathlib import Path
+
+sys.path.insert(0, str(Path(__file__).resolve().parents[1]))
+from hostile import script  # noqa: E402
+
+script.answer_help(__doc__)
 
 TOTAL = 50_000_000
 RUNS = 5

@@ -1,46 +1,51 @@
 """What a capture of which packets were dropped still has to say of each connection: judged by the packets that are left, and by what the
 whole capture has of it."""
 
-import ipaddress
-from collections import defaultdict
+from __future__ import annotations
 
-import packets
+import ipaddress
+import random
+from collections import defaultdict
+from collections.abc import Callable, Iterator
+
+from hostile import packets
+from hostile.shapes import Line
 
 HALF = 2**31
 HEADER = 5
 CHANGE_CIPHER_SPEC, APPLICATION_DATA = 20, 23
 
 
-def ends_in_line(line):
+def ends_in_line(line: Line) -> frozenset[tuple[str, int]]:
     return frozenset((line[f"id.{side}_h"], line[f"id.{side}_p"]) for side in ("orig", "resp"))
 
 
-def in_text(end):
+def in_text(end: packets.End) -> tuple[str, int]:
     address, port = end
     return str(ipaddress.ip_address(address)), int.from_bytes(port, "big")
 
 
-def in_text_both(ends):
+def in_text_both(ends: frozenset[packets.End]) -> frozenset[tuple[str, int]]:
     return frozenset(map(in_text, ends))
 
 
-def ahead(number, other):
+def ahead(number: int, other: int) -> int:
     """How far a number stands behind another; less than 0 where it stands in front."""
     return (number - other + HALF) % 2**32 - HALF
 
 
-def first(s):
+def first(s: packets.Segment) -> int:
     return (s.sequence + bool(s.flags & packets.SYN)) % 2**32
 
 
 class Sender:
     """What one side of a connection sent over TCP, by the segments that are there. Places are counted from its first."""
 
-    def __init__(self, segments):
+    def __init__(self, segments: list[packets.Segment]) -> None:
         self.begin = first(segments[0])
         self.segments = [(s, ahead(first(s), self.begin)) for s in segments if not s.flags & packets.RST]
 
-    def read_to(self):
+    def read_to(self) -> int:
         """How many bytes there are up to the first that is missing."""
         end = 0
         for s, place in sorted(self.segments, key=lambda pair: pair[1]):
@@ -49,18 +54,18 @@ class Sender:
             end = max(end, place + len(s.payload))
         return end
 
-    def has_more(self, end, kinds=lambda s: True):
+    def has_more(self, end: int, kinds: Callable[[packets.Segment], bool] = lambda s: True) -> bool:
         """Something stands further behind."""
         return any(place + len(s.payload) > end for s, place in self.segments if kinds(s))
 
-    def bytes(self):
+    def bytes(self) -> bytes:
         found = bytearray()
         for s, place in sorted(self.segments, key=lambda pair: pair[1]):
             found += s.payload[max(len(found) - place, 0) :]
         return bytes(found)
 
 
-def clear(stream):
+def clear(stream: bytes) -> int:
     """How many bytes stand in front of a side's first record that may be encrypted: up to there it is read, whatever else came."""
     at, has_changed = 0, False
     while at + HEADER <= len(stream):
@@ -74,11 +79,11 @@ def clear(stream):
 class Whole:
     """A stored capture, by its connections."""
 
-    def __init__(self, segments, lines):
+    def __init__(self, segments: list[packets.Segment], lines: list[Line]) -> None:
         self.lines = {ends_in_line(line): line for line in lines}
         self.senders = {ends: senders(found) for ends, found in connections(segments).items()}
 
-    def wrong(self, left, lines):
+    def wrong(self, left: list[packets.Segment], lines: list[Line]) -> str | None:
         """What is wrong with the lines of the segments that are left; None where nothing is."""
         there, had = connections(left), {}
         possible = self.lines.keys() & set(map(in_text_both, there))
@@ -91,12 +96,12 @@ class Whole:
                 return f"{fault}, in {sorted(in_text_both(ends))}"
         return None
 
-    def wrong_of(self, ends, segments, line):
+    def wrong_of(self, ends: frozenset[packets.End], segments: list[packets.Segment], line: Line | None) -> str | None:
         begun = segments[0]
         if line and line["ts"] != round(begun.time / 1_000_000, 6):
             return f"the line begins at {line['ts']}, and not at {begun.time}"
         if begun.is_udp:
-            # The numbers of messages tell whether the first ones are missing (`lacks_front`); tests/log/associations has rows for that.
+            # The numbers of messages tell whether the first ones are missing (`lacks_front`); tests/tls_talks/associations has rows for that.
             return None
         is_missing, is_whole, is_told = set(), set(), False
         for source, sender in senders(segments).items():
@@ -122,7 +127,7 @@ class Whole:
         return None
 
 
-def acknowledges_missing(segments):
+def acknowledges_missing(segments: list[packets.Segment]) -> bool:
     """Whether one with data acknowledges bytes of the other side that weren't captured. It may be forged, so it waits, and counts as dropped
     where it isn't acknowledged itself."""
     behind = {}
@@ -136,7 +141,7 @@ def acknowledges_missing(segments):
     return False
 
 
-def connections(segments):
+def connections(segments: list[packets.Segment]) -> dict[frozenset[packets.End], list[packets.Segment]]:
     """The segments of each connection, from the one on that begins it."""
     found = defaultdict(list)
     for s in segments:
@@ -145,7 +150,7 @@ def connections(segments):
     return {ends: there for ends, there in found.items() if there}
 
 
-def senders(segments):
+def senders(segments: list[packets.Segment]) -> dict[packets.End, Sender]:
     """What each side of a connection sent, if it sent anything but that it breaks off."""
     found = defaultdict(list)
     for s in segments:
@@ -154,7 +159,7 @@ def senders(segments):
     return {source: Sender(there) for source, there in found.items()}
 
 
-def choices(chance, segments, orders):
+def choices(chance: random.Random, segments: list[packets.Segment], orders: int) -> Iterator[set[int]]:
     """Sets of the indices of packets to drop: each alone, and so many times a few and about half of all."""
     yield from ({index} for index in range(len(segments)))
     for _ in range(orders):
@@ -163,7 +168,7 @@ def choices(chance, segments, orders):
         yield {index for index in range(len(segments)) if chance.randrange(2)}
 
 
-def acknowledgements(chance, segments, orders):
+def acknowledgements(chance: random.Random, segments: list[packets.Segment], orders: int) -> Iterator[set[int]]:
     """The same of packets that only acknowledge: all, and some of them. Those behind their sender's FIN stay."""
     ended, indices = set(), []
     for index, s in enumerate(segments):

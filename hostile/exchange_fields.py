@@ -1,6 +1,12 @@
 """The fields that tlslog has of key exchanges, of CertificateVerify, and of some extensions, as `hostile/exchanges` has them from tshark."""
 
+from __future__ import annotations
+
 import re
+from collections.abc import Iterable, Iterator
+from typing import Any
+
+from hostile.shapes import Line
 
 # A field of a message is a number, bytes in hexadecimal, or escaped text.
 NUMBERS = {"curve_type", "namedcurve", "algorithm", "obfuscated_ticket_age", "selected_identity", "algorithms"}
@@ -9,13 +15,13 @@ TEXTS = {"psk_identity_hint", "psk_identity"}
 ESCAPES = {"t": b"\t", "r": b"\r", "n": b"\n"}
 
 
-def unescaped(text):
+def unescaped(text: str) -> bytes:
     """The bytes that a peer sent."""
     parts = re.findall(r"\\x(..)|\\(.)|([^\\])", text)
     return b"".join(bytes.fromhex(code) if code else ESCAPES.get(mark, mark.encode()) if mark else plain.encode() for code, mark, plain in parts)
 
 
-def leaves(value, name=None):
+def leaves(value: Any, name: str | None = None) -> Iterator[str]:
     """The fields that have values, in their order. What certificates say is none of them (.ci/certificates)."""
     if isinstance(value, dict):
         for field, inner in value.items():
@@ -32,7 +38,7 @@ def leaves(value, name=None):
         yield f"{name}={unescaped(value).hex()}"
 
 
-def lines(capture, messages):
+def lines(capture: str, messages: Iterable[Line]) -> Iterator[str]:
     """A line for each message of `--messages` that has some of these fields."""
     for said in messages:
         values = list(leaves(said["message"].get("body"))) if said["content_type"] == 22 else []

@@ -4,11 +4,16 @@ A place is in front of a packet of the capture. What was captured up to there of
 receiver of a forged one drops there, whatever it says.
 """
 
-import struct
-from dataclasses import dataclass, replace
+from __future__ import annotations
 
-from dropped import ahead
-from packets import FILE_HEADER, FIN, LINK_HEADER, PACKET_HEADER, PSH, RST, SYN, UDP, UDP_HEADER
+import random
+import struct
+from collections.abc import Collection, Iterable, Iterator
+from dataclasses import dataclass, replace
+from typing import Any
+
+from hostile.dropped import ahead
+from hostile.packets import FILE_HEADER, FIN, LINK_HEADER, PACKET_HEADER, PSH, RST, SYN, UDP, UDP_HEADER
 
 ACK, URG = 16, 32
 TCP, TCP_HEADER = 6, 20
@@ -23,12 +28,12 @@ DEFAULT_SIZE = 536
 RIGHT, PARTIAL, WRONG, NONE = "right", "partial", "wrong", "none"
 
 
-def words(data):
+def words(data: bytes) -> int:
     """The sum of the words of 16 bits, or a number that leaves the same behind when divided by 65,535."""
     return (int.from_bytes(data, "big") << (len(data) % 2 * 8)) % 65535
 
 
-def complement(total):
+def complement(total: int) -> int:
     """The checksum of words with this sum (RFC 1071)."""
     return 65535 - (total % 65535 or 65535)
 
@@ -36,7 +41,7 @@ def complement(total):
 class Packet:
     """A packet of a capture that holds a whole segment of TCP, or a datagram of UDP, in Ethernet. The time is in microseconds."""
 
-    def __init__(self, time, frame, protocol, begin, end):
+    def __init__(self, time: int, frame: bytes, protocol: int, begin: int, end: int) -> None:
         self.time, self.is_udp = time, protocol == UDP
         self.front, self.is_v6 = frame[:begin], frame[LINK_HEADER] >> 4 == 6
         header = begin + (UDP_HEADER if self.is_udp else 4 * (frame[begin + 12] >> 4))
@@ -53,7 +58,7 @@ class Packet:
         if not self.is_udp:
             self.sequence, self.acknowledgment, _, self.flags, self.window = struct.unpack(">IIBBH", self.transport[4:16])
 
-    def sums_of(self, data, protocol):
+    def sums_of(self, data: bytes, protocol: int) -> str:
         """What the checksum is."""
         pseudo = self.addresses + protocol + len(data)
         found = int.from_bytes(data[6:8] if self.is_udp else data[16:18], "big")
@@ -63,7 +68,7 @@ class Packet:
             return RIGHT
         return PARTIAL if found % 65535 == pseudo % 65535 else WRONG
 
-    def options(self):
+    def options(self) -> dict[int, int]:
         """By kind, as far as they are whole."""
         found, rest = {}, self.transport[TCP_HEADER:]
         while rest and rest[0]:
@@ -75,15 +80,15 @@ class Packet:
         return found
 
     @property
-    def first(self):
+    def first(self) -> int:
         return (self.sequence + bool(self.flags & SYN)) % ALL
 
     @property
-    def behind(self):
+    def behind(self) -> int:
         return (self.first + self.size) % ALL
 
 
-def packet_of(time, frame):
+def packet_of(time: int, frame: bytes) -> Packet | None:
     """None where the frame holds no whole segment or datagram, or a part of one."""
     kind, length = frame[12:14], len(frame)
     if kind == b"\x08\x00" and length >= LINK_HEADER + 20:
@@ -130,11 +135,11 @@ class End:
     lacks: bool = False  # The other end acknowledged what wasn't captured.
 
 
-def later(number, other):
+def later(number: int | None, other: int) -> int:
     return other if number is None or ahead(other, number) > 0 else number
 
 
-def reached_by(end, packet):
+def reached_by(end: End, packet: Packet) -> tuple[int, tuple[tuple[int, int], ...]]:
     """The number behind all that came in a row, and what stands further ahead."""
     reached = packet.first if end.reached is None else end.reached
     pieces = sorted([*end.ahead, (packet.first, packet.behind)], key=lambda piece: ahead(piece[0], reached))
@@ -147,7 +152,7 @@ def reached_by(end, packet):
     return reached, tuple(left)
 
 
-def sent(end, other, packet):
+def sent(end: End, other: End, packet: Packet) -> End:
     """What is known of an end behind a segment of it that the other one took."""
     options, flags = packet.options(), packet.flags
     reached, further = reached_by(end, packet)
@@ -176,7 +181,7 @@ def sent(end, other, packet):
     return replace(found, edge=later(end.edge, (end.acknowledged + packet.window) % ALL))
 
 
-def checksums(end, packet):
+def checksums(end: End, packet: Packet) -> dict[str, Any]:
     return {
         "packet": packet,
         "sums": end.sums or packet.sums,
@@ -185,7 +190,7 @@ def checksums(end, packet):
     }
 
 
-def heard(other, packet):
+def heard(other: End, packet: Packet) -> End:
     """What is known of the other end behind a segment that it took: it sent what that acknowledges."""
     if not packet.flags & ACK or other.next is None:
         return other
@@ -194,7 +199,7 @@ def heard(other, packet):
     return replace(other, next=later(other.next, packet.acknowledgment), lacks=lacks)
 
 
-def expecting(end, other):
+def expecting(end: End, other: End) -> End:
     """An end that only asked for the connection waits for what follows the other's SYN, within the window of its own."""
     if end.acknowledged is not None or other.first is None or end.edge is None:
         return end
@@ -204,14 +209,14 @@ def expecting(end, other):
 class Connection:
     """What was captured between two ends, up to a place. It is over where both said their last, or one broke it off."""
 
-    def __init__(self, packet, is_first):
+    def __init__(self, packet: Packet, is_first: bool) -> None:
         self.ends, self.is_first, self.is_over = {packet.source: End(), packet.destination: End()}, is_first, False
         self.time = packet.time
 
-    def begins_anew(self, packet):
+    def begins_anew(self, packet: Packet) -> bool:
         return not packet.is_udp and packet.flags & SYN and self.ends[packet.source].first not in (None, packet.first)
 
-    def add(self, packet):
+    def add(self, packet: Packet) -> None:
         self.time = packet.time
         end, other = self.ends[packet.source], self.ends[packet.destination]
         if packet.is_udp:
@@ -220,28 +225,28 @@ class Connection:
         self.ends[packet.source], self.ends[packet.destination] = sent(end, other, packet), heard(other, packet)
         self.is_over |= bool(packet.flags & RST) or all(end.fin is not None for end in self.ends.values())
 
-    def note_sent(self, source, numbers):
+    def note_sent(self, source: tuple[bytes, bytes], numbers: Iterable[int]) -> None:
         for number in numbers:
             end = self.ends[source]
             self.ends[source] = replace(end, next=later(end.next, number))
 
-    def note_dropped(self, packet):
+    def note_dropped(self, packet: Packet) -> None:
         """What goes on behind what was sent, or repeats it, was sent too: it may be acknowledged."""
         end = self.ends.get(packet.source)
         if end and not packet.is_udp and end.next is not None and 0 <= ahead(end.next, packet.first) < NEAR:
             self.note_sent(packet.source, [packet.behind])
 
-    def stands(self):
+    def stands(self) -> bool:
         """Each side acknowledged the other's SYN."""
         return all(end.first is not None and end.acknowledged is not None for end in self.ends.values())
 
-    def is_opened(self):
+    def is_opened(self) -> bool:
         """Both SYNs were captured, and one of them answers the other."""
         ends = self.ends.values()
         is_answered = any(end.acknowledged is not None for end in ends) if self.is_first else self.stands()
         return is_answered and all(end.first is not None for end in ends)
 
-    def slots_at(self, place):
+    def slots_at(self, place: int) -> Iterator[Slot]:
         """In SYN-RECEIVED the receiver still waits for the last segment of the opening."""
         for source, sender in self.ends.items():
             receiver = next(end for other, end in self.ends.items() if other != source)
@@ -262,7 +267,7 @@ class Slot:
     connection: "Connection"
     source: tuple
 
-    def in_the_end(self):
+    def in_the_end(self) -> Slot:
         """Which kinds it has once all was captured: what acknowledges more than was sent may be taken where other bytes weren't captured."""
         lacks = self.connection.ends[self.source].lacks
         return replace(self, kinds=tuple(kind for kind in self.kinds if not lacks or kind not in ("ack_of_unsent", "ack_far_ahead")))
@@ -271,7 +276,7 @@ class Slot:
 class Draft:
     """A segment as its sender would send it next, unless something of it is changed."""
 
-    def __init__(self, chance, sender, receiver):
+    def __init__(self, chance: random.Random, sender: End, receiver: End) -> None:
         self.chance, self.sender, self.receiver = chance, sender, receiver
         self.sequence, self.flags = sender.next, chance.choice((ACK, ACK | PSH, ACK | PSH, ACK | PSH | URG))
         self.acknowledgment = chance.choice((sender.acknowledged, receiver.next))
@@ -283,99 +288,99 @@ class Draft:
             self.clock = (sender.clock + chance.choice((0, 0, 1, 1_000_000, QUARTER))) % ALL
         self.options, self.header_size = b"", None
 
-    def some(self, most=QUARTER):
+    def some(self, most: int = QUARTER) -> int:
         """A number below that, as likely a small one as a large one."""
         return self.chance.randrange(min(most, 1 << self.chance.randrange(1, 31)))
 
-    def place_behind(self, number):
+    def place_behind(self, number: int) -> None:
         self.sequence = number % ALL
 
-    def end_at(self, number):
+    def end_at(self, number: int) -> None:
         """Its last byte, or its FIN, stands in front of the number."""
         self.sequence = (number - len(self.payload) - bool(self.flags & FIN)) % ALL
 
-    def maybe(self, flag):
+    def maybe(self, flag: int) -> None:
         if self.chance.randrange(4) == 0:
             self.flags |= flag
 
-    def needs_data(self):
+    def needs_data(self) -> None:
         if not self.payload:
             self.payload = HELLO
 
 
-def any_segment(draft):
+def any_segment(draft: Draft) -> None:
     """Also one that its receiver would take, as an RST of the next number."""
     draft.flags = draft.chance.choice((draft.flags, ACK | FIN, RST, RST | ACK, SYN, SYN | ACK))
     draft.sequence = draft.chance.choice((draft.sender.next, draft.receiver.acknowledged, draft.sender.first))
 
 
-def checksum(draft):
+def checksum(draft: Draft) -> None:
     any_segment(draft)
     draft.sums = WRONG
 
 
-def checksum_partial(draft):
+def checksum_partial(draft: Draft) -> None:
     any_segment(draft)
     draft.sums, draft.payload = PARTIAL, draft.payload[: draft.receiver.size]
 
 
-def header_checksum(draft):
+def header_checksum(draft: Draft) -> None:
     any_segment(draft)
     draft.has_right_header = False
 
 
-def header_length(draft):
+def header_length(draft: Draft) -> None:
     """Less than a header has, or more than the segment."""
     draft.header_size = draft.chance.choice((0, 4, 16, 60))
     if draft.header_size == 60:
         draft.payload = draft.payload[:7]
 
 
-def signed(draft):
+def signed(draft: Draft) -> None:
     """By an option that its sender's SYN didn't have (RFC 2385, section 2)."""
     draft.options = b"\1\1\x13\x12" + NOISE[:16]
 
 
-def no_ack(draft):
+def no_ack(draft: Draft) -> None:
     draft.flags = draft.chance.choice((0, PSH, URG, FIN, FIN | PSH))
 
 
-def ack_of_unsent(draft):
+def ack_of_unsent(draft: Draft) -> None:
     """From 1 ahead on."""
     draft.maybe(FIN)
     draft.acknowledgment = (draft.receiver.next + 1 + draft.some()) % ALL
 
 
-def ack_far_ahead(draft):
+def ack_far_ahead(draft: Draft) -> None:
     draft.maybe(FIN)
     draft.acknowledgment = (draft.receiver.next + QUARTER + draft.some(QUARTER - 1)) % ALL
 
 
-def ack_in_front(draft):
+def ack_in_front(draft: Draft) -> None:
     draft.maybe(FIN)
     draft.acknowledgment = (draft.receiver.first - 1 - draft.some()) % ALL
 
 
-def beyond_the_window(draft):
+def beyond_the_window(draft: Draft) -> None:
     draft.place_behind(draft.receiver.edge + bool(not draft.payload) + draft.some())
 
 
-def fin_beyond_the_window(draft):
+def fin_beyond_the_window(draft: Draft) -> None:
     draft.flags |= FIN
     draft.place_behind(draft.receiver.edge + 1 + draft.some())
 
 
-def old_data(draft):
+def old_data(draft: Draft) -> None:
     draft.maybe(FIN)
     draft.end_at(draft.receiver.acknowledged - 1 - draft.some())
 
 
-def old_timestamp(draft):
+def old_timestamp(draft: Draft) -> None:
     draft.maybe(FIN)
     draft.clock = (draft.sender.recent - 2 - draft.some()) % ALL
 
 
-def opens(draft):
+def opens(draft: Draft) -> None:
     """Each SYN begins anywhere, with options of its own."""
     sender, receiver = draft.sender, draft.receiver
     known = (sender.first - 1, sender.next - 1, sender.next, receiver.acknowledged, receiver.edge)
@@ -384,24 +389,24 @@ def opens(draft):
         draft.options = b"\2\4\0\x10\1\3\3" + bytes([draft.chance.randrange(15)])
 
 
-def syn(draft):
+def syn(draft: Draft) -> None:
     opens(draft)
     draft.flags = SYN
 
 
-def syn_ack(draft):
+def syn_ack(draft: Draft) -> None:
     opens(draft)
     draft.flags = SYN | ACK
 
 
-def rst(draft):
+def rst(draft: Draft) -> None:
     """Not of a number that the receiver may wait for: within its window, or outside."""
     low, high = draft.receiver.acknowledged, draft.sender.next
     draft.flags = draft.chance.choice((RST, RST | ACK))
     draft.place_behind(draft.chance.choice((low - 1 - draft.some(), high + 1 + draft.some(65535), high + 1 + draft.some())))
 
 
-def behind_fin(draft):
+def behind_fin(draft: Draft) -> None:
     draft.needs_data()
     draft.maybe(FIN)
     draft.place_behind(draft.sender.fin + draft.chance.choice((0, 1, 2, 100)))
@@ -434,7 +439,7 @@ KINDS = {
 UDP_KINDS = ("udp_checksum", "udp_checksum_none", "udp_header_checksum")
 
 
-def fitting(sender, receiver, is_opening):
+def fitting(sender: End, receiver: End, is_opening: bool) -> tuple[str, ...]:
     """The kinds of segments that the receiver drops here."""
     if sender.packet.is_udp:
         wrong = {"udp_checksum": sender.has_right_sums, "udp_checksum_none": sender.has_right_sums and sender.packet.is_v6}
@@ -453,17 +458,17 @@ def fitting(sender, receiver, is_opening):
     return tuple(kind for kind in KINDS if not left_out.get(kind))
 
 
-def opaque(data, width):
+def opaque(data: bytes, width: int) -> bytes:
     return len(data).to_bytes(width, "big") + data
 
 
-def handshake(kind, body, is_dtls):
+def handshake(kind: int, body: bytes, is_dtls: bool) -> bytes:
     length = len(body).to_bytes(3, "big")
     message = bytes([kind]) + length + ((bytes(5) + length) if is_dtls else b"") + body
     return b"\x16" + (b"\xfe\xfd" + bytes(8) if is_dtls else b"\3\1") + opaque(message, 2)
 
 
-def client_hello(is_dtls=False):
+def client_hello(is_dtls: bool = False) -> bytes:
     """It asks for another host than any captured one."""
     name = opaque(opaque(b"\0" + opaque(b"fake.test", 2), 2), 2)
     extensions = b"\0\0" + name + b"\0\x0d\0\4\0\2\4\3" + b"\0\x0a\0\4\0\2\0\x17" + b"\0\x0b\0\2\1\0"
@@ -471,7 +476,7 @@ def client_hello(is_dtls=False):
     return handshake(1, version + bytes(range(32)) + b"\0" + cookie + b"\0\4\xc0\x2b\xc0\x2f" + b"\1\0" + opaque(extensions, 2), is_dtls)
 
 
-def server_hello(is_dtls=False):
+def server_hello(is_dtls: bool = False) -> bytes:
     """It chooses a suite that no captured one has."""
     version = b"\xfe\xfd" if is_dtls else b"\3\3"
     return handshake(2, version + bytes(range(32)) + b"\0" + b"\0\x2c\0" + opaque(b"\xff\1\0\1\0", 2), is_dtls)
@@ -484,7 +489,7 @@ PAYLOADS = (b"", b"\x16", b"\x28", NOISE[:7], NOISE[:300], NOISE, HELLO, HELLO, 
 UDP_PAYLOADS = (b"", NOISE[:300], client_hello(True), server_hello(True), b"\x15\xfe\xfd" + bytes(8) + b"\0\2\2\x28")
 
 
-def front_of(sender, identifier, length, is_right):
+def front_of(sender: End, identifier: int, length: int, is_right: bool) -> bytes:
     """The headers of the link and of IP in front of so many bytes."""
     front, ip = sender.packet.front, LINK_HEADER
     if sender.packet.is_v6:
@@ -495,7 +500,7 @@ def front_of(sender, identifier, length, is_right):
     return front[:ip] + parts[0] + total.to_bytes(2, "big") + parts[1]
 
 
-def checksum_as(kind, pseudo, data, chance):
+def checksum_as(kind: str, pseudo: int, data: bytes, chance: random.Random) -> int:
     """The checksum of that kind of data whose own is 0."""
     right = complement(pseudo + words(data))
     if kind == RIGHT:
@@ -505,7 +510,7 @@ def checksum_as(kind, pseudo, data, chance):
     return (right + chance.randrange(1, 65534)) % 65535
 
 
-def segment(draft):
+def segment(draft: Draft) -> bytes:
     """The frame of a segment of TCP."""
     sender, options = draft.sender, draft.options
     if draft.clock is not None:
@@ -522,7 +527,7 @@ def segment(draft):
     return front + head + total.to_bytes(2, "big") + tail
 
 
-def datagram(chance, sender, kind):
+def datagram(chance: random.Random, sender: End, kind: str) -> bytes:
     """The frame of a datagram of UDP."""
     payload = chance.choice(UDP_PAYLOADS)
     length = UDP_HEADER + len(payload)
@@ -533,7 +538,7 @@ def datagram(chance, sender, kind):
     return front + head + (0 if kind == "udp_checksum_none" else total).to_bytes(2, "big") + payload
 
 
-def frame(chance, slot, kind):
+def frame(chance: random.Random, slot: Slot, kind: str) -> bytes:
     if slot.sender.packet.is_udp:
         return datagram(chance, slot.sender, kind)
     draft = Draft(chance, slot.sender, slot.receiver)
@@ -545,7 +550,7 @@ class Capture:
     """A capture as tcpdump writes it on this machine, and its slots. The numbers of packets that were dropped, from 1 on, are left out of
     what is known."""
 
-    def __init__(self, data, dropped=()):
+    def __init__(self, data: bytes, dropped: Collection[int] = ()) -> None:
         if data[:4] != b"\xd4\xc3\xb2\xa1" or data[20:24] != b"\1\0\0\0":
             raise ValueError("another form")
         self.header, self.records, self.times = data[:FILE_HEADER], [], []
@@ -566,7 +571,7 @@ class Capture:
                 self.sent_by_syns.setdefault((packet.ends, packet.source, packet.first), []).append(packet.behind)
         self.slots = [slot.in_the_end() for slot in list(self.slots_of(taken, left_out))]
 
-    def slots_of(self, taken, left_out):
+    def slots_of(self, taken: list[Packet | None], left_out: list[Packet | None]) -> Iterator[Slot]:
         """Behind the opening of each connection, and in front of its end and its last packet."""
         connections, last = {}, {}
         for place, packet in enumerate(taken):
@@ -584,7 +589,7 @@ class Capture:
             elif left_out[place] and left_out[place].ends in connections:
                 connections[left_out[place].ends].note_dropped(left_out[place])
 
-    def with_forged(self, forged):
+    def with_forged(self, forged: Iterable[tuple[int, bytes]]) -> bytes:
         """The capture with these frames, each with its place, in the order of their places."""
         by_place, parts = {}, [self.header]
         for place, made in forged:
@@ -599,7 +604,7 @@ class Capture:
         return b"".join(parts)
 
 
-def put(connections, packet):
+def put(connections: dict[frozenset[tuple[bytes, bytes]], Connection], packet: Packet) -> None:
     known = connections.get(packet.ends)
     if known is None or known.begins_anew(packet) or (known.is_over and not packet.is_udp and packet.flags & SYN):
         connections[packet.ends] = Connection(packet, known is None)

@@ -1,5 +1,7 @@
 """The checks of tlslog's options on its stored captures: fields, comma-separated values, names of suites, messages, and the commands of docs/REPORT.md and SCALE.md."""
 
+from __future__ import annotations
+
 import csv
 import io
 import json
@@ -8,10 +10,12 @@ import shlex
 import shutil
 import subprocess
 from collections import Counter
+from collections.abc import Iterable
 from pathlib import Path
+from typing import Any
 
-import exchange_fields
-import identifiers
+from hostile import exchange_fields, identifiers
+from hostile.shapes import Ask, Line
 
 TOP = Path(__file__).resolve().parent.parent
 # Some suites by the names of the registry.
@@ -32,12 +36,12 @@ class Wrong(Exception):
     """What a check found."""
 
 
-def want(is_so, *words):
+def want(is_so: object, *words: object) -> None:
     if not is_so:
         raise Wrong(" ".join(map(str, words)))
 
 
-def named(lines):
+def named(lines: list[Line]) -> list[Line]:
     """The lines with the names of suites."""
     names = dict(line.split(":")[:2] for line in SUITES.splitlines() if line and line[0] != "#")
     name = lambda suite: names.get(suite[2:], suite)  # noqa: E731
@@ -45,16 +49,16 @@ def named(lines):
     return [{field: fields.get(field, lambda v: v)(value) for field, value in line.items()} for line in lines]
 
 
-def as_text(value):
+def as_text(value: Any) -> str:
     """A value as comma-separated values have it."""
     return value if isinstance(value, str) else json.dumps(value, separators=(",", ":"))
 
 
-def records(text):
+def records(text: str) -> list[list[str]]:
     return list(csv.reader(io.StringIO(text, newline=""), strict=True))
 
 
-def fields(ask, files, lines):
+def fields(ask: Ask, files: list[Path], lines: list[Line]) -> int:
     """Each field alone, all in another order, and all as comma-separated values: the values are those of the lines. Each is in docs/TLSLOG.md."""
     status, text, _ = ask(["--format", "csv", *files])
     names, *rows = records(text)
@@ -75,7 +79,7 @@ def fields(ask, files, lines):
     return len(names)
 
 
-def suites(ask, files, lines, room):
+def suites(ask: Ask, files: list[Path], lines: list[Line], room: Path) -> None:
     """A list of suites, and what is none."""
     good, bad = room / "suites", room / "no-suites"
     good.write_text(SUITES)
@@ -90,11 +94,11 @@ def suites(ask, files, lines, room):
         want((status, text) == (wanted, "") and told, *words, "status", status, text, told)
 
 
-def key(message):
+def key(message: Line) -> tuple[int, str]:
     return message["id.orig_p"], message["side"]
 
 
-def messages(ask, files):
+def messages(ask: Ask, files: list[Path]) -> tuple[int, int]:
     """The messages are those that tshark has, which `captures/messages` says, at their times; each has its place, and all have their fields
     as comma-separated values too. Key exchanges, signatures and keys known before have the fields that tshark has, which
     `captures/exchanges` says."""
@@ -129,11 +133,11 @@ def messages(ask, files):
     return len(rows), fields_found.total()
 
 
-def ends(line):
+def ends(line: Line) -> tuple[Any, ...]:
     return tuple(line[f"id.{end}"] for end in ("orig_h", "orig_p", "resp_h", "resp_p"))
 
 
-def identified(ask, files, lines):
+def identified(ask: Ask, files: list[Path], lines: list[Line]) -> int:
     """Each stored line has the identifiers that hashlib makes, and those of messages and certificates have the uid of their connection."""
     for line in lines:
         want(list(line.items()) == list(identifiers.of_connection(line).items()), "identifiers:", line, "wanted are", identifiers.of_connection(line))
@@ -148,11 +152,11 @@ def identified(ask, files, lines):
     return count
 
 
-def counted(values):
+def counted(values: Iterable[Any]) -> list[str]:
     return sorted(f"{count} {value}" for value, count in Counter(values).items())
 
 
-def wanted_of_uses(lines):
+def wanted_of_uses(lines: list[Line]) -> dict[str, list[str] | None]:
     """What each use prints, in any order, from the lines."""
     plain = lambda line: json.dumps(line, separators=(",", ":"))  # noqa: E731
     only = lambda line, *names: plain({name: line[name] for name in names if name in line})  # noqa: E731
@@ -190,7 +194,7 @@ NUMBERS = {
 }
 
 
-def printed(what, text):
+def printed(what: str, text: str) -> list[str]:
     rows = [re.sub(r"^ +(\d+) ", r"\1 ", row) for row in text.splitlines()]
     if what != "which messages":
         return sorted(rows)
@@ -198,7 +202,7 @@ def printed(what, text):
     return sorted(f"{side}\t{NUMBERS[name]}" for side, name in rows if name in NUMBERS)
 
 
-def uses(program, files, lines, room):
+def uses(program: Path, files: list[Path], lines: list[Line], room: Path) -> int:
     """The commands of docs/REPORT.md, as they stand there."""
     if not shutil.which("jq"):
         print("logs: there is no jq: the commands of docs/REPORT.md weren't run")
@@ -221,7 +225,7 @@ def uses(program, files, lines, room):
     return len(rows)
 
 
-def many_captures(program, ask, files, room):
+def many_captures(program: Path, ask: Ask, files: list[Path], room: Path) -> int:
     """The command of docs/SCALE.md on many captures, as it stands there."""
     [command] = re.findall(r"^    (printf .*)$", (TOP / "docs" / "SCALE.md").read_text(), re.M)
     folder = room / "many"
@@ -238,7 +242,7 @@ def many_captures(program, ask, files, room):
     return len(files)
 
 
-def check(program, ask, files, lines, room):
+def check(program: Path, ask: Ask, files: list[Path], lines: list[Line], room: Path) -> None:
     """All of them. `ask` runs the program on arguments: its status, output and error output."""
     count = fields(ask, files, lines)
     suites(ask, files, lines, room)

@@ -1,14 +1,18 @@
 """What `--format zeek` and `--format suricata` print, beside the lines of JSON: each field, by docs/TLSLOG.md ("Formats")."""
 
+from __future__ import annotations
+
 import hashlib
 import json
 import subprocess
+from collections.abc import Iterable
 from dataclasses import replace
 from datetime import datetime, timezone
+from pathlib import Path
+from typing import Any
 
-import identifiers
-import packets
-import zeek_log
+from hostile import identifiers, packets, zeek_log
+from hostile.shapes import Ask, Line
 
 PATHS = {(): "ssl", ("--messages",): "tls_messages", ("--certificates",): "x509"}
 # zeek-cut of two fields, as a program of awk.
@@ -23,12 +27,12 @@ VERSIONS = {
 NAMES = [b"-", b"(empty)", b"#close", b"#fields\ta", b"a,b", b"\t\n\r\0\x7f\xff", b"\\x2d", b"\\", b"\"'", b"--", b"(empty),", b" ", b","]
 
 
-def want(is_so, *words):
+def want(is_so: object, *words: object) -> None:
     if not is_so:
         raise zeek_log.Wrong(" ".join(map(str, words)))
 
 
-def kind_of(field, value):
+def kind_of(field: str, value: Any) -> str:
     """The type in which Zeek has a value of JSON."""
     if field in ("ts", "certificate.not_valid_before", "certificate.not_valid_after"):
         return "time"
@@ -41,17 +45,17 @@ def kind_of(field, value):
     return {bool: "bool", int: "count", str: "string", dict: "string"}[type(value)]
 
 
-def as_zeek(value):
+def as_zeek(value: Any) -> Any:
     return json.dumps(value, separators=(",", ":")) if isinstance(value, dict) else value
 
 
-def rows(ask, *words):
+def rows(ask: Ask, *words: object) -> str:
     status, text, told = ask([*words])
     want(status == 0, *words, "status", status, told)
     return text
 
 
-def zeek(ask, files):
+def zeek(ask: Ask, files: list[Path]) -> int:
     """Each log has the fields and the values of the lines of JSON; chosen fields stand in their order, and awk cuts as zeek-cut does."""
     count = 0
     for words, path in PATHS.items():
@@ -74,11 +78,11 @@ def zeek(ask, files):
     return count
 
 
-def counted(size, content):
+def counted(size: int, content: bytes) -> bytes:
     return len(content).to_bytes(size, "big") + content
 
 
-def hello(name, protocols):
+def hello(name: bytes, protocols: list[bytes]) -> bytes:
     """A record with a ClientHello that asks for this name and these protocols (RFC 8446, 4.1.2; RFC 6066, 3; RFC 7301, 3.1)."""
     extensions = [(0, counted(2, b"\0" + counted(2, name))), (16, counted(2, b"".join(counted(1, one) for one in protocols)))]
     block = b"".join(kind.to_bytes(2, "big") + counted(2, content) for kind, content in extensions)
@@ -86,7 +90,7 @@ def hello(name, protocols):
     return b"\x16\3\1" + counted(2, b"\1" + counted(3, body))
 
 
-def hostile(ask, capture, room):
+def hostile(ask: Ask, capture: Path, room: Path) -> int:
     """Each name, also in a list, and in front of its line, is read as the text that JSON has. The capture is one of which a hello is the first payload."""
     segments = packets.read(capture.read_bytes())
     place = next(place for place, segment in enumerate(segments) if segment.payload)
@@ -106,11 +110,11 @@ def hostile(ask, capture, room):
     return len(NAMES)
 
 
-def colons(digits):
+def colons(digits: str) -> str:
     return ":".join(digits[at : at + 2] for at in range(0, len(digits), 2))
 
 
-def own_certificates(messages):
+def own_certificates(messages: Iterable[Line]) -> dict[str, str]:
     """The SHA-1 of each certificate of a message, by its SHA-256."""
     found = {}
     for message in messages:
@@ -121,11 +125,11 @@ def own_certificates(messages):
     return found
 
 
-def date(text):
+def date(text: str | None) -> str | None:
     return text.removesuffix("Z") if text else None
 
 
-def event_of(line, prints):
+def event_of(line: Line, prints: dict[str, str]) -> Line:
     """The event that is wanted of a connection."""
     time = datetime.fromtimestamp(round(line["ts"] * 1_000_000) // 1_000_000, timezone.utc)
     serial, chain = line.get("serial"), line.get("cert_chain_fps")
@@ -146,7 +150,7 @@ def event_of(line, prints):
     }
 
 
-def suricata(ask, files):
+def suricata(ask: Ask, files: list[Path]) -> int:
     """Each event says what the line of JSON says; SHA-1 is by hashlib, of the certificates whose SHA-256 the line has."""
     lines = [json.loads(line) for line in rows(ask, *files).splitlines()]
     prints = own_certificates(json.loads(line) for line in rows(ask, "--messages", *files).splitlines())

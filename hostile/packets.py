@@ -1,12 +1,21 @@
 """Captures of TCP and UDP as the checks of tlslog turn them over: read, cut, put into other orders, and written in each form."""
 
+from __future__ import annotations
+
 import struct
+from collections.abc import Callable, Iterable, Iterator
 from dataclasses import dataclass, replace
 
 ETHERNET = 1
 FIN, SYN, RST, PSH = 1, 2, 4, 8
 FILE_HEADER, PACKET_HEADER, LINK_HEADER, UDP_HEADER = 24, 16, 14, 8
 TCP, UDP = 6, 17
+# An end of a connection: its address and its port.
+End = tuple[bytes, bytes]
+# A frame, with its time in microseconds.
+Timed = tuple[int, bytes]
+# What wraps a frame: what stands behind the outer link's type then, and which tunnels these are, with the number of each.
+Wrap = Callable[[bytes], tuple[bytes, list[str], list[int]]]
 
 
 @dataclass(frozen=True)
@@ -19,49 +28,49 @@ class Segment:
     payload: bytes
 
     @property
-    def is_v6(self):
+    def is_v6(self) -> bool:
         return self.front[LINK_HEADER] >> 4 == 6
 
     @property
-    def source(self):
+    def source(self) -> End:
         return self.front[LINK_HEADER + 8 : LINK_HEADER + 24] if self.is_v6 else self.front[LINK_HEADER + 12 : LINK_HEADER + 16], self.tcp[0:2]
 
     @property
-    def destination(self):
+    def destination(self) -> End:
         return self.front[LINK_HEADER + 24 : LINK_HEADER + 40] if self.is_v6 else self.front[LINK_HEADER + 16 : LINK_HEADER + 20], self.tcp[2:4]
 
     @property
-    def ends(self):
+    def ends(self) -> frozenset[End]:
         return frozenset((self.source, self.destination))
 
     @property
-    def sequence(self):
+    def sequence(self) -> int:
         return int.from_bytes(self.tcp[4:8], "big")
 
     @property
-    def acknowledgment(self):
+    def acknowledgment(self) -> int:
         return int.from_bytes(self.tcp[8:12], "big")
 
     @property
-    def is_udp(self):
+    def is_udp(self) -> bool:
         return len(self.tcp) == UDP_HEADER
 
     @property
-    def flags(self):
+    def flags(self) -> int:
         return 0 if self.is_udp else self.tcp[13]
 
-    def says_nothing(self):
+    def says_nothing(self) -> bool:
         """It only acknowledges."""
         return not self.payload and not self.flags & (FIN | SYN | RST)
 
-    def part(self, begin, end):
+    def part(self, begin: int, end: int) -> Segment:
         """The segment of a part of its payload. The last part has its FIN."""
         flags = self.flags if end == len(self.payload) else self.flags & ~(FIN | PSH)
         sequence = (self.sequence + begin) % 2**32
         tcp = self.tcp[:4] + sequence.to_bytes(4, "big") + self.tcp[8:13] + bytes([flags]) + self.tcp[14:]
         return replace(self, tcp=tcp, payload=self.payload[begin:end])
 
-    def frame(self):
+    def frame(self) -> bytes:
         """Its bytes, with the lengths and the checksums that they should have: hosts drop others."""
         front, behind = bytearray(self.front), len(self.tcp) + len(self.payload)
         if self.is_v6:
@@ -77,17 +86,17 @@ class Segment:
         return bytes(front) + tcp[:place] + sum_of_all + tcp[place + 2 :] + self.payload
 
 
-def words(data):
+def words(data: bytes) -> int:
     """The sum of its words of 16 bits (RFC 1071)."""
     return sum(struct.unpack(f">{(len(data) + 1) // 2}H", data + bytes(len(data) % 2)))
 
 
-def checksum(total):
+def checksum(total: int) -> bytes:
     """That of words with this sum; over UDP 0 says that there is none, and 0xffff stands for it (RFC 768)."""
     return (-total % 65535 or 65535).to_bytes(2, "big")
 
 
-def segment(time, frame):
+def segment(time: int, frame: bytes) -> Segment:
     is_v6 = frame[LINK_HEADER] >> 4 == 6
     ip = LINK_HEADER + (40 if is_v6 else 4 * (frame[LINK_HEADER] & 15))
     is_udp = frame[LINK_HEADER + (6 if is_v6 else 9)] == UDP
@@ -95,7 +104,7 @@ def segment(time, frame):
     return Segment(time, frame[:ip], frame[ip:tcp], frame[tcp:])
 
 
-def read(capture):
+def read(capture: bytes) -> list[Segment]:
     """The segments of a capture as tcpdump writes it on this machine: pcap of little order, microseconds, Ethernet."""
     if capture[:4] != b"\xd4\xc3\xb2\xa1" or capture[20:24] != b"\1\0\0\0":
         raise ValueError("another form")
@@ -108,7 +117,7 @@ def read(capture):
     return found
 
 
-def ends_of_packets(capture):
+def ends_of_packets(capture: bytes) -> list[int]:
     """Where each packet of the file ends."""
     found, at = [], FILE_HEADER
     while at < len(capture):
@@ -117,7 +126,7 @@ def ends_of_packets(capture):
     return found
 
 
-def pcap(packets, order="<", nano=False, link=ETHERNET):
+def pcap(packets: Iterable[Timed], order: str = "<", nano: bool = False, link: int = ETHERNET) -> bytes:
     """A pcap file (draft-ietf-opsawg-pcap) of pairs of a time in microseconds and bytes."""
     parts = [struct.pack(order + "IHHiIII", 0xA1B23C4D if nano else 0xA1B2C3D4, 2, 4, 0, 0, 262144, link)]
     for time, frame in packets:
@@ -126,12 +135,12 @@ def pcap(packets, order="<", nano=False, link=ETHERNET):
     return b"".join(parts)
 
 
-def block(order, kind, body):
+def block(order: str, kind: int, body: bytes) -> bytes:
     body += bytes(-len(body) % 4)
     return struct.pack(order + "2I", kind, len(body) + 12) + body + struct.pack(order + "I", len(body) + 12)
 
 
-def pcapng(packets, order="<", nano=False, is_obsolete=False, link=ETHERNET, offset=0):
+def pcapng(packets: Iterable[Timed], order: str = "<", nano: bool = False, is_obsolete: bool = False, link: int = ETHERNET, offset: int = 0) -> bytes:
     """A capture in blocks (draft-ietf-opsawg-pcapng), with a block of names that no one reads. All times are that many seconds
     behind those of its packets where its interface says an offset."""
     options = struct.pack(order + "HHBxxx", 9, 1, 9) if nano else b""
@@ -150,7 +159,7 @@ def pcapng(packets, order="<", nano=False, is_obsolete=False, link=ETHERNET, off
     return b"".join(parts)
 
 
-def forms(segments):
+def forms(segments: list[Segment]) -> Iterator[tuple[str, bytes]]:
     """The capture in each form, by its name."""
     plain = [(s.time, s.frame()) for s in segments]
     for order, name in (("<", "little"), (">", "big")):
@@ -163,14 +172,14 @@ def forms(segments):
             yield f"pcapng {name} moved by {offset} seconds", pcapng(plain, order, nano, offset=offset)
 
 
-def links(segments):
+def links(segments: list[Segment]) -> Iterator[tuple[str, bytes]]:
     """The capture as it would be of other links, by the name of the link (tcpdump.org/linktypes.html)."""
     kind = {False: b"\x08\x00", True: b"\x86\xdd"}
 
-    def of(link, front):
+    def of(link: int, front: Callable[[Segment], bytes]) -> bytes:
         return pcap([(s.time, front(s) + s.frame()[LINK_HEADER:]) for s in segments], link=link)
 
-    def inner(s, tags):
+    def inner(s: Segment, tags: bytes) -> bytes:
         return s.front[:12] + tags + kind[s.is_v6]
 
     yield "raw", of(101, lambda s: b"")
@@ -185,7 +194,7 @@ def links(segments):
     yield "tagged twice", of(ETHERNET, lambda s: inner(s, b"\x88\xa8\0\7\x81\0\0\7"))
     ppp = {False: b"\0\x21", True: b"\0\x57"}
 
-    def session(s):
+    def session(s: Segment) -> bytes:
         return b"\x11\0\0\1" + (len(s.frame()) - LINK_HEADER + 2).to_bytes(2, "big") + ppp[s.is_v6]
 
     yield "PPPoE", of(ETHERNET, lambda s: s.front[:12] + b"\x88\x64" + session(s))
@@ -206,55 +215,55 @@ ETHER = {4: b"\x08\x00", 6: b"\x86\xdd"}
 LINK = bytes.fromhex("020000000002" "020000000001")
 
 
-def ipv4(protocol, payload):
+def ipv4(protocol: int, payload: bytes) -> bytes:
     header = struct.pack(">BBHHHBB", 0x45, 0, 20 + len(payload), 1, 0, 64, protocol)
     return header + checksum(words(header + ENDS_V4)) + ENDS_V4 + payload
 
 
-def ipv6(protocol, payload):
+def ipv6(protocol: int, payload: bytes) -> bytes:
     return struct.pack(">IHBB", 0x60000000, len(payload), protocol, 64) + ENDS_V6 + payload
 
 
-def udp(source, destination, payload):
+def udp(source: int, destination: int, payload: bytes) -> bytes:
     """One without a checksum, as VXLAN's mostly are."""
     return struct.pack(">4H", source, destination, 8 + len(payload), 0) + payload
 
 
-def wrappings():
+def wrappings() -> Iterator[tuple[str, Wrap, bytes | None]]:
     """What wraps a packet, by name: makes of an Ethernet frame the bytes behind the outer link's type, that type, and which tunnels these are, with
     the number of each (0 where it has none). The headers are those of the RFCs that crates/tunnels names."""
 
-    def datagram(frame):
+    def datagram(frame: bytes) -> tuple[bytes, int]:
         """What the frame carries, and of which version of IP that is."""
         return frame[LINK_HEADER:], frame[LINK_HEADER] >> 4
 
-    def in_ip(outer, protocol, header=b"", name=None, number=0):
+    def in_ip(outer: Callable[[int, bytes], bytes], protocol: int | None, header: bytes = b"", name: str | None = None, number: int = 0) -> Wrap:
         """The datagram itself in one of IP, behind a header."""
 
-        def wrap(frame):
+        def wrap(frame: bytes) -> tuple[bytes, list[str], list[int]]:
             inner, version = datagram(frame)
             kind = protocol or {4: 4, 6: 41}[version]
             return outer(kind, header.replace(b"TT", ETHER[version]) + inner), [name or f"ipv{version}"], [number]
 
         return wrap
 
-    def over(protocol, header, name, number, outer=ipv4, port=None):
+    def over(protocol: int, header: bytes, name: str, number: int, outer: Callable[[int, bytes], bytes] = ipv4, port: int | None = None) -> Wrap:
         """The whole frame in one of IP, or in a user datagram."""
 
-        def wrap(frame):
+        def wrap(frame: bytes) -> tuple[bytes, list[str], list[int]]:
             payload = header + frame
             return outer(protocol, udp(49152, port, payload) if port else payload), [name], [number]
 
         return wrap
 
-    def on_link(header, name, number, is_frame):
-        def wrap(frame):
+    def on_link(header: bytes, name: str, number: int, is_frame: bool) -> Wrap:
+        def wrap(frame: bytes) -> tuple[bytes, list[str], list[int]]:
             return header + (frame if is_frame else frame[LINK_HEADER:]), [name], [number]
 
         return wrap
 
-    def gtp(optional):
-        def wrap(frame):
+    def gtp(optional: bytes) -> Wrap:
+        def wrap(frame: bytes) -> tuple[bytes, list[str], list[int]]:
             inner, _ = datagram(frame)
             flags = 0x34 if optional else 0x30
             message = struct.pack(">BBHI", flags, 255, len(optional) + len(inner), 0xA0B0C0D) + optional + inner
@@ -262,13 +271,13 @@ def wrappings():
 
         return wrap
 
-    def geneve(frame):
+    def geneve(frame: bytes) -> tuple[bytes, list[str], list[int]]:
         inner, version = datagram(frame)
         options = bytes.fromhex("0102" "0301" "00000007")
         return ipv6(17, udp(49152, 6081, b"\x02\0" + ETHER[version] + b"\0\0\x09\0" + options + inner)), ["geneve"], [9]
 
-    def teredo(headers):
-        def wrap(frame):
+    def teredo(headers: bytes) -> Wrap:
+        def wrap(frame: bytes) -> tuple[bytes, list[str], list[int]]:
             inner, version = datagram(frame)
             if version == 6:
                 return ipv4(17, udp(49152, 3544, headers + inner)), ["teredo"], [0]
@@ -276,17 +285,17 @@ def wrappings():
 
         return wrap
 
-    def authenticated(outer):
+    def authenticated(outer: Callable[[int, bytes], bytes]) -> Wrap:
         """An Authentication Header is no tunnel; what it is in front of may be."""
 
-        def wrap(frame):
+        def wrap(frame: bytes) -> tuple[bytes, list[str], list[int]]:
             inner, version = datagram(frame)
             kind = {4: 4, 6: 41}[version]
             return outer(51, bytes([kind, 4, 0, 0]) + bytes(20) + inner), [f"ipv{version}"], [0]
 
         return wrap
 
-    def nested(frame):
+    def nested(frame: bytes) -> tuple[bytes, list[str], list[int]]:
         """As many tunnels as are followed, of five kinds."""
         names, numbers = [], []
         for wrap in (vxlan, gre_frame, keyed, labels_in_gre, vxlan, gre_frame, keyed):
@@ -300,7 +309,7 @@ def wrappings():
     gre_frame = over(47, b"\0\0\x65\x58", "gre", 0)
     keyed = in_ip(ipv6, 47, b"\x20\0TT\0\0\0\x07", "gre", 7)
 
-    def labels_in_gre(frame):
+    def labels_in_gre(frame: bytes) -> tuple[bytes, list[str], list[int]]:
         payload = b"\0\0\x88\x47" + bytes.fromhex("00010040" "00020140") + frame[LINK_HEADER:]
         return ipv4(47, payload), ["gre", "mpls"], [0, 32]
 
@@ -327,7 +336,7 @@ def wrappings():
     yield "a provider's backbone", on_link(bytes.fromhex("00000100"), "pbb", 256, True), b"\x88\xa8\0\x05\x88\xe7"
 
 
-def tunnels(segments):
+def tunnels(segments: list[Segment]) -> Iterator[tuple[str, bytes, dict[bool, tuple[list[str], list[int]]]]]:
     """The capture wrapped in each way: its name, the capture, and by whether a packet is of IPv6 the tunnels and their numbers."""
     for name, wrap, kind in wrappings():
         made, told = [], {}
@@ -336,3 +345,48 @@ def tunnels(segments):
             made.append((s.time, LINK + (kind or ETHER[payload[0] >> 4]) + payload))
             told[s.is_v6] = names, numbers
         yield name, pcap(made), told
+
+
+# What puts a frame into a network; and with it the names and the numbers of its tunnels.
+Put = Callable[[bytes], bytes]
+InNetwork = tuple[Put, tuple[list[str], list[int]]]
+
+
+def networks() -> Iterator[tuple[str, InNetwork, InNetwork]]:
+    """Pairs of networks, by name: each puts a frame of Ethernet into its own, where the addresses are the same, and has the names and the numbers of its tunnels."""
+
+    def tagged(*vlans: int) -> Put:
+        """In VLANs, from outside in. A tag's priority (IEEE 802.1Q, section 9.6) is another from packet to packet."""
+
+        def put(frame: bytes) -> bytes:
+            tags = [b"\x81\0" + struct.pack(">H", (frame[-1] & 7) << 13 | vlan) for vlan in vlans]
+            return frame[: LINK_HEADER - 2] + b"".join(tags) + frame[LINK_HEADER - 2 :]
+
+        return put
+
+    def vxlan(number: int, outside: Put = tagged(), inside: Put = tagged()) -> Put:
+        """In a VXLAN (RFC 7348, section 5), whose datagrams and frames may be in VLANs."""
+
+        def put(frame: bytes) -> bytes:
+            message = b"\x08\0\0\0" + number.to_bytes(3, "big") + b"\0" + inside(frame)
+            return outside(LINK + ETHER[4] + ipv4(UDP, udp(49152, 4789, message)))
+
+        return put
+
+    def keyed(key: int) -> Put:
+        """In GRE with a key (RFC 2890, section 2.1)."""
+
+        def put(frame: bytes) -> bytes:
+            return LINK + ETHER[4] + ipv4(47, b"\x20\0" + frame[LINK_HEADER - 2 : LINK_HEADER] + struct.pack(">I", key) + frame[LINK_HEADER:])
+
+        return put
+
+    none, one, other, third = ([], []), (["vxlan"], [1]), (["vxlan"], [0x100001]), (["gre"], [1])
+    yield "two VLANs", (tagged(5), none), (tagged(0x805), none)
+    yield "a VLAN and none", (tagged(5), none), (tagged(), none)
+    yield "two VLANs in one", (tagged(5, 6), none), (tagged(5, 7), none)
+    yield "a VLAN in another and the other way", (tagged(5, 6), none), (tagged(6, 5), none)
+    yield "two VXLANs", (vxlan(1), one), (vxlan(0x100001), other)
+    yield "two VLANs in a VXLAN", (vxlan(1, inside=tagged(5)), one), (vxlan(1, inside=tagged(6)), one)
+    yield "a VXLAN in two VLANs", (vxlan(1, outside=tagged(5)), one), (vxlan(1, outside=tagged(6)), one)
+    yield "a VXLAN and GRE of one number", (vxlan(1), one), (keyed(1), third)

@@ -1,16 +1,23 @@
-#!/usr/bin/env python3
+#!/usr/bin/env -S python3 -B
 """Lines of a log for the tests of the report: those that are stored, any number that are made of them, and hostile ones.
 
 hostile/report_lines.py COUNT           prints so many made lines: three days of a network, which exists nowhere
 hostile/report_lines.py COUNT distinct  the same, each second one with a name, an address and a certificate of its own
 """
 
+from __future__ import annotations
+
 import json
 import math
 import random
 import sys
+from collections.abc import Iterable, Iterator
 from datetime import datetime, timezone
 from pathlib import Path
+
+sys.path.insert(0, str(Path(__file__).resolve().parents[1]))
+from hostile import script  # noqa: E402
+from hostile.shapes import Line
 
 TOP = Path(__file__).resolve().parent.parent
 SEED = 2
@@ -33,7 +40,7 @@ ISSUERS = ["CN=Example Issuing CA 1, O=Example Trust", "CN=Example Issuing CA 2,
 ALWAYS = {"ts", "id.orig_h", "id.orig_p", "id.resp_h", "id.resp_p", "established", "outcome"}
 
 
-def stored():
+def stored() -> list[Line]:
     """The lines of the stored captures, as far as they are stored whole."""
     found = []
     for file in ("crates/tlslog/stdout", "captures/dtls/lines"):
@@ -43,11 +50,11 @@ def stored():
     return found
 
 
-def moment(seconds):
+def moment(seconds: float) -> str:
     return datetime.fromtimestamp(seconds, timezone.utc).strftime("%Y-%m-%dT%H:%M:%SZ")
 
 
-def _time(chance):
+def _time(chance: random.Random) -> float:
     """More by day than by night."""
     while True:
         seconds = chance.random() * DAYS * DAY
@@ -55,7 +62,7 @@ def _time(chance):
             return round(START + seconds, 6)
 
 
-def _certificate(name, number):
+def _certificate(name: str, number: int) -> Line:
     """What a server sends: 90 days, of which some end soon."""
     left = 5 + number * 37 % 85 if number % 29 else -3
     print_of = f"{random.Random(name).getrandbits(256):064x}"
@@ -66,13 +73,13 @@ def _certificate(name, number):
     }
 
 
-def _spoken(lines):
+def _spoken(lines: list[Line]) -> list[list[Line]]:
     """Which of the lines each host has: a few, those of other versions seldom."""
     usual = [line for line in lines if line.get("version") in ("TLSv12", "TLSv13") and line["outcome"] in ("full", "resumed", "tls13")]
     return [[*random.Random(at).sample(usual, 6), *random.Random(-at - 1).sample(lines, 1)] for at in range(len(HOSTS))]
 
 
-def made(count, is_distinct=False):
+def made(count: int, is_distinct: bool = False) -> Iterator[Line]:
     """So many lines, made of the stored ones. They are the same at each run."""
     chance = random.Random(SEED)
     spoken = _spoken(stored())
@@ -97,7 +104,7 @@ def made(count, is_distinct=False):
         yield line
 
 
-def text_of(lines):
+def text_of(lines: Iterable[Line]) -> bytes:
     return b"".join(json.dumps(line).encode() + b"\n" for line in lines)
 
 
@@ -110,7 +117,7 @@ NAMES = [
 ]
 
 
-def hostile_fields():
+def hostile_fields() -> Iterator[Line]:
     """Objects with values of any type in each field that is read, and names that do harm where they aren't escaped."""
     names = [
         "ts", "id.orig_h", "id.orig_p", "id.resp_h", "id.resp_p", "version", "cipher", "curve", "server_name", "outcome", "resumed", "last_alert", "stop",
@@ -139,7 +146,8 @@ NO_LINES = [
 ]
 
 
-def main():
+def main() -> None:
+    script.answer_help(__doc__)
     if len(sys.argv) not in (2, 3):
         sys.exit(__doc__)
     for line in made(int(sys.argv[1]), sys.argv[2:] == ["distinct"]):

@@ -1,11 +1,17 @@
 """What a page of wispuddera.report says, read from its HTML, and what it should say, counted from the lines of the log in another way."""
 
+from __future__ import annotations
+
 import json
 import re
 import xml.etree.ElementTree as ElementTree
 from collections import Counter
+from collections.abc import Callable
 from datetime import datetime, timezone
 from html.parser import HTMLParser
+from typing import Any
+
+from hostile.shapes import Line
 
 ROWS, SOON, DAY = 100, 30, 86400
 VOID = {"meta", "wbr", "br"}
@@ -24,7 +30,7 @@ class Wrong(Exception):
     """What a check found."""
 
 
-def want(is_so, *words):
+def want(is_so: object, *words: object) -> None:
     if not is_so:
         raise Wrong(" ".join(str(word)[:600] for word in words))
 
@@ -32,7 +38,7 @@ def want(is_so, *words):
 class Page(HTMLParser):
     """The tables of a page, by their ids, the texts with an id, the titles of pictures, and which elements and attributes there are."""
 
-    def __init__(self, text):
+    def __init__(self, text: str) -> None:
         super().__init__()
         self.open, self.rows, self.ids, self.titles = [], {}, {}, []
         self.tags, self.attributes, self.order = Counter(), Counter(), {}
@@ -41,11 +47,11 @@ class Page(HTMLParser):
         self.close()
         want(not self.open, "elements that don't end:", self.open)
 
-    def handle_startendtag(self, tag, attributes):
+    def handle_startendtag(self, tag: str, attributes: list[tuple[str, str | None]]) -> None:
         self.tags[tag] += 1
         self.attributes.update(name for name, _ in attributes)
 
-    def handle_starttag(self, tag, attributes):
+    def handle_starttag(self, tag: str, attributes: list[tuple[str, str | None]]) -> None:
         given = dict(attributes)
         want(len(given) == len(attributes), "an attribute is there twice:", attributes)
         self.handle_startendtag(tag, attributes)
@@ -69,13 +75,13 @@ class Page(HTMLParser):
         elif tag == "title":
             self.titles.append("")
 
-    def handle_endtag(self, tag):
+    def handle_endtag(self, tag: str) -> None:
         want(self.open and self.open[-1][0] == tag, f"</{tag}> ends", self.open[-1:])
         self.open.pop()
         if tag == "table":
             self.table = self.part = None
 
-    def handle_data(self, data):
+    def handle_data(self, data: str) -> None:
         tags = [tag for tag, _ in self.open]
         if "title" in tags:
             self.titles[-1] += data
@@ -85,19 +91,19 @@ class Page(HTMLParser):
             if name is not None:
                 self.ids[name] += data
 
-    def column(self, table, at=0):
+    def column(self, table: str, at: int = 0) -> list[str]:
         return [row[at].strip() for row in self.rows[table]["tbody"]]
 
-    def number(self, name):
+    def number(self, name: str) -> int:
         return number_of(self.ids[name])
 
 
-def number_of(text):
+def number_of(text: str) -> int:
     want(re.fullmatch(r"(≥ )?-?\d{1,3}(,\d{3})*", text.strip()), "no number:", repr(text))
     return int(text.strip().removeprefix("≥ ").replace(",", ""))
 
 
-def static(text):
+def static(text: str) -> Page:
     """A page as it was written: well formed as XML too, it loads nothing, and runs one script."""
     front, rest = text.split("\n", 1)
     want(front == "<!DOCTYPE html>", front)
@@ -111,18 +117,20 @@ def static(text):
     return page
 
 
-def safe(page):
+def safe(page: Page) -> None:
     others = [name for name in page.attributes if name.startswith("on") or name in ("src", "srcset", "style", "action", "data")]
     tags = [tag for tag in ("img", "iframe", "object", "embed", "link", "form", "base", "foreignObject", "image", "use") if page.tags[tag]]
     want(not others and not tags, "attributes and elements of others:", others, tags)
     want(page.titles[0].startswith("TLS connections"), "its title:", page.titles[0])
 
 
-def ranked(counter):
+def ranked(counter: dict[Any, int]) -> list[tuple[Any, int]]:
     return sorted(counter.items(), key=lambda item: (-item[1], str(item[0])))
 
 
-def same_table(page, name, counter, at=1, key=lambda text: text, whole=None):
+def same_table(
+    page: Page, name: str, counter: dict[Any, int], at: int = 1, key: Callable[[str], Any] = lambda text: text, whole: int | None = None,
+) -> None:
     """The rows have the counts of the most frequent values, and the foot has the others."""
     wanted = ranked(counter)
     rows = page.rows[name]
@@ -135,7 +143,7 @@ def same_table(page, name, counter, at=1, key=lambda text: text, whole=None):
     want((number_of(rows["tfoot"][0][at]) if rows["tfoot"] else 0) == rest, name, "has", rows["tfoot"], "for the others:", rest)
 
 
-def same_shares(page, name, whole):
+def same_shares(page: Page, name: str, whole: int) -> None:
     """Each share is that of its count, in percent."""
     for row in [*page.rows[name]["tbody"], *page.rows[name]["tfoot"]]:
         percent = 100 * number_of(row[1]) / whole
@@ -143,27 +151,27 @@ def same_shares(page, name, whole):
         want(row[2] == wanted, name, "has the share", row, "where this is wanted:", wanted)
 
 
-def cut_equals(found, wanted):
+def cut_equals(found: list[tuple[Any, int]], wanted: list[tuple[Any, int]]) -> bool:
     """Where the last rows are some of many with the same count, these are any of them."""
     return len(found) == ROWS < len(wanted) and set(found) <= set(wanted) and len(set(found)) == ROWS
 
 
-def server_of(line):
+def server_of(line: Line) -> str:
     address, port = line["id.resp_h"], line["id.resp_p"]
     return f"[{address}]:{port}" if ":" in address else f"{address}:{port}"
 
 
-def at(seconds):
+def at(seconds: float) -> str:
     return datetime.fromtimestamp(int(seconds), timezone.utc).strftime("%Y-%m-%d %H:%M:%S")
 
 
-def is_weak(line):
+def is_weak(line: Line) -> bool:
     suite = line.get("cipher")
     want(suite is None or suite in WEAK | STRONG, "a suite that wasn't judged by hand:", suite)
     return suite in WEAK
 
 
-def check_figures(page, lines):
+def check_figures(page: Page, lines: list[Line]) -> None:
     of = Counter(line["outcome"] for line in lines)
     wanted = {
         "connections": len(lines), "completed": sum(of[name] for name in COMPLETED), "broken-off": of["broken_off"],
@@ -176,7 +184,7 @@ def check_figures(page, lines):
     want((page.ids["first"], page.ids["last"]) == (at(min(times)), at(max(times))), "times:", page.ids["first"], page.ids["last"])
 
 
-def check_fields(page, lines):
+def check_fields(page: Page, lines: list[Line]) -> None:
     field = lambda name: Counter(line.get(name) for line in lines)  # noqa: E731
     none = lambda told: lambda text: None if text == told else text  # noqa: E731
     same_table(page, "outcomes", field("outcome"), key=lambda text: text.split(" ")[0])
@@ -193,7 +201,7 @@ def check_fields(page, lines):
     want(marked == {line["cipher"] for line in lines if is_weak(line)}, "weak suites:", marked)
 
 
-def check_names(page, lines):
+def check_names(page: Page, lines: list[Line]) -> None:
     for table, field in (("hosts", "server_name"), ("clients", "ja4")):
         some = [line for line in lines if field in line]
         same_shares(page, table, len(lines))
@@ -205,7 +213,7 @@ def check_names(page, lines):
             want(row[4] == ("> 16" if addresses > 16 else str(addresses)), table, row, "addresses:", addresses)
 
 
-def check_failures(page, lines):
+def check_failures(page: Page, lines: list[Line]) -> None:
     told = lambda line, name: line.get("stop", {}).get(name, "–")  # noqa: E731
     some = [line for line in lines if "stop" in line or line["outcome"] in ("broken_off", "unknown", "no_handshake")]
     wanted = Counter((line.get("last_alert", "none"), line["outcome"], told(line, "message"), told(line, "sender")) for line in some)
@@ -214,7 +222,7 @@ def check_failures(page, lines):
     same_shares(page, "failures", len(some))
 
 
-def check_servers(page, lines):
+def check_servers(page: Page, lines: list[Line]) -> None:
     some = [line for line in lines if line.get("version") in OLD or is_weak(line)]
     wanted, worst = Counter(map(server_of, some)), {server_of(line) for line in some if line.get("version") in OLD or line.get("cipher") in FORBIDDEN}
     found = [(row[0], number_of(row[1]), row[2]) for row in page.rows["poor"]["tbody"]] if some else []
@@ -223,7 +231,7 @@ def check_servers(page, lines):
     want(found == rows[:ROWS], "servers", found, "where these are wanted:", rows[:ROWS])
 
 
-def check_certificates(page, lines):
+def check_certificates(page: Page, lines: list[Line]) -> None:
     """Those that end until the log's last time and some days."""
     some = [line for line in lines if "not_after" in line]
     want(("certificates" in page.rows) <= bool(some), "there are certificates where the log has none")
@@ -242,7 +250,7 @@ def check_certificates(page, lines):
     want(sorted(found) == sorted((at(ends), *row) for ends, *row in wanted[:ROWS]), "certificates", found, "where these are wanted:", wanted[:ROWS])
 
 
-def check_times(page, lines):
+def check_times(page: Page, lines: list[Line]) -> None:
     """The bars of both pictures have the connections of their intervals."""
     units = {"s": 1, "min": 60, "h": 3600, "d": DAY}
     classes = {
@@ -264,7 +272,7 @@ def check_times(page, lines):
 CHECKS = (check_figures, check_fields, check_names, check_failures, check_servers, check_certificates, check_times)
 
 
-def check(page, lines):
+def check(page: Page, lines: list[Line]) -> int:
     """Whether a page says what the lines want; all lines have the fields of tlslog, and few enough different values for exact counts."""
     for one in CHECKS:
         one(page, lines)
@@ -272,5 +280,5 @@ def check(page, lines):
     return len(lines)
 
 
-def objects(log):
+def objects(log: bytes | str) -> list[Line]:
     return [json.loads(line) for line in log.splitlines()]

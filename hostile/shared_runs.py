@@ -1,15 +1,19 @@
 """Which part of several a connection falls to, and captures that were cut into files, for the checks of `tlslog --part` and `--join`."""
 
-import ipaddress
+from __future__ import annotations
 
-import packets
+import ipaddress
+from collections.abc import Iterator
+
+from hostile import packets
+from hostile.shapes import Line
 
 BASIS, PRIME = 0xCBF29CE484222325, 0x100000001B3
 # The odd number that is nearest to 2^64 by the golden ratio.
 GOLDEN = 0x9E3779B97F4A7C15
 
 
-def fnv_1a(data):
+def fnv_1a(data: bytes) -> int:
     """FNV-1a of 64 bits (draft-eastlake-fnv, section 2)."""
     number = BASIS
     for byte in data:
@@ -17,14 +21,14 @@ def fnv_1a(data):
     return number
 
 
-def part_of(line, count):
+def part_of(line: Line, count: int) -> int:
     """The part, from 1 on, of the connection that a line is of."""
     ends = [(line["id.orig_h"], line["id.orig_p"]), (line["id.resp_h"], line["id.resp_p"])]
     number = sum(fnv_1a(ipaddress.ip_address(address).packed + port.to_bytes(2, "big")) for address, port in ends)
     return ((number + (line["proto"] == "udp")) * GOLDEN % 2**64 >> 32) % count + 1
 
 
-def rotated(segments, count):
+def rotated(segments: list[packets.Segment], count: int) -> Iterator[bytes]:
     """So many captures, one behind the other, each with a header of its own: of pcap and pcapng in turn."""
     step = -(-len(segments) // count)
     for number, at in enumerate(range(0, len(segments), step)):

@@ -3,8 +3,11 @@
 Their sources end in .rt.unproved, since `rt ci` refuses a .rt file that no proof reads.
 """
 
+from __future__ import annotations
+
 import re
 import subprocess
+from collections.abc import Iterable
 from pathlib import Path
 
 TOP = Path(__file__).resolve().parent.parent
@@ -13,7 +16,7 @@ HOST = "tlsview"
 MORE = "tls_events tls_flow"
 
 
-def tree(room, name, keeps=False):
+def tree(room: Path, name: str, keeps: bool = False) -> Path:
     """Copies the crates into the folder, with the program's sources in place of tlsview's, of which those that it doesn't have stay
     where it keeps them."""
     crates = room / "crates"
@@ -40,7 +43,7 @@ def tree(room, name, keeps=False):
     return crates / HOST
 
 
-def run(crate, words, given=""):
+def run(crate: Path, words: Iterable[str], given: str = "") -> str:
     """What the program prints, and what is said of its runs. Nothing else is known of a run that has no end."""
     ran = subprocess.run(
         ["rt", "try", *words],
@@ -54,7 +57,7 @@ def run(crate, words, given=""):
     return ran.stdout
 
 
-def runs(said):
+def runs(said: str) -> dict[str, list[str]]:
     """What each run of `rt try --cases` printed, in lines, by its name. A run that failed is missing."""
     found, lines = {}, []
     for line in said.splitlines():

@@ -1,11 +1,15 @@
 """The lines that are wanted of a capture, from tshark's fields."""
 
+from __future__ import annotations
+
 import re
 import subprocess
+from collections.abc import Iterator
+from pathlib import Path
+from typing import Any
 
-import identifiers
-import wanted_certificates
-import wanted_hellos
+from hostile import identifiers, log_columns, wanted_certificates, wanted_hellos
+from hostile.shapes import Line, Row
 
 FIELDS = """
     handshake.type handshake.version handshake.random handshake.extensions.supported_version handshake.ciphersuite
@@ -41,14 +45,14 @@ LETTERS = {
 }
 # Of these, 0 is told too.
 ALWAYS = ["comp_method", "cert_count", "client_cert_count", *wanted_certificates.ALWAYS]
-ORDER = """
-    ts uid id.orig_h id.orig_p id.resp_h id.resp_p proto community_id duration version cipher curve server_name other_server_names next_protocol
-    resumed established last_alert outcome stop gap ssl_history orig_pkts resp_pkts orig_bytes resp_bytes orig_records resp_records retried
-    orig_repeated_bytes resp_repeated_bytes orig_disagreeing_bytes resp_disagreeing_bytes
-""".split() + wanted_hellos.ORDER
+# What tshark doesn't tell.
+UNTOLD = """
+    orig_dropped_pkts resp_dropped_pkts orig_dropped_for resp_dropped_for orig_preamble_bytes resp_preamble_bytes tunnels tunnel_ids ssl2_hello
+""".split()
+ORDER = [name for name in log_columns.names() if name not in UNTOLD]
 
 
-def lines(capture, port=None, udp=False):
+def lines(capture: Path | str, port: int | str | None = None, udp: bool = False) -> list[Line]:
     """The lines in the order of the connections' ends: those of TLS, or of DTLS. tshark takes a port for TLS by its number; `port` is
     another one. Each connection is over with an RST, with the acknowledgement of the FINs of both of its sides, or at the end; a capture in which one is idle
     for 300 seconds, or segments come out of order, isn't for this."""
@@ -65,7 +69,7 @@ def lines(capture, port=None, udp=False):
     return [talk.line() for talk in ended + left if talk.is_tls]
 
 
-def rows(capture, port, udp):
+def rows(capture: Path | str, port: int | str | None, udp: bool) -> Iterator[Row]:
     """tshark's fields of each packet of that protocol, as dictionaries of lists."""
     layer, prefix = ("udp", "dtls") if udp else ("tcp", "tls")
     fields = [*OUTER, *(OF_UDP if udp else OF_TCP), *wanted_hellos.SHARED]
@@ -82,35 +86,35 @@ def rows(capture, port, udp):
         yield {name: [v for v in part.split(";") if v] for name, part in zip(names, line.split("\t"))}
 
 
-def first(row, *fields):
+def first(row: Row, *fields: str) -> str | None:
     for field in fields:
         if row[field]:
             return row[field][0]
     return None
 
 
-def is_told(field, value):
+def is_told(field: str, value: Any) -> bool:
     """Whether a line has the field: it is there, and if it is a mark, a list or a text of hellos, it isn't empty."""
     if field in wanted_hellos.ORDER and field not in ALWAYS:
         return bool(value)
     return value is not None
 
 
-def group(number):
-    return wanted_hellos.GROUPS.get(number, f"0x{number:04x}")
+def group(number: int) -> str:
+    return wanted_hellos.group_name(number)
 
 
-def is_set(row, flag):
+def is_set(row: Row, flag: str) -> bool:
     return bool({*row[flag]} & {"1", "True"})
 
 
 class Sent:
     """What one side of a connection sends. Of bytes that are sent again none are missing in front."""
 
-    def __init__(self):
+    def __init__(self) -> None:
         self.packets, self.bytes, self.records, self.repeated, self.behind, self.fin = 0, 0, 0, 0, None, None
 
-    def note(self, row, layer):
+    def note(self, row: Row, layer: str) -> None:
         self.packets += 1
         self.records += len(row["record.length"])
         if layer == "udp":
@@ -121,7 +125,7 @@ class Sent:
             if is_set(row, "tcp.flags.fin"):
                 self.fin = begin + count
 
-    def note_segment(self, begin, count):
+    def note_segment(self, begin: int, count: int) -> None:
         """By the numbers of its bytes, in the circle of 2^32. Behind a FIN, which has a number of its own, there are none."""
         self.behind = begin if self.behind is None else self.behind
         end = begin + count
@@ -135,7 +139,7 @@ class Sent:
         else:
             self.repeated += count
 
-    def told(self, front):
+    def told(self, front: str) -> Line:
         return {
             f"{front}_pkts": self.packets, f"{front}_bytes": self.bytes, f"{front}_records": self.records,
             f"{front}_repeated_bytes": self.repeated or None,
@@ -145,7 +149,7 @@ class Sent:
 class Talk:
     """What one connection says."""
 
-    def __init__(self, row, layer):
+    def __init__(self, row: Row, layer: str) -> None:
         self.layer = layer
         self.begun = self.last = float(first(row, "frame.time_epoch"))
         self.community_id = first(row, "communityid")
@@ -155,13 +159,13 @@ class Talk:
         self.stop, self.history, self.sent = None, "", {True: Sent(), False: Sent()}
         self.own = {True: None, False: None}
 
-    def source(self, row):
+    def source(self, row: Row) -> tuple[str | None, int]:
         return first(row, "ip.src", "ipv6.src"), int(first(row, f"{self.layer}.srcport"))
 
-    def is_over(self):
+    def is_over(self) -> bool:
         return len(self.closed) == 2
 
-    def note(self, row):
+    def note(self, row: Row) -> None:
         self.last = float(first(row, "frame.time_epoch"))
         side = self.source(row) == self.ends[0]
         self.sent[side].note(row, self.layer)
@@ -186,13 +190,13 @@ class Talk:
         if self.layer == "tcp":
             self.note_end(row, side)
 
-    def note_own(self, row, side):
+    def note_own(self, row: Row, side: bool) -> None:
         """The certificate of a side's own is the first of its chain."""
         chain = wanted_hellos.chain_of(row)
         if chain is not None:
             self.own[side] = chain[0] if chain else None
 
-    def note_end(self, row, side):
+    def note_end(self, row: Row, side: bool) -> None:
         """An RST ends both sides, and an acknowledgement behind the other side's FIN that side."""
         if is_set(row, "tcp.flags.reset"):
             self.closed |= {True, False}
@@ -200,14 +204,14 @@ class Talk:
         if is_set(row, "tcp.flags.ack") and fin is not None and (int(first(row, "tcp.ack_raw")) - fin) % 2**32 == 1:
             self.closed.add(not side)
 
-    def note_server_names(self, row):
+    def note_server_names(self, row: Row) -> None:
         """The first name of the type host_name, and those of other types (RFC 6066, section 3)."""
         types = row["handshake.extensions_server_name_type"]
         names = [*zip(types, row["handshake.extensions_server_name"])]
         self.said["server_name"] = next((name for kind, name in names if kind == HOST_NAME), None)
         self.said["other_server_names"] = [f"{kind}:{name}" for kind, name in names if kind != HOST_NAME] or None
 
-    def note_names(self, row, side):
+    def note_names(self, row: Row, side: bool) -> None:
         """Adds the letters of what a packet says, by tshark's column of names. Of fragments the last one counts."""
         names = re.sub(r" [(]Level: [^)]*[)]", "", ";".join(row["_ws.col.Info"]))
         for name in re.split(", ", names.replace(" (Reassembled)", "")):
@@ -218,14 +222,14 @@ class Talk:
                 continue
             self.history += letter.upper() if side else letter
 
-    def note_record(self, kind, side):
+    def note_record(self, kind: int, side: bool) -> None:
         """Counts a ChangeCipherSpec, and a record behind that of its side, which is encrypted."""
         if kind == CHANGE or (side in self.changed and not self.is_13):
             self.messages += 1
         if kind == CHANGE:
             self.changed.append(side)
 
-    def note_server(self, row):
+    def note_server(self, row: Row) -> None:
         if first(row, "handshake.random").replace(":", "") == RETRY:
             self.said["retried"] = True
             return
@@ -241,7 +245,7 @@ class Talk:
         self.said["resumed"] = is_13 and PRE_SHARED_KEY in row["handshake.extension.type"]
         self.is_13 |= is_13
 
-    def note_alerts(self, row, side):
+    def note_alerts(self, row: Row, side: bool) -> None:
         # Where the bytes of an encrypted one happen to be a level and a name, tshark takes them for these.
         if side in self.changed and not self.is_13:
             return
@@ -251,11 +255,11 @@ class Talk:
                 self.stop = {"message": "alert", "sender": "client" if side else "server", "messages_before": self.messages}
             self.messages += 1
 
-    def is_established(self):
+    def is_established(self) -> bool:
         """A ServerHello of TLS 1.3, or a ChangeCipherSpec of each side (RFC 5246, section 7.3)."""
         return self.is_13 or {*self.changed} == {True, False}
 
-    def line(self):
+    def line(self) -> Line:
         is_short = self.is_established() and not self.is_13 and not self.has_done
         outcome = "tls13" if self.is_13 else "resumed" if is_short else "full" if self.is_established() else "broken_off" if self.stop else "waiting"
         known = {

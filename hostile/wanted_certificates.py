@@ -1,5 +1,7 @@
 """The fields of certificates that are wanted of a connection, from what openssl tells of their DER."""
 
+from __future__ import annotations
+
 import calendar
 import functools
 import hashlib
@@ -8,34 +10,31 @@ import re
 import subprocess
 import time
 
-# Those of the server's own certificate, in the order of a line.
-OF_SERVER = """
-    subject issuer serial not_before not_after san_dns san_ip key_type key_length key_curve sig_alg is_ca self_issued
-""".split()
-ORDER = [*OF_SERVER, "sni_matches_cert", "cert_error", "client_subject", "client_issuer", "client_cert_error"]
+from hostile.shapes import Line
+
 # Of these, false is told too, and an empty name.
 ALWAYS = ["is_ca", "self_issued", "sni_matches_cert", "subject", "issuer", "client_subject", "client_issuer"]
 KEY_TYPES = {"rsaEncryption": "rsa", "rsassaPss": "rsa", "id-ecPublicKey": "ecdsa", "dsaEncryption": "dsa", "ED25519": "ed25519", "ED448": "ed448"}
 
 
-def openssl(der, *words):
+def openssl(der: bytes, *words: str) -> str:
     command = ["openssl", "x509", "-inform", "DER", "-noout", "-nameopt", "RFC2253", *words]
     return subprocess.run(command, input=der, stdout=subprocess.PIPE, stderr=subprocess.DEVNULL, check=True).stdout.decode("latin-1")
 
 
-def found(pattern, text):
+def found(pattern: str, text: str) -> str | None:
     match = re.search(pattern, text, re.MULTILINE)
     return match[1] if match else None
 
 
-def alternative_names(text):
+def alternative_names(text: str) -> list[tuple[str, ...]]:
     """The names of subjectAltName, as (kind, text)."""
     listed = found(r"X509v3 Subject Alternative Name: .*\n\s+(.*)$", text)
     return [tuple(name.split(":", 1)) for name in listed.split(", ") if ":" in name] if listed else []
 
 
 @functools.lru_cache(maxsize=None)
-def of_certificate(der):
+def of_certificate(der: bytes) -> Line:
     """The fields of one certificate."""
     plain = openssl(der, "-subject", "-issuer", "-serial", "-startdate", "-enddate", "-dateopt", "iso_8601")
     text = openssl(der, "-text")
@@ -60,7 +59,7 @@ def of_certificate(der):
     return said
 
 
-def is_name_of(host, name):
+def is_name_of(host: str, name: str) -> bool:
     """Whether a name stands for a host (RFC 9525, section 6.3): it is the same, or a `*` stands for the first label alone."""
     host, name = (text.lower().rstrip(".") for text in (host, name))
     if name.startswith("*."):
@@ -69,7 +68,7 @@ def is_name_of(host, name):
     return host == name
 
 
-def of_talk(host, server, client):
+def of_talk(host: str | None, server: bytes | None, client: bytes | None) -> Line:
     """The fields of a connection by its server's own certificate and its client's, each in DER or None."""
     said = {}
     if server:
@@ -82,11 +81,11 @@ def of_talk(host, server, client):
     return said
 
 
-def fingerprint(der):
+def fingerprint(der: bytes) -> str:
     return hashlib.sha256(der).hexdigest()
 
 
-def seconds(text):
+def seconds(text: str) -> int:
     """A time as `openssl` prints it, in seconds since 1970."""
     return calendar.timegm(time.strptime(text, "%Y-%m-%dT%H:%M:%SZ"))
 
@@ -102,12 +101,12 @@ PURPOSES = {
 }
 
 
-def listed(pattern, names, text):
+def listed(pattern: str, names: dict[str, str], text: str) -> list[str]:
     line = found(pattern, text)
     return [names.get(word, word) for word in line.strip().split(", ")] if line else []
 
 
-def of_line(der):
+def of_line(der: bytes) -> Line:
     """The fields of a line of `--certificates` that one certificate gives."""
     own, text = of_certificate(der), openssl(der, "-text")
     names = alternative_names(text)

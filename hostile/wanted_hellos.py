@@ -1,9 +1,13 @@
 """The fields of hellos and certificates that are wanted of a connection, from tshark's fields of a packet."""
 
+from __future__ import annotations
+
+import functools
 import hashlib
 import subprocess
 
-import wanted_certificates
+from hostile import log_columns
+from hostile.shapes import Line, Row
 
 FIELDS = """
     handshake.session_id handshake.comp_method handshake.extension.len handshake.extensions_supported_group
@@ -12,19 +16,15 @@ FIELDS = """
 """.split()
 # Fields that tshark has under the names of TLS alone, also of DTLS.
 SHARED = ["tls.extension.psk_ke_mode", "tls.sct.sct_length"]
-ORDER = """
-    client_version client_supported_versions client_session_id client_ciphers client_comp_methods ssl_client_exts client_curves
-    point_formats sigalgs orig_alpn client_key_share_groups psk_key_exchange_modes offers_psk offers_early_data offers_ticket cookie ech
-    delegated_credential server_version server_session_id comp_method ssl_server_exts server_key_share_group scts ticket_issued
-    ocsp_stapled cert_count cert_lengths cert_chain_fps client_cert_requested client_cert_count client_cert_lengths client_cert_chain_fps
-""".split() + wanted_certificates.ORDER + "ja3 ja3_string ja3s ja3s_string ja4".split()
+# They stand behind the others in a line.
+ORDER = log_columns.names()[log_columns.names().index("client_version") :]
 TICKET, CERTIFICATE, CERTIFICATE_REQUEST, STATUS = "4", "11", "13", "22"
 LETTERS = {
     0x304: "13", 0x303: "12", 0x302: "11", 0x301: "10", 0x300: "s3", 2: "s2", 0xFEFF: "d1", 0xFEFD: "d2", 0xFEFC: "d3",
 }
 
 
-def names_of(*fields):
+def names_of(*fields: str) -> list[dict[int, str]]:
     """tshark's names of the numbers of fields."""
     text = subprocess.run(["tshark", "-G", "values"], stdout=subprocess.PIPE, stderr=subprocess.DEVNULL, text=True, check=True).stdout
     known = {field: {} for field in fields}
@@ -34,11 +34,8 @@ def names_of(*fields):
     return [known[field] for field in fields]
 
 
-EXTENSIONS, SCHEMES, GROUPS = names_of(
-    "tls.handshake.extension.type", "tls.handshake.sig_hash_alg", "tls.handshake.extensions_supported_group"
-)
 # Those of the registries that tshark 4.0 has otherwise, or not.
-EXTENSIONS |= {
+LATER_EXTENSIONS = {
     26: "tls_lts", 29: "pwd_protect", 30: "pwd_clear", 31: "password_salt", 32: "ticket_pinning", 33: "tls_cert_with_extern_psk",
     34: "delegated_credential", 36: "TLMSP", 37: "TLMSP_proxying", 38: "TLMSP_delegate", 39: "supported_ekt_ciphers",
     60: "sequence_number_encryption_algorithms", 61: "rrc", 62: "tls_flags", 0xFD00: "ech_outer_extensions", 0xFE0D: "encrypted_client_hello",
@@ -50,28 +47,40 @@ LATER_GROUPS = {
     0x6399: "X25519Kyber768Draft00", 0x639A: "SecP256r1Kyber768Draft00", 0xFF01: "arbitrary_explicit_prime_curves",
     0xFF02: "arbitrary_explicit_char2_curves",
 }
-# Those for private use have no name in the registry.
-SCHEMES = {number: name for number, name in SCHEMES.items() if number < 0xFE00}
-GROUPS = {number: name for number, name in GROUPS.items() if number < 0x200} | LATER_GROUPS
 
 
-def numbers(row, field):
+@functools.lru_cache(maxsize=None)
+def registries() -> tuple[dict[int, str], dict[int, str], dict[int, str]]:
+    """The names of extensions, signature schemes and groups. Schemes for private use have none in the registry."""
+    extensions, schemes, groups = names_of(
+        "tls.handshake.extension.type", "tls.handshake.sig_hash_alg", "tls.handshake.extensions_supported_group"
+    )
+    schemes = {number: name for number, name in schemes.items() if number < 0xFE00}
+    groups = {number: name for number, name in groups.items() if number < 0x200}
+    return extensions | LATER_EXTENSIONS, schemes, groups | LATER_GROUPS
+
+
+def group_name(number: int) -> str:
+    return registries()[2].get(number, f"0x{number:04x}")
+
+
+def numbers(row: Row, field: str) -> list[int]:
     return [int(value, 0) for value in row[field]]
 
 
-def named(names, numbers):
+def named(names: dict[int, str], numbers: list[int]) -> list[str]:
     return [names.get(number, f"0x{number:04x}") for number in numbers]
 
 
-def is_grease(number):
+def is_grease(number: int) -> bool:
     return number >> 8 == number & 0xFF and number & 0xF == 0xA
 
 
-def short(text):
+def short(text: str) -> str:
     return hashlib.sha256(text.encode()).hexdigest()[:12] if text else "0" * 12
 
 
-def ja4(layer, version, ciphers, types, versions, schemes, protocols):
+def ja4(layer: str, version: int, ciphers: list[int], types: list[int], versions: list[int], schemes: list[int], protocols: list[str]) -> str:
     """JA4 of a ClientHello (github.com/FoxIO-LLC/ja4, technical_details/JA4.md)."""
     ciphers, types, schemes = ([n for n in ns if not is_grease(n)] for ns in (ciphers, types, schemes))
     versions = [n for n in versions if not is_grease(n)] or [version]
@@ -87,16 +96,17 @@ def ja4(layer, version, ciphers, types, versions, schemes, protocols):
     return "_".join([front, short(",".join(f"{n:04x}" for n in sorted(ciphers))), short(third)])
 
 
-def plain(value):
+def plain(value: str) -> str:
     return value.replace(":", "")
 
 
-def first(row, field):
+def first(row: Row, field: str) -> str | None:
     return row[field][0] if row[field] else None
 
 
-def of_client(row, layer, versions_by):
+def of_client(row: Row, layer: str, versions_by: dict[int, str]) -> Line:
     """What a ClientHello says."""
+    extensions, schemes_by, groups = registries()
     types = numbers(row, "handshake.extension.type")
     lengths = dict(zip(types, numbers(row, "handshake.extension.len")))
     version, versions = numbers(row, "handshake.version")[0], numbers(row, "handshake.extensions.supported_version")
@@ -108,12 +118,12 @@ def of_client(row, layer, versions_by):
         "client_session_id": plain(first(row, "handshake.session_id") or ""),
         "client_ciphers": named({}, ciphers),
         "client_comp_methods": numbers(row, "handshake.comp_method"),
-        "ssl_client_exts": named(EXTENSIONS, types),
-        "client_curves": named(GROUPS, numbers(row, "handshake.extensions_supported_group")),
+        "ssl_client_exts": named(extensions, types),
+        "client_curves": named(groups, numbers(row, "handshake.extensions_supported_group")),
         "point_formats": numbers(row, "handshake.extensions_ec_point_format"),
-        "sigalgs": named(SCHEMES, schemes),
+        "sigalgs": named(schemes_by, schemes),
         "orig_alpn": protocols,
-        "client_key_share_groups": named(GROUPS, numbers(row, "handshake.extensions_key_share_group")),
+        "client_key_share_groups": named(groups, numbers(row, "handshake.extensions_key_share_group")),
         "psk_key_exchange_modes": numbers(row, "tls.extension.psk_ke_mode"),
         "offers_psk": 41 in types, "offers_early_data": 42 in types, "offers_ticket": lengths.get(35, 0) > 0, "cookie": 44 in types,
         "ech": 0xFE0D in types, "delegated_credential": 34 in types,
@@ -122,28 +132,29 @@ def of_client(row, layer, versions_by):
     }
 
 
-def of_server(row, versions_by):
+def of_server(row: Row, versions_by: dict[int, str]) -> Line:
     """What a ServerHello says."""
+    extensions, _, groups = registries()
     share = numbers(row, "handshake.extensions_key_share_group")
     return {
         "server_version": named(versions_by, numbers(row, "handshake.version"))[0],
         "server_session_id": plain(first(row, "handshake.session_id") or ""),
         "comp_method": next(iter(numbers(row, "handshake.comp_method")), None),
-        "ssl_server_exts": named(EXTENSIONS, numbers(row, "handshake.extension.type")),
-        "server_key_share_group": named(GROUPS, share)[0] if share else None,
+        "ssl_server_exts": named(extensions, numbers(row, "handshake.extension.type")),
+        "server_key_share_group": named(groups, share)[0] if share else None,
         "scts": len(row["tls.sct.sct_length"]),
         "ja3s": first(row, "handshake.ja3s"), "ja3s_string": first(row, "handshake.ja3s_full"),
     }
 
 
-def chain_of(row):
+def chain_of(row: Row) -> list[bytes] | None:
     """The certificates of a Certificate, in DER; None where there is no such message."""
     if CERTIFICATE not in row["handshake.type"]:
         return None
     return [bytes.fromhex(plain(value)) for value in row["handshake.certificate"]]
 
 
-def of_messages(row, side):
+def of_messages(row: Row, side: bool) -> Line:
     """What other messages in the clear say; `side` is whether the client sent them."""
     types, said = row["handshake.type"], {}
     chain = chain_of(row)

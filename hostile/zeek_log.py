@@ -1,6 +1,11 @@
 """A reader of the logs of Zeek in tab-separated values, written from its documentation (docs.zeek.org, "Zeek Log Formats and Inspection")."""
 
+from __future__ import annotations
+
 import re
+from typing import Any
+
+from hostile.shapes import Line
 
 ESCAPED = re.compile(r"\\(?:x([0-9a-f]{2})|(\\))")
 TIME = re.compile(r"\d{4}(-\d\d){5}")
@@ -11,25 +16,25 @@ class Wrong(Exception):
     """What breaks the format."""
 
 
-def unescaped(text):
+def unescaped(text: str) -> str:
     if not text.isascii() or not text.isprintable() or "\\" in ESCAPED.sub("", text):
         raise Wrong(f"a value isn't escaped: {text!r}")
     return ESCAPED.sub(lambda found: chr(int(found[1], 16)) if found[1] else "\\", text)
 
 
-def number(text):
+def number(text: str) -> int:
     if not text.isdigit():
         raise Wrong(f"no count: {text!r}")
     return int(text)
 
 
-def seconds(text):
+def seconds(text: str) -> float:
     if not NUMBER.fullmatch(text):
         raise Wrong(f"no time: {text!r}")
     return float(text)
 
 
-def mark(text):
+def mark(text: str) -> bool:
     return {"T": True, "F": False}[text]
 
 
@@ -39,7 +44,7 @@ KINDS = {"time": seconds, "interval": seconds, "addr": str, "port": number, "enu
 class Log:
     """A log: its name, the fields by name and type, and the rows, each with the fields that it has."""
 
-    def __init__(self, text):
+    def __init__(self, text: str) -> None:
         if not text.endswith("\n"):
             raise Wrong("the last line isn't whole")
         lines = text.split("\n")[:-1]
@@ -59,7 +64,7 @@ class Log:
             raise Wrong("fields and types aren't as many")
         self.rows = [self.row(line) for line in lines[len(meta) - 1 : -1]]
 
-    def row(self, line):
+    def row(self, line: str) -> Line:
         values = line.split("\t")
         if len(values) != len(self.fields):
             raise Wrong(f"{len(values)} values of {len(self.fields)} fields: {line}")
@@ -69,7 +74,7 @@ class Log:
             if value != self.unset
         }
 
-    def value(self, kind, value):
+    def value(self, kind: str, value: str) -> Any:
         listed = re.fullmatch(r"vector\[(\w+)\]", kind)
         if listed:
             return [] if value == self.empty else [KINDS[listed[1]](one) for one in value.split(self.between)]

@@ -5,8 +5,12 @@ import sys
 import time
 from pathlib import Path
 
-import dpkt
-import wispuddera
+sys.path.insert(0, str(Path(__file__).resolve().parents[2]))
+from hostile import script  # noqa: E402
+
+script.answer_help(__doc__)
+import dpkt  # noqa: E402
+import wispuddera  # noqa: E402
 
 BATCHES = 40
 

@@ -6,7 +6,11 @@ import time
 import warnings
 from pathlib import Path
 
-from cryptography import x509
+sys.path.insert(0, str(Path(__file__).resolve().parents[2]))
+from hostile import script  # noqa: E402
+
+script.answer_help(__doc__)
+from cryptography import x509  # noqa: E402
 
 BATCHES = 40
 

@@ -5,7 +5,11 @@ The stream may come in pieces of any length, and a hello may stand in several re
 
 import sys
 
-import wispuddera
+if sys.argv[1:] == ["--help"]:
+    print(__doc__)
+    sys.exit()
+
+import wispuddera  # noqa: E402
 
 CHANGE_CIPHER_SPEC, HANDSHAKE, CLIENT_HELLO = 20, 22, 1
 

@@ -6,7 +6,11 @@ It prints the place, `-` where no name fits, and reads no more than the client's
 import sys
 from typing import Optional
 
-import wispuddera
+if sys.argv[1:] == ["--help"]:
+    print(__doc__)
+    sys.exit()
+
+import wispuddera  # noqa: E402
 
 HANDSHAKE, CLIENT_HELLO = 22, 1
 LIMIT = 65536

@@ -14,8 +14,6 @@ import os
 import subprocess
 import sys
 
-from distributed import Client, LocalCluster
-
 
 def order(line):
     return json.loads(line)["ts"], line
@@ -41,6 +39,8 @@ def arguments():
 
 def main():
     asked = arguments()
+    from distributed import Client, LocalCluster
+
     cluster = asked.scheduler or LocalCluster(n_workers=asked.workers, threads_per_worker=1, dashboard_address=None)
     with Client(cluster) as client:
         tasks = [(asked.program, capture, number, asked.parts) for capture in asked.captures for number in range(1, asked.parts + 1)]

@@ -7,11 +7,17 @@ import shutil
 import socket
 import ssl
 import subprocess
+import sys
 import tempfile
 import threading
+from pathlib import Path
 
-import wispuddera as w
-from wispuddera import _conversation
+sys.path.insert(0, str(Path(__file__).resolve().parents[2]))
+from hostile import script  # noqa: E402
+
+script.answer_help(__doc__)
+import wispuddera as w  # noqa: E402
+from wispuddera import _conversation  # noqa: E402
 
 TOP = pathlib.Path(__file__).resolve().parents[2]
 OUTCOMES = {

@@ -12,8 +12,13 @@ import re
 import sys
 import tempfile
 import typing
+from pathlib import Path
 
-import wispuddera as w
+sys.path.insert(0, str(Path(__file__).resolve().parents[2]))
+from hostile import script  # noqa: E402
+
+script.answer_help(__doc__)
+import wispuddera as w  # noqa: E402
 
 TOP = pathlib.Path(__file__).resolve().parents[2]
 LINES = (TOP / "crates/tlslog/stdout").read_bytes().splitlines()

@@ -12,9 +12,14 @@ import re
 import struct
 import sys
 import threading
+from pathlib import Path
 
-import wispuddera as w
-from wispuddera import _library
+sys.path.insert(0, str(Path(__file__).resolve().parents[2]))
+from hostile import script  # noqa: E402
+
+script.answer_help(__doc__)
+import wispuddera as w  # noqa: E402
+from wispuddera import _library  # noqa: E402
 
 RANDOM = bytes(range(1, 33))
 NAME = bytes.fromhex("0000 0008 0006 00 0003") + b"a.b"
@@ -38,9 +43,9 @@ def refusal_of(call, *given):
 def test_sizes():
     sizes = [_library.struct_size(i) for i in range(len(_library.STRUCTS) + 1)]
     assert sizes == [*map(ctypes.sizeof, _library.STRUCTS), 0], sizes
-    for i, struct in enumerate(_library.STRUCTS):
-        fields = [getattr(struct, name).offset for name, _ in struct._fields_]
-        assert [_library.field_offset(i, j) for j in range(len(fields) + 1)] == [*fields, ctypes.sizeof(struct)], struct
+    for i, one in enumerate(_library.STRUCTS):
+        fields = [getattr(one, name).offset for name, _ in one._fields_]
+        assert [_library.field_offset(i, j) for j in range(len(fields) + 1)] == [*fields, ctypes.sizeof(one)], one
 
 
 def test_hello():
@@ -122,7 +127,7 @@ def test_dtls():
     assert hello.extensions == bytes.fromhex("00170000") and refusal_of(w.server_hello, body) == (w.Refused, "Tag")
 
 
-CERTIFICATES = pathlib.Path(__file__).resolve().parents[2] / "tests" / "certificates"
+CERTIFICATES = pathlib.Path(__file__).resolve().parents[2] / "tests" / "x509"
 KEYS = {w.KeyKind.ED25519: "ed25519", w.KeyKind.ED448: "ed448", w.KeyKind.REFUSED: "ec without a name"}
 NAMES = {w.NameKind.DNS: "DNS", w.NameKind.EMAIL: "email", w.NameKind.URI: "URI", w.NameKind.IP: "IP Address"}
 
@@ -149,7 +154,7 @@ def elements(content):
 
 
 def name_text(name):
-    """A Name as `tests/certificates/make` has it of openssl."""
+    """A Name as `tests/x509/make` has it of openssl."""
     sets = []
     for _, attributes, _ in elements(next(elements(bytes(name)))[1]):
         pairs = (list(elements(attribute)) for _, attribute, _ in elements(attributes))

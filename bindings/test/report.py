@@ -6,10 +6,16 @@ It needs no library. `.ci/report` compares whole pages with their logs.
 import io
 import json
 import random
+import sys
 from collections import Counter
+from pathlib import Path
 
-from wispuddera.report import drawing, suites, tallies, text
-from wispuddera.report.reading import LONGEST_LINE, Reader, Unread
+sys.path.insert(0, str(Path(__file__).resolve().parents[2]))
+from hostile import script  # noqa: E402
+
+script.answer_help(__doc__)
+from wispuddera.report import drawing, suites, tallies, text  # noqa: E402
+from wispuddera.report.reading import LONGEST_LINE, Reader, Unread  # noqa: E402
 
 START = 1795392000
 

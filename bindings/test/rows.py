@@ -17,7 +17,11 @@ import subprocess
 import sys
 from pathlib import Path
 
-import wispuddera as w
+sys.path.insert(0, str(Path(__file__).resolve().parents[2]))
+from hostile import script  # noqa: E402
+
+script.answer_help(__doc__)
+import wispuddera as w  # noqa: E402
 
 HERE = Path(__file__).resolve().parent
 DATA = HERE.parent.parent / "crates/tlscall/data"

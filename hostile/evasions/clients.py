@@ -1,17 +1,22 @@
 """Packets that the host's client drops, in front of the server's real messages; and what it says to answers to its SYN."""
 
-from acceptance import ALERT
-from common import ABSENT, CLOSED, close_served, expect, forge, line, scene
-from end import LONG
-from openings import host_connects
-from talk import Talk
-from wire import ACK, FIN, PSH, RST, SYN
+from __future__ import annotations
+
+from typing import Any
+
+from hostile.evasions.acceptance import ALERT
+from hostile.evasions.common import ABSENT, CLOSED, close_served, expect, forge, line, scene
+from hostile.evasions.end import End, LONG
+from hostile.evasions.openings import host_connects
+from hostile.evasions.room import Room
+from hostile.evasions.talk import Talk
+from hostile.evasions.wire import ACK, FIN, PSH, RST, SYN
 
 # The suite that the server chooses, and another.
 SUITE, OTHER = bytes.fromhex("c02b"), bytes.fromhex("c02c")
 
 
-def begin_served(room, **more):
+def begin_served(room: Room, **more: Any) -> tuple[End, Talk, bytes, bytes]:
     """A connection from the host's client, whose hello is heard; with the server's messages, and the same with another suite."""
     end = host_connects(room, **more)
     end.accept()
@@ -21,21 +26,21 @@ def begin_served(room, **more):
     return end, talk, flight, flight.replace(SUITE, OTHER, 1)
 
 
-def go_on(room, end, talk, flight):
+def go_on(room: Room, end: End, talk: Talk, flight: bytes) -> None:
     end.say(flight)
     talk.give(end.hear())
     close_served(room, end, talk.answer())
 
 
 @scene("the server's messages with another suite, of a wrong checksum; then the real ones", "RFC 9293, 3.1")
-def servers_checksum_wrong(room):
+def servers_checksum_wrong(room: Room) -> None:
     end, talk, flight, other = begin_served(room)
     forge(room, end, "checksum", "the server's messages, of a wrong checksum", other, spoilt=("sum",))
     go_on(room, end, talk, flight)
 
 
 @scene("the server's messages with another suite and without ACK; then the real ones", "RFC 9293, 3.10.7.4, fifth")
-def servers_data_without_ack_flag(room):
+def servers_data_without_ack_flag(room: Room) -> None:
     end, talk, flight, other = begin_served(room)
     forge(room, end, "no_ack", "the server's messages without ACK", other, flags=PSH)
     go_on(room, end, talk, flight)
@@ -46,7 +51,7 @@ def servers_data_without_ack_flag(room):
     " the real ones",
     "RFC 9293, 3.10.7.4, fifth; RFC 5961, 5.2",
 )
-def servers_ack_wrong(room):
+def servers_ack_wrong(room: Room) -> None:
     end, talk, flight, other = begin_served(room)
     forge(room, end, "ack", "the server's messages, which acknowledge too much", other, ack=end.expected + 1)
     forge(room, end, "ack", "the server's messages, which acknowledge a number in front of the first", other, ack=end.its_first - 100_000)
@@ -57,7 +62,7 @@ def servers_ack_wrong(room):
     "a byte of the server beyond the window, and its messages with another suite in front of it; then the real ones",
     "RFC 9293, 3.10.7.4, first",
 )
-def servers_data_outside_the_window(room):
+def servers_data_outside_the_window(room: Room) -> None:
     end, talk, flight, other = begin_served(room)
     forge(room, end, "window", "a byte beyond the window", b"\x16", number=end.next + 300_000)
     forge(room, end, "old", "the server's messages in front of its SYN", other, number=end.first - 100_000)
@@ -65,7 +70,7 @@ def servers_data_outside_the_window(room):
 
 
 @scene("the server's messages with another suite and an old timestamp; then the real ones", "RFC 7323, 5.3")
-def servers_old_timestamp(room):
+def servers_old_timestamp(room: Room) -> None:
     end, talk, flight, other = begin_served(room)
     forge(room, end, "paws", "the server's messages of an old timestamp", other, stamp=end.clock - 1000)
     go_on(room, end, talk, flight)
@@ -75,14 +80,14 @@ def servers_old_timestamp(room):
     "a SYN/ACK of the server in an open connection, with its messages of another suite at the next place; then the real ones",
     "RFC 5961, 4.2",
 )
-def servers_syn_ack_with_data_in_the_middle(room):
+def servers_syn_ack_with_data_in_the_middle(room: Room) -> None:
     end, talk, flight, other = begin_served(room)
     forge(room, end, "syn", "a SYN/ACK with data", other, flags=SYN | ACK, number=end.next - 1)
     go_on(room, end, talk, flight)
 
 
 @scene("RSTs of the server within the window and outside, which aren't of the next number; then its messages", "RFC 5961, 3.2")
-def servers_rst_not_next(room):
+def servers_rst_not_next(room: Room) -> None:
     end, talk, flight, _ = begin_served(room)
     forge(room, end, "rst", "an RST 100 behind the next number", flags=RST | ACK, number=end.next + 100)
     forge(room, end, "rst", "an RST outside the window", flags=RST | ACK, number=end.next - 100_000)
@@ -90,7 +95,7 @@ def servers_rst_not_next(room):
 
 
 @scene("a FIN of the server without ACK, and one beyond the window; then its messages", "RFC 9293, 3.10.7.4")
-def servers_fin_not_taken(room):
+def servers_fin_not_taken(room: Room) -> None:
     end, talk, flight, _ = begin_served(room)
     forge(room, end, "no_ack", "a FIN without ACK", flags=FIN)
     forge(room, end, "window", "a FIN beyond the window", flags=FIN | ACK, number=end.next + 300_000)
@@ -102,7 +107,7 @@ def servers_fin_not_taken(room):
     "from outside the window; then its messages. The client sends on",
     "RFC 9293, 3.10.7.4; RFC 7323, 5.3",
 )
-def window_closed_by_segments_not_taken(room):
+def window_closed_by_segments_not_taken(room: Room) -> None:
     end, talk, flight, _ = begin_served(room)
     forge(room, end, "checksum", "a closed window, of a wrong checksum", flags=ACK, window=0, spoilt=("sum",))
     forge(room, end, "paws", "a closed window, of an old timestamp", flags=ACK, window=0, stamp=end.clock - 1000)
@@ -113,7 +118,7 @@ def window_closed_by_segments_not_taken(room):
 
 
 @scene("an RST of the server of the next number; its messages behind it are answered with an RST", "RFC 5961, 3.2")
-def servers_rst_next_expected(room):
+def servers_rst_next_expected(room: Room) -> None:
     end, _, flight, _ = begin_served(room)
     length = (end.expected - end.its_first - 1) % 2**32
     room.try_packet(end, "an RST of the next number", flags=RST | ACK)
@@ -128,7 +133,7 @@ def servers_rst_next_expected(room):
     "a SYN/ACK with a fatal alert, which the client doesn't take: it acknowledges only the SYN; then the server's messages",
     "none: Linux's own (RFC 9293, 3.10.7.3)",
 )
-def data_in_syn_ack(room):
+def data_in_syn_ack(room: Room) -> None:
     end = host_connects(room)
     end.receive(LONG)
     end.send(SYN | ACK, ALERT)
@@ -145,7 +150,7 @@ def data_in_syn_ack(room):
     "answers to the host's SYN that it ignores: an RST that acknowledges another number, an RST without ACK; then the SYN/ACK",
     "RFC 9293, 3.10.7.3",
 )
-def rst_to_a_syn_not_taken(room):
+def rst_to_a_syn_not_taken(room: Room) -> None:
     end = host_connects(room)
     end.receive(LONG)
     forge(room, end, "rst", "an RST of a wrong acknowledgement", flags=RST | ACK, number=0, ack=end.its_first + 5000)
@@ -162,7 +167,7 @@ def rst_to_a_syn_not_taken(room):
     "a SYN/ACK that acknowledges another number, to which the host answers with an RST of that number; then the right one",
     "RFC 9293, 3.10.7.3, first",
 )
-def syn_ack_of_wrong_acknowledgement(room):
+def syn_ack_of_wrong_acknowledgement(room: Room) -> None:
     end = host_connects(room)
     end.receive(LONG)
     forge(room, end, "ack", "a SYN/ACK of a wrong acknowledgement", flags=SYN | ACK, number=77, ack=end.its_first + 5000)
@@ -180,7 +185,7 @@ def syn_ack_of_wrong_acknowledgement(room):
     "a server whose window is 0 when the hello is to be sent: the host probes it with segments in front of its next number, without a byte",
     "RFC 9293, 3.8.6.1",
 )
-def zero_window_probe_of_host(room):
+def zero_window_probe_of_host(room: Room) -> None:
     end = host_connects(room, window=0)
     end.receive(LONG)
     end.send(SYN | ACK)
@@ -202,7 +207,7 @@ def zero_window_probe_of_host(room):
     "originator isn't told, and who says the hello is the client",
     "RFC 9293, 3.8.4",
 )
-def keep_alive_of_server_first(room):
+def keep_alive_of_server_first(room: Room) -> None:
     end = host_connects(room, window=0)
     room.wire.records = False
     end.receive(LONG)

@@ -1,14 +1,19 @@
 """What the scenes share: their list, how a connection with OpenSSL's server begins and ends, and the lines that are wanted."""
 
+from __future__ import annotations
+
 import hashlib
 import ssl
 from collections import Counter
+from collections.abc import Callable
 from dataclasses import dataclass
+from pathlib import Path
+from typing import Any
 
-import room as rooms
-from end import SOON
-from talk import HOSTNAME, HOSTNAME_LINE, REAL, Talk
-from wire import ACK, PSH
+from hostile.evasions import room as rooms
+from hostile.evasions.end import End, SOON
+from hostile.evasions.talk import HOSTNAME, HOSTNAME_LINE, REAL, Talk
+from hostile.evasions.wire import ACK, PSH, Packet
 
 SCENES = []
 ORIG, RESP = "orig", "resp"
@@ -22,32 +27,38 @@ FULL, WARNED = "CsxknGIi", {"ssl_history": "ClsxknGIi", "last_alert": "unrecogni
 ABSENT = object()
 
 
+# What plays a scene.
+Play = Callable[[rooms.Room], None]
+
+
 @dataclass
 class Scene:
     name: str
     says: str  # What is in the capture.
     rule: str  # Where an RFC says what is wanted.
-    play: object
+    play: Play
     settings: dict
     offloads: bool
 
 
-def scene(says, rule, offloads=False, **settings):
+def scene(says: str, rule: str, offloads: bool = False, **settings: Any) -> Callable[[Play], Play]:
     """Adds a function to the list. It plays a scene in a room."""
 
-    def add(play):
+    def add(play: Play) -> Play:
         SCENES.append(Scene(play.__name__, says, rule, play, settings, offloads))
         return play
 
     return add
 
 
-def expect(condition, text):
+def expect(condition: object, text: str) -> None:
     if not condition:
         raise RuntimeError(text)
 
 
-def begin(room, version=4, talk=None, server="", opens=None, **more):
+def begin(
+    room: rooms.Room, version: int = 4, talk: dict[str, Any] | None = None, server: str = "", opens: dict[str, Any] | None = None, **more: Any
+) -> tuple[End, Talk, bytes]:
     """A connection to OpenSSL's server, with the hello that comes next."""
     room.server(server)
     end = room.end(version, **more)
@@ -56,7 +67,9 @@ def begin(room, version=4, talk=None, server="", opens=None, **more):
     return end, one, one.flight()
 
 
-def forge(room, end, why, what, payload=b"", wait=SOON, flags=PSH | ACK, **more):
+def forge(
+    room: rooms.Room, end: End, why: str, what: str, payload: bytes = b"", wait: float = SOON, flags: int = PSH | ACK, **more: Any
+) -> list[Packet]:
     """A packet that the host drops, for the reason `why`; what it says to it is noted. Where the kernel names its reason, this is one
     that is called so."""
     found = room.try_packet(end, what, wait, flags=flags, payload=payload, **more)
@@ -67,7 +80,10 @@ def forge(room, end, why, what, payload=b"", wait=SOON, flags=PSH | ACK, **more)
     return found
 
 
-def take(room, end, what, payload, wait=SOON, flags=PSH | ACK, number=None, upto=None, **more):
+def take(
+    room: rooms.Room, end: End, what: str, payload: bytes, wait: float = SOON, flags: int = PSH | ACK, number: int | None = None,
+    upto: int | None = None, **more: Any
+) -> list[Packet]:
     """A packet that the host takes: it acknowledges up to its end, or up to the number that is given. Moves to there."""
     number = end.next if number is None else number
     found = room.try_packet(end, what, wait, flags=flags, payload=payload, number=number, **more)
@@ -78,7 +94,7 @@ def take(room, end, what, payload, wait=SOON, flags=PSH | ACK, number=None, upto
     return found
 
 
-def finish(room, end, talk, rest=b"", name=REAL, **fields):
+def finish(room: rooms.Room, end: End, talk: Talk, rest: bytes = b"", name: str = REAL, **fields: Any) -> None:
     """The rest of the handshake and of the connection; and its line."""
     if rest:
         end.say(rest)
@@ -89,7 +105,7 @@ def finish(room, end, talk, rest=b"", name=REAL, **fields):
     line(room, end, talk, server_name=name, **({} if name == REAL else WARNED) | fields)
 
 
-def took(room, talk, name=REAL, certificate=None):
+def took(room: rooms.Room, talk: Talk, name: str = REAL, certificate: str | None = None) -> None:
     """The host took the hello with this name: its server says so, and answers with the certificate of it."""
     room.await_text("server", HOSTNAME_LINE.format(name))
     printed = HOSTNAME.findall(room.printed("server"))
@@ -99,14 +115,14 @@ def took(room, talk, name=REAL, certificate=None):
     room.note(f's_server printed: {HOSTNAME_LINE.format(name)}; its certificate is that of {certificate}, and the handshake ended')
 
 
-def serve(room, end, asked=REAL, client="client", is_orig=False, **fields):
+def serve(room: rooms.Room, end: End, asked: str = REAL, client: str = "client", is_orig: bool = False, **fields: Any) -> None:
     """The server's part of a handshake with the host's client and of the connection; and its line."""
     talk = Talk(end, is_server=True, work=room.work)
     talk.give(end.hear())
     close_served(room, end, talk.answer(), asked, client, is_orig, **fields)
 
 
-def close_served(room, end, talk, asked=REAL, client="client", is_orig=False, **fields):
+def close_served(room: rooms.Room, end: End, talk: Talk, asked: str = REAL, client: str = "client", is_orig: bool = False, **fields: Any) -> None:
     expect(talk.asked == asked, f"the client asked for {talk.asked}")
     expect(room.await_text(client, "Cipher is ECDHE"), f"the client has no session: {room.printed(client)}")
     room.note(f"s_client ended the handshake, and asked for {talk.asked}")
@@ -115,11 +131,11 @@ def close_served(room, end, talk, asked=REAL, client="client", is_orig=False, **
     line(room, end, is_orig=is_orig, server_name=asked, cert_chain_fps=[fingerprint(room.work / "real.pem")], **fields)
 
 
-def fingerprint(file):
+def fingerprint(file: Path) -> str:
     return hashlib.sha256(ssl.PEM_cert_to_DER_cert(file.read_text())).hexdigest()
 
 
-def line(room, end, talk=None, is_orig=True, drops=True, **fields):
+def line(room: rooms.Room, end: End, talk: Talk | None = None, is_orig: bool = True, drops: bool = True, **fields: Any) -> None:
     """Adds a line that is wanted. A field that is given as None is left out, since it isn't known for certain."""
     ours, other = (str(end.address), end.port), (str(end.to_address), end.to_port)
     orig, resp = (ours, other) if is_orig else (other, ours)
@@ -135,7 +151,7 @@ def line(room, end, talk=None, is_orig=True, drops=True, **fields):
     room.lines.append(wanted)
 
 
-def stream_lengths(end, is_orig):
+def stream_lengths(end: End, is_orig: bool) -> dict[str, int]:
     """The bytes of each stream as TCP numbers them, where both FINs are known to be there."""
     if not end.its_fin or end.expected is None:
         return {}
@@ -143,7 +159,7 @@ def stream_lengths(end, is_orig):
     return dict(zip(("orig_bytes", "resp_bytes"), (sent, got) if is_orig else (got, sent)))
 
 
-def dropped(room, end, is_orig):
+def dropped(room: rooms.Room, end: End, is_orig: bool) -> dict[str, dict[str, int]]:
     """How many of our packets the host dropped, and why."""
     found = Counter(one["why"] for one in room.sendings if one["end"] is end and one["is_recorded"] and one.get("why", CLOSED) != CLOSED)
     return {(ORIG if is_orig else RESP): dict(sorted(found.items()))} if found else {}

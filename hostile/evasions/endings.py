@@ -1,12 +1,16 @@
 """How a connection ends, and how it doesn't: RSTs and FINs, and what comes behind them."""
 
-import signal
+from __future__ import annotations
 
-from acceptance import ALERT
-from common import ABSENT, CLOSED, begin, expect, fingerprint, finish, forge, line, scene, take
-from end import LONG
-from talk import HOSTNAME, Talk, other_name
-from wire import ACK, FIN, PSH, RST, SYN
+import signal
+from typing import Any
+
+from hostile.evasions.acceptance import ALERT
+from hostile.evasions.common import ABSENT, CLOSED, begin, expect, fingerprint, finish, forge, line, scene, take
+from hostile.evasions.end import End, LONG
+from hostile.evasions.room import Room
+from hostile.evasions.talk import HOSTNAME, Talk, other_name
+from hostile.evasions.wire import ACK, FIN, RST, SYN
 
 CLOSE_WAIT, TIME_WAIT = "08", "06"
 # The messages of a handshake up to the server's last ones in the clear.
@@ -14,7 +18,7 @@ BEGUN = "Csxkn"
 
 
 @scene("RSTs within the window, 1, 1,000 and 30,000 behind the next number; then the real hello", "RFC 5961, 3.2")
-def rst_in_window_not_next(room):
+def rst_in_window_not_next(room: Room) -> None:
     end, talk, hello = begin(room)
     for more in (1, 1000, 30_000):
         forge(room, end, "rst", f"an RST {more} behind the next number", flags=RST, number=end.next + more)
@@ -22,7 +26,7 @@ def rst_in_window_not_next(room):
 
 
 @scene("RSTs outside the window: 1 and 100,000 in front, 1,000,000 and 2,000,000,000 behind; then the real hello", "RFC 5961, 3.2")
-def rst_outside_the_window(room):
+def rst_outside_the_window(room: Room) -> None:
     end, talk, hello = begin(room)
     for more in (-1, -100_000, 1_000_000, 2_000_000_000):
         forge(room, end, "rst", f"an RST of the next number and {more}", flags=RST | ACK, number=end.next + more)
@@ -30,20 +34,20 @@ def rst_outside_the_window(room):
 
 
 @scene("an RST of the next number and a wrong checksum; then the real hello", "RFC 9293, 3.1")
-def rst_of_wrong_checksum(room):
+def rst_of_wrong_checksum(room: Room) -> None:
     end, talk, hello = begin(room)
     forge(room, end, "checksum", "an RST of a wrong checksum", flags=RST | ACK, spoilt=("sum",))
     finish(room, end, talk, hello)
 
 
-def up_to_the_server(room):
+def up_to_the_server(room: Room) -> tuple[End, Talk, bytes]:
     end, talk, hello = begin(room)
     end.say(hello)
     talk.give(end.hear())
     return end, talk, talk.flight()
 
 
-def closed_by(room, end, answer, what, unknown=(), **how):
+def closed_by(room: Room, end: End, answer: bytes, what: str, unknown: tuple[str, ...] = (), **how: Any) -> None:
     """An RST that closes the connection. What comes behind it belongs to none."""
     length, heard = end.next - end.first - 1, (end.expected - end.its_first - 1) % 2**32
     room.try_packet(end, what, **how)
@@ -56,25 +60,25 @@ def closed_by(room, end, answer, what, unknown=(), **how):
 
 
 @scene("an RST of the next number after the server's messages; then the client's, to which the host answers with an RST", "RFC 5961, 3.2")
-def rst_next_expected(room):
+def rst_next_expected(room: Room) -> None:
     end, _, answer = up_to_the_server(room)
     closed_by(room, end, answer, "an RST of the next number", flags=RST | ACK)
 
 
 @scene("the same of an RST without ACK", "RFC 5961, 3.2")
-def rst_next_expected_without_ack(room):
+def rst_next_expected_without_ack(room: Room) -> None:
     end, _, answer = up_to_the_server(room)
     closed_by(room, end, answer, "an RST of the next number", flags=RST)
 
 
 @scene("the same of an RST that acknowledges what was never sent: its acknowledgement isn't looked at", "RFC 9293, 3.10.7.4, second")
-def rst_of_wrong_acknowledgement(room):
+def rst_of_wrong_acknowledgement(room: Room) -> None:
     end, _, answer = up_to_the_server(room)
     closed_by(room, end, answer, "an RST of the next number that acknowledges too much", flags=RST | ACK, ack=end.expected + 1_000_000)
 
 
 @scene("the same of an RST of an old timestamp, which isn't looked at", "RFC 7323, 5.2")
-def rst_of_old_timestamp(room):
+def rst_of_old_timestamp(room: Room) -> None:
     end, _, answer = up_to_the_server(room)
     closed_by(room, end, answer, "an RST of the next number and an old timestamp", flags=RST | ACK, stamp=end.clock - 1000)
 
@@ -83,7 +87,7 @@ def rst_of_old_timestamp(room):
     "part of the client's messages out of order, and an RST of the number behind it, not of the next one: Linux takes it",
     "none: Linux's own",
 )
-def rst_behind_what_waits(room):
+def rst_behind_what_waits(room: Room) -> None:
     end, _, answer = up_to_the_server(room)
     number = end.next
     take(room, end, "a part that waits for the bytes in front of it", answer[40:60], number=number + 40, upto=number)
@@ -91,7 +95,7 @@ def rst_behind_what_waits(room):
 
 
 @scene("the same where no side takes selective acknowledgements: the RST is one within the window; then the real messages", "RFC 5961, 3.2")
-def rst_behind_what_waits_without_selection(room):
+def rst_behind_what_waits_without_selection(room: Room) -> None:
     end, talk, hello = begin(room, has_stamps=False)
     number = end.next
     take(room, end, "a part of the hello that waits for the bytes in front of it", hello[40:60], number=number + 40, upto=number)
@@ -103,7 +107,7 @@ def rst_behind_what_waits_without_selection(room):
     "an RST of the next number in front of the hello; then a hello for fake.test, of no connection, which the host answers with an RST",
     "RFC 9293, 3.10.7.1",
 )
-def hello_behind_rst(room):
+def hello_behind_rst(room: Room) -> None:
     end, _, hello = begin(room)
     room.try_packet(end, "an RST of the next number", flags=RST)
     expect(room.state(end.port) is None, "the host still has the connection")
@@ -114,7 +118,7 @@ def hello_behind_rst(room):
     "a connection that the server closed first; in its TIME-WAIT a hello for fake.test behind both FINs, and a SYN/ACK with one",
     "RFC 9293, 3.10.7.4",
 )
-def data_in_time_wait(room):
+def data_in_time_wait(room: Room) -> None:
     end, talk, hello = begin(room)
     end.say(hello)
     talk.finish()
@@ -127,7 +131,7 @@ def data_in_time_wait(room):
 
 
 @scene("an RST within the window before the opening is over, which isn't of the next number; it goes on", "RFC 5961, 3.2")
-def rst_in_window_in_syn_received(room):
+def rst_in_window_in_syn_received(room: Room) -> None:
     room.server()
     end = room.end()
     end.send(SYN)
@@ -145,7 +149,7 @@ def rst_in_window_in_syn_received(room):
     "an RST of the next number before the opening is over; the host answers its last segment with an RST, and another begins",
     "RFC 9293, 3.10.7.4, second",
 )
-def rst_next_expected_in_syn_received(room):
+def rst_next_expected_in_syn_received(room: Room) -> None:
     room.server()
     end = room.end()
     end.send(SYN)
@@ -161,7 +165,7 @@ def rst_next_expected_in_syn_received(room):
 
 
 @scene("an RST outside the window before the opening is over; it goes on", "RFC 9293, 3.10.7.4, first")
-def rst_outside_the_window_in_syn_received(room):
+def rst_outside_the_window_in_syn_received(room: Room) -> None:
     room.server()
     end = room.end()
     end.send(SYN)
@@ -174,7 +178,7 @@ def rst_outside_the_window_in_syn_received(room):
 
 
 @scene("a FIN of the first number, and a hello for fake.test behind it", "RFC 9293, 3.10.7.4, seventh: ignored in CLOSE-WAIT")
-def data_behind_fin(room):
+def data_behind_fin(room: Room) -> None:
     end, _, hello = begin(room)
     end.say(b"", FIN | ACK)
     room.note(f"the host answered a FIN with {'; '.join(packet.words() for packet in end.replies(0.1))}")
@@ -189,7 +193,7 @@ def data_behind_fin(room):
     "a handshake, the client's FIN, and a record behind it before the server's FIN",
     "RFC 9293, 3.10.7.4, seventh: ignored in CLOSE-WAIT",
 )
-def data_behind_fin_of_handshake(room):
+def data_behind_fin_of_handshake(room: Room) -> None:
     server = room.server()
     end = room.end()
     end.open()
@@ -214,7 +218,7 @@ def data_behind_fin_of_handshake(room):
     "a FIN 1,000 behind the next number, which waits for the bytes in front of it; then the real hello. What follows never reaches it",
     "RFC 9293, 3.10.7.4, eighth",
 )
-def fin_ahead(room):
+def fin_ahead(room: Room) -> None:
     end, talk, hello = begin(room)
     number = end.next
     take(room, end, "a FIN ahead", b"", flags=FIN | ACK, number=number + 1000, upto=number)
@@ -226,7 +230,7 @@ def fin_ahead(room):
     "comes before it",
     "RFC 9293, 3.10.7.4, seventh",
 )
-def data_ahead_of_the_fin(room):
+def data_ahead_of_the_fin(room: Room) -> None:
     end, talk, hello = begin(room)
     number = end.next
     take(room, end, "a byte ahead", b"\x16", number=number + 60_000, upto=number)
@@ -234,7 +238,7 @@ def data_ahead_of_the_fin(room):
 
 
 @scene("a connection that the client closed first: both FINs, and the last ACK behind them", "RFC 9293, 3.6")
-def last_ack_behind_both_fins(room):
+def last_ack_behind_both_fins(room: Room) -> None:
     end, talk, hello = begin(room)
     end.say(hello)
     talk.finish()
@@ -246,7 +250,7 @@ def last_ack_behind_both_fins(room):
     "a connection that the server closed first, whose client repeats its FIN; the server acknowledges it from TIME-WAIT",
     "RFC 9293, 3.6 and 3.10.7.4",
 )
-def fin_again_in_time_wait(room):
+def fin_again_in_time_wait(room: Room) -> None:
     end, talk, hello = begin(room)
     end.say(hello)
     talk.finish()
@@ -257,7 +261,7 @@ def fin_again_in_time_wait(room):
     packets(room, end, talk)
 
 
-def packets(room, end, talk):
+def packets(room: Room, end: End, talk: Talk) -> None:
     """A line of all the packets of the capture."""
     room.wire.drain()
     total, ours = len(room.wire.recorded), sum(one["end"] is end for one in room.sendings)

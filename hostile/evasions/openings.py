@@ -1,18 +1,21 @@
 """How a connection opens: data in a SYN, a SYN where a connection is open, and both sides' SYNs."""
 
-from pathlib import Path
+from __future__ import annotations
 
-import room as rooms
-from common import begin, close_served, expect, finish, forge, scene, serve
-from end import LONG
-from talk import Talk, other_name
-from wire import ACK, COOKIE, RST, SYN
+from pathlib import Path
+from typing import Any
+
+from hostile.evasions import room as rooms
+from hostile.evasions.common import begin, close_served, expect, finish, forge, scene, serve
+from hostile.evasions.end import End, LONG
+from hostile.evasions.talk import Talk, other_name
+from hostile.evasions.wire import ACK, COOKIE, Packet, RST, SYN
 
 SERVERS_NUMBER = 700_000
 FAST_OPEN = {"tcp_fastopen": 0x403}
 
 
-def open_with(room, end, payload, cookie=None):
+def open_with(room: rooms.Room, end: End, payload: bytes, cookie: bytes | None = None) -> Packet:
     """A SYN with data. The answer, which is acknowledged."""
     end.send(SYN, payload, options=end.options_of_syn(cookie))
     end.move(b"", SYN)
@@ -26,7 +29,7 @@ def open_with(room, end, payload, cookie=None):
     "a SYN with a hello for fake.test, of which the SYN/ACK acknowledges only the SYN; then the real hello",
     "RFC 9293, 3.10.7.2; RFC 7413, 3",
 )
-def data_in_syn_not_acknowledged(room):
+def data_in_syn_not_acknowledged(room: rooms.Room) -> None:
     room.server()
     end = room.end()
     talk = Talk(end)
@@ -36,7 +39,7 @@ def data_in_syn_not_acknowledged(room):
     finish(room, end, talk, hello)
 
 
-def cookie_of(room):
+def cookie_of(room: rooms.Room) -> bytes:
     """The host's cookie for our address."""
     end = room.end(port=rooms.FIRST_PORT)
     room.wire.records = False
@@ -52,7 +55,7 @@ def cookie_of(room):
     "RFC 7413, 4.2",
     **FAST_OPEN,
 )
-def data_in_syn_fast_open(room):
+def data_in_syn_fast_open(room: rooms.Room) -> None:
     room.server()
     cookie = cookie_of(room)
     end = room.end()
@@ -70,7 +73,7 @@ def data_in_syn_fast_open(room):
     "RFC 7413, 4.2",
     **FAST_OPEN,
 )
-def data_in_syn_of_another_cookie(room):
+def data_in_syn_of_another_cookie(room: rooms.Room) -> None:
     room.server()
     end = room.end()
     talk = Talk(end)
@@ -84,7 +87,7 @@ def data_in_syn_of_another_cookie(room):
     "SYNs in an open connection: of its first number, its next one, one within the window, and one outside; then the real hello",
     "RFC 5961, 4.2",
 )
-def syn_in_the_middle(room):
+def syn_in_the_middle(room: rooms.Room) -> None:
     end, talk, hello = begin(room)
     for number in (end.first, end.next, end.next + 1000, end.next + 1_000_000_000):
         forge(room, end, "syn", "a SYN", flags=SYN, number=number)
@@ -92,7 +95,7 @@ def syn_in_the_middle(room):
 
 
 @scene("a SYN in an open connection, with a hello for fake.test at the next place; then the real one", "RFC 5961, 4.2")
-def syn_with_data_in_the_middle(room):
+def syn_with_data_in_the_middle(room: rooms.Room) -> None:
     end, talk, hello = begin(room)
     forge(room, end, "syn", "a SYN with data", other_name(hello), flags=SYN, number=end.next - 1)
     finish(room, end, talk, hello)
@@ -102,7 +105,7 @@ def syn_with_data_in_the_middle(room):
     "a SYN/ACK of the client in an open connection, with a hello for fake.test at the next place, and one at another; then the real one",
     "RFC 5961, 4.2",
 )
-def syn_ack_with_data_in_the_middle(room):
+def syn_ack_with_data_in_the_middle(room: rooms.Room) -> None:
     end, talk, hello = begin(room)
     forge(room, end, "syn", "a SYN/ACK with data", other_name(hello), flags=SYN | ACK, number=end.next - 1)
     forge(room, end, "syn", "a SYN/ACK with data, elsewhere", other_name(hello), flags=SYN | ACK, number=end.next + 500_000_000)
@@ -113,7 +116,7 @@ def syn_ack_with_data_in_the_middle(room):
     "a second SYN, of another number outside the window, before the opening is over; it goes on with the first",
     "RFC 9293, 3.10.7.4, first (SYN-RECEIVED)",
 )
-def second_syn_outside_the_window(room):
+def second_syn_outside_the_window(room: rooms.Room) -> None:
     room.server()
     end = room.end()
     end.send(SYN)
@@ -132,7 +135,7 @@ def second_syn_outside_the_window(room):
     "connection",
     "none: Linux's own",
 )
-def second_syn_within_the_window(room):
+def second_syn_within_the_window(room: rooms.Room) -> None:
     room.server()
     end = room.end()
     end.send(SYN)
@@ -146,7 +149,7 @@ def second_syn_within_the_window(room):
     finish(room, end, talk, talk.flight())
 
 
-def host_connects(room, **more):
+def host_connects(room: rooms.Room, **more: Any) -> End:
     """The host's client sends its SYN, which is awaited."""
     port = rooms.OUR_SERVER_PORT + room.number
     end = room.end(port=port, to_port=rooms.CLIENT_PORT + room.number, number=SERVERS_NUMBER, **more)
@@ -155,7 +158,7 @@ def host_connects(room, **more):
 
 
 @scene("the host's SYN, then ours, then a SYN/ACK of each", "RFC 9293, 3.5, figure 8")
-def simultaneous_open(room):
+def simultaneous_open(room: rooms.Room) -> None:
     end = host_connects(room)
     end.receive(LONG)
     end.send(SYN)
@@ -170,7 +173,7 @@ def simultaneous_open(room):
     "the same as it is seen near the server, whose SYN is there first: it is the originator, and the responder is the client of TLS",
     "RFC 9293, 3.5, figure 8",
 )
-def simultaneous_open_servers_first(room):
+def simultaneous_open_servers_first(room: rooms.Room) -> None:
     port = rooms.OUR_SERVER_PORT + room.number
     end = room.end(port=port, to_port=rooms.CLIENT_PORT + room.number, number=SERVERS_NUMBER)
     options = end.options_of_syn()
@@ -185,7 +188,7 @@ def simultaneous_open_servers_first(room):
 
 
 @scene("the host's SYN, answered with a SYN without ACK; the host's SYN/ACK, and our ACK", "RFC 9293, 3.10.7.3")
-def split_handshake(room):
+def split_handshake(room: rooms.Room) -> None:
     end = host_connects(room)
     end.receive(LONG)
     end.send(SYN)
@@ -197,7 +200,7 @@ def split_handshake(room):
 
 
 @scene("the host's SYN, answered with an ACK, and then with a SYN; the host's SYN/ACK, and our ACK", "RFC 9293, 3.10.7.3")
-def split_handshake_ack_apart(room):
+def split_handshake_ack_apart(room: rooms.Room) -> None:
     end = host_connects(room)
     end.receive(LONG)
     room.try_packet(end, "an ACK of the SYN alone", flags=ACK, number=SERVERS_NUMBER)
@@ -210,7 +213,7 @@ def split_handshake_ack_apart(room):
 
 
 @scene("the server of TLS opens the connection of TCP: the responder says the hello", "RFC 8446, 2: the client initiates the handshake")
-def client_of_tls_accepts(room):
+def client_of_tls_accepts(room: rooms.Room) -> None:
     port = 45000
     room.start(f"{Path(__file__).with_name('accepting_client')} {rooms.HOST[4]} {port} real.test", "client")
     room.await_port(port)
@@ -223,7 +226,7 @@ def client_of_tls_accepts(room):
     "a SYN, its SYN/ACK, that again after a second, the SYN again, and the SYN/ACK once more; then the last segment of the opening",
     "RFC 9293, 3.10.7.4 and 3.8.1",
 )
-def opening_repeated(room):
+def opening_repeated(room: rooms.Room) -> None:
     room.server()
     end = room.end()
     options = end.options_of_syn()
@@ -244,7 +247,7 @@ def opening_repeated(room):
     "the host's client is sent the SYN/ACK again in front of the server's messages, as if its ACK had been lost",
     "RFC 9293, 3.10.7.4, fourth",
 )
-def syn_ack_again(room):
+def syn_ack_again(room: rooms.Room) -> None:
     end = host_connects(room)
     end.accept()
     talk = Talk(end, is_server=True, work=room.work)
@@ -261,7 +264,7 @@ def syn_ack_again(room):
     "client is the host; the server's answer is ours, by the rule",
     "RFC 5961, 4.2",
 )
-def syn_and_its_answer_forged(room):
+def syn_and_its_answer_forged(room: rooms.Room) -> None:
     end = host_connects(room)
     end.accept()
     talk = Talk(end, is_server=True, work=room.work)
@@ -280,7 +283,7 @@ def syn_and_its_answer_forged(room):
 
 
 @scene("the host's SYN is answered with an ACK of old numbers; its RST, its SYN again, and the SYN/ACK", "RFC 9293, 3.10.7.3, first")
-def stale_ack_to_a_syn(room):
+def stale_ack_to_a_syn(room: rooms.Room) -> None:
     end = host_connects(room)
     end.receive(LONG)
     room.try_packet(end, "an ACK of old numbers", flags=ACK, number=3_000_000_000, ack=2_000_000_000)

@@ -1,5 +1,9 @@
 """The page of the stored captures: captures/evasions/README.md, from what was recorded."""
 
+from __future__ import annotations
+
+from hostile.shapes import Line
+
 FRONT = """# What a host doesn't take
 
 Each capture here has packets that the receiving host drops, or takes in a way of its own. They were recorded by `hostile/evasions/record` from
@@ -72,17 +76,17 @@ RULES = """\
 """
 
 
-def page(told):
+def page(told: Line) -> str:
     rows = "".join(row(one) for one in told["captures"])
     return FRONT.format(kernel=told["kernel"], openssl=told["openssl"], rules=RULES) + rows
 
 
-def row(one):
+def row(one: Line) -> str:
     wanted = "; ".join(map(summary, one["lines"])) or "no line"
     return f"| `{one['capture']}` | {one['is']} | {'; '.join(one['host']) or 'see `seen`'} | {one['rule']} | {wanted} |\n"
 
 
-def summary(line):
+def summary(line: Line) -> str:
     """The name, the outcome, and what was dropped."""
     words = [line.get("server_name") or "no name", line.get("outcome") or ""]
     for counted in line.get("dropped", {}).values():

@@ -1,14 +1,20 @@
 """Connections between ports that had one before: in its TIME-WAIT, or when one side has lost it."""
 
-from common import begin, expect, finish, line, scene
-from talk import Talk, other_name
-from wire import ACK, RST, SYN
+from __future__ import annotations
+
+from typing import Any
+
+from hostile.evasions.common import begin, expect, finish, line, scene
+from hostile.evasions.end import End
+from hostile.evasions.room import Room
+from hostile.evasions.talk import Talk, other_name
+from hostile.evasions.wire import ACK, RST, SYN
 
 NEXT = "next.test"
 TIME_WAIT = "06"
 
 
-def open_again(room, end, ahead, is_recorded=True, **more):
+def open_again(room: Room, end: End, ahead: int, is_recorded: bool = True, **more: Any) -> tuple[End, Talk, bytes]:
     """Another connection between the same ports, for another name."""
     again = room.end(port=end.port, number=(end.next + ahead) % 2**32, **more)
     again.clock = end.clock + 100_000
@@ -21,7 +27,7 @@ def open_again(room, end, ahead, is_recorded=True, **more):
     "a connection whose end wasn't captured; then a SYN between the same ports, a SYN/ACK, and a hello for next.test",
     "RFC 9293, 3.10.7.4, fourth",
 )
-def syn_answered_new_connection(room):
+def syn_answered_new_connection(room: Room) -> None:
     end, talk, hello = begin(room)
     end.say(hello)
     talk.finish()
@@ -36,7 +42,7 @@ def syn_answered_new_connection(room):
     "a connection that the server closed first, and before its TIME-WAIT is over another between the same ports",
     "RFC 9293, 3.10.7.4; RFC 6191",
 )
-def time_wait_reused(room):
+def time_wait_reused(room: Room) -> None:
     end, talk, hello = begin(room)
     finish(room, end, talk, hello)
     expect(room.state(end.port) == TIME_WAIT, "the host isn't in TIME-WAIT")
@@ -48,7 +54,7 @@ def time_wait_reused(room):
     "a connection that the server closed first, and another between the same ports, of which the SYN wasn't captured, only the SYN/ACK",
     "RFC 9293, 3.10.7.4; RFC 6191",
 )
-def time_wait_reused_syn_missing(room):
+def time_wait_reused_syn_missing(room: Room) -> None:
     end, talk, hello = begin(room)
     finish(room, end, talk, hello)
     expect(room.state(end.port) == TIME_WAIT, "the host isn't in TIME-WAIT")
@@ -60,7 +66,7 @@ def time_wait_reused_syn_missing(room):
     "a connection that the server closed first, and another between the same ports, whose SYN has a lower number and a later timestamp",
     "RFC 6191",
 )
-def time_wait_reused_by_timestamp(room):
+def time_wait_reused_by_timestamp(room: Room) -> None:
     end, talk, hello = begin(room)
     finish(room, end, talk, hello)
     expect(room.state(end.port) == TIME_WAIT, "the host isn't in TIME-WAIT")
@@ -73,7 +79,7 @@ def time_wait_reused_by_timestamp(room):
     "answers with an ACK; then an RST and a SYN of a new connection",
     "RFC 9293, 3.10.7.4; RFC 1122, 4.2.2.13",
 )
-def syn_in_time_wait(room):
+def syn_in_time_wait(room: Room) -> None:
     end, talk, hello = begin(room, has_stamps=False)
     finish(room, end, talk, hello)
     expect(room.state(end.port) == TIME_WAIT, "the host isn't in TIME-WAIT")
@@ -91,7 +97,7 @@ def syn_in_time_wait(room):
     "and a SYN/ACK of new ones",
     "RFC 9293, 3.5.1, figure 9",
 )
-def half_open_recovery(room):
+def half_open_recovery(room: Room) -> None:
     room.wire.records = False
     old, talk, hello = begin(room)
     old.say(hello)
@@ -111,7 +117,7 @@ def half_open_recovery(room):
     "the same, with the connection before: its peer lost it after the handshake. The RST closes it, and the other is for next.test",
     "RFC 9293, 3.5.1, figure 9",
 )
-def half_open_recovery_captured(room):
+def half_open_recovery_captured(room: Room) -> None:
     old, talk, hello = begin(room)
     old.say(hello)
     talk.finish()

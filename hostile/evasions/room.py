@@ -1,6 +1,8 @@
 """A network of its own with one host, which is the kernel of this machine: its settings, OpenSSL's server and client on it, and why the
 kernel drops what we send."""
 
+from __future__ import annotations
+
 import ipaddress
 import os
 import re
@@ -8,9 +10,10 @@ import signal
 import subprocess
 import time
 from pathlib import Path
+from typing import Any
 
-import wire
-from end import End
+from hostile.evasions import wire
+from hostile.evasions.end import End
 
 HOST = {4: ipaddress.ip_address("192.0.2.1"), 6: ipaddress.ip_address("2001:db8::1")}
 OURS = {4: ipaddress.ip_address("192.0.2.2"), 6: ipaddress.ip_address("2001:db8::2")}
@@ -29,11 +32,11 @@ WORDS = {
 }  # fmt: skip
 
 
-def run(words, **more):
+def run(words: str, **more: Any) -> str:
     return subprocess.run(words.split(), check=True, stdout=subprocess.PIPE, stderr=subprocess.STDOUT, text=True, **more).stdout
 
 
-def prepare():
+def prepare() -> None:
     """The wire's device, with an address of each kind and no packets of the kernel's own."""
     Path("/proc/sys/net/ipv6/conf/default/accept_dad").write_text("0")
     Path("/proc/sys/net/ipv6/conf/default/router_solicitations").write_text("0")
@@ -45,7 +48,7 @@ def prepare():
         run(f"ip -{kind} neighbour add {OURS[kind]} lladdr 02:00:00:00:00:02 dev {wire.DEVICE} nud permanent")
 
 
-def setting(name, value=None):
+def setting(name: str, value: object = None) -> str | None:
     """A setting of the kernel below net/ipv4, or None where it has none of that name. A value is set."""
     file = Path("/proc/sys/net/ipv4") / name
     if not file.exists():
@@ -56,7 +59,7 @@ def setting(name, value=None):
     return had
 
 
-def counters():
+def counters() -> dict[str, int]:
     """The kernel's counts of this network, by name."""
     found = {}
     for file in ("snmp", "netstat"):
@@ -70,7 +73,7 @@ def counters():
 class Reasons:
     """The kernel's reasons for dropping packets, from its tracepoint kfree_skb, of those that we send."""
 
-    def __init__(self):
+    def __init__(self) -> None:
         self.folder = TRACING / "instances" / f"wire_{os.getpid()}"
         try:
             self.folder.mkdir()
@@ -80,7 +83,7 @@ class Reasons:
         except OSError:
             self.pipe = None
 
-    def read(self):
+    def read(self) -> list[str]:
         if self.pipe is None:
             return []
         text = b""
@@ -94,7 +97,7 @@ class Reasons:
             text += part
         return REASON.findall(text.decode())
 
-    def close(self):
+    def close(self) -> None:
         if self.pipe is not None:
             os.close(self.pipe)
             (self.folder / "events/skb/kfree_skb/enable").write_text("0")
@@ -104,7 +107,7 @@ class Reasons:
 class Room:
     """One capture: the wire, the programs of the host, what was sent, and what is said of it."""
 
-    def __init__(self, work, reasons, number, offloads=False):
+    def __init__(self, work: Path, reasons: Reasons, number: int, offloads: bool = False) -> None:
         self.work, self.reasons, self.number = work, reasons, number
         self.wire = wire.Wire({FIRST_PORT, OUR_PORT + number, OUR_SERVER_PORT + number}, offloads)
         self.running, self.changed = [], {}
@@ -116,25 +119,27 @@ class Room:
 
     # Settings and programs of the host.
 
-    def set(self, **settings):
+    def set(self, **settings: object) -> None:
         for name, value in settings.items():
             had = setting(name, value)
             if had is not None:
                 self.changed.setdefault(name, had)
 
-    def start(self, words, name):
+    def start(self, words: str, name: str) -> subprocess.Popen[bytes]:
         out = (self.work / f"{name}.out").open("w+")
         process = subprocess.Popen(words.split(), cwd=self.work, stdin=subprocess.PIPE, stdout=out, stderr=subprocess.STDOUT)
         self.running.append((process, out))
         return process
 
-    def server(self, more="", port=SERVER_PORT, by_name="-servername real.test -cert2 real.pem -key2 real.key"):
+    def server(
+        self, more: str = "", port: int = SERVER_PORT, by_name: str = "-servername real.test -cert2 real.pem -key2 real.key",
+    ) -> subprocess.Popen[bytes]:
         """OpenSSL's server, which has another certificate for real.test."""
         process = self.start(f"openssl s_server -accept {port} -cert other.pem -key other.key {by_name} {more}", "server")
         self.await_port(port)
         return process
 
-    def await_port(self, port):
+    def await_port(self, port: int) -> None:
         for _ in range(200):
             listening = [line.split() for file in ("tcp", "tcp6") for line in Path("/proc/net", file).read_text().splitlines()[1:]]
             if any(words[3] == "0A" and int(words[1].split(":")[1], 16) == port for words in listening):
@@ -142,7 +147,7 @@ class Room:
             time.sleep(0.02)
         raise RuntimeError("no server")
 
-    def state(self, port):
+    def state(self, port: int) -> str | None:
         """The state of the host's connection with a port of ours, as the kernel numbers it."""
         for file in ("tcp", "tcp6"):
             for text in Path("/proc/net", file).read_text().splitlines()[1:]:
@@ -151,14 +156,14 @@ class Room:
                     return words[3]
         return None
 
-    def client(self, port, more="-tls1_2", from_port=CLIENT_PORT):
+    def client(self, port: int, more: str = "-tls1_2", from_port: int = CLIENT_PORT) -> subprocess.Popen[bytes]:
         """OpenSSL's client, to our end."""
         return self.start(f"openssl s_client -connect {OURS[4]}:{port} -bind {HOST[4]}:{from_port} -servername real.test {more}", "client")
 
-    def printed(self, name):
+    def printed(self, name: str) -> str:
         return (self.work / f"{name}.out").read_text()
 
-    def await_text(self, name, text, wait=3.0):
+    def await_text(self, name: str, text: str, wait: float = 3.0) -> bool:
         limit = time.monotonic() + wait
         while time.monotonic() < limit:
             if text in self.printed(name):
@@ -168,18 +173,18 @@ class Room:
 
     # Our ends.
 
-    def end(self, version=4, port=None, to_port=SERVER_PORT, **more):
+    def end(self, version: int = 4, port: int | None = None, to_port: int = SERVER_PORT, **more: Any) -> End:
         port = port or OUR_PORT + self.number
         return End(self, OURS[version], port, HOST[version], to_port, **more)
 
-    def sent(self, end, frame, flags, payload, number, **way):
+    def sent(self, end: object, frame: bytes, flags: int, payload: bytes, number: int, **way: bool) -> None:
         place = self.wire.send(frame, **way)
         found = [reason for reason in self.reasons.read() if reason != "NOT_SPECIFIED"]
         said = f"{wire.flag_names(flags)}, number {number % 2**32}" + (f", {len(payload)} bytes" if payload else "")
         is_recorded = way.get("is_recorded", self.wire.records)
         self.sendings.append({"end": end, "place": place, "packet": said, "reasons": found, "is_recorded": is_recorded})
 
-    def try_packet(self, end, what, wait=0.08, **more):
+    def try_packet(self, end: End, what: str, wait: float = 0.08, **more: Any) -> list[wire.Packet]:
         """Sends a segment of interest, and notes what the host said to it."""
         end.send(**more)
         said = self.sendings[-1]
@@ -190,7 +195,7 @@ class Room:
         self.note(f"{what} (packet {said['place']}: {said['packet']}): the kernel{dropped} answered with {answer}")
         return found
 
-    def told(self):
+    def told(self) -> list[str]:
         """In short what the host did with the packets of interest: the kernel's reason, and its answers."""
         found = []
         for one in self.sendings:
@@ -199,14 +204,14 @@ class Room:
                 found.append(f"{did}: {' and '.join(one['answers']) or 'no answer'}")
         return list(dict.fromkeys(found))
 
-    def note(self, text):
+    def note(self, text: str) -> None:
         self.notes.append(text)
 
-    def counted(self):
+    def counted(self) -> dict[str, int]:
         now = counters()
         return {name: now[name] - had for name, had in self.began.items() if now.get(name, had) != had}
 
-    def close(self):
+    def close(self) -> None:
         for process, out in self.running:
             process.send_signal(signal.SIGCONT)
             process.kill()

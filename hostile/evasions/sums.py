@@ -1,38 +1,41 @@
 """Checksums of TCP, UDP and IPv4's header that are wrong, or not there; and those, and the lengths, that a sender leaves to its network card."""
 
+from __future__ import annotations
+
 import select
 import socket
 import struct
+from collections.abc import Iterable
 from pathlib import Path
 
-import room as rooms
-import wire
-from common import begin, expect, finish, forge, line, scene
-from clients import begin_served, go_on
-from talk import FAKE, HOSTNAME_LINE, REAL, Talk, other_name
-from windows import FAKE_ONE, PROTOCOLS, REAL_ONE
-from wire import ACK, SYN
+from hostile.evasions import room as rooms, wire
+from hostile.evasions.clients import begin_served, go_on
+from hostile.evasions.common import begin, expect, finish, forge, line, scene
+from hostile.evasions.end import End
+from hostile.evasions.talk import FAKE, HOSTNAME_LINE, REAL, Talk, other_name
+from hostile.evasions.windows import FAKE_ONE, PROTOCOLS, REAL_ONE
+from hostile.evasions.wire import ACK, SYN
 
 DTLS_PORT = 14434
 LARGE = "-servername real.test -cert2 large.pem -key2 large.key"
 
 
 @scene("a hello for fake.test of a wrong checksum; then the real one", "RFC 9293, 3.1")
-def checksum_of_tcp_wrong(room):
+def checksum_of_tcp_wrong(room: rooms.Room) -> None:
     end, talk, hello = begin(room)
     forge(room, end, "checksum", "a hello of a wrong checksum", other_name(hello), spoilt=("sum",))
     finish(room, end, talk, hello)
 
 
 @scene("the same over IPv6", "RFC 8200, 8.1; RFC 9293, 3.1")
-def checksum_of_tcp_wrong_ipv6(room):
+def checksum_of_tcp_wrong_ipv6(room: rooms.Room) -> None:
     end, talk, hello = begin(room, version=6)
     forge(room, end, "checksum", "a hello of a wrong checksum", other_name(hello), spoilt=("sum",))
     finish(room, end, talk, hello)
 
 
 @scene("a hello for fake.test whose checksum is 0, which says nothing over TCP; then the real one", "RFC 9293, 3.1")
-def checksum_of_tcp_zero(room):
+def checksum_of_tcp_zero(room: rooms.Room) -> None:
     end, talk, hello = begin(room)
     forge(room, end, "checksum", "a hello whose checksum is 0", other_name(hello), spoilt=("none",))
     finish(room, end, talk, hello)
@@ -42,7 +45,7 @@ def checksum_of_tcp_zero(room):
     "a hello for fake.test whose checksum is that of the pseudo header alone, as if a network card were to make it; then the real one",
     "RFC 9293, 3.1",
 )
-def checksum_of_tcp_partial(room):
+def checksum_of_tcp_partial(room: rooms.Room) -> None:
     end, talk, hello = begin(room)
     forge(room, end, "checksum", "a hello of a partial checksum", other_name(hello), spoilt=("partial",))
     finish(room, end, talk, hello)
@@ -53,7 +56,7 @@ def checksum_of_tcp_partial(room):
     "fake.test of a wrong checksum, and the real one",
     "RFC 9293, 3.1",
 )
-def checksums_wrong_first(room):
+def checksums_wrong_first(room: rooms.Room) -> None:
     room.server()
     end = room.end()
     for number in (1, 2, 3):
@@ -66,7 +69,7 @@ def checksums_wrong_first(room):
 
 
 @scene("a hello for fake.test in a packet of IPv4 whose header has a wrong checksum; then the real one", "RFC 791, 3.1; RFC 1122, 3.2.1.2")
-def ipv4_header_checksum_wrong(room):
+def ipv4_header_checksum_wrong(room: rooms.Room) -> None:
     end, talk, hello = begin(room)
     forge(room, end, "checksum", "a hello in a header of a wrong checksum", other_name(hello), spoilt=("ip",))
     finish(room, end, talk, hello)
@@ -78,7 +81,7 @@ def ipv4_header_checksum_wrong(room):
     "none: of the capture",
     offloads=True,
 )
-def offloaded_checksums(room):
+def offloaded_checksums(room: rooms.Room) -> None:
     end, talk, hello = begin(room)
     forge(room, end, "checksum", "a hello of a wrong checksum", other_name(hello), spoilt=("sum",))
     finish(room, end, talk, hello)
@@ -91,7 +94,7 @@ def offloaded_checksums(room):
     "none: of the capture",
     offloads=True,
 )
-def offloaded_checksums_but_of_answers(room):
+def offloaded_checksums_but_of_answers(room: rooms.Room) -> None:
     room.server()
     end = room.end()
     end.send(SYN)
@@ -116,7 +119,7 @@ def offloaded_checksums_but_of_answers(room):
     "none: of the capture",
     offloads=True,
 )
-def offloaded_checksums_of_client(room):
+def offloaded_checksums_of_client(room: rooms.Room) -> None:
     end, talk, flight, other = begin_served(room)
     forge(room, end, "checksum", "the server's messages, of a wrong checksum", other, spoilt=("sum",))
     go_on(room, end, talk, flight)
@@ -129,7 +132,7 @@ def offloaded_checksums_of_client(room):
     "none: of the capture",
     offloads=True,
 )
-def tso_lengths(room):
+def tso_lengths(room: rooms.Room) -> None:
     room.server(by_name=LARGE)
     finish_large(room)
 
@@ -139,7 +142,7 @@ def tso_lengths(room):
     "none: of the capture",
     offloads=True,
 )
-def tso_lengths_zero(room):
+def tso_lengths_zero(room: rooms.Room) -> None:
     room.server(by_name=LARGE)
     finish_large(room)
     made = []
@@ -158,7 +161,7 @@ def tso_lengths_zero(room):
     "none: of the capture",
     offloads=True,
 )
-def gro_lengths(room):
+def gro_lengths(room: rooms.Room) -> None:
     room.server(f"-alpn {REAL_ONE},{FAKE_ONE}")
     end = room.end()
     end.open()
@@ -181,7 +184,7 @@ def gro_lengths(room):
     room.note(f"the longest packet has {len(longest)} bytes, of {packet.source}; its checksum is {'partial' if is_partial else 'another'}")
 
 
-def finish_large(room):
+def finish_large(room: rooms.Room) -> None:
     end = room.end()
     end.open()
     talk = Talk(end)
@@ -192,7 +195,7 @@ def finish_large(room):
     note_partial(room, end)
 
 
-def note_partial(room, end, names=()):
+def note_partial(room: rooms.Room, end: End, names: Iterable[str] = ()) -> None:
     """The host's checksums are the sums of their pseudo headers alone; those of packets of these names are right."""
     room.wire.drain()
     found = {True: [], False: []}
@@ -211,7 +214,7 @@ def note_partial(room, end, names=()):
 class Relay:
     """OpenSSL's client of DTLS, whose datagrams are sent on to the host from our address."""
 
-    def __init__(self, room, version=4):
+    def __init__(self, room: rooms.Room, version: int = 4) -> None:
         self.room, self.version = room, version
         self.address, self.to_address = rooms.OURS[version], rooms.HOST[version]
         self.port, self.to_port = rooms.OUR_PORT + room.number, DTLS_PORT
@@ -222,25 +225,25 @@ class Relay:
         words = f"openssl s_client -dtls1_2 -connect 127.0.0.1:{self.inner.getsockname()[1]} -servername {REAL} -cipher ECDHE-ECDSA-AES128-GCM-SHA256"
         self.process = room.start(words + " -no_ticket", "client")
 
-    def from_client(self, wait=3.0):
+    def from_client(self, wait: float = 3.0) -> bytes | None:
         if not select.select([self.inner], [], [], wait)[0]:
             return None
         data, self.client = self.inner.recvfrom(4096)
         return data
 
-    def from_host(self, wait):
+    def from_host(self, wait: float) -> wire.Packet | None:
         """Its next datagram, or nothing if none comes within so many seconds."""
         while (packet := self.room.wire.receive(wait)) and packet.protocol != wire.UDP:
             pass
         return packet
 
-    def send(self, payload, spoilt=()):
+    def send(self, payload: bytes, spoilt: tuple[str, ...] = ()) -> None:
         self.sent.append(payload)
         head = struct.pack(">4H", self.port, self.to_port, 8 + len(payload), 0)
         one = wire.frame(self.address, self.to_address, wire.UDP, head + payload, spoilt, 6)
         self.room.sent(self, one, 0, payload, 0)
 
-    def forge(self, what, payload, spoilt):
+    def forge(self, what: str, payload: bytes, spoilt: tuple[str, ...]) -> None:
         self.send(payload, spoilt)
         self.sent.pop()
         said = self.room.sendings[-1]
@@ -249,7 +252,7 @@ class Relay:
         self.room.note(f"{what}: the kernel dropped it ({', '.join(said['reasons'])}) and answered with {'a datagram' if found else 'nothing'}")
         expect(not found, "the host answered")
 
-    def run(self, spoilt=()):
+    def run(self, spoilt: tuple[str, ...] = ()) -> None:
         """Both ways, until the client has said all."""
         while True:
             packet = self.from_host(0.01)
@@ -264,7 +267,7 @@ class Relay:
                 self.process.stdin.close()
                 self.room.await_text("client", "DONE", 0.5)
 
-    def end(self):
+    def end(self) -> None:
         said = HOSTNAME_LINE.format(REAL)
         expect(self.room.await_text("server", said), self.room.printed("server"))
         self.room.note(f"s_server printed: {said}; s_client ended the handshake")
@@ -275,13 +278,13 @@ class Relay:
     its_fin = False  # As an end of TCP has it; no lengths are known by numbers.
 
 
-def serve_dtls(room):
+def serve_dtls(room: rooms.Room) -> None:
     room.start(f"openssl s_server -dtls -accept {DTLS_PORT} -cert real.pem -key real.key -servername {REAL} -cert2 real.pem -key2 real.key", "server")
     expect(room.await_text("server", "ACCEPT"), "no server")
 
 
 @scene("DTLS: a datagram of a wrong checksum with a hello for fake.test; then the real one", "RFC 768; RFC 1122, 4.1.3.4")
-def checksum_of_udp_wrong(room):
+def checksum_of_udp_wrong(room: rooms.Room) -> None:
     serve_dtls(room)
     relay = Relay(room)
     hello = relay.from_client()
@@ -292,7 +295,7 @@ def checksum_of_udp_wrong(room):
 
 
 @scene("DTLS over IPv4, whose client sends no checksums: they are 0, and its datagrams are taken", "RFC 768; RFC 1122, 4.1.3.4")
-def checksum_of_udp_none(room):
+def checksum_of_udp_none(room: rooms.Room) -> None:
     serve_dtls(room)
     relay = Relay(room)
     relay.send(relay.from_client(), ("none",))
@@ -301,7 +304,7 @@ def checksum_of_udp_none(room):
 
 
 @scene("DTLS over IPv6: a datagram without a checksum, with a hello for fake.test; then the real one", "RFC 8200, 8.1")
-def checksum_of_udp_none_ipv6(room):
+def checksum_of_udp_none_ipv6(room: rooms.Room) -> None:
     serve_dtls(room)
     relay = Relay(room, 6)
     hello = relay.from_client()

@@ -1,7 +1,13 @@
 """TLS over an end of TCP in this program, by Python's ssl: as OpenSSL speaks it."""
 
+from __future__ import annotations
+
 import re
 import ssl
+from collections.abc import Iterable
+from pathlib import Path
+
+from hostile.evasions.end import End
 
 REAL, FAKE = "real.test", "fake.test"
 SUITE = "ECDHE-ECDSA-AES128-GCM-SHA256"
@@ -12,7 +18,10 @@ HOSTNAME = re.compile(HOSTNAME_LINE.format('([^"]*)'))
 class Talk:
     """The client or the server of a connection, over an end."""
 
-    def __init__(self, end, is_server=False, name=REAL, version=ssl.TLSVersion.TLSv1_2, protocols=(), work=None, certificate="real"):
+    def __init__(
+        self, end: End, is_server: bool = False, name: str = REAL, version: ssl.TLSVersion = ssl.TLSVersion.TLSv1_2,
+        protocols: Iterable[str] = (), work: Path | None = None, certificate: str = "real",
+    ) -> None:
         context = ssl.SSLContext(ssl.PROTOCOL_TLS_SERVER if is_server else ssl.PROTOCOL_TLS_CLIENT)
         context.minimum_version = context.maximum_version = version
         context.set_ciphers(SUITE)
@@ -29,10 +38,10 @@ class Talk:
             context.sni_callback = self.note_name
         self.tls = context.wrap_bio(self.incoming, self.outgoing, server_side=is_server, server_hostname=None if is_server else name)
 
-    def note_name(self, _, name, __):
+    def note_name(self, _: object, name: str | None, __: object) -> None:
         self.asked = name
 
-    def step(self):
+    def step(self) -> bool:
         """Whether the handshake is over. What has to be sent is in `flight`."""
         try:
             self.tls.do_handshake()
@@ -40,15 +49,15 @@ class Talk:
         except ssl.SSLWantReadError:
             return False
 
-    def flight(self):
+    def flight(self) -> bytes:
         """What is to be sent next: at first the ClientHello."""
         self.step()
         return self.outgoing.read()
 
-    def give(self, data):
+    def give(self, data: bytes) -> None:
         self.incoming.write(data)
 
-    def finish(self):
+    def finish(self) -> Talk:
         """The rest of the handshake."""
         while True:
             is_over = self.step()
@@ -62,7 +71,7 @@ class Talk:
                 raise RuntimeError(f"the host is silent, or closed, after {self.end.seen and self.end.seen[-1].words()}")
             self.give(heard)
 
-    def answer(self):
+    def answer(self) -> Talk:
         """The server's part: awaits the hello, and all else."""
         while not self.step():
             flight = self.outgoing.read()
@@ -77,11 +86,11 @@ class Talk:
             self.end.say(flight)
         return self
 
-    def write(self, data):
+    def write(self, data: bytes) -> None:
         self.tls.write(data)
         self.end.say(self.outgoing.read())
 
-    def goodbye(self):
+    def goodbye(self) -> bytes:
         """The alert close_notify."""
         try:
             self.tls.unwrap()
@@ -89,13 +98,13 @@ class Talk:
             pass
         return self.outgoing.read()
 
-    def certificate_name(self):
+    def certificate_name(self) -> str:
         """The name in the certificate that the server sent."""
         found = re.search(rb"(real\.test|other\.test)", self.tls.getpeercert(binary_form=True))
         return found[1].decode()
 
 
-def other_name(hello):
+def other_name(hello: bytes) -> bytes:
     """The same hello, of the same length, for another name."""
     changed = hello.replace(REAL.encode(), FAKE.encode())
     if changed == hello:

@@ -1,12 +1,16 @@
 """The edge of the host's window, probes of it, and bytes that stand apart from the stream: of keep-alives and urgent ones."""
 
-import signal
+from __future__ import annotations
 
-import wire
-from common import ABSENT, begin, expect, finish, forge, scene, take
-from end import LONG
-from talk import Talk
-from wire import ACK, PSH, URG
+import signal
+import subprocess
+
+from hostile.evasions import wire
+from hostile.evasions.common import ABSENT, begin, expect, finish, forge, scene, take
+from hostile.evasions.end import End, LONG
+from hostile.evasions.room import Room
+from hostile.evasions.talk import Talk
+from hostile.evasions.wire import ACK, PSH, URG
 
 # A receive buffer of the host of 2,304 bytes, whose window is of some 1,152.
 SMALL = {"tcp_rmem": "4096 2304 2304"}
@@ -18,11 +22,11 @@ PART = 200
 MARK = b"\xee"
 
 
-def other_protocol(hello):
+def other_protocol(hello: bytes) -> bytes:
     return hello.replace(REAL_ONE.encode(), FAKE_ONE.encode())
 
 
-def begin_small(room):
+def begin_small(room: Room) -> tuple[subprocess.Popen[bytes], End, Talk, bytes, int]:
     """A connection whose server is stopped, so that its window closes; with a hello whose last protocol is beyond the window."""
     server = room.server(f"-alpn {REAL_ONE},{FAKE_ONE}")
     end = room.end()
@@ -40,7 +44,7 @@ def begin_small(room):
     return server, end, talk, hello, sent
 
 
-def go_on(room, server, end, talk, hello, sent):
+def go_on(room: Room, server: subprocess.Popen[bytes], end: End, talk: Talk, hello: bytes, sent: int) -> None:
     """The server reads again, and the rest comes."""
     server.send_signal(signal.SIGCONT)
     while sent < len(hello):
@@ -58,7 +62,7 @@ def go_on(room, server, end, talk, hello, sent):
     "RFC 9293, 3.10.7.4, first",
     **SMALL,
 )
-def data_beyond_the_window_nearer(room):
+def data_beyond_the_window_nearer(room: Room) -> None:
     server, end, talk, hello, sent = begin_small(room)
     other = other_protocol(hello)
     for more, what in ((1, "a byte behind the edge"), (0, "at the edge")):
@@ -72,7 +76,7 @@ def data_beyond_the_window_nearer(room):
     "none: RFC 9293, 3.10.7.4 has its front taken",
     **SMALL,
 )
-def data_partly_in_window(room):
+def data_partly_in_window(room: Room) -> None:
     server, end, talk, hello, sent = begin_small(room)
     other = other_protocol(hello)
     for place in (sent + end.its_window - 1, sent):
@@ -86,7 +90,7 @@ def data_partly_in_window(room):
     "none: RFC 9293, 3.10.7.4 has its front taken",
     **SMALL,
 )
-def data_past_the_edge_taken(room):
+def data_past_the_edge_taken(room: Room) -> None:
     server = room.server(f"-alpn {REAL_ONE},{FAKE_ONE}")
     end = room.end()
     end.open()
@@ -103,7 +107,7 @@ def data_past_the_edge_taken(room):
     "RFC 9293, 3.8.6.1",
     **SMALL,
 )
-def zero_window_probe(room):
+def zero_window_probe(room: Room) -> None:
     server, end, talk, hello, sent = begin_small(room)
     while end.its_window:
         fits = end.its_window
@@ -116,7 +120,7 @@ def zero_window_probe(room):
 
 
 @scene("no side has a window scale: a byte 70,000 behind the next number; then the real hello", "RFC 7323, 2.2; RFC 9293, 3.10.7.4, first")
-def data_beyond_the_window_without_scale(room):
+def data_beyond_the_window_without_scale(room: Room) -> None:
     end, talk, hello = begin(room, scale=None)
     forge(room, end, "window", f"a byte beyond a window of {end.its_window}", b"\x16", number=end.next + 70_000)
     finish(room, end, talk, hello)
@@ -126,7 +130,7 @@ def data_beyond_the_window_without_scale(room):
     "the opening isn't captured, so that no scale is known: a byte 300,000 behind the next number; then the real hello",
     "RFC 9293, 3.10.7.4, first",
 )
-def data_beyond_the_window_opening_missing(room):
+def data_beyond_the_window_opening_missing(room: Room) -> None:
     end, talk, hello = begin_before(room)
     forge(room, end, "window", "a byte beyond the window", b"\x16", number=end.next + 300_000)
     room.note("the capture doesn't tell the window's scale: with the largest one the byte would be within it")
@@ -137,7 +141,7 @@ def data_beyond_the_window_opening_missing(room):
     "only the client's packets are captured: a byte 300,000 behind the next number, and one 2,000,000,000; then the real hello",
     "RFC 9293, 3.10.7.4, first",
 )
-def data_beyond_the_window_one_side(room):
+def data_beyond_the_window_one_side(room: Room) -> None:
     end, talk, hello = begin(room)
     for more in (300_000, 2_000_000_000):
         forge(room, end, "window", "a byte beyond the window", b"\x16", number=end.next + more)
@@ -150,7 +154,7 @@ def data_beyond_the_window_one_side(room):
         sending["place"] = place
 
 
-def begin_before(room):
+def begin_before(room: Room) -> tuple[End, Talk, bytes]:
     """A connection whose opening isn't captured."""
     room.wire.records = False
     begun = begin(room)
@@ -159,14 +163,14 @@ def begin_before(room):
 
 
 @scene("the capture begins with a keep-alive of one byte, in front of the real hello", "RFC 9293, 3.8.4")
-def keep_alive_first(room):
+def keep_alive_first(room: Room) -> None:
     end, talk, hello = begin_before(room)
     forge(room, end, "old", "a keep-alive of one byte", b"\0", flags=ACK, number=end.next - 1)
     finish(room, end, talk, hello, orig_bytes=None, resp_bytes=None)
 
 
 @scene("the capture begins with a keep-alive without a byte, in front of the real hello", "RFC 9293, 3.8.4")
-def keep_alive_first_empty(room):
+def keep_alive_first_empty(room: Room) -> None:
     end, talk, hello = begin_before(room)
     forge(room, end, "old", "a keep-alive without a byte", flags=ACK, number=end.next - 1)
     finish(room, end, talk, hello, orig_bytes=None, resp_bytes=None)
@@ -176,7 +180,7 @@ def keep_alive_first_empty(room):
     "keep-alives of one byte, of none, and of 1 byte 2 in front of the next, in front of the real hello and of the client's messages",
     "RFC 9293, 3.8.4",
 )
-def keep_alive(room):
+def keep_alive(room: Room) -> None:
     end, talk, hello = begin(room)
     forge(room, end, "old", "a keep-alive of one byte", b"\x16", flags=ACK, number=end.next - 1)
     forge(room, end, "old", "a keep-alive without a byte", flags=ACK, number=end.next - 1)
@@ -190,14 +194,14 @@ def keep_alive(room):
 
 
 @scene("the real hello with one urgent byte in it, at the pointer minus 1, which isn't of the stream", "RFC 6093, 3; RFC 9293, 3.8.5")
-def urgent_data(room):
+def urgent_data(room: Room) -> None:
     end, talk, hello = begin(room)
     take(room, end, "the hello with an urgent byte at 80", hello[:80] + MARK + hello[80:], flags=URG | PSH | ACK, urgent=81)
     finish(room, end, talk, orig_bytes=None)
 
 
 @scene("an urgent byte in front of the real hello, with a pointer of 0, which Linux takes for the first byte", "none: Linux's own")
-def urgent_pointer_zero(room):
+def urgent_pointer_zero(room: Room) -> None:
     end, talk, hello = begin(room)
     take(room, end, "an urgent byte and the hello", MARK + hello, flags=URG | PSH | ACK, urgent=0)
     finish(room, end, talk, orig_bytes=None)
@@ -207,7 +211,7 @@ def urgent_pointer_zero(room):
     "a segment whose urgent pointer is behind its end; the byte comes with the next segment, which has no URG",
     "RFC 6093, 3; RFC 9293, 3.8.5",
 )
-def urgent_pointer_ahead(room):
+def urgent_pointer_ahead(room: Room) -> None:
     end, talk, hello = begin(room)
     take(room, end, "80 bytes of the hello, with a pointer to the byte at 100", hello[:80], flags=URG | PSH | ACK, urgent=101)
     take(room, end, "the rest with that byte", hello[80:100] + MARK + hello[100:])
@@ -218,7 +222,7 @@ def urgent_pointer_ahead(room):
     "two urgent bytes in the real hello, of which the second comes when the server has read the first part: neither is of the stream",
     "none: Linux's own",
 )
-def urgent_data_twice(room):
+def urgent_data_twice(room: Room) -> None:
     end, talk, hello = begin(room)
     take(room, end, "80 bytes of the hello and an urgent byte", hello[:80] + MARK, flags=URG | PSH | ACK, urgent=81)
     take(room, end, "the rest with an urgent byte at 20", hello[80:100] + MARK + hello[100:], flags=URG | PSH | ACK, urgent=21)
@@ -229,7 +233,7 @@ def urgent_data_twice(room):
     "a byte of the real hello is urgent, and then one that isn't of it, before the server reads: the first is of the stream after all",
     "none: Linux's own",
 )
-def urgent_data_twice_unread(room):
+def urgent_data_twice_unread(room: Room) -> None:
     server = room.server()
     end = room.end()
     end.open()

@@ -3,22 +3,23 @@
 All that crosses it is recorded. Frames are made and read here, with the checksums of IP, TCP and UDP.
 """
 
+from __future__ import annotations
+
 import fcntl
 import ipaddress
 import os
 import select
 import socket
 import struct
-import sys
 import time
 from dataclasses import dataclass
-from pathlib import Path
+from typing import Union
 
-sys.path.insert(0, str(Path(__file__).resolve().parent.parent))
-import packets  # noqa: E402
+from hostile import packets
 
 FIN, SYN, RST, PSH, ACK, URG = 1, 2, 4, 8, 16, 32
 LETTERS = "FSRPAU"
+Address = Union[ipaddress.IPv4Address, ipaddress.IPv6Address]
 TCP, UDP = 6, 17
 HOST_MAC, OUR_MAC = b"\x02\0\0\0\0\1", b"\x02\0\0\0\0\2"
 DEVICE = "wire0"
@@ -29,7 +30,7 @@ ALL_PROTOCOLS = 3
 END, NOTHING, SIZE, SCALE, MAY_SELECT, SELECTED, STAMP, COOKIE = 0, 1, 2, 3, 4, 5, 8, 34
 
 
-def sum_of(*parts):
+def sum_of(*parts: bytes) -> int:
     """The sum of the Internet's checksums (RFC 1071), not yet complemented."""
     data = b"".join(parts)
     data += bytes(len(data) % 2)
@@ -39,11 +40,11 @@ def sum_of(*parts):
     return total
 
 
-def checksum(*parts):
+def checksum(*parts: bytes) -> int:
     return 0xFFFF ^ sum_of(*parts)
 
 
-def front_of_sum(source, destination, protocol, length):
+def front_of_sum(source: Address, destination: Address, protocol: int, length: int) -> bytes:
     """The pseudo header (RFC 9293, section 3.1; RFC 8200, section 8.1)."""
     return source.packed + destination.packed + struct.pack(">IBBBB", length, 0, 0, 0, protocol)
 
@@ -53,8 +54,8 @@ class Packet:
     """A segment or a datagram as it came from the host."""
 
     time: int
-    source: object
-    destination: object
+    source: Address
+    destination: Address
     protocol: int
     ports: tuple
     number: int = 0
@@ -66,11 +67,11 @@ class Packet:
     payload: bytes = b""
 
     @property
-    def end(self):
+    def end(self) -> int:
         """The number behind it."""
         return (self.number + len(self.payload) + bool(self.flags & SYN) + bool(self.flags & FIN)) % 2**32
 
-    def option(self, kind):
+    def option(self, kind: int) -> bytes | None:
         at = 0
         while at < len(self.options) and self.options[at] != END:
             if self.options[at] == NOTHING:
@@ -81,10 +82,10 @@ class Packet:
             at += self.options[at + 1]
         return None
 
-    def name(self):
+    def name(self) -> str:
         return flag_names(self.flags)
 
-    def words(self):
+    def words(self) -> str:
         return ", ".join(
             [flag_names(self.flags), f"number {self.number}"]
             + ([f"acknowledging {self.ack}"] if self.flags & ACK else [])
@@ -92,13 +93,13 @@ class Packet:
         )
 
 
-def flag_names(flags):
+def flag_names(flags: int) -> str:
     names = {"F": "FIN", "S": "SYN", "R": "RST", "P": "PSH", "A": "ACK", "U": "URG"}
     found = [names[letter] for bit, letter in enumerate(LETTERS) if flags >> bit & 1 and letter != "P"]
     return "/".join(sorted(found, key=["SYN", "RST", "FIN", "URG", "ACK"].index)) or "no flag"
 
 
-def parse(stamp, frame):
+def parse(stamp: int, frame: bytes) -> Packet | None:
     """A packet of TCP or UDP, or nothing for frames of other protocols."""
     kind, front = frame[12:14], 14
     if kind == b"\x08\x00":
@@ -122,7 +123,10 @@ def parse(stamp, frame):
     )
 
 
-def frame(source, destination, protocol, upper, spoilt=(), place=16, macs=HOST_MAC + OUR_MAC):
+def frame(
+    source: Address, destination: Address, protocol: int, upper: bytes, spoilt: tuple[str, ...] = (), place: int = 16,
+    macs: bytes = HOST_MAC + OUR_MAC,
+) -> bytes:
     """A frame around a segment, to the host where no other addresses of Ethernet are given, whose checksum at `place` is filled in.
     `spoilt` has the names of checksums that are made wrong: "sum" that of TCP or UDP, "ip" that of IPv4's header; "none" leaves that of TCP or
     UDP as 0, and "partial" as what a sender leaves to its network card."""
@@ -147,7 +151,7 @@ class Wire:
     With `offloads` the kernel leaves checksums and cutting to the device, which is us, and what is recorded is what is seen on the kernel's
     own machine: its packets before that."""
 
-    def __init__(self, ports, offloads=False, device=DEVICE):
+    def __init__(self, ports: set[int], offloads: bool = False, device: str = DEVICE) -> None:
         self.file = os.open("/dev/net/tun", os.O_RDWR | os.O_NONBLOCK)
         kind = TAP | NO_FRONT | (HAS_FRONT | NAPI if offloads else 0)
         fcntl.ioctl(self.file, TUNSETIFF, struct.pack("16sH22x", device.encode(), kind))
@@ -160,18 +164,18 @@ class Wire:
         fcntl.ioctl(self.file, TUNSETOFFLOAD, OFFLOADS if offloads else 0)
         self.ports, self.recorded, self.waiting, self.records = ports, [], [], True
 
-    def now(self):
+    def now(self) -> int:
         last = self.recorded[-1][0] if self.recorded else 0
         return max(time.time_ns() // 1000, last)
 
-    def note(self, one):
+    def note(self, one: bytes) -> None:
         if self.records:
             self.recorded.append((self.now(), one))
 
-    def is_ours(self, packet):
+    def is_ours(self, packet: Packet | None) -> bool:
         return packet is not None and not self.ports.isdisjoint(packet.ports)
 
-    def look(self):
+    def look(self) -> None:
         """What is seen on the kernel's machine."""
         while self.watch:
             try:
@@ -181,7 +185,7 @@ class Wire:
             if self.is_ours(parse(0, one)):
                 self.note(one)
 
-    def drain(self):
+    def drain(self) -> None:
         self.look()
         while True:
             try:
@@ -195,7 +199,7 @@ class Wire:
             if not self.watch:
                 self.note(one)
 
-    def send(self, one, is_recorded=True, is_delivered=True):
+    def send(self, one: bytes, is_recorded: bool = True, is_delivered: bool = True) -> int:
         """Its number among the packets of the capture, from 1 on."""
         self.drain()
         place = len(self.recorded) + 1
@@ -205,7 +209,7 @@ class Wire:
             os.write(self.file, bytes(self.front) + one)
         return place
 
-    def receive(self, wait):
+    def receive(self, wait: float) -> Packet | None:
         """The host's next packet, or nothing if none comes within so many seconds."""
         limit = time.monotonic() + wait
         while True:
@@ -217,11 +221,11 @@ class Wire:
                 self.drain()
                 return self.waiting.pop(0) if self.waiting else None
 
-    def pcap(self):
+    def pcap(self) -> bytes:
         self.drain()
         return packets.pcap(self.recorded)
 
-    def close(self):
+    def close(self) -> None:
         if self.watch:
             self.watch.close()
         os.close(self.file)

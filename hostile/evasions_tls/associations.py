@@ -1,14 +1,16 @@
 """Captures of associations of DTLS that a monitor sees in part, or that come one behind the other on the same ports."""
 
-import time
+from __future__ import annotations
 
-import datagrams
-import dtls
-import packets
-import peers
-import said
-from datagrams import GNUTLS, OPENSSL, SERVERS
-from dtls import CLIENT, SERVER, SERVER_PORT
+import time
+from collections.abc import Callable, Collection
+from pathlib import Path
+
+from hostile import packets, peers
+from hostile.evasions_tls import datagrams, dtls, said
+from hostile.evasions_tls.datagrams import GNUTLS, OPENSSL, SERVERS
+from hostile.evasions_tls.dtls import CLIENT, SERVER, SERVER_PORT
+from hostile.shapes import Line
 
 CLIENT_PORT = 40001
 OWN = "-cert ec.pem -key ec.key"
@@ -20,31 +22,31 @@ VERSIONS = (0xFE00, 0xFE7F, 0xFEFF, 0xFEFE)
 class Identity:
     """Puts nothing in."""
 
-    def __call__(self, sender, datagram):
+    def __call__(self, sender: str, datagram: bytes) -> list[bytes]:
         return [datagram]
 
 
 class Version(Identity):
     """Of the client's first two records, or of the server's records up to its ServerHello, the version is another."""
 
-    def __init__(self, side, number):
+    def __init__(self, side: str, number: int) -> None:
         self.side, self.number, self.is_over = side, number, False
 
-    def __call__(self, sender, datagram):
+    def __call__(self, sender: str, datagram: bytes) -> list[bytes]:
         if sender != self.side or self.is_over:
             return [datagram]
         self.is_over = any(message.number == 1 for _, message in dtls.messages(datagram))
         return [datagram[:1] + self.number.to_bytes(2, "big") + datagram[3:]]
 
 
-def did(server, by_server, client, by_client):
+def did(server: str, by_server: str, client: str, by_client: str) -> dict[str, str]:
     return {
         "client": "completed" if datagrams.IS_DONE[client] in by_client else said.fault(by_client),
         "server": "completed" if "CIPHER is" in by_server or "hello from the client" in by_client + by_server else said.fault(by_server),
     }
 
 
-def full(segments, port, of, more=None, left=()):
+def full(segments: list[packets.Segment], port: int, of: str, more: Line | None = None, left: Collection[str] = ()) -> Line:
     """The line of a handshake that both carried through, by tshark."""
     found = datagrams.line_of(segments, port)
     fields = {field: value for field, value in found.items() if field not in left} | (more or {})
@@ -56,7 +58,7 @@ def full(segments, port, of, more=None, left=()):
     return said.line(fields, absent, {"seen": list(certain), of: [*others, *absent]})
 
 
-def lost(work, folder, peer):
+def lost(work: Path, folder: Path, peer: str) -> tuple[Path, list[Line], Line]:
     """Of a capture that began late the first hello and its HelloVerifyRequest are missing."""
     file = folder / f"dtls_first_messages_lost_{peer}.pcap"
     by_server, by_client = datagrams.run(work, file, OPENSSL, peer, dtls.Relay(Identity()), SERVER_PORT)
@@ -71,7 +73,7 @@ def lost(work, folder, peer):
     return file, [line], seen
 
 
-def version(work, folder, side, number):
+def version(work: Path, folder: Path, side: str, number: int) -> tuple[Path, list[Line], Line]:
     """The version in the header of the first records. `peer` reads them."""
     seen = {}
     for peer in (GNUTLS, OPENSSL):
@@ -88,11 +90,11 @@ def version(work, folder, side, number):
     return file, [full(taken, port, "tshark, with the usual version")], seen
 
 
-def client_of(name, more=""):
+def client_of(name: str, more: str = "") -> str:
     return f"stdbuf -oL openssl s_client -connect {peers.HOST}:{SERVER_PORT} -bind {peers.HOST}:{CLIENT_PORT} -dtls1_2 -servername {name} -state {more}"
 
 
-def second(work, folder, way):
+def second(work: Path, folder: Path, way: str) -> tuple[Path, list[Line], Line]:
     """Two associations on the same ports. The first one ends by close_notify, without a word, or by an alert in its handshake."""
     file = folder / f"dtls_second_association_{way}.pcap"
     gnutls = SERVERS[GNUTLS].replace("--sni-hostname example.test --sni-hostname-fatal", "")
@@ -139,7 +141,7 @@ def second(work, folder, way):
     return file, lines, seen
 
 
-def captures():
+def captures() -> dict[str, Callable[[Path, Path], tuple[Path, list[Line], Line]]]:
     found = {f"dtls_first_messages_lost_{peer}": lambda work, folder, peer=peer: lost(work, folder, peer) for peer in (OPENSSL, GNUTLS)}
     for side in (CLIENT, SERVER):
         for number in VERSIONS:

@@ -1,16 +1,16 @@
 """Captures of DTLS 1.2 with other datagrams beside those of two live peers, which carry their handshake through all the same, or don't."""
 
+from __future__ import annotations
+
 import tempfile
 import time
+from collections.abc import Callable
 from pathlib import Path
 
-import around
-import dtls
-import packets
-import peers
-import said
-import wanted
-from dtls import CLIENT, HELLO, RELAY_PORT, SERVER, SERVER_HELLO, SERVER_PORT
+from hostile import packets, peers, wanted
+from hostile.evasions_tls import around, dtls, said
+from hostile.evasions_tls.dtls import CLIENT, HELLO, RELAY_PORT, SERVER, SERVER_HELLO, SERVER_PORT
+from hostile.shapes import Line
 
 OPENSSL, GNUTLS = "openssl", "gnutls"
 NAME, FORGED = "example.test", "forged.test."
@@ -45,10 +45,10 @@ COUNTS = {f"{side}_{what}" for side in ("orig", "resp") for what in ("pkts", "by
 class Rule:
     """Puts datagrams around the first one that has the message."""
 
-    def __init__(self, name, side):
+    def __init__(self, name: str, side: str) -> None:
         self.place, self.side, self.is_placed = around.ALL[name], side, False
 
-    def __call__(self, sender, datagram):
+    def __call__(self, sender: str, datagram: bytes) -> list[bytes]:
         if sender == self.side and not self.is_placed:
             for record, message in dtls.messages(datagram)[:1]:
                 if (message.kind, message.number) == (HELLO, 1) if sender == CLIENT else message.kind == SERVER_HELLO:
@@ -60,10 +60,10 @@ class Rule:
 class Placed:
     """What went on in place of a datagram."""
 
-    def __init__(self, datagram, parts):
+    def __init__(self, datagram: bytes, parts: list[bytes]) -> None:
         self.datagram, self.left, self.is_taken = datagram, list(parts), False
 
-    def takes(self, is_answered):
+    def takes(self, is_answered: bool) -> bool:
         """Whether the next part is where the datagram was taken: the one that has it, or where it was cut into fragments the last one, or
         the one that was answered."""
         part = self.left.pop(0)
@@ -73,7 +73,7 @@ class Placed:
         return True
 
 
-def untouched(segments, handed, side):
+def untouched(segments: list[packets.Segment], handed: list[tuple[str, bytes, list[bytes]]], side: str) -> list[packets.Segment]:
     """The segments without what the relay put in: in place of what went on for a datagram stands that datagram."""
     found, waiting = [], {CLIENT: [], SERVER: []}
     port = (SERVER_PORT if side == CLIENT else RELAY_PORT).to_bytes(2, "big")
@@ -90,7 +90,7 @@ def untouched(segments, handed, side):
     return found
 
 
-def without_repeats(segments):
+def without_repeats(segments: list[packets.Segment]) -> list[packets.Segment]:
     """The segments without those that have nothing but fragments of messages that came before."""
     found, known = [], {}
     for one in segments:
@@ -106,7 +106,7 @@ def without_repeats(segments):
     return found
 
 
-def line_of(segments, port):
+def line_of(segments: list[packets.Segment], port: int) -> Line:
     """tshark's line of a capture."""
     with tempfile.NamedTemporaryFile(suffix=".pcap") as file:
         Path(file.name).write_bytes(packets.pcap([(one.time, one.frame()) for one in segments]))
@@ -114,7 +114,7 @@ def line_of(segments, port):
     return found
 
 
-def wanted_of(segments, handed, side, seen):
+def wanted_of(segments: list[packets.Segment], handed: list[tuple[str, bytes, list[bytes]]], side: str, seen: Line) -> list[Line]:
     """The lines: where both carried the handshake through, that of the datagrams that they took; else what is certain all the same."""
     port = SERVER_PORT if side == CLIENT else RELAY_PORT
     taken = without_repeats(untouched(segments, handed, side))
@@ -138,7 +138,7 @@ def wanted_of(segments, handed, side, seen):
     return [said.line(fields, [], sources)]
 
 
-def run(work, file, server, client, relay, port, words=b"hello from the client\n"):
+def run(work: Path, file: Path, server: str, client: str, relay: dtls.Relay, port: int, words: bytes = b"hello from the client\n") -> tuple[str, str]:
     """One connection. Gives what the server and the client printed, and whether the client's handshake was completed."""
     with peers.Dump(file, f"udp port {port}"):
         other = peers.Peer(work, "stdbuf -oL " + SERVERS[server], "server")
@@ -155,7 +155,7 @@ def run(work, file, server, client, relay, port, words=b"hello from the client\n
     return other.said(), own.said()
 
 
-def record(work, folder, name, side, peer):
+def record(work: Path, folder: Path, name: str, side: str, peer: str) -> tuple[Path, list[Line], Line]:
     """Records one, and gives its file, the wanted lines, and what the peers did."""
     file = folder / f"dtls_{side}_{name}_{peer}.pcap"
     server, client = (peer, OPENSSL) if side == CLIENT else (OPENSSL, peer)
@@ -175,5 +175,5 @@ def record(work, folder, name, side, peer):
     return file, wanted_of(segments, relay.handed, side, seen), seen
 
 
-def captures():
+def captures() -> dict[str, Callable[[Path, Path], tuple[Path, list[Line], Line]]]:
     return {f"dtls_{side}_{name}_{peer}": lambda work, folder, of=(name, side, peer): record(work, folder, *of) for name, side, peer in STORED}

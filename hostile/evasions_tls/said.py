@@ -1,25 +1,32 @@
 """What peers printed, and how it becomes what is wanted."""
 
+from __future__ import annotations
+
 import json
 import re
+from collections.abc import Iterable
+from pathlib import Path
+
+from hostile import packets
+from hostile.shapes import Line
 
 ALERT = 21
 
 
-def fault(text):
+def fault(text: str) -> str:
     """The last line that tells a fault."""
     of_keys = "verify error|Verif|[*]{3} PKI"  # Of certificates that nobody vouches for.
     lines = [line for line in text.splitlines() if re.search("rror|alert (read|write):fatal|fail", line) and not re.match(of_keys, line)]
     return re.sub("^[0-9A-F]{8,}:", "", lines[-1]) if lines else "silent"
 
 
-def host(text):
+def host(text: str) -> str | None:
     """The name that `openssl s_server` printed last."""
     names = re.findall('Hostname in TLS extension: "([^"]*)"', text)
     return names[-1] if names else None
 
 
-def alerts(segments):
+def alerts(segments: list[packets.Segment]) -> list[tuple[int, ...]]:
     """The alerts in the clear of datagrams: the port of the sender, the level and the description."""
     found = []
     for one in segments:
@@ -32,11 +39,11 @@ def alerts(segments):
     return found
 
 
-def line(fields, absent=(), sources=None):
+def line(fields: Line, absent: Iterable[str] = (), sources: dict[str, list[str]] | None = None) -> Line:
     return {"line": fields, "absent": list(absent), "from": sources or {}}
 
 
-def keep(folder, name, lines, seen):
+def keep(folder: Path, name: str, lines: list[Line], seen: Line) -> None:
     """Puts them into the folder's wanted.json, in place of those of that name."""
     file = folder / "wanted.json"
     known = json.loads(file.read_text()) if file.exists() else {}

@@ -1,17 +1,17 @@
 """Captures of TLS with other bytes in the stream of one of two live peers: hellos that nobody asked for, and versions in record headers."""
 
+from __future__ import annotations
+
 import subprocess
 import tempfile
 import time
+from collections.abc import Callable, Iterable
 from pathlib import Path
 
-import packets
-import peers
-import said
-import tls
-import wanted
-import wanted_hellos
-from tls import CHANGE, CLIENT, HELLO, RELAY_PORT, SERVER, SERVER_HELLO, SERVER_PORT
+from hostile import packets, peers, wanted, wanted_hellos
+from hostile.evasions_tls import said, tls
+from hostile.evasions_tls.tls import CHANGE, CLIENT, HELLO, RELAY_PORT, SERVER, SERVER_HELLO, SERVER_PORT
+from hostile.shapes import Line
 
 OPENSSL, GNUTLS = "openssl", "gnutls"
 NAME, FORGED = b"example.test", b"forged.test."
@@ -22,7 +22,7 @@ IS_DONE = {OPENSSL: "SSL_connect:SSLv3/TLS read finished", GNUTLS: "Handshake wa
 HAS_FAILED = ["errno=", ":error:", "Fatal error", "failed", "peer has closed"]
 
 
-def server_of(peer, version):
+def server_of(peer: str, version: str) -> str:
     if peer == GNUTLS:
         return (
             f"gnutls-serv -p {SERVER_PORT} --echo --priority {OF_GNUTLS[version]} --disable-client-cert --x509certfile ec.pem --x509keyfile ec.key "
@@ -32,7 +32,7 @@ def server_of(peer, version):
     return f"openssl s_server -accept {peers.HOST}:{SERVER_PORT} {OF_OPENSSL[version]} {keys} -state"
 
 
-def client_of(peer, version):
+def client_of(peer: str, version: str) -> str:
     if peer == GNUTLS:
         return f"gnutls-cli -p {RELAY_PORT} --insecure --sni-hostname {NAME.decode()} --priority {OF_GNUTLS[version]} {peers.HOST}"
     return f"openssl s_client -connect {peers.HOST}:{RELAY_PORT} {OF_OPENSSL[version]} -servername {NAME.decode()} -state"
@@ -41,11 +41,11 @@ def client_of(peer, version):
 class Rule:
     """Puts bytes beside records. It keeps the client's hello, of which the others are made."""
 
-    def __init__(self, name, side):
+    def __init__(self, name: str, side: str) -> None:
         self.name, self.side, self.hello, self.put, self.is_placed = name, side, None, [], False
         self.pause = 0 if name == "hello_behind_hello" else 0.02
 
-    def __call__(self, sender, record):
+    def __call__(self, sender: str, record: bytes) -> list[bytes]:
         if sender == CLIENT and tls.is_message(record, HELLO) and not self.hello:
             self.hello = record
         if self.is_placed or sender != self.side:
@@ -54,50 +54,50 @@ class Rule:
             return self.with_version(record, int(self.name[-4:], 16))
         return getattr(self, self.name)(record)
 
-    def note(self, made):
+    def note(self, made: bytes) -> bytes:
         self.is_placed = True
         self.put.append(made)
         return made
 
-    def forged(self, version=b"\3\3"):
+    def forged(self, version: bytes = b"\3\3") -> bytes:
         """The hello with another name, in a record whose header has that version: the one that both versions have behind the hellos."""
         if NAME not in self.hello:
             raise ValueError("no name")
         return self.hello[:1] + version + self.hello[3:].replace(NAME, FORGED)
 
-    def hello_at_once(self, record):
+    def hello_at_once(self, record: bytes) -> list[bytes]:
         """A second hello in one segment with the first."""
         return [record + self.note(self.forged())] if tls.is_message(record, HELLO) else [record]
 
-    def hello_behind_hello(self, record):
+    def hello_behind_hello(self, record: bytes) -> list[bytes]:
         """A second hello in a segment of its own, in front of the answer."""
         return [record, self.note(self.forged())] if tls.is_message(record, HELLO) else [record]
 
-    def hello_behind_answer(self, record):
+    def hello_behind_answer(self, record: bytes) -> list[bytes]:
         """In front of the client's next record, which it sends when it has the server's hello."""
         return [record] if tls.is_message(record, HELLO) else [self.note(self.forged()), record]
 
-    def hello_behind_answer_0301(self, record):
+    def hello_behind_answer_0301(self, record: bytes) -> list[bytes]:
         """The same with the record's version that a first hello has."""
         return [record] if tls.is_message(record, HELLO) else [self.note(self.forged(b"\3\1")), record]
 
-    def hello_behind_change(self, record):
+    def hello_behind_change(self, record: bytes) -> list[bytes]:
         """In the clear behind the client's ChangeCipherSpec."""
         return [record, self.note(self.forged())] if record[0] == CHANGE else [record]
 
-    def hello_by_server(self, record):
+    def hello_by_server(self, record: bytes) -> list[bytes]:
         """The client's hello, said by the server in front of its first record."""
         return [self.note(self.forged()), record]
 
-    def server_hello_by_client_first(self, record):
+    def server_hello_by_client_first(self, record: bytes) -> list[bytes]:
         """In front of the client's hello."""
         return [self.note(tls.STRAY_SERVER_HELLO), record]
 
-    def server_hello_by_client(self, record):
+    def server_hello_by_client(self, record: bytes) -> list[bytes]:
         """Right behind the client's hello."""
         return [record, self.note(tls.STRAY_SERVER_HELLO)] if tls.is_message(record, HELLO) else [record]
 
-    def with_version(self, record, number):
+    def with_version(self, record: bytes, number: int) -> list[bytes]:
         """The hello of that side, with another version in its record's header."""
         kind = HELLO if self.side == CLIENT else SERVER_HELLO
         if not tls.is_message(record, kind):
@@ -123,7 +123,7 @@ STORED = [
 OF_HELLOS = ["version", "cipher", "curve", "server_name", "next_protocol", *wanted_hellos.ORDER]
 
 
-def run(work, file, rule, version, server, client):
+def run(work: Path, file: Path, rule: Rule, version: str, server: str, client: str) -> tuple[str, str]:
     port = SERVER_PORT if rule.side == CLIENT else RELAY_PORT
     relay = tls.Relay(rule)
     other = peers.Peer(work, "stdbuf -oL " + server_of(server, version), "server")
@@ -142,21 +142,21 @@ def run(work, file, rule, version, server, client):
     return other.said(), own.said()
 
 
-def alerts(file, port):
+def alerts(file: Path, port: int) -> list[str]:
     """The names of the alerts in the clear, by tshark."""
     command = ["tshark", "-r", str(file), "-d", f"tcp.port=={port},tls", "-Y", "tls.alert_message.desc", "-T", "fields", "-e", "tls.alert_message.desc"]
     found = subprocess.run(command, stdout=subprocess.PIPE, stderr=subprocess.DEVNULL, text=True, check=True).stdout.split()
     return [wanted.ALERTS[int(one)] for one in found]
 
 
-def line_of(segments, port):
+def line_of(segments: list[packets.Segment], port: int) -> Line:
     with tempfile.NamedTemporaryFile(suffix=".pcap") as file:
         Path(file.name).write_bytes(packets.pcap([(one.time, one.frame()) for one in segments]))
         [found] = wanted.lines(file.name, port)
     return found
 
 
-def to_the_answer(segments, put):
+def to_the_answer(segments: list[packets.Segment], put: Iterable[bytes]) -> list[packets.Segment]:
     """The segments up to the server's first data, without the bytes that were put in: the hello that was answered, and its answer."""
     found = []
     for one in segments:
@@ -170,16 +170,16 @@ def to_the_answer(segments, put):
     raise ValueError("no answer")
 
 
-def is_in_front(segments, made):
+def is_in_front(segments: list[packets.Segment], made: bytes) -> bool:
     """Whether what was put in came before the server's first data."""
     data = [one for one in segments if one.payload]
     answer = next(at for at, one in enumerate(data) if int.from_bytes(one.source[1], "big") in (SERVER_PORT, RELAY_PORT))
     return any(made in one.payload for one in data[:answer])
 
 
-def with_usual_versions(segments, number):
+def with_usual_versions(segments: list[packets.Segment], number: int) -> list[packets.Segment]:
     """The record of the hello has the version again that the peer wrote."""
-    def usual(one):
+    def usual(one: packets.Segment) -> packets.Segment:
         head = one.payload[:3]
         if head != bytes([tls.HANDSHAKE]) + number.to_bytes(2, "big"):
             return one
@@ -188,7 +188,7 @@ def with_usual_versions(segments, number):
     return [usual(one) for one in segments]
 
 
-def wanted_of(file, rule, version, seen):
+def wanted_of(file: Path, rule: Rule, version: str, seen: Line) -> list[Line]:
     port = SERVER_PORT if rule.side == CLIENT else RELAY_PORT
     segments = packets.read(file.read_bytes())
     if rule.name.startswith("version"):
@@ -230,7 +230,7 @@ def wanted_of(file, rule, version, seen):
     return [said.line(fields, absent, sources)]
 
 
-def record(work, folder, name, side, version, peer):
+def record(work: Path, folder: Path, name: str, side: str, version: str, peer: str) -> tuple[Path, list[Line], Line]:
     file = folder / f"tls_{name}_{side}_{version.lower()}_{peer}.pcap"
     server, client = (peer, OPENSSL) if side == CLIENT else (OPENSSL, peer)
     rule = Rule(name, side)
@@ -247,7 +247,7 @@ def record(work, folder, name, side, version, peer):
     return file, wanted_of(file, rule, version, seen), seen
 
 
-def captures():
+def captures() -> dict[str, Callable[[Path, Path], tuple[Path, list[Line], Line]]]:
     return {
         f"tls_{name}_{side}_{version.lower()}_{peer}": lambda work, folder, of=(name, side, version, peer): record(work, folder, *of)
         for name, side, version, peer in STORED

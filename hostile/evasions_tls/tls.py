@@ -1,14 +1,14 @@
 """The records of a stream of TLS (RFC 8446, section 5.1), and a relay that puts other bytes beside those of two peers."""
 
+from __future__ import annotations
+
 import select
 import socket
-import sys
 import threading
 import time
-from pathlib import Path
+from typing import Any
 
-sys.path.insert(0, str(Path(__file__).resolve().parent.parent))
-import peers  # noqa: E402
+from hostile import peers
 
 CHANGE, ALERT, HANDSHAKE, DATA = 20, 21, 22, 23
 HELLO, SERVER_HELLO = 1, 2
@@ -18,7 +18,7 @@ RELAY_PORT, SERVER_PORT = 14434, 14433
 STRAY_SERVER_HELLO = bytes.fromhex("16 03 03 00 2a 02 00 00 26 03 03") + b"\x5a" * 32 + bytes.fromhex("00 c0 2b 00")
 
 
-def records(stream):
+def records(stream: bytes) -> tuple[list[bytes], bytes]:
     """The whole records, with their headers, and what is left."""
     found, at = [], 0
     while at + 5 <= len(stream) and at + 5 + int.from_bytes(stream[at + 3 : at + 5], "big") <= len(stream):
@@ -28,7 +28,7 @@ def records(stream):
     return found, stream[at:]
 
 
-def is_message(record, kind):
+def is_message(record: bytes, kind: int) -> bool:
     return record[0] == HANDSHAKE and record[5] == kind
 
 
@@ -36,12 +36,12 @@ class Relay(threading.Thread):
     """Hands one connection on, record by record. A rule is called with the sender, and a record, and gives the bytes that go in its
     place: a list, each of which is sent alone, with the rule's pause behind it."""
 
-    def __init__(self, rule):
+    def __init__(self, rule: Any) -> None:
         super().__init__(daemon=True)
         self.rule, self.is_over = rule, False
         self.listener = peers.listener(RELAY_PORT)
 
-    def run(self):
+    def run(self) -> None:
         if not select.select([self.listener], [], [], 5)[0]:
             return
         client = self.listener.accept()[0]
@@ -65,7 +65,7 @@ class Relay(threading.Thread):
         client.close()
         server.close()
 
-    def hand_on(self, other, sender, found):
+    def hand_on(self, other: socket.socket, sender: str, found: list[bytes]) -> None:
         """Records that nothing is put beside go together."""
         waiting = b""
         for record in found:
@@ -83,7 +83,7 @@ class Relay(threading.Thread):
         if waiting:
             other.sendall(waiting)
 
-    def end(self):
+    def end(self) -> None:
         self.is_over = True
         self.join(3)
         self.listener.close()

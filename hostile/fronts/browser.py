@@ -1,14 +1,15 @@
 """A capture of DTLS 1.3 as a browser speaks it: a data channel of WebRTC from headless Chromium to itself, beside the STUN of ICE."""
 
+from __future__ import annotations
+
 import subprocess
 import tempfile
 import time
 from pathlib import Path
 
-import packets
-import peers
-import told
-import wanted
+from hostile import packets, peers, wanted
+from hostile.fronts import told
+from hostile.shapes import Line
 
 NAME, SHORT = "browser_dtls13", "browser_dtls13_short"
 PAGE = """<script>
@@ -42,7 +43,7 @@ HANDSHAKES = range(20, 27)
 KEPT = {"dtls13_chromium": 0, "dtls13_wolfssl_connection_ids": 2}
 
 
-def count(datagram, connection_id):
+def count(datagram: bytes, connection_id: int) -> int:
     """The records of a datagram (RFC 9147, section 4): with the header of 13 bytes, or the unified one; connection ids have that length."""
     found = 0
     while datagram:
@@ -59,7 +60,7 @@ def count(datagram, connection_id):
     return found
 
 
-def record(folder):
+def record(folder: Path) -> list[Line]:
     file = folder / f"{NAME}.pcap"
     for words in DEVICE:
         subprocess.run(["ip", *words.split()], check=True)
@@ -77,7 +78,7 @@ def record(folder):
     return lines(file)
 
 
-def shortened(datagram):
+def shortened(datagram: bytes) -> bytes:
     """Its unified records with a sequence number of 1 byte, and the last one without a length. What is encrypted isn't decrypted again then."""
     found = b""
     while datagram and datagram[0] >> 2 == 0b001011:
@@ -88,7 +89,7 @@ def shortened(datagram):
     return found + datagram
 
 
-def record_short(folder):
+def record_short(folder: Path) -> list[Line]:
     """The other forms of the unified header (RFC 9147, section 4), made of the capture."""
     file = folder / f"{SHORT}.pcap"
     made = []
@@ -99,7 +100,7 @@ def record_short(folder):
     return lines(file)
 
 
-def lines(file, connection_id=0):
+def lines(file: Path, connection_id: int = 0) -> list[Line]:
     [found] = wanted.lines(file, udp=True)
     segments = packets.read(file.read_bytes())
     of_orig = segments[0].source

@@ -1,10 +1,13 @@
 """Captures of drafts of TLS 1.3, made of one of TLS 1.3 (nobody could decrypt them): its ServerHello in the form that the draft has."""
 
+from __future__ import annotations
+
+from collections.abc import Iterator
 from pathlib import Path
 
-import packets
-import told
-import wanted
+from hostile import packets, wanted
+from hostile.fronts import told
+from hostile.shapes import Line
 
 STORED = Path(__file__).resolve().parent.parent.parent / "crates" / "tlslog" / "data" / "openssl_tls13.pcap"
 # Up to draft 21 the ServerHello has the form of draft 18 (draft-ietf-tls-tls13-18, section 4.1.3), from 22 on that of RFC 8446.
@@ -16,25 +19,25 @@ SUPPORTED_VERSIONS = b"\x00\x2b"
 HEADERS = 9  # Those of the record and of the message.
 
 
-def counted(data, width):
+def counted(data: bytes, width: int) -> bytes:
     return len(data).to_bytes(width, "big") + data
 
 
-def offered(payload, number):
+def offered(payload: bytes, number: int) -> bytes:
     """The ClientHello's versions (RFC 8446, section 4.2.1): the draft for TLS 1.3."""
     at = payload.index(SUPPORTED_VERSIONS)
     end = at + 4 + int.from_bytes(payload[at + 2 : at + 4], "big")
     return payload[:at] + payload[at:end].replace(b"\x03\x04", bytes([0x7F, number])) + payload[end:]
 
 
-def extensions(block):
+def extensions(block: bytes) -> Iterator[bytes]:
     while block:
         end = 4 + int.from_bytes(block[2:4], "big")
         yield block[:end]
         block = block[end:]
 
 
-def answered(payload, number):
+def answered(payload: bytes, number: int) -> bytes:
     """The ServerHello that the payload begins with, as the draft has it."""
     end = 5 + int.from_bytes(payload[3:5], "big")
     hello, rest = payload[HEADERS:end], payload[end:]
@@ -46,13 +49,13 @@ def answered(payload, number):
     return b"\x16\x03\x01" + counted(message, 2) + rest
 
 
-def moved(one, sequence, acknowledgment):
+def moved(one: packets.Segment, sequence: int, acknowledgment: int) -> packets.Segment:
     """The segment with numbers that are so much lower."""
     numbers = ((number - less) % 2**32 for number, less in ((one.sequence, sequence), (one.acknowledgment, acknowledgment)))
     return packets.replace(one, tcp=one.tcp[:4] + b"".join(number.to_bytes(4, "big") for number in numbers) + one.tcp[12:])
 
 
-def made(segments, number):
+def made(segments: list[packets.Segment], number: int) -> Iterator[packets.Segment]:
     less, server = 0, None
     for one in segments:
         if one.payload[:6] == b"\x16\x03\x01" + one.payload[3:5] + b"\x01":
@@ -66,7 +69,7 @@ def made(segments, number):
             yield moved(one, *((less, 0) if one.source == server else (0, less)))
 
 
-def record(folder, name):
+def record(folder: Path, name: str) -> list[Line]:
     file = folder / f"{name}.pcap"
     segments = list(made(packets.read(STORED.read_bytes()), DRAFTS[name]))
     file.write_bytes(packets.pcap([(one.time, one.frame()) for one in segments]))

@@ -1,6 +1,8 @@
 """Captures of a ClientHello in the form of SSL 2.0 (RFC 5246, appendix E.2). No client of today sends it: this one is made by hand, and
 carries its handshake of TLS 1.2 through, with RSA and AES in CBC, so that a live server says what it took."""
 
+from __future__ import annotations
+
 import hashlib
 import hmac
 import os
@@ -8,9 +10,11 @@ import re
 import socket
 import subprocess
 import time
+from pathlib import Path
 
-import peers
-import told
+from hostile import peers
+from hostile.fronts import told
+from hostile.shapes import Line
 
 PORT = 14433
 SUITES = bytes.fromhex("00002f 000035 00003c 0000ff 010080 0700c0")  # Of TLS, its SCSV, and two of SSL 2.0.
@@ -25,14 +29,14 @@ SERVERS = {
 NAMES = list(SERVERS)
 
 
-def hello(version, suites, session, challenge):
+def hello(version: int, suites: bytes, session: bytes, challenge: bytes) -> bytes:
     """With its length of 2 bytes, whose highest bit is set."""
     lengths = b"".join(len(part).to_bytes(2, "big") for part in (suites, session, challenge))
     body = b"\1" + version.to_bytes(2, "big") + lengths + suites + session + challenge
     return (0x8000 | len(body)).to_bytes(2, "big") + body
 
 
-def prf(secret, label, seed, count):
+def prf(secret: bytes, label: bytes, seed: bytes, count: int) -> bytes:
     """RFC 5246, section 5."""
     at, found = label + seed, b""
     while len(found) < count:
@@ -41,32 +45,32 @@ def prf(secret, label, seed, count):
     return found[:count]
 
 
-def aes(key, iv, text):
+def aes(key: bytes, iv: bytes, text: bytes) -> bytes:
     """AES-128 in CBC, by the program of OpenSSL."""
     words = ["openssl", "enc", "-aes-128-cbc", "-nopad", "-K", key.hex(), "-iv", iv.hex()]
     return subprocess.run(words, input=text, stdout=subprocess.PIPE, check=True).stdout
 
 
-def modulus(work):
+def modulus(work: Path) -> int:
     words = "openssl x509 -in rsa.pem -noout -modulus".split()
     return int(subprocess.run(words, cwd=work, stdout=subprocess.PIPE, text=True, check=True).stdout.split("=")[1], 16)
 
 
-def record_of(kind, fragment):
+def record_of(kind: int, fragment: bytes) -> bytes:
     return bytes([kind, 3, 3]) + len(fragment).to_bytes(2, "big") + fragment
 
 
-def message(kind, body):
+def message(kind: int, body: bytes) -> bytes:
     return bytes([kind]) + len(body).to_bytes(3, "big") + body
 
 
 class Client:
     """The client of one connection."""
 
-    def __init__(self, connection, work):
+    def __init__(self, connection: socket.socket, work: Path) -> None:
         self.connection, self.work, self.sequence = connection, work, 0
 
-    def exact(self, count):
+    def exact(self, count: int) -> bytes:
         found = b""
         while len(found) < count:
             part = self.connection.recv(count - len(found))
@@ -75,11 +79,11 @@ class Client:
             found += part
         return found
 
-    def take(self):
+    def take(self) -> tuple[int, bytes]:
         head = self.exact(5)
         return head[0], self.exact(int.from_bytes(head[3:], "big"))
 
-    def messages_to_done(self):
+    def messages_to_done(self) -> bytes:
         """The server's messages up to its ServerHelloDone."""
         found = b""
         while not found.endswith(message(14, b"")):
@@ -89,7 +93,7 @@ class Client:
             found += fragment
         return found
 
-    def sealed(self, kind, text):
+    def sealed(self, kind: int, text: bytes) -> bytes:
         """A record as TLS_RSA_WITH_AES_128_CBC_SHA protects it (RFC 5246, section 6.2.3.2)."""
         head = self.sequence.to_bytes(8, "big") + bytes([kind, 3, 3]) + len(text).to_bytes(2, "big")
         self.sequence += 1
@@ -98,7 +102,7 @@ class Client:
         iv = os.urandom(16)
         return record_of(kind, iv + aes(self.key, iv, text + bytes([pad]) * (pad + 1)))
 
-    def talk(self, first, challenge):
+    def talk(self, first: bytes, challenge: bytes) -> None:
         self.connection.sendall(first)
         answer = self.messages_to_done()
         server_random = answer[6:38]
@@ -120,7 +124,7 @@ class Client:
         self.connection.sendall(self.sealed(23, b"hello of an old form\n") + self.sealed(21, b"\1\0"))
 
 
-def record(work, folder, name):
+def record(work: Path, folder: Path, name: str) -> list[Line]:
     file, server = folder / f"{name}.pcap", peers.Peer(work, "stdbuf -oL " + SERVERS[name], "server")
     time.sleep(0.5)
     challenge = bytes(range(0x40, 0x60)) if name != "ssl2_hello_session" else bytes(range(0x40, 0x50))

@@ -1,13 +1,14 @@
 """Captures made of others: connections whose beginning wasn't captured, DTLS behind CAPWAP's header; and DTLS of the version 0x0100."""
 
+from __future__ import annotations
+
 import json
 import time
 from pathlib import Path
 
-import packets
-import peers
-import told
-import wanted
+from hostile import packets, peers, wanted
+from hostile.fronts import told
+from hostile.shapes import Line
 
 TOP = Path(__file__).resolve().parent.parent.parent
 STORED = TOP / "crates" / "tlslog" / "data"
@@ -27,16 +28,16 @@ NAMES = [*CUT, *WITH_DATA, *CAPWAP, OLD]
 PORT = 14433
 
 
-def put(file, segments):
+def put(file: Path, segments: list[packets.Segment]) -> None:
     file.write_bytes(packets.pcap([(one.time, one.frame()) for one in segments]))
 
 
-def stored_hello():
+def stored_hello() -> bytes:
     """The record of a stored ClientHello."""
     return next(one.payload for one in packets.read((STORED / "openssl_tls13.pcap").read_bytes()) if one.payload)
 
 
-def of_late(file, port):
+def of_late(file: Path, port: int) -> list[Line]:
     """What is captured is encrypted: no alert of it can be told."""
     [found] = wanted.lines(file, port)
     if "last_alert" in found:
@@ -50,7 +51,7 @@ def of_late(file, port):
     return [told.line(fields, sources, absent)]
 
 
-def cut(folder, name):
+def cut(folder: Path, name: str) -> list[Line]:
     file = folder / f"{name}.pcap"
     if name in CUT:
         stored, count = CUT[name]
@@ -64,11 +65,11 @@ def cut(folder, name):
     return of_late(file, port)
 
 
-def capwap(folder, name):
+def capwap(folder: Path, name: str) -> list[Line]:
     """Each datagram of a stored capture behind the header, and the server's port is that of CAPWAP."""
     file = folder / f"{name}.pcap"
 
-    def wrapped(one):
+    def wrapped(one: packets.Segment) -> packets.Segment:
         ports = [CONTROL if number == PORT else number for number in (int.from_bytes(one.tcp[at : at + 2], "big") for at in (0, 2))]
         payload = HEADER + one.payload
         udp = b"".join(part.to_bytes(2, "big") for part in (*ports, 8 + len(payload), 0))  # A checksum of 0 isn't one (RFC 768).
@@ -88,7 +89,7 @@ def capwap(folder, name):
     return [told.line(fields, {"tshark, and captures/dtls/lines": [*fields, "last_alert", "gap"]}, ["last_alert", "gap"])]
 
 
-def old(work, folder):
+def old(work: Path, folder: Path) -> list[Line]:
     """GnuTLS's peers in the version 0x0100, which they call DTLS 0.9, and tshark DTLS 1.0 of OpenSSL before 0.9.8f."""
     file = folder / f"{OLD}.pcap"
     server = f"gnutls-serv -p {PORT} --udp --nocookie --echo --priority {OLD_PRIORITY} {OLD_KEYS}"
@@ -116,7 +117,7 @@ def old(work, folder):
     return [told.line(fields, sources, ["last_alert", "gap"])]
 
 
-def record(work, folder, name):
+def record(work: Path, folder: Path, name: str) -> list[Line]:
     if name == OLD:
         return old(work, folder)
     return capwap(folder, name) if name in CAPWAP else cut(folder, name)

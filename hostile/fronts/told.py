@@ -1,17 +1,18 @@
 """What is wanted of a capture of fronts: the line by tshark's fields where tshark finds the TLS, beside what the peers saw."""
 
+from __future__ import annotations
+
 import json
-import sys
+from collections.abc import Iterable
 from pathlib import Path
 
-sys.path.insert(0, str(Path(__file__).resolve().parent.parent))
-import packets  # noqa: E402
-import wanted  # noqa: E402
+from hostile import packets, wanted
+from hostile.shapes import Line
 
 NAMES = {"TLSv1.2": "TLSv12", "TLSv1.3": "TLSv13"}
 
 
-def line(fields, sources, absent=()):
+def line(fields: Line, sources: dict[str, list[str]], absent: Iterable[str] = ()) -> Line:
     """A wanted line. `from` has, for each source, the fields that it gives; fields in `absent` aren't in the line."""
     given = {source: [name for name in names if name in fields or name in absent] for source, names in sources.items()}
     missing = {*fields, *absent} - {name for names in given.values() for name in names}
@@ -20,7 +21,7 @@ def line(fields, sources, absent=()):
     return {"line": fields, "absent": list(absent), "from": given}
 
 
-def ends(file, port):
+def ends(file: Path, port: int) -> Line:
     """The addresses and ports of the one connection, by its first packet."""
     first = packets.read(file.read_bytes())[0]
     source, destination = ((".".join(map(str, address)), int.from_bytes(number, "big")) for address, number in (first.source, first.destination))
@@ -29,7 +30,7 @@ def ends(file, port):
     return {"id.orig_h": source[0], "id.orig_p": source[1], "id.resp_h": destination[0], "id.resp_p": destination[1]}
 
 
-def of_front(file, port, seen):
+def of_front(file: Path, port: int, seen: Line) -> list[Line]:
     """One line. What tshark and the peer both know has to agree."""
     found = wanted.lines(file)
     known = ends(file, port)
@@ -52,21 +53,21 @@ def of_front(file, port, seen):
     return [line(fields, {"seen": [*by_peer, *none], "tshark": [*others, "last_alert", "gap"]}, ["last_alert", "gap", *none])]
 
 
-def of_none(file):
+def of_none(file: Path) -> list[Line]:
     """tshark finds no TLS, and the peers speak none."""
     if wanted.lines(file):
         raise ValueError("tshark finds TLS")
     return []
 
 
-def suites_of(hello):
+def suites_of(hello: bytes) -> list[str]:
     """The suites of a hello in SSL 2.0's form, by its bytes: those of TLS have a first byte of 0 (RFC 5246, appendix E.2)."""
     behind = hello[11 : 11 + int.from_bytes(hello[5:7], "big")]
     parts = [behind[at : at + 3] for at in range(0, len(behind), 3)]
     return ["0x" + (part[1:] if part[0] == 0 else part).hex() for part in parts]
 
 
-def of_old_hello(file, hello, fault):
+def of_old_hello(file: Path, hello: bytes, fault: str) -> list[Line]:
     """One line: of the client by the bytes of its hello, of the server by tshark's fields, which has none of the client's records."""
     [found] = wanted.lines(file)
     session = int.from_bytes(hello[7:9], "big")
@@ -87,7 +88,7 @@ def of_old_hello(file, hello, fault):
     return [line(fields, sources, [*not_there, *not_told])]
 
 
-def keep(folder, name, lines):
+def keep(folder: Path, name: str, lines: list[Line]) -> None:
     """Puts them into the folder's wanted.json, in place of those of that name."""
     file = folder / "wanted.json"
     known = json.loads(file.read_text()) if file.exists() else {}

@@ -1,6 +1,8 @@
 """Which rows are inputs of which group of calls."""
 
-import rows
+from __future__ import annotations
+
+from hostile.views import rows
 
 HANDSHAKE, CLIENT_HELLO, CERTIFICATE, CERTIFICATE_REQUEST = 22, 1, 11, 13
 
@@ -53,12 +55,12 @@ CONTENTS = {"sni": 0, "elliptic_curves": 10, "ec_point_formats": 11, "signature_
 WIDTHS = {0: 2, 10: 2, 11: 1, 13: 2, 16: 2, 43: 1, 45: 1, 48: 2, 51: 2}
 
 
-def front(kind):
+def front(kind: int) -> bytes:
     """What stands in front of the length of a record of TLS 1.2."""
     return bytes([kind, 3, 3])
 
 
-def dtls_front(kind):
+def dtls_front(kind: int) -> bytes:
     """The same of DTLS 1.2."""
     return bytes([kind, 0xFE, 0xFD, *8 * [0]])
 
@@ -66,7 +68,7 @@ def dtls_front(kind):
 class Groups:
     """The inputs of each group, in the order of the rows."""
 
-    def __init__(self):
+    def __init__(self) -> None:
         self.found = {name: {} for name in NAMES}
         self.adds = {ONE_TIMESTAMP: lambda one: self.add("timestamps", one.framed(b"", 2).counted(2))}
         for calls, add in [
@@ -79,11 +81,11 @@ class Groups:
         ]:
             self.adds |= dict.fromkeys(calls.split(), add)
 
-    def add(self, group, one):
+    def add(self, group: str, one: rows.Input) -> None:
         """Adds it, where no other row is the same input."""
         self.found[group].setdefault(one._replace(row=""), one)
 
-    def add_of_call(self, name, one):
+    def add_of_call(self, name: str, one: rows.Input) -> None:
         """Adds an input of the call of that name, which may end in numbers, or in another use of it."""
         call = name.partition(".")[0]
         if call in COUNTED:
@@ -104,7 +106,7 @@ class Groups:
         elif call.startswith(EXTENSION) and call not in NO_EXTENSIONS.split():
             self.add_list(one)
 
-    def add_record(self, one):
+    def add_record(self, one: rows.Input) -> None:
         self.add("records", one.counted(2, 3))
         end = 5 + rows.number(one.data, 3, 2)
         if one.data[:1] != bytes([HANDSHAKE]) or end > len(one.data):
@@ -116,12 +118,12 @@ class Groups:
                 return
             one = one.behind(4 + rows.number(one.data, 1, 3))
 
-    def add_in_record(self, one):
+    def add_in_record(self, one: rows.Input) -> None:
         """A message, alone and in a record."""
         self.add_message(one)
         self.add("records", one.framed(front(HANDSHAKE), 2).counted(2, 3))
 
-    def add_message(self, one):
+    def add_message(self, one: rows.Input) -> None:
         self.add("messages", one.counted(3, 1))
         end = 4 + rows.number(one.data, 1, 3)
         if not 4 < end <= len(one.data):
@@ -134,7 +136,7 @@ class Groups:
         elif kind == CERTIFICATE_REQUEST:
             self.add("requests", body.counted(1))
 
-    def add_hello(self, one):
+    def add_hello(self, one: rows.Input) -> None:
         """A ClientHello, and its lists (RFC 5246, section 7.4.1.2)."""
         self.add("hellos", one)
         start = 35 + rows.number(one.data, 34, 1)
@@ -146,7 +148,7 @@ class Groups:
         if start + 2 < end <= len(one.data):
             self.add_list(one.behind(start + 2, end))
 
-    def add_list(self, one):
+    def add_list(self, one: rows.Input) -> None:
         self.add("extensions", one.counted(2, 2))
         while (end := 4 + rows.number(one.data, 2, 2)) <= len(one.data):
             self.add_content(rows.number(one.data, 0, 2), one.behind(4, end))
@@ -154,22 +156,22 @@ class Groups:
                 return
             one = one.behind(end)
 
-    def add_content(self, kind, one):
+    def add_content(self, kind: int | None, one: rows.Input) -> None:
         if kind in WIDTHS:
             self.add("contents", one.counted(WIDTHS[kind])._replace(kind=kind))
 
-    def add_dtls_record(self, one):
+    def add_dtls_record(self, one: rows.Input) -> None:
         self.add("dtls_records", one.counted(2, 11))
         end = 13 + rows.number(one.data, 11, 2)
         if one.data[:1] == bytes([HANDSHAKE]) and end <= len(one.data):
             self.add_dtls_message(one.behind(13, end))
 
-    def add_in_dtls_record(self, one):
+    def add_in_dtls_record(self, one: rows.Input) -> None:
         """The same of DTLS."""
         self.add_dtls_message(one)
         self.add("dtls_records", one.framed(dtls_front(HANDSHAKE), 2).counted(2, 11))
 
-    def add_dtls_message(self, one):
+    def add_dtls_message(self, one: rows.Input) -> None:
         one, whole, part = one.counted(3, 9), rows.number(one.data, 1, 3), rows.number(one.data, 9, 3)
         # Where it is no fragment, it stays none where both lengths are cut.
         if whole == part and 0 < part <= len(one.data) - 12:
@@ -179,7 +181,7 @@ class Groups:
         self.add("dtls_messages", one)
 
 
-def inputs():
+def inputs() -> dict[str, list[rows.Input]]:
     """The inputs of each group, by its name."""
     groups = Groups()
     for calls, one in rows.rows():

@@ -4,7 +4,10 @@ An input is the bytes of a row of a call that reads the group's layout, or a par
 content of an extension.
 """
 
+from __future__ import annotations
+
 import re
+from collections.abc import Iterable, Iterator
 from pathlib import Path
 from typing import NamedTuple
 
@@ -26,7 +29,7 @@ class Within(NamedTuple):
     start: int
     end: int
 
-    def moved(self, by):
+    def moved(self, by: int) -> Within:
         return Within(tuple(place + by for place in self.places), self.start + by, self.end + by)
 
 
@@ -37,18 +40,18 @@ class Input(NamedTuple):
     # The type of the extension that has this content; of other inputs 0.
     kind: int = 0
 
-    def behind(self, count, end=None):
+    def behind(self, count: int, end: int | None = None) -> Input:
         """The bytes behind so many, up to `end`."""
         moved = [w.moved(-count) for w in self.within if end is None or w.end <= end]
         kept = tuple(w for w in moved if min((*w.places, w.start)) >= 0)
         return self._replace(data=self.data[count:end], within=kept)
 
-    def framed(self, head, width):
+    def framed(self, head: bytes, width: int) -> Input:
         """The bytes behind a head and their length, of so many bytes."""
         front = head + len(self.data).to_bytes(width, "big")
         return self._replace(data=front + self.data, within=tuple(w.moved(len(front)) for w in self.within))
 
-    def counted(self, width, start=0):
+    def counted(self, width: int, start: int = 0) -> Input:
         """The same, to be cut within the length of so many bytes that stands at `start`, if that is one."""
         behind = start + width
         end = behind + number(self.data, start, width)
@@ -57,11 +60,11 @@ class Input(NamedTuple):
         return self._replace(within=(*self.within, Within((behind - 1,), behind, end)))
 
 
-def number(data, start, width):
+def number(data: bytes, start: int, width: int) -> int:
     return int.from_bytes(data[start : start + width], "big")
 
 
-def bytes_of(words, names):
+def bytes_of(words: list[str], names: dict[str, bytes]) -> bytes:
     """The bytes in front of the first mark that begins a piece."""
     data, group = bytearray(), 0
     for word in words:
@@ -83,7 +86,7 @@ def bytes_of(words, names):
     return bytes(data)
 
 
-def rows():
+def rows() -> Iterator[tuple[list[str], Input]]:
     """The calls of each row, and its bytes as an input."""
     for file in sorted(DATA.glob("*.rows")):
         names = {}
@@ -94,7 +97,7 @@ def rows():
                 yield row(f"{file.name}:{number_of_line}", words, names)
 
 
-def rows_of(text):
+def rows_of(text: str) -> list[tuple[int, list[str]]]:
     """The words of each row, and the line on which it begins."""
     found = []
     for number_of_line, line in enumerate(text.split("\n"), 1):
@@ -105,7 +108,7 @@ def rows_of(text):
     return found
 
 
-def row(name, words, names):
+def row(name: str, words: list[str], names: dict[str, bytes]) -> tuple[list[str], Input]:
     count = next((k + 1 for k, word in enumerate(words) if not word.endswith(",")), len(words))
     calls = [call for word in words[:count] for call in word.split(",") if call]
     clause = re.compile(r"=>$|(written|cut|within|inside):")
@@ -120,7 +123,7 @@ def row(name, words, names):
     return calls, Input(name, data, tuple(within))
 
 
-def parts(data):
+def parts(data: bytes) -> list[tuple[bytes, int]]:
     """Bytes, and how often they stand there."""
     found, plain, k = [], 0, 0
     while k < len(data):
@@ -138,7 +141,7 @@ def parts(data):
     return found
 
 
-def repeated(data, start):
+def repeated(data: bytes, start: int) -> tuple[int, int]:
     """How many bytes at `start` are repeated, and how often they stand there; 0 where they are few."""
     for period in (1, 2, 4):
         end = start + period
@@ -150,7 +153,7 @@ def repeated(data, start):
     return 0, 0
 
 
-def places(data):
+def places(data: bytes) -> list[int]:
     """Where a long input is cut: near its ends, and near those of its parts."""
     ends, end = {0, len(data)}, 0
     for part, times in parts(data):
@@ -160,11 +163,11 @@ def places(data):
     return sorted(place for place in near if 0 <= place < len(data))
 
 
-def is_long(one):
+def is_long(one: Input) -> bool:
     return len(one.data) > SHORT
 
 
-def count_of(inputs):
+def count_of(inputs: list[Input]) -> int:
     """How many inputs are compared: each whole, its fronts, and those with a length that is cut, with and without what is behind."""
     count = 0
     for one in inputs:
@@ -173,7 +176,7 @@ def count_of(inputs):
     return count
 
 
-def source(name, inputs):
+def source(name: str, inputs: list[Input]) -> str:
     """The source of the inputs, a line of each."""
     lines = "\\n".join(map(written, inputs))
     return f"""//! Inputs of {name}, off the rows of the calls.
@@ -186,7 +189,7 @@ pub static INPUTS: &str = "{lines}";
 """
 
 
-def written(one):
+def written(one: Input) -> str:
     """A line: the row, the kind, the parts, where it is cut, and what is cut with its length; `-` is none."""
     told = ",".join(f"{marked(part, '.')}*{times}" for part, times in parts(one.data))
     fronts = marked(places(one.data), ",") if is_long(one) else ""
@@ -194,5 +197,5 @@ def written(one):
     return " ".join([one.row, str(one.kind), told or "-", fronts or "-", within or "-"])
 
 
-def marked(numbers, mark):
+def marked(numbers: Iterable[int], mark: str) -> str:
     return mark.join(map(str, numbers))

@@ -47,6 +47,7 @@ class Connection:
     """A connection, by the fields of its line: docs/TLSLOG.md says what each is. A dot in a field's name is an underscore here, and what
     the line doesn't have is `None`. `more` has the fields that this class doesn't know, by their names in the line."""
 
+    # made by docs/fields: connections
     ts: float
     uid: str
     id_orig_h: str
@@ -145,6 +146,7 @@ class Connection:
     ja3s: Optional[str] = None
     ja3s_string: Optional[str] = None
     ja4: Optional[str] = None
+    # end
     more: dict[str, Any] = field(default_factory=dict)
 
     @classmethod

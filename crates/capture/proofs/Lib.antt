@@ -1,3 +1,4 @@
 pub mod HeadersLemmas
 pub mod OptionLemmas
 pub mod SumLemmas
+pub mod VlanLemmas

@@ -6,7 +6,9 @@ pub mod Transport
 pub mod Options
 pub mod Jumbo
 pub mod Ip
+pub mod Fragment
 pub mod Link
+pub mod Vlan
 pub mod Checksum
 pub use Rattle.tls_fields.specs.Bytes
 pub use Rattle.tls_fields.specs.Layout

@@ -39,25 +39,25 @@ pub struct Datagram<'a> {
 
 /// The lengths of a header of IPv4 and of its datagram, in bytes, and the sum of the words up to there.
 #[derive(Clone, Copy)]
-struct LengthsV4 {
-    header: usize,
-    total: usize,
-    words: u64,
+pub(crate) struct LengthsV4 {
+    pub(crate) header: usize,
+    pub(crate) total: usize,
+    pub(crate) words: u64,
 }
 
 /// What of a header of IPv4 is kept behind these, and the sum of its words.
 #[derive(Clone, Copy)]
-struct FieldsV4 {
+pub(crate) struct FieldsV4 {
     /// The flags and the fragment offset.
-    flags: u16,
+    pub(crate) flags: u16,
     /// The number of the protocol.
-    protocol: u8,
+    pub(crate) protocol: u8,
     /// Where the datagram comes from.
-    source: u32,
+    pub(crate) source: u32,
     /// Where it goes to.
-    destination: u32,
+    pub(crate) destination: u32,
     /// The sum of the words of 16 bits.
-    words: u64,
+    pub(crate) words: u64,
 }
 
 /// What a header of IPv6 leads to.
@@ -72,7 +72,7 @@ enum Step {
 }
 
 /// The number of the Authentication Header (RFC 4302, section 2).
-const AUTHENTICATION: u8 = 51;
+pub(crate) const AUTHENTICATION: u8 = 51;
 
 /// What stands in a datagram of IPv4 that isn't cut, behind an Authentication Header where there is one.
 fn protected(i: &[u8], protocol: u8) -> IResult<&[u8], Content>
@@ -83,6 +83,16 @@ fn protected(i: &[u8], protocol: u8) -> IResult<&[u8], Content>
         return transport(i, next);
     }
     transport(i, protocol)
+}
+
+/// The same, where no further bytes belong to it.
+pub(crate) fn whole_protected(i: &[u8], protocol: u8) -> IResult<&[u8], Content>
+    ensures { Gives view_content (complete (protected_layout protocol)) i.now result }
+{
+    match protected(i, protocol) {
+        Err(Err::Incomplete(_)) => refused(i, ErrorKind::Complete),
+        answer => answer,
+    }
 }
 
 /// What a datagram of IPv4 holds.
@@ -108,7 +118,7 @@ fn whole_v4(i: &[u8], flags: u16, protocol: u8) -> IResult<&[u8], Content>
 /// The lengths of a header of IPv4 and of its datagram.
 #[tactic(auto, using(tls_fields::proofs::OneAnswerLemmas::read_allowed), unfolding(crate::specs::Ip::lengths_v4))]
 #[inline]
-fn lengths_v4(i: &[u8]) -> IResult<&[u8], LengthsV4>
+pub(crate) fn lengths_v4(i: &[u8]) -> IResult<&[u8], LengthsV4>
     ensures gives { Gives view_lengths_v4 lengths_v4_layout i.now result }
     ensures header { IfOk result (λ x. 20 ≤ x.1.header) }
     ensures total { IfOk result (λ x. (x.1.total ≡ 0) ⊎ (x.1.header ≤ x.1.total)) }
@@ -138,7 +148,7 @@ fn lengths_v4(i: &[u8]) -> IResult<&[u8], LengthsV4>
 /// The fields of a header of IPv4 behind its lengths.
 #[tactic(auto, using(tls_fields::proofs::OneAnswerLemmas::read_allowed), unfolding(crate::specs::Ip::fields_v4))]
 #[inline]
-fn fields_v4(i: &[u8]) -> IResult<&[u8], FieldsV4>
+pub(crate) fn fields_v4(i: &[u8]) -> IResult<&[u8], FieldsV4>
     ensures gives { Gives view_fields_v4 fields_v4_layout i.now result }
     ensures words { IfOk result (λ x. x.1.words < 2 ^ 20) }
 {
@@ -207,7 +217,7 @@ pub fn parse_ipv4(i: &[u8]) -> IResult<&[u8], Datagram>
 }
 
 /// An extension header whose length counts words of that many bytes: the number of the next one.
-fn skipped(i: &[u8], word: usize) -> IResult<&[u8], u8>
+pub(crate) fn skipped(i: &[u8], word: usize) -> IResult<&[u8], u8>
     requires { word < 16 }
     ensures { Gives (λ v. v) (skipped_layout word) i.now result }
 {
@@ -233,7 +243,7 @@ fn fragment_header(i: &[u8]) -> IResult<&[u8], Step>
 
 /// Whether a header of that number is an extension header whose length counts 8 bytes.
 #[tactic(auto, unfolding(crate::specs::Ip::is_extension))]
-fn is_extension(next: u8) -> bool
+pub(crate) fn is_extension(next: u8) -> bool
     ensures { result ≡ is_extension_number next }
 {
     next == 0 || next == 43 || next == 60 || next == 135
@@ -274,7 +284,7 @@ fn headers(i: &[u8], next: u8, most: u8) -> IResult<&[u8], Content>
 }
 
 /// The same, where no further bytes belong to it.
-fn whole_v6(i: &[u8], next: u8) -> IResult<&[u8], Content>
+pub(crate) fn whole_v6(i: &[u8], next: u8) -> IResult<&[u8], Content>
     ensures { Gives view_content (complete (headers_layout 16 next)) i.now result }
 {
     match headers(i, next, 16) {
@@ -284,7 +294,7 @@ fn whole_v6(i: &[u8], next: u8) -> IResult<&[u8], Content>
 }
 
 /// An address of IPv6.
-fn address_v6(i: &[u8]) -> IResult<&[u8], Address>
+pub(crate) fn address_v6(i: &[u8]) -> IResult<&[u8], Address>
     ensures { Gives view_address address_v6_layout i.now result }
 {
     let (i, upper) = number8(i)?;
@@ -294,7 +304,7 @@ fn address_v6(i: &[u8]) -> IResult<&[u8], Address>
 
 /// The payload length and the next header of a header of IPv6.
 #[inline]
-fn front_v6(i: &[u8]) -> IResult<&[u8], (u16, u8)>
+pub(crate) fn front_v6(i: &[u8]) -> IResult<&[u8], (u16, u8)>
     ensures { Gives (λ v. v) front_v6_layout i.now result }
 {
     let (i, first) = number1(i)?;

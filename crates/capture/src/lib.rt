@@ -6,6 +6,7 @@
 
 mod block_packet;
 mod checksum;
+mod fragment;
 mod interface;
 mod ip;
 mod jumbo;
@@ -15,11 +16,13 @@ mod order;
 mod pcap;
 mod pcapng;
 mod transport;
+mod vlan;
 
 pub use block_packet::{
     BlockPacket, parse_enhanced_packet, parse_obsolete_packet, parse_simple_packet,
 };
 pub use checksum::Checksum;
+pub use fragment::{Fragment, parse_fragment_v4, parse_fragment_v6, parse_joined};
 pub use interface::{Interface, parse_interface};
 pub use ip::{Address, Datagram, parse_ipv4, parse_ipv6};
 pub use link::{parse_link, parse_packet};
@@ -30,3 +33,4 @@ pub use pcap::{
 };
 pub use pcapng::{Block, MAX_BLOCK_LEN, SECTION_HEADER, parse_block};
 pub use transport::{Content, TcpSegment, UdpDatagram, parse_tcp, parse_udp};
+pub use vlan::{MAX_VLAN_TAGS, VlanTags};

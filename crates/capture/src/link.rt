@@ -25,7 +25,7 @@ const PPPOE: u16 = 0x8864;
 
 /// Whether a type of Ethernet is that of a VLAN tag.
 #[inline]
-fn is_vlan(kind: u16) -> bool
+pub(crate) fn is_vlan(kind: u16) -> bool
     ensures { result ≡ is_vlan_type kind }
 {
     kind == 0x8100 || kind == 0x88a8 || kind == 0x9100

@@ -4,6 +4,6 @@ use Rattle.connections.specs.declared.datagram.Datagram.{Datagram}
 use Rattle.connections.specs.declared.ends.Ends.{Ends}
 use Rattle.connections.specs.declared.ends.Protocol.TheVariants.{Udp}
 
--- Between whom it goes.
+-- Between whom it goes, and in which network.
 abbrev pub ends_of_datagram : Datagram → Ends
-ends_of_datagram d = ends_between Udp d.source d.destination
+ends_of_datagram d = ends_between d.network Udp d.source d.destination

@@ -53,6 +53,7 @@ begins_one s = not (breaks s) && (not (is_refused s.checksum) && ((begins s || a
 abbrev pub header_of : Segment → Header
 header_of s = record {
   time = s.time;
+  network = s.network;
   source = s.source;
   destination = s.destination;
   sequence = s.sequence;
@@ -68,9 +69,9 @@ header_of s = record {
 abbrev pub IsWithoutData : Segment → Segment → Type 0
 IsWithoutData s bare = (header_of bare ≡ header_of s) × (bare.payload.now ≡ [])
 
--- Between whom it goes.
+-- Between whom it goes, and in which network.
 abbrev pub ends_of : Segment → Ends
-ends_of s = ends_between Tcp s.source s.destination
+ends_of s = ends_between s.network Tcp s.source s.destination
 
 -- The number of the first byte of data: a SYN has one of its own, in front of it.
 abbrev pub first_of : Segment → ℕ

@@ -155,6 +155,10 @@ with_disagreeing next s (Open h) Over count = count
 with_disagreeing next s Unbegun r count = count
 with_disagreeing next s Over r count = count
 
+-- Bytes disagreed before they were put in.
+abbrev pub with_more_disagreeing : ℕ → Stream → Stream
+with_more_disagreeing n t = record t { disagreeing = plus t.disagreeing n }
+
 -- It is read no further; where it was read, its next byte is the next that is passed on.
 abbrev pub stopped : Stream → Reading → Stream
 stopped t (Open h) = record t { reading = Over; passing = Some (unheard_from t) }

@@ -10,6 +10,8 @@ use crate::segment::Checksum;
 pub struct Datagram<'a> {
     /// When, in nanoseconds since 1970-01-01 00:00 UTC.
     pub time: u64,
+    /// The number of the network that it came in; 0 where networks aren't told apart.
+    pub network: u64,
     /// Who sent it.
     pub source: End,
     /// To whom.
@@ -21,10 +23,10 @@ pub struct Datagram<'a> {
 }
 
 impl<'a> Datagram<'a> {
-    /// Between whom it goes.
+    /// Between whom it goes, and in which network.
     pub fn between(&self) -> Ends
         ensures { result ≡ ends_of_datagram self.now }
     {
-        Ends::between(Protocol::Udp, self.source, self.destination)
+        Ends::between(self.network, Protocol::Udp, self.source, self.destination)
     }
 }

@@ -3,7 +3,7 @@ ghost use Rattle.std.specs.Prelude.{◌≡◌, ◌++◌};
 ghost use Rattle.std.proofs.Common.{rules};
 ghost use Rattle.std.specs.Hash as fed;
 ghost use Rattle.std.specs.Cmp.Rules.{hashing};
-ghost use Rattle.connections.specs.Ends.{address_number, addresses_fed, both_numbers, ends_between, ports_number};
+ghost use Rattle.connections.specs.Ends.{address_number, addresses_fed, both_numbers, ends_between, network_fed, ports_number};
 
 use std::hash::{Hash, Hasher};
 use std::net::IpAddr;
@@ -26,27 +26,30 @@ pub struct End {
     pub port: u16,
 }
 
-/// Between whom packets go: both directions have the same.
+/// Between whom packets go, and in which network: both directions have the same.
 #[derive(Clone, Copy, Debug, PartialEq, Eq)]
 pub struct Ends {
+    network: u64,
     protocol: Protocol,
     lower: End,
     upper: End,
 }
 
 impl Ends {
-    /// Those of the packets that the two send each other by that protocol.
-    pub fn between(protocol: Protocol, one: End, other: End) -> Ends
-        ensures { result ≡ ends_between protocol one other }
+    /// Those of the packets that the two send each other by that protocol, in the network of that number.
+    pub fn between(network: u64, protocol: Protocol, one: End, other: End) -> Ends
+        ensures { result ≡ ends_between network protocol one other }
     {
         if one <= other {
             Ends {
+                network,
                 protocol,
                 lower: one,
                 upper: other,
             }
         } else {
             Ends {
+                network,
                 protocol,
                 lower: other,
                 upper: one,
@@ -83,9 +86,9 @@ fn port_bits(one: u16, other: u16, protocol: Protocol) -> u64
     }
 }
 
-// In whole words, of which a hash is made fastest: few where both are of IPv4.
+// In whole words, of which a hash is made fastest: few where both are of IPv4, and networks aren't told apart.
 impl Hash for Ends {
-    ghost hash_input = { λ e. addresses_fed e.lower.address e.upper.address ++ fed.u64 (ports_number e.lower.port e.upper.port e.protocol) };
+    ghost hash_input = { λ e. addresses_fed e.lower.address e.upper.address ++ (fed.u64 (ports_number e.lower.port e.upper.port e.protocol) ++ network_fed e.network) };
 
     ghost respects_eq = { Prim.search (hashing, rules) };
 
@@ -100,5 +103,8 @@ impl Hash for Ends {
             }
         }
         port_bits(self.lower.port, self.upper.port, self.protocol).hash(state);
+        if self.network != 0 {
+            self.network.hash(state);
+        }
     }
 }

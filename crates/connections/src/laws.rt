@@ -25,14 +25,14 @@ fn is_ordered<T: Ord>()
 
 /// Both directions of a connection have one pair of ends.
 pub fn both_directions_have_the_same_ends()
-    ensures { (p : Protocol) (a b : AnEnd) → ends_between p a b ≡ ends_between p b a }
+    ensures { (n : ℕ) (p : Protocol) (a b : AnEnd) → ends_between n p a b ≡ ends_between n p b a }
 {
     is_ordered::<End>();
 }
 
-/// Packets with the same ends have one protocol, and go between the same two, in this direction or the other.
+/// Packets with the same ends have one protocol, came in one network, and go between the same two, in this direction or the other.
 pub fn no_other_packets_have_these_ends()
-    ensures { (p q : Protocol) (a b c d : AnEnd) → ends_between p a b ≡ ends_between q c d → (p ≡ q) × (((a ≡ c) × (b ≡ d)) ⊎ ((a ≡ d) × (b ≡ c))) }
+    ensures { (m n : ℕ) (p q : Protocol) (a b c d : AnEnd) → ends_between m p a b ≡ ends_between n q c d → (m ≡ n) × (p ≡ q) × (((a ≡ c) × (b ≡ d)) ⊎ ((a ≡ d) × (b ≡ c))) }
 {}
 
 /// What stands in a table under some ends stays where what stands under others is taken out.

@@ -53,6 +53,8 @@ pub struct Options {
 pub struct Segment<'a> {
     /// When, in nanoseconds since 1970-01-01 00:00 UTC.
     pub time: u64,
+    /// The number of the network that it came in; 0 where networks aren't told apart.
+    pub network: u64,
     /// Who sent it.
     pub source: End,
     /// To whom.
@@ -79,6 +81,7 @@ pub struct Segment<'a> {
 #[derive(Clone, Copy, Debug)]
 pub(crate) struct Header {
     time: u64,
+    network: u64,
     pub(crate) source: End,
     pub(crate) destination: End,
     pub(crate) sequence: u32,
@@ -98,6 +101,7 @@ impl Header {
     {
         Segment {
             time: self.time,
+            network: self.network,
             source: self.source,
             destination: self.destination,
             sequence: self.sequence,
@@ -141,11 +145,11 @@ fn without_flag(flags: u8, weight: u8) -> u8
 }
 
 impl<'a> Segment<'a> {
-    /// Between whom it goes.
+    /// Between whom it goes, and in which network.
     pub fn between(&self) -> Ends
         ensures { result ≡ ends_of self.now }
     {
-        Ends::between(Protocol::Tcp, self.source, self.destination)
+        Ends::between(self.network, Protocol::Tcp, self.source, self.destination)
     }
 
     /// It is its sender's first: SYN is set.
@@ -221,6 +225,7 @@ impl<'a> Segment<'a> {
     {
         Header {
             time: self.time,
+            network: self.network,
             source: self.source,
             destination: self.destination,
             sequence: self.sequence,

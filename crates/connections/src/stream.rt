@@ -1,7 +1,7 @@
 //! One direction of a connection.
 ghost use Rattle.std.specs.Prelude.{◌≡◌, ◌≤◌, ◌%◌, ◌^◌, length, false, OnOk, OnErr};
 ghost use Rattle.connections.specs.Segment.{breaks, first_of};
-ghost use Rattle.connections.specs.Stream.{begun_at, came, differing_in_order, end_of, forgetting, front_of, handed_on, handing_on, has_urgent_next, is_cut_short, is_missing, is_over, lacks, next_bytes, noted, passed, passed_before, passing_behind, passing_urgent, silent_stream, stopped, unheard_from, unlike, with_numbers, with_urgent, HasPut, HasTaken};
+ghost use Rattle.connections.specs.Stream.{begun_at, came, differing_in_order, end_of, forgetting, front_of, handed_on, handing_on, has_urgent_next, is_cut_short, is_missing, is_over, lacks, next_bytes, noted, passed, passed_before, passing_behind, passing_urgent, silent_stream, stopped, unheard_from, unlike, with_more_disagreeing, with_numbers, with_urgent, HasPut, HasTaken};
 
 use crate::numbers::{HALF, advance, is_behind};
 use crate::segment::Segment;
@@ -346,6 +346,13 @@ impl Stream {
         ensures { result ≡ self.now.disagreeing }
     {
         self.disagreeing
+    }
+
+    /// Counts bytes that disagreed before they were put into the stream, as those of a datagram's fragments may.
+    pub fn add_disagreeing(&mut self, count: u64)
+        ensures { self.new ≡ with_more_disagreeing count self.old }
+    {
+        self.disagreeing = self.disagreeing.saturating_add(count);
     }
 
     /// Reads no further: what is held and what comes is let go. Where it was read, what comes next is passed on by

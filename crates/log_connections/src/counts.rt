@@ -12,15 +12,25 @@ pub struct Counts {
     pub other_protocols: u64,
     /// Packets of connections that fall to another part than the one that is logged.
     pub other_parts: u64,
-    /// Parts of datagrams that were cut.
-    pub fragments: u64,
+    /// Fragments of datagrams that would have more than 65,535 bytes.
+    pub too_long: u64,
+    /// Fragments that aren't the last, of a length that isn't a multiple of 8.
+    pub uneven: u64,
+    /// Fragments that say another end than others of their datagram, or stand behind its end.
+    pub other_end: u64,
+    /// Datagrams of which fragments were missing for 30 seconds.
+    pub late: u64,
+    /// Datagrams of which fragments were missing, and for which there was no more room.
+    pub crowded: u64,
+    /// Datagrams of which fragments were missing at the end.
+    pub cut_short: u64,
     /// Packets in more tunnels, one in another, than are followed.
     pub in_too_many_tunnels: u64,
     /// Segments of TCP with data that belong to no open connection.
     pub stray_segments: u64,
     /// Connections that are neither TLS nor DTLS.
     pub other_connections: u64,
-    /// Sides of connections of TLS in which bytes are missing.
+    /// Connections of TLS in which bytes are missing, of one side or of both.
     pub gaps: u64,
 }
 
@@ -37,7 +47,12 @@ impl Counts {
             unread: 0,
             other_protocols: 0,
             other_parts: 0,
-            fragments: 0,
+            too_long: 0,
+            uneven: 0,
+            other_end: 0,
+            late: 0,
+            crowded: 0,
+            cut_short: 0,
             in_too_many_tunnels: 0,
             stray_segments: 0,
             other_connections: 0,
@@ -57,7 +72,30 @@ impl Counts {
                 "packets of another link or protocol than TCP and UDP",
             ),
             (self.other_parts, "packets of other parts"),
-            (self.fragments, "fragments of IP"),
+            (
+                self.too_long,
+                "fragments of datagrams of more than 65,535 bytes",
+            ),
+            (
+                self.uneven,
+                "fragments with a length that is no multiple of 8",
+            ),
+            (
+                self.other_end,
+                "fragments with another end than their datagram's",
+            ),
+            (
+                self.late,
+                "datagrams of which fragments were missing for 30 seconds",
+            ),
+            (
+                self.crowded,
+                "datagrams of which fragments were missing, and that had no room",
+            ),
+            (
+                self.cut_short,
+                "datagrams of which fragments were missing at the end",
+            ),
             (
                 self.in_too_many_tunnels,
                 "packets in more than 8 tunnels, one in another",
@@ -70,7 +108,7 @@ impl Counts {
                 self.other_connections,
                 "connections that are neither TLS nor DTLS",
             ),
-            (self.gaps, "sides of connections with lost bytes"),
+            (self.gaps, "connections with lost bytes"),
         ];
         let packets = self.packets;
         eprintln!(rt; "{name}: {packets} packets")?;

@@ -6,10 +6,12 @@
 #![tactic(auto)]
 
 mod counts;
+mod fragments;
 mod fronts;
 mod heard;
 mod log;
 
 pub use counts::{Counts, add_one};
+pub use fragments::Joined;
 pub use heard::{Heard, Keeper, Pieces};
 pub use log::{Arrival, Checksums, Log};

@@ -15,12 +15,14 @@ use connections::{
     Checksum, Connection, Connections, Datagram, End, Ends, Judgement, Kept, MAX_WAITING, Options,
     Protocol, Segment, Side, Stream, Told,
 };
+use ip_fragments::Fragments;
+use networks::{Network, Networks};
 use packets::Packet;
 use std::alloc::{AllocError, Global};
 use std::hash::RandomState;
 use std::net::{IpAddr, Ipv4Addr, Ipv6Addr};
 use tls_flow::Direction;
-use tunnels::{Inside, Tunnels, innermost};
+use tunnels::{Inside, Tunnels, innermost, vlan_tags};
 
 /// The weight of the flag SYN (RFC 9293, section 3.1).
 const SYN: u8 = 2;
@@ -49,13 +51,18 @@ pub enum Checksums {
 pub struct Log<K> {
     alloc: Global,
     connections: Connections<Heard<K>>,
+    // The datagrams that came in fragments, and whether the packet that came last held one.
+    pub(crate) fragments: Fragments,
+    pub(crate) is_cut: bool,
     // What is kept of connections until it is taken.
     kept: Option<Pieces>,
     checksums: Checksums,
     // The part whose connections are logged, where not all are.
     part: Option<Part>,
+    // The numbers of networks, where these are told apart.
+    networks: Option<Networks>,
     // Those of the packet that came last.
-    tunnels: Tunnels,
+    pub(crate) tunnels: Tunnels,
     /// What was read, and what was left out.
     pub counts: Counts,
 }
@@ -118,6 +125,7 @@ fn checksum_of(datagram: &capture::Datagram<'_>, checksums: Checksums) -> Checks
 /// A segment with its ends and its time.
 fn segment_of<'a>(
     time: u64,
+    network: u64,
     source: End,
     destination: End,
     tcp: &TcpSegment<'a>,
@@ -125,6 +133,7 @@ fn segment_of<'a>(
 ) -> Segment<'a> {
     Segment {
         time,
+        network,
         source,
         destination,
         sequence: tcp.sequence,
@@ -141,6 +150,7 @@ fn segment_of<'a>(
 /// A datagram with its ends and its time.
 fn datagram_of<'a>(
     time: u64,
+    network: u64,
     source: End,
     destination: End,
     udp: &UdpDatagram<'a>,
@@ -148,6 +158,7 @@ fn datagram_of<'a>(
 ) -> Datagram<'a> {
     Datagram {
         time,
+        network,
         source,
         destination,
         checksum,
@@ -170,6 +181,14 @@ impl<'a> Arrival<'a> {
         match self {
             Arrival::Segment(segment) => segment.time,
             Arrival::Datagram(datagram) => datagram.time,
+        }
+    }
+
+    /// Where it comes from.
+    pub(crate) fn source(&self) -> End {
+        match self {
+            Arrival::Segment(segment) => segment.source,
+            Arrival::Datagram(datagram) => datagram.source,
         }
     }
 
@@ -296,9 +315,12 @@ impl<K: Keeper> Log<K> {
         Ok(Log {
             alloc,
             connections: Connections::new(alloc, keys)?,
+            fragments: Fragments::new(alloc, keys)?,
+            is_cut: false,
             kept,
             checksums: Checksums::Auto,
             part: None,
+            networks: None,
             tunnels: Tunnels::new(),
             counts: Counts::new(),
         })
@@ -312,6 +334,24 @@ impl<K: Keeper> Log<K> {
     /// Logs the connections of this part alone; at first all are logged.
     pub fn set_part(&mut self, part: Part) {
         self.part = Some(part);
+    }
+
+    /// Tells connections apart that have the same ends in several networks; at first they aren't. The keys are for the hashes of the table of networks.
+    pub fn tell_networks_apart(&mut self, keys: RandomState) -> Result<(), AllocError> {
+        self.networks = Some(Networks::new(self.alloc, keys)?);
+        Ok(())
+    }
+
+    /// The number of the network that the packet came in which came last; 0 where networks aren't told apart.
+    fn network(&mut self, packet: Packet<'_>) -> Result<u64, AllocError> {
+        let tunnels = self.tunnels;
+        match &mut self.networks {
+            Some(networks) => networks.number(Network {
+                vlans: vlan_tags(packet.bytes, packet.link_type),
+                tunnels,
+            }),
+            None => Ok(0),
+        }
     }
 
     /// Whether connections between these ends are logged; a packet of others is counted.
@@ -333,7 +373,16 @@ impl<K: Keeper> Log<K> {
         add_one(&mut self.counts.packets);
         let unwrapped = innermost(packet.bytes, packet.link_type);
         self.tunnels = unwrapped.tunnels;
-        match unwrapped.inside {
+        self.datagram_inside(unwrapped.inside)
+    }
+
+    /// The same of what stands behind all headers.
+    #[inline(always)]
+    pub(crate) fn datagram_inside<'a>(
+        &mut self,
+        inside: Inside<'a>,
+    ) -> Option<capture::Datagram<'a>> {
+        match inside {
             Inside::Datagram(datagram) => return Some(datagram),
             Inside::Other => add_one(&mut self.counts.other_protocols),
             Inside::Unread => add_one(&mut self.counts.unread),
@@ -342,40 +391,67 @@ impl<K: Keeper> Log<K> {
         None
     }
 
-    /// The segment or the datagram that a packet holds; `None` where it holds none that can be read, or one of another part, which is counted.
-    pub fn arrival<'a>(&mut self, packet: Packet<'a>) -> Option<Arrival<'a>> {
-        let time = packet.time;
-        let datagram = self.datagram(packet)?;
-        match &datagram.content {
-            Content::Tcp(tcp) => {
-                let source = end(datagram.source, tcp.source);
-                let destination = end(datagram.destination, tcp.destination);
-                if !self.is_of_part(Protocol::Tcp, source, destination) {
-                    return None;
-                }
-                let checksum = checksum_of(&datagram, self.checksums);
-                let segment = segment_of(time, source, destination, tcp, checksum);
-                Some(Arrival::Segment(segment))
-            }
-            Content::Udp(udp) => {
-                let source = end(datagram.source, udp.source);
-                let destination = end(datagram.destination, udp.destination);
-                if !self.is_of_part(Protocol::Udp, source, destination) {
-                    return None;
-                }
-                let checksum = checksum_of(&datagram, self.checksums);
-                let datagram = datagram_of(time, source, destination, udp, checksum);
-                Some(Arrival::Datagram(datagram))
-            }
-            Content::Other(_, _) => {
-                add_one(&mut self.counts.other_protocols);
-                None
-            }
-            Content::Fragment => {
-                add_one(&mut self.counts.fragments);
-                None
-            }
+    /// The segment that a packet holds, unless it is of another part, which is counted.
+    fn segment<'a>(
+        &mut self,
+        packet: Packet<'_>,
+        datagram: &capture::Datagram<'a>,
+        tcp: &TcpSegment<'a>,
+    ) -> Result<Option<Arrival<'a>>, AllocError> {
+        let source = end(datagram.source, tcp.source);
+        let destination = end(datagram.destination, tcp.destination);
+        if !self.is_of_part(Protocol::Tcp, source, destination) {
+            return Ok(None);
         }
+        let network = self.network(packet)?;
+        let checksum = checksum_of(datagram, self.checksums);
+        let segment = segment_of(packet.time, network, source, destination, tcp, checksum);
+        Ok(Some(Arrival::Segment(segment)))
+    }
+
+    /// The same of a datagram of UDP.
+    fn user_datagram<'a>(
+        &mut self,
+        packet: Packet<'_>,
+        datagram: &capture::Datagram<'a>,
+        udp: &UdpDatagram<'a>,
+    ) -> Result<Option<Arrival<'a>>, AllocError> {
+        let source = end(datagram.source, udp.source);
+        let destination = end(datagram.destination, udp.destination);
+        if !self.is_of_part(Protocol::Udp, source, destination) {
+            return Ok(None);
+        }
+        let network = self.network(packet)?;
+        let checksum = checksum_of(datagram, self.checksums);
+        let datagram = datagram_of(packet.time, network, source, destination, udp, checksum);
+        Ok(Some(Arrival::Datagram(datagram)))
+    }
+
+    /// The segment or the datagram that a packet holds; `None` where it holds none that can be read, or one of another part, which is counted; or where
+    /// it holds a fragment, which is to be joined with others ([`Log::join`]).
+    ///
+    /// `AllocError` where networks are told apart, and one more could not be held.
+    pub fn arrival<'a>(&mut self, packet: Packet<'a>) -> Result<Option<Arrival<'a>>, AllocError> {
+        match self.datagram(packet) {
+            Some(datagram) => self.arrival_of(packet, datagram),
+            None => Ok(None),
+        }
+    }
+
+    /// The same of a datagram that came with that packet.
+    #[inline(always)]
+    pub(crate) fn arrival_of<'a>(
+        &mut self,
+        packet: Packet<'_>,
+        datagram: capture::Datagram<'a>,
+    ) -> Result<Option<Arrival<'a>>, AllocError> {
+        match &datagram.content {
+            Content::Tcp(tcp) => return self.segment(packet, &datagram, tcp),
+            Content::Udp(udp) => return self.user_datagram(packet, &datagram, udp),
+            Content::Other(_, _) => add_one(&mut self.counts.other_protocols),
+            Content::Fragment => self.is_cut = true,
+        }
+        Ok(None)
     }
 
     /// Takes out a connection that is over before the arrival. To be called until there is none.
@@ -568,6 +644,7 @@ impl<K: Keeper> Log<K> {
 
     /// Takes out a connection that is left. To be called at the capture's end, until there is none.
     pub fn take_left(&mut self) -> Result<Option<Box<Connection<Heard<K>>>>, AllocError> {
+        self.count_cut();
         with_last(self.alloc, self.connections.take_left())
     }
 }

@@ -1,18 +1,11 @@
 //! What stands in a line.
+use crate::lists::{Numbers, Texts};
+use crate::names::{kind_name, sender_name};
 use crate::speech::Body;
+use crate::text::Text;
 use serde::{Described, Serialize, Serializer};
 use std::num::nearest_u64_to_f64;
-
-/// The event that ended a handshake without success.
-#[derive(Drop, Serialize)]
-pub struct StopCell {
-    /// The kind of message.
-    pub message: &'static str,
-    /// Who sent it.
-    pub sender: &'static str,
-    /// How many messages of both sides stand in front of it.
-    pub messages_before: u64,
-}
+use tls_flow::Stop;
 
 /// A time or a length of time. JSON has it in seconds.
 #[derive(Clone, Copy)]
@@ -39,14 +32,11 @@ pub struct PrintCell {
     pub string: String,
 }
 
-/// What a field says.
-#[derive(Drop, Serialize)]
-#[serde(untagged)]
-pub enum Cell {
-    /// A name of ours.
-    Name(&'static str),
+/// What a field says. It is small, since each call hands it on by value: what is in a connection is lent, and what is large and held here is boxed.
+#[derive(Drop)]
+pub enum Cell<'a> {
     /// Text.
-    Text(String),
+    Text(Text<'a>),
     /// A number.
     Number(u64),
     /// A number that may be below 0.
@@ -56,27 +46,58 @@ pub enum Cell {
     /// Whether it is so.
     Mark(bool),
     /// A list of texts.
-    Texts(Vec<String>),
+    Texts(Texts<'a>),
     /// A list of numbers.
-    Numbers(Vec<u64>),
-    /// The event that ended a handshake.
-    Stop(StopCell),
+    Numbers(Numbers<'a>),
+    /// The event that ended a handshake without success.
+    Stop(Stop),
     /// A fingerprint and its text.
-    Print(PrintCell),
+    Print(Box<PrintCell>),
     /// A message, by its fields.
     Message(Box<Body>),
 }
 
-/// Names of fields, each with what it says; `None` where the field is missing.
-#[derive(Drop)]
-pub struct Row {
-    /// They stand in the order of the line.
-    pub cells: Vec<(&'static str, Option<Cell>)>,
+/// The kind of message, who sent it, and how many messages of both sides stand in front of it.
+fn serialize_stop<S: Serializer>(stop: Stop, out: &mut S) -> Result<(), S::Error> {
+    out.begin_map(None)?;
+    out.key("message")?;
+    out.str(kind_name(stop.event.letter.kind))?;
+    out.key("sender")?;
+    out.str(sender_name(stop.event.letter.direction))?;
+    out.key("messages_before")?;
+    out.u64(stop.place)?;
+    out.end_map()
 }
 
-impl Described for Row {}
+impl Described for Cell<'_> {}
 
-impl Row {
+impl Serialize for Cell<'_> {
+    fn serialize<S: Serializer>(&self, out: &mut S) -> Result<(), S::Error> {
+        match self {
+            Cell::Text(text) => text.serialize(out),
+            Cell::Number(n) => out.u64(*n),
+            Cell::Whole(n) => out.i64(*n),
+            Cell::Seconds(seconds) => seconds.serialize(out),
+            Cell::Mark(mark) => out.bool(*mark),
+            Cell::Texts(texts) => texts.serialize(out),
+            Cell::Numbers(numbers) => numbers.serialize(out),
+            Cell::Stop(stop) => serialize_stop(*stop, out),
+            Cell::Print(print) => print.serialize(out),
+            Cell::Message(body) => body.serialize(out),
+        }
+    }
+}
+
+/// Names of fields, each with what it says; `None` where the field is missing.
+#[derive(Drop)]
+pub struct Row<'a> {
+    /// They stand in the order of the line.
+    pub cells: Vec<(&'static str, Option<Cell<'a>>)>,
+}
+
+impl Described for Row<'_> {}
+
+impl Row<'_> {
     /// Sends each field that isn't missing.
     pub fn serialize_fields<S: Serializer>(&self, out: &mut S) -> Result<(), S::Error> {
         for (name, cell) in &self.cells {
@@ -90,7 +111,7 @@ impl Row {
 }
 
 /// An object, in which what is missing is left out.
-impl Serialize for Row {
+impl Serialize for Row<'_> {
     fn serialize<S: Serializer>(&self, out: &mut S) -> Result<(), S::Error> {
         out.begin_map(None)?;
         self.serialize_fields(out)?;

@@ -1,7 +1,8 @@
 //! What a certificate says, as fields (RFC 5280, section 4.1). Nothing is verified.
 use crate::cell::Cell;
 use crate::columns::Certified;
-use crate::text::{add_text, some_text, some_texts};
+use crate::lists::{Texts, some_texts};
+use crate::text::{Text, add_text, name_cell, some_text};
 use der::ObjectIdentifier;
 use std::alloc::{AllocError, Global};
 use tls_facts::CertificateFault;
@@ -64,18 +65,18 @@ fn is_listed(name: &GeneralName<'_>, field: &Certified) -> bool {
 }
 
 /// The names of one kind in its subjectAltName.
-fn names_cell(
+fn names_cell<'c>(
     alloc: Global,
     certificate: &Certificate<'_>,
     field: &Certified,
-) -> Result<Option<Cell>, AllocError> {
+) -> Result<Option<Cell<'c>>, AllocError> {
     let mut all = Vec::new(alloc);
     for name in alternative_names(certificate) {
         if is_listed(&name, field) {
             add_text(&mut all, general_name_text(alloc, name))?;
         }
     }
-    Ok(some_texts(all))
+    Ok(some_texts(Texts::Owned(all)))
 }
 
 /// Its basicConstraints (RFC 5280, section 4.2.1.9), if it has them and they can be read.
@@ -89,7 +90,7 @@ fn constraints<'a>(certificate: &Certificate<'a>) -> Option<BasicConstraints<'a>
 }
 
 /// How many certificates may stand between it and the last one; nothing where there is no limit, or one that no chain can reach.
-fn path_length(certificate: &Certificate<'_>) -> Option<Cell> {
+fn path_length<'c>(certificate: &Certificate<'_>) -> Option<Cell<'c>> {
     match constraints(certificate)?.path_len_constraint {
         Some([n]) => Some(Cell::Number(u64::from(*n))),
         _ => None,
@@ -97,7 +98,7 @@ fn path_length(certificate: &Certificate<'_>) -> Option<Cell> {
 }
 
 /// Whether it may sign others; nothing where it doesn't say so.
-fn may_be_ca(certificate: &Certificate<'_>) -> Option<Cell> {
+fn may_be_ca<'c>(certificate: &Certificate<'_>) -> Option<Cell<'c>> {
     let constraints = constraints(certificate)?;
     Some(Cell::Mark(constraints.ca))
 }
@@ -111,18 +112,21 @@ fn is_ca(certificate: &Certificate<'_>) -> bool {
 }
 
 /// The bits of a KeyUsage that are set, by their names.
-fn usage_cell(alloc: Global, usage: KeyUsage) -> Result<Option<Cell>, AllocError> {
+fn usage_cell<'c>(alloc: Global, usage: KeyUsage) -> Result<Option<Cell<'c>>, AllocError> {
     let mut all = Vec::new(alloc);
-    for (name, is_set) in key_usage_bits(usage) {
+    for (usage, is_set) in key_usage_bits(usage) {
         if is_set {
-            add_text(&mut all, String::from_str(alloc, name))?;
+            add_text(&mut all, String::from_str(alloc, usage))?;
         }
     }
-    Ok(some_texts(all))
+    Ok(some_texts(Texts::Owned(all)))
 }
 
 /// What its key may be used for (RFC 5280, section 4.2.1.3).
-fn key_usage(alloc: Global, certificate: &Certificate<'_>) -> Result<Option<Cell>, AllocError> {
+fn key_usage<'c>(
+    alloc: Global,
+    certificate: &Certificate<'_>,
+) -> Result<Option<Cell<'c>>, AllocError> {
     let extensions = certificate.tbs_certificate.extensions;
     let Some(found) = first_extension(extensions, oid::KEY_USAGE) else {
         return Ok(None);
@@ -142,7 +146,10 @@ fn purpose_text(alloc: Global, id: ObjectIdentifier<'_>) -> Result<String, Alloc
 }
 
 /// The purposes of its key (RFC 5280, section 4.2.1.12), by their names, or dotted.
-fn purposes(alloc: Global, certificate: &Certificate<'_>) -> Result<Option<Cell>, AllocError> {
+fn purposes<'c>(
+    alloc: Global,
+    certificate: &Certificate<'_>,
+) -> Result<Option<Cell<'c>>, AllocError> {
     let extensions = certificate.tbs_certificate.extensions;
     let Some(found) = first_extension(extensions, oid::EXTENDED_KEY_USAGE) else {
         return Ok(None);
@@ -154,23 +161,23 @@ fn purposes(alloc: Global, certificate: &Certificate<'_>) -> Result<Option<Cell>
     for purpose in list {
         add_text(&mut all, purpose_text(alloc, purpose_id(purpose)))?;
     }
-    Ok(some_texts(all))
+    Ok(some_texts(Texts::Owned(all)))
 }
 
 /// A time; nothing where the calendar doesn't have it.
-fn time_cell(alloc: Global, seconds: i64) -> Result<Option<Cell>, AllocError> {
+fn time_cell<'c>(alloc: Global, seconds: i64) -> Result<Option<Cell<'c>>, AllocError> {
     match time_text(alloc, seconds)? {
-        Some(text) => Ok(Some(Cell::Text(text))),
+        Some(text) => Ok(Some(Cell::Text(Text::Owned(text)))),
         None => Ok(None),
     }
 }
 
 /// What one field says of its key.
-fn key_cell(
+fn key_cell<'c>(
     alloc: Global,
     info: SubjectPublicKeyInfo<'_>,
     field: &Certified,
-) -> Result<Option<Cell>, AllocError> {
+) -> Result<Option<Cell<'c>>, AllocError> {
     match field {
         Certified::KeyAlgorithm => some_text(object_text(alloc, info.algorithm.algorithm)),
         Certified::KeyLength => match key_length(info) {
@@ -185,16 +192,16 @@ fn key_cell(
             Some(curve) => some_text(object_text(alloc, curve)),
             None => Ok(None),
         },
-        _ => Ok(Some(Cell::Name(key_type(info)))),
+        _ => Ok(Some(name_cell(key_type(info)))),
     }
 }
 
 /// What one field says of a certificate; nothing where it is missing.
-pub fn certified_cell(
+pub fn certified_cell<'c>(
     alloc: Global,
     certificate: &Certificate<'_>,
     field: &Certified,
-) -> Result<Option<Cell>, AllocError> {
+) -> Result<Option<Cell<'c>>, AllocError> {
     let tbs = &certificate.tbs_certificate;
     match field {
         Certified::Version => Ok(Some(Cell::Number(u64::from(version_number(certificate))))),

@@ -1,7 +1,7 @@
 //! The lines of a log of connections: what stands in one, and how it is written.
 //!
 //! [`Style`] says which lines there are, with which fields, and writes them: [`Style::connection_text`] is the line of a connection by its [`Summary`],
-//! [`message_row`] makes that of a message, and [`certificate_row`] that of a certificate. [`Speech`] reads the messages of both sides, and [`Chains`] has their
+//! [`Style::message_text`] that of a message, and [`Style::certificate_text`] that of a certificate. [`Speech`] reads the messages of both sides, and [`Chains`] has their
 //! certificates. The names of fields are those of Zeek's logs.
 #![tactic(auto)]
 
@@ -11,7 +11,9 @@ mod chains;
 mod columns;
 mod hellos;
 mod line;
+mod lists;
 mod names;
+mod objects;
 mod presented;
 mod prints;
 mod speech;
@@ -23,11 +25,8 @@ mod suricata;
 mod text;
 mod zeek;
 
-pub use cell::Row;
 pub use chains::{Chains, Presented};
-pub use presented::certificate_row;
 pub use speech::{Speech, Spoken};
-pub use spoken::message_row;
 pub use style::{Format, LineKind, Lines, Style, StyleError};
 pub use suites::Suites;
 pub use summary::{Party, Summary};

@@ -1,14 +1,16 @@
 //! The line of a connection.
-use crate::cell::{Cell, Row, Seconds, StopCell};
+use crate::cell::{Cell, Row, Seconds};
 use crate::certificates::{certificate_of, certified_cell};
 use crate::columns::{Carried, Certified, Course, End, FIELDS, Field, Named, Sent};
 use crate::hellos::{answer_cell, chain_cell, offer_cell, other_names_cell};
-use crate::names::{REASONS, kind_name, outcome_name, reason_name, sender_name, tunnel_name};
+use crate::lists::{Numbers, Texts, some_numbers, some_texts};
+use crate::names::{REASONS, outcome_name, reason_name, tunnel_name};
 use crate::prints::print_cell;
 use crate::suites::Suites;
 use crate::summary::{Party, Summary};
 use crate::text::{
-    add_text, escaped, name_or_number, some_escaped, some_group, some_mark, some_text, some_version,
+    Text, add_text, name_cell, name_or_number, some_escaped, some_group, some_mark, some_name,
+    some_text, some_version,
 };
 use connection_ids::{community_id, uid};
 use connections::{Dropped, Protocol, Side};
@@ -26,14 +28,14 @@ pub fn microseconds(nanoseconds: u64) -> u64 {
 }
 
 /// Nanoseconds as seconds, to the microsecond.
-fn seconds(nanoseconds: u64) -> Cell {
+fn seconds<'a>(nanoseconds: u64) -> Cell<'a> {
     Cell::Seconds(Seconds {
         microseconds: microseconds(nanoseconds),
     })
 }
 
 /// The identifier of a connection, by its ends and its first packet.
-fn uid_cell(alloc: Global, summary: &Summary<'_>) -> Result<Option<Cell>, AllocError> {
+fn uid_cell<'a>(alloc: Global, summary: &Summary<'_>) -> Result<Option<Cell<'a>>, AllocError> {
     some_text(uid(
         alloc,
         summary.protocol,
@@ -44,7 +46,10 @@ fn uid_cell(alloc: Global, summary: &Summary<'_>) -> Result<Option<Cell>, AllocE
 }
 
 /// The Community ID of a connection.
-fn community_id_cell(alloc: Global, summary: &Summary<'_>) -> Result<Option<Cell>, AllocError> {
+fn community_id_cell<'a>(
+    alloc: Global,
+    summary: &Summary<'_>,
+) -> Result<Option<Cell<'a>>, AllocError> {
     some_text(community_id(
         alloc,
         summary.protocol,
@@ -61,21 +66,31 @@ fn proto_name(protocol: Protocol) -> &'static str {
     }
 }
 
+/// The address of an end.
+fn address_cell<'a>(end: connections::End) -> Option<Cell<'a>> {
+    Some(Cell::Text(Text::Address(end.address)))
+}
+
+/// The port of an end.
+fn port_cell<'a>(end: connections::End) -> Option<Cell<'a>> {
+    Some(Cell::Number(u64::from(end.port)))
+}
+
 /// Who talks, over what, and when: a connection's first packet, or a message that came at this time.
-pub fn end_cell(
+pub fn end_cell<'a>(
     alloc: Global,
     summary: &Summary<'_>,
     time: u64,
     field: &End,
-) -> Result<Option<Cell>, AllocError> {
+) -> Result<Option<Cell<'a>>, AllocError> {
     match field {
         End::Time => Ok(Some(seconds(time))),
         End::Uid => uid_cell(alloc, summary),
-        End::Originator => some_text(summary.originator.end.address.to_string(alloc)),
-        End::OriginatorPort => Ok(Some(Cell::Number(u64::from(summary.originator.end.port)))),
-        End::Responder => some_text(summary.responder.end.address.to_string(alloc)),
-        End::ResponderPort => Ok(Some(Cell::Number(u64::from(summary.responder.end.port)))),
-        End::Protocol => Ok(Some(Cell::Name(proto_name(summary.protocol)))),
+        End::Originator => Ok(address_cell(summary.originator.end)),
+        End::OriginatorPort => Ok(port_cell(summary.originator.end)),
+        End::Responder => Ok(address_cell(summary.responder.end)),
+        End::ResponderPort => Ok(port_cell(summary.responder.end)),
+        End::Protocol => Ok(Some(name_cell(proto_name(summary.protocol)))),
         End::CommunityId => community_id_cell(alloc, summary),
         End::Duration => {
             let duration = summary.last_time.saturating_sub(summary.first_time);
@@ -84,79 +99,58 @@ pub fn end_cell(
     }
 }
 
-fn stop_cell(stop: Option<Stop>) -> Option<Cell> {
-    let stop = stop?;
-    Some(Cell::Stop(StopCell {
-        message: kind_name(stop.event.letter.kind),
-        sender: sender_name(stop.event.letter.direction),
-        messages_before: stop.place,
-    }))
+fn stop_cell<'a>(stop: Option<Stop>) -> Option<Cell<'a>> {
+    Some(Cell::Stop(stop?))
 }
 
 /// An alert by its name, where there was one.
-fn some_alert(
-    alloc: Global,
-    alert: Option<TlsAlertDescription>,
-) -> Result<Option<Cell>, AllocError> {
-    match alert {
-        Some(alert) => some_text(name_or_number(alloc, alert_name(alert), u16::from(alert.0))),
-        None => Ok(None),
-    }
+fn some_alert<'a>(alert: Option<TlsAlertDescription>) -> Option<Cell<'a>> {
+    let alert = alert?;
+    let text = name_or_number(alert_name(alert), u16::from(alert.0));
+    Some(Cell::Text(text))
 }
 
 /// What was chosen, asked for and said, by name.
-fn named_cell(
+fn named_cell<'a>(
     alloc: Global,
-    suites: &Suites,
-    facts: &Facts,
+    suites: &'a Suites,
+    facts: &'a Facts,
     field: &Named,
-) -> Result<Option<Cell>, AllocError> {
+) -> Result<Option<Cell<'a>>, AllocError> {
     match field {
-        Named::Version => some_version(alloc, facts.version()),
-        Named::Cipher => suites.some_text(alloc, facts.cipher()),
-        Named::Curve => some_group(alloc, facts.curve()),
-        Named::ServerName => some_escaped(alloc, facts.server_name()),
+        Named::Version => Ok(some_version(facts.version())),
+        Named::Cipher => Ok(suites.some_text(facts.cipher())),
+        Named::Curve => Ok(some_group(facts.curve())),
+        Named::ServerName => Ok(some_escaped(facts.server_name())),
         Named::OtherServerNames => other_names_cell(alloc, facts),
-        Named::NextProtocol => some_escaped(alloc, facts.next_protocol()),
-        Named::LastAlert => some_alert(alloc, facts.last_alert),
+        Named::NextProtocol => Ok(some_escaped(facts.next_protocol())),
+        Named::LastAlert => Ok(some_alert(facts.last_alert)),
     }
 }
 
 /// The letters of a connection's events; nothing where none was heard.
-fn history_cell(alloc: Global, letters: &[u8]) -> Result<Option<Cell>, AllocError> {
+fn history_cell(letters: &[u8]) -> Option<Cell<'_>> {
     if letters.is_empty() {
-        return Ok(None);
+        return None;
     }
-    some_text(escaped(alloc, letters))
-}
-
-/// A name of ours, where there is one.
-pub fn some_name(name: Option<&'static str>) -> Option<Cell> {
-    match name {
-        Some(name) => Some(Cell::Name(name)),
-        None => None,
-    }
+    Some(Cell::Text(Text::Escaped(letters)))
 }
 
 /// What a connection came to.
-fn course_cell(
-    alloc: Global,
-    summary: &Summary<'_>,
-    field: &Course,
-) -> Result<Option<Cell>, AllocError> {
+fn course_cell<'a>(summary: &Summary<'a>, field: &Course) -> Option<Cell<'a>> {
     match field {
-        Course::Resumed => Ok(Some(Cell::Mark(summary.is_resumed))),
-        Course::Established => Ok(Some(Cell::Mark(summary.is_established))),
-        Course::Outcome => Ok(Some(Cell::Name(outcome_name(summary.outcome)))),
-        Course::Stop => Ok(stop_cell(summary.stop)),
-        Course::Gap => Ok(some_name(summary.gap())),
-        Course::Retried => Ok(some_mark(summary.facts.is_retried)),
-        Course::History => history_cell(alloc, summary.history),
+        Course::Resumed => Some(Cell::Mark(summary.is_resumed)),
+        Course::Established => Some(Cell::Mark(summary.is_established)),
+        Course::Outcome => Some(name_cell(outcome_name(summary.outcome))),
+        Course::Stop => stop_cell(summary.stop),
+        Course::Gap => some_name(summary.gap()),
+        Course::Retried => some_mark(summary.facts.is_retried),
+        Course::History => history_cell(summary.history),
     }
 }
 
 /// A count, where there is something to count.
-fn some_count(count: u64) -> Option<Cell> {
+fn some_count<'a>(count: u64) -> Option<Cell<'a>> {
     if count == 0 {
         return None;
     }
@@ -164,7 +158,7 @@ fn some_count(count: u64) -> Option<Cell> {
 }
 
 /// Why the other side took nothing of packets, each reason once; nothing where there are none.
-fn reasons_cell(alloc: Global, dropped: &Dropped) -> Result<Option<Cell>, AllocError> {
+fn reasons_cell<'a>(alloc: Global, dropped: &Dropped) -> Result<Option<Cell<'a>>, AllocError> {
     if dropped.packets == 0 {
         return Ok(None);
     }
@@ -174,7 +168,7 @@ fn reasons_cell(alloc: Global, dropped: &Dropped) -> Result<Option<Cell>, AllocE
             add_text(&mut reasons, String::from_str(alloc, reason_name(reason)))?;
         }
     }
-    Ok(Some(Cell::Texts(reasons)))
+    Ok(Some(Cell::Texts(Texts::Owned(reasons))))
 }
 
 /// How many bytes a side sent: over TCP by the numbers of its segments.
@@ -186,12 +180,12 @@ fn bytes_of(summary: &Summary<'_>, party: &Party<'_>) -> u64 {
 }
 
 /// What a side sent.
-fn sent_cell(
+fn sent_cell<'a>(
     alloc: Global,
     summary: &Summary<'_>,
     side: Side,
     field: &Sent,
-) -> Result<Option<Cell>, AllocError> {
+) -> Result<Option<Cell<'a>>, AllocError> {
     let party = summary.party(side);
     match field {
         Sent::Packets => Ok(Some(Cell::Number(party.sent.packets))),
@@ -206,29 +200,23 @@ fn sent_cell(
 }
 
 /// What a connection came in; nothing where it came in no tunnel.
-fn carried_cell(
+fn carried_cell<'a>(
     alloc: Global,
-    tunnels: &[Tunnel],
+    tunnels: &'a [Tunnel],
     field: &Carried,
-) -> Result<Option<Cell>, AllocError> {
-    if tunnels.is_empty() {
-        return Ok(None);
-    }
+) -> Result<Option<Cell<'a>>, AllocError> {
     match field {
         Carried::Tunnels => {
-            let mut names = Vec::with_capacity(alloc, tunnels.len())?;
+            let mut names = Vec::new(alloc);
             for tunnel in tunnels {
-                names.push(String::from_str(alloc, tunnel_name(tunnel.kind))?)?;
+                add_text(
+                    &mut names,
+                    String::from_str(alloc, tunnel_name(tunnel.kind)),
+                )?;
             }
-            Ok(Some(Cell::Texts(names)))
+            Ok(some_texts(Texts::Owned(names)))
         }
-        Carried::TunnelIds => {
-            let mut ids = Vec::with_capacity(alloc, tunnels.len())?;
-            for tunnel in tunnels {
-                ids.push(u64::from(tunnel.id.unwrap_or(0)))?;
-            }
-            Ok(Some(Cell::Numbers(ids)))
-        }
+        Carried::TunnelIds => Ok(some_numbers(Numbers::Ids(tunnels))),
     }
 }
 
@@ -255,11 +243,11 @@ impl<'a> Told<'a> {
 }
 
 /// What one field says of a certificate, if there is one.
-fn own_cell(
+fn own_cell<'a>(
     alloc: Global,
     certificate: &Option<Certificate<'_>>,
     field: &Certified,
-) -> Result<Option<Cell>, AllocError> {
+) -> Result<Option<Cell<'a>>, AllocError> {
     match certificate {
         Some(certificate) => certified_cell(alloc, certificate, field),
         None => Ok(None),
@@ -267,14 +255,18 @@ fn own_cell(
 }
 
 /// What one field says of a connection; nothing where it is missing.
-pub fn cell_of(alloc: Global, told: &Told<'_>, field: &Field) -> Result<Option<Cell>, AllocError> {
+pub fn cell_of<'a>(
+    alloc: Global,
+    told: &Told<'a>,
+    field: &Field,
+) -> Result<Option<Cell<'a>>, AllocError> {
     let (suites, summary, facts) = (told.suites, told.summary, told.summary.facts);
     match field {
         Field::End(field) => end_cell(alloc, summary, summary.first_time, field),
         Field::Named(field) => named_cell(alloc, suites, facts, field),
-        Field::Course(field) => course_cell(alloc, summary, field),
-        Field::Offer(field) => offer_cell(alloc, suites, facts, field),
-        Field::Answer(field) => answer_cell(alloc, facts, field),
+        Field::Course(field) => Ok(course_cell(summary, field)),
+        Field::Offer(field) => Ok(offer_cell(suites, facts, field)),
+        Field::Answer(field) => Ok(answer_cell(facts, field)),
         Field::Chain(field) => chain_cell(alloc, facts, &told.server, field),
         Field::ServerCertificate(field) => own_cell(alloc, &told.server, field),
         Field::ClientCertificate(field) => own_cell(alloc, &told.client, field),
@@ -285,12 +277,12 @@ pub fn cell_of(alloc: Global, told: &Told<'_>, field: &Field) -> Result<Option<C
 }
 
 /// The line of a connection, with the fields at these places of [`FIELDS`].
-pub fn row_of(
+pub fn row_of<'a>(
     alloc: Global,
-    suites: &Suites,
+    suites: &'a Suites,
     places: &[usize],
-    summary: &Summary<'_>,
-) -> Result<Row, AllocError> {
+    summary: &'a Summary<'a>,
+) -> Result<Row<'a>, AllocError> {
     let told = Told::new(suites, summary);
     let mut cells = Vec::with_capacity(alloc, places.len())?;
     for place in places {

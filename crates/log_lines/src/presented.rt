@@ -6,7 +6,7 @@ use crate::columns::{DETAILS, Detail};
 use crate::line::end_cell;
 use crate::names::sender_name;
 use crate::summary::Summary;
-use crate::text::{hexadecimal, some_mark, some_text};
+use crate::text::{hexadecimal, name_cell, some_mark, some_text};
 use sha2::{Digest, Sha256};
 use std::alloc::{AllocError, Global};
 use tls_facts::certificate_fault;
@@ -14,9 +14,9 @@ use tls_flow::Direction;
 use x509::Certificate;
 
 /// Why a certificate isn't read, where it isn't.
-fn fault_cell(bytes: &[u8]) -> Option<Cell> {
+fn fault_cell(bytes: &[u8]) -> Option<Cell<'static>> {
     let fault = certificate_fault(bytes)?;
-    Some(Cell::Name(fault_name(fault)))
+    Some(name_cell(fault_name(fault)))
 }
 
 /// What one field says of a certificate that came at this time.
@@ -27,11 +27,11 @@ fn detail_cell(
     presented: &Presented,
     certificate: &Option<Certificate<'_>>,
     detail: &Detail,
-) -> Result<Option<Cell>, AllocError> {
+) -> Result<Option<Cell<'static>>, AllocError> {
     let bytes = presented.bytes.as_slice();
     match detail {
         Detail::End(field) => end_cell(alloc, summary, time, field),
-        Detail::Side => Ok(Some(Cell::Name(sender_name(presented.direction)))),
+        Detail::Side => Ok(Some(name_cell(sender_name(presented.direction)))),
         Detail::Place => Ok(Some(Cell::Number(presented.place))),
         Detail::Print => some_text(hexadecimal(alloc, Sha256::digest(bytes).as_slice())),
         Detail::Length => Ok(Some(Cell::Number(bytes.len() as u64))),
@@ -56,7 +56,7 @@ pub fn certificate_row(
     summary: &Summary<'_>,
     time: u64,
     presented: &Presented,
-) -> Result<Row, AllocError> {
+) -> Result<Row<'static>, AllocError> {
     let certificate = certificate_of(Some(presented.bytes.as_slice()));
     let mut cells = Vec::with_capacity(alloc, places.len())?;
     for place in places {

@@ -51,7 +51,11 @@ fn transport(protocol: Protocol) -> Transport {
 }
 
 /// JA3 or its text; nothing where there was no ClientHello.
-fn ja3_cell(alloc: Global, facts: &Facts, is_text: bool) -> Result<Option<Cell>, AllocError> {
+fn ja3_cell<'a>(
+    alloc: Global,
+    facts: &'a Facts,
+    is_text: bool,
+) -> Result<Option<Cell<'a>>, AllocError> {
     let Some(client) = client_parts(facts) else {
         return Ok(None);
     };
@@ -63,7 +67,11 @@ fn ja3_cell(alloc: Global, facts: &Facts, is_text: bool) -> Result<Option<Cell>,
 }
 
 /// JA3S or its text; nothing where there was no ServerHello.
-fn ja3s_cell(alloc: Global, facts: &Facts, is_text: bool) -> Result<Option<Cell>, AllocError> {
+fn ja3s_cell<'a>(
+    alloc: Global,
+    facts: &'a Facts,
+    is_text: bool,
+) -> Result<Option<Cell<'a>>, AllocError> {
     let Some(server) = server_parts(facts) else {
         return Ok(None);
     };
@@ -75,11 +83,11 @@ fn ja3s_cell(alloc: Global, facts: &Facts, is_text: bool) -> Result<Option<Cell>
 }
 
 /// JA4; nothing where there was no ClientHello.
-fn ja4_cell(
+fn ja4_cell<'a>(
     alloc: Global,
-    facts: &Facts,
+    facts: &'a Facts,
     transport: Transport,
-) -> Result<Option<Cell>, AllocError> {
+) -> Result<Option<Cell<'a>>, AllocError> {
     match client_parts(facts) {
         Some(client) => some_text(client.ja4(alloc, transport)),
         None => Ok(None),
@@ -87,12 +95,12 @@ fn ja4_cell(
 }
 
 /// A fingerprint; nothing where there was no such hello.
-pub fn print_cell(
+pub fn print_cell<'a>(
     alloc: Global,
-    facts: &Facts,
+    facts: &'a Facts,
     protocol: Protocol,
     field: &Print,
-) -> Result<Option<Cell>, AllocError> {
+) -> Result<Option<Cell<'a>>, AllocError> {
     match field {
         Print::Ja3 => ja3_cell(alloc, facts, false),
         Print::Ja3Text => ja3_cell(alloc, facts, true),

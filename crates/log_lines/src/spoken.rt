@@ -1,10 +1,11 @@
 //! The line of a message.
 use crate::cell::{Cell, Row};
 use crate::columns::{PARTS, Part};
-use crate::line::{end_cell, some_name};
+use crate::line::end_cell;
 use crate::names::sender_name;
 use crate::speech::Spoken;
 use crate::summary::Summary;
+use crate::text::{name_cell, some_name};
 use std::alloc::{AllocError, Global};
 
 /// What one field says of a message that was whole at this time. Its fields are taken out, since they stand in one field alone.
@@ -14,10 +15,10 @@ fn part_cell(
     time: u64,
     spoken: &mut Spoken,
     part: &Part,
-) -> Result<Option<Cell>, AllocError> {
+) -> Result<Option<Cell<'static>>, AllocError> {
     match part {
         Part::End(field) => end_cell(alloc, summary, time, field),
-        Part::Side => Ok(Some(Cell::Name(sender_name(spoken.direction)))),
+        Part::Side => Ok(Some(name_cell(sender_name(spoken.direction)))),
         Part::Place => Ok(Some(Cell::Number(spoken.place))),
         Part::ContentType => Ok(Some(Cell::Number(u64::from(spoken.word.content_type)))),
         Part::Name => Ok(some_name(spoken.word.name)),
@@ -35,7 +36,7 @@ pub fn message_row(
     summary: &Summary<'_>,
     time: u64,
     spoken: Spoken,
-) -> Result<Row, AllocError> {
+) -> Result<Row<'static>, AllocError> {
     let mut spoken = spoken;
     let mut cells = Vec::with_capacity(alloc, places.len())?;
     for place in places {

@@ -1,7 +1,12 @@
 //! What is printed, and how.
 use crate::cell::{Cell, Row};
+use crate::chains::Presented;
 use crate::columns::{Column, DETAILS, FIELDS, PARTS};
 use crate::line::row_of;
+use crate::objects::{LINE_LEN, json_text};
+use crate::presented::certificate_row;
+use crate::speech::Spoken;
+use crate::spoken::message_row;
 use crate::suites::Suites;
 use crate::summary::Summary;
 use crate::text::add_text;
@@ -199,12 +204,11 @@ fn in_memory<T, E: Drop>(made: Result<T, E>) -> Result<T, AllocError> {
 }
 
 /// A cell as comma-separated values have it: nothing, text as it stands, or else JSON.
-fn field_text(alloc: Global, cell: &Option<Cell>) -> Result<String, AllocError> {
+fn field_text(alloc: Global, cell: &Option<Cell<'_>>) -> Result<String, AllocError> {
     match cell {
         None => Ok(String::new(alloc)),
-        Some(Cell::Name(name)) => String::from_str(alloc, name),
-        Some(Cell::Text(text)) => String::from_str(alloc, text.as_str()),
-        Some(other) => in_memory(serde_json::to_string(alloc, other)),
+        Some(Cell::Text(text)) => text.to_string(alloc),
+        Some(other) => json_text(alloc, other, 32),
     }
 }
 
@@ -247,7 +251,7 @@ fn csv_header(alloc: Global, lines: &Lines) -> Result<String, AllocError> {
 }
 
 /// A record of comma-separated values, of a row.
-fn csv_line(alloc: Global, row: &Row) -> Result<String, AllocError> {
+fn csv_line(alloc: Global, row: &Row<'_>) -> Result<String, AllocError> {
     let mut fields = Vec::new(alloc);
     for (_name, cell) in &row.cells {
         add_text(&mut fields, field_text(alloc, cell))?;
@@ -313,9 +317,9 @@ impl Style {
     }
 
     /// A line, without its line break.
-    pub fn text(&self, alloc: Global, row: &Row) -> Result<String, AllocError> {
+    fn text(&self, alloc: Global, row: &Row<'_>) -> Result<String, AllocError> {
         match self.format {
-            Format::Json | Format::Suricata => in_memory(serde_json::to_string(alloc, row)),
+            Format::Json | Format::Suricata => json_text(alloc, row, LINE_LEN),
             Format::Csv => csv_line(alloc, row),
             Format::Zeek => zeek::line(alloc, row),
         }
@@ -332,6 +336,32 @@ impl Style {
             return suricata::line(alloc, &self.suites, summary);
         }
         let row = row_of(alloc, &self.suites, places, summary)?;
+        self.text(alloc, &row)
+    }
+
+    /// The line of a message that was whole at this time, with the fields at these places of [`PARTS`], without its line break.
+    pub fn message_text(
+        &self,
+        alloc: Global,
+        places: &[usize],
+        summary: &Summary<'_>,
+        time: u64,
+        spoken: Spoken,
+    ) -> Result<String, AllocError> {
+        let row = message_row(alloc, places, summary, time, spoken)?;
+        self.text(alloc, &row)
+    }
+
+    /// The line of a certificate that came at this time, with the fields at these places of [`DETAILS`], without its line break.
+    pub fn certificate_text(
+        &self,
+        alloc: Global,
+        places: &[usize],
+        summary: &Summary<'_>,
+        time: u64,
+        presented: &Presented,
+    ) -> Result<String, AllocError> {
+        let row = certificate_row(alloc, places, summary, time, presented)?;
         self.text(alloc, &row)
     }
 }

@@ -1,11 +1,10 @@
 //! Names of cipher suites.
 use crate::cell::Cell;
-use crate::text::{add_text, name_or_number, some_text, some_texts};
+use crate::text::Text;
 use ssl2_hello::CipherSpec;
 use std::alloc::{AllocError, Global};
 use std::collections::BTreeMap;
 use tls_base::TlsCipherSuiteID;
-use tls_fields::Items;
 
 /// Names of cipher suites, by their numbers.
 #[derive(Drop)]
@@ -61,56 +60,26 @@ impl Suites {
     }
 
     /// A suite by its name, or else its number.
-    pub fn text(&self, alloc: Global, suite: TlsCipherSuiteID) -> Result<String, AllocError> {
+    pub fn text(&self, suite: TlsCipherSuiteID) -> Text<'_> {
         match self.names.get(&suite.0) {
-            Some(name) => name_or_number(alloc, Some(name.as_str()), suite.0),
-            None => name_or_number(alloc, None, suite.0),
+            Some(name) => Text::Plain(name.as_str()),
+            None => Text::Code(suite.0),
         }
     }
 
     /// A suite, where there is one.
-    pub fn some_text(
-        &self,
-        alloc: Global,
-        suite: Option<TlsCipherSuiteID>,
-    ) -> Result<Option<Cell>, AllocError> {
+    pub fn some_text(&self, suite: Option<TlsCipherSuiteID>) -> Option<Cell<'_>> {
         match suite {
-            Some(suite) => some_text(self.text(alloc, suite)),
-            None => Ok(None),
+            Some(suite) => Some(Cell::Text(self.text(suite))),
+            None => None,
         }
-    }
-
-    /// A list of suites.
-    pub fn texts(
-        &self,
-        alloc: Global,
-        suites: Items<'_, TlsCipherSuiteID>,
-    ) -> Result<Option<Cell>, AllocError> {
-        let mut all = Vec::new(alloc);
-        for suite in suites {
-            add_text(&mut all, self.text(alloc, suite))?;
-        }
-        Ok(some_texts(all))
     }
 
     /// A CipherSpec: the suite of TLS that it is, or else its number of 6 digits.
-    fn spec_text(&self, alloc: Global, spec: CipherSpec) -> Result<String, AllocError> {
+    pub fn spec_text(&self, spec: CipherSpec) -> Text<'_> {
         match spec.suite() {
-            Some(suite) => self.text(alloc, suite),
-            None => format!(in alloc; "0x{:06x}", spec.0),
+            Some(suite) => self.text(suite),
+            None => Text::LongCode(spec.0),
         }
-    }
-
-    /// A list of CipherSpecs of a hello in SSL 2.0's form.
-    pub fn spec_texts(
-        &self,
-        alloc: Global,
-        specs: Items<'_, CipherSpec>,
-    ) -> Result<Option<Cell>, AllocError> {
-        let mut all = Vec::new(alloc);
-        for spec in specs {
-            add_text(&mut all, self.spec_text(alloc, spec))?;
-        }
-        Ok(some_texts(all))
     }
 }

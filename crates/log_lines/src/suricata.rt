@@ -2,9 +2,11 @@
 use crate::cell::{Cell, PrintCell, Row};
 use crate::columns::{Certified, End, Field, Named, Offer, Print};
 use crate::line::{Told, cell_of, end_cell, microseconds};
+use crate::lists::Texts;
+use crate::objects::{LINE_LEN, json_text};
 use crate::suites::Suites;
 use crate::summary::Summary;
-use crate::text::{add_text, escaped, hexadecimal, name_or_number, some_mark, some_text};
+use crate::text::{Text, add_text, hexadecimal, name_cell, name_or_number, some_mark, some_text};
 use connection_ids::flow_id;
 use connections::Protocol;
 use serde::{Described, Serialize, Serializer};
@@ -55,14 +57,14 @@ static TLS: &[(&str, Said)] = &[
 
 /// An event of eve.json: what any event has, and the object `tls`.
 #[derive(Drop)]
-struct Event {
-    front: Row,
-    tls: Row,
+struct Event<'a> {
+    front: Row<'static>,
+    tls: Row<'a>,
 }
 
-impl Described for Event {}
+impl Described for Event<'_> {}
 
-impl Serialize for Event {
+impl Serialize for Event<'_> {
     fn serialize<S: Serializer>(&self, out: &mut S) -> Result<(), S::Error> {
         out.begin_map(None)?;
         self.front.serialize_fields(out)?;
@@ -87,11 +89,10 @@ fn version_name(version: TlsVersion) -> Option<&'static str> {
     }
 }
 
-fn version_cell(alloc: Global, facts: &Facts) -> Result<Option<Cell>, AllocError> {
-    match facts.version() {
-        Some(version) => some_text(name_or_number(alloc, version_name(version), version.0)),
-        None => Ok(None),
-    }
+fn version_cell<'a>(facts: &Facts) -> Option<Cell<'a>> {
+    let version = facts.version()?;
+    let text = name_or_number(version_name(version), version.0);
+    Some(Cell::Text(text))
 }
 
 /// Hexadecimal digits with `:` between each two.
@@ -107,7 +108,7 @@ fn with_colons(alloc: Global, digits: &str) -> Result<String, AllocError> {
 }
 
 /// The bytes of its serial number.
-fn serial_cell(alloc: Global, told: &Told<'_>) -> Result<Option<Cell>, AllocError> {
+fn serial_cell<'a>(alloc: Global, told: &Told<'_>) -> Result<Option<Cell<'a>>, AllocError> {
     match &told.server {
         Some(certificate) => {
             let digits = hex::encode_upper(alloc, certificate.tbs_certificate.serial_number)?;
@@ -118,7 +119,7 @@ fn serial_cell(alloc: Global, told: &Told<'_>) -> Result<Option<Cell>, AllocErro
 }
 
 /// The SHA-1 of the certificate.
-fn fingerprint_cell(alloc: Global, facts: &Facts) -> Result<Option<Cell>, AllocError> {
+fn fingerprint_cell<'a>(alloc: Global, facts: &Facts) -> Result<Option<Cell<'a>>, AllocError> {
     match &facts.server_certificate {
         Some(bytes) => {
             let digits = hexadecimal(alloc, &Sha1::digest(bytes.as_slice()))?;
@@ -129,49 +130,58 @@ fn fingerprint_cell(alloc: Global, facts: &Facts) -> Result<Option<Cell>, AllocE
 }
 
 /// A time of the certificate, without its time zone, which is UTC.
-fn date_cell(alloc: Global, told: &Told<'_>, field: Certified) -> Result<Option<Cell>, AllocError> {
+fn date_cell<'a>(
+    alloc: Global,
+    told: &Told<'_>,
+    field: Certified,
+) -> Result<Option<Cell<'a>>, AllocError> {
     match cell_of(alloc, told, &Field::ServerCertificate(field))? {
-        Some(Cell::Text(mut text)) => {
+        Some(Cell::Text(Text::Owned(mut text))) => {
             text.pop();
-            Ok(Some(Cell::Text(text)))
+            Ok(Some(Cell::Text(Text::Owned(text))))
         }
         _ => Ok(None),
     }
 }
 
 /// A fingerprint beside its text.
-fn print_cell(
+fn print_cell<'a>(
     alloc: Global,
     told: &Told<'_>,
     hash: Print,
     string: Print,
-) -> Result<Option<Cell>, AllocError> {
+) -> Result<Option<Cell<'a>>, AllocError> {
     let hash = cell_of(alloc, told, &Field::Print(hash))?;
     let string = cell_of(alloc, told, &Field::Print(string))?;
     match (hash, string) {
-        (Some(Cell::Text(hash)), Some(Cell::Text(string))) => {
-            Ok(Some(Cell::Print(PrintCell { hash, string })))
+        (Some(Cell::Text(Text::Owned(hash))), Some(Cell::Text(Text::Owned(string)))) => {
+            let print = Box::new(alloc, PrintCell { hash, string })?;
+            Ok(Some(Cell::Print(print)))
         }
         _ => Ok(None),
     }
 }
 
 /// The protocol that the server chose, as a list.
-fn chosen_cell(alloc: Global, facts: &Facts) -> Result<Option<Cell>, AllocError> {
+fn chosen_cell<'a>(alloc: Global, facts: &Facts) -> Result<Option<Cell<'a>>, AllocError> {
     let Some(protocol) = facts.next_protocol() else {
         return Ok(None);
     };
     let mut all = Vec::new(alloc);
-    add_text(&mut all, escaped(alloc, protocol))?;
-    Ok(Some(Cell::Texts(all)))
+    add_text(&mut all, Text::Escaped(protocol).to_string(alloc))?;
+    Ok(Some(Cell::Texts(Texts::Owned(all))))
 }
 
 /// What one field of the object `tls` says.
-fn said_cell(alloc: Global, told: &Told<'_>, said: &Said) -> Result<Option<Cell>, AllocError> {
+fn said_cell<'a>(
+    alloc: Global,
+    told: &Told<'a>,
+    said: &Said,
+) -> Result<Option<Cell<'a>>, AllocError> {
     let summary = told.summary;
     match said {
         Said::Same(field) => cell_of(alloc, told, field),
-        Said::Version => version_cell(alloc, summary.facts),
+        Said::Version => Ok(version_cell(summary.facts)),
         Said::Resumed => Ok(some_mark(summary.is_resumed)),
         Said::Serial => serial_cell(alloc, told),
         Said::Fingerprint => fingerprint_cell(alloc, summary.facts),
@@ -184,14 +194,14 @@ fn said_cell(alloc: Global, told: &Told<'_>, said: &Said) -> Result<Option<Cell>
 }
 
 /// The time of the first packet, as 2026-11-26T17:00:00.000000+0000.
-fn timestamp_cell(alloc: Global, time: u64) -> Result<Option<Cell>, AllocError> {
+fn timestamp_cell(alloc: Global, time: u64) -> Result<Option<Cell<'static>>, AllocError> {
     let Some(mut text) = time_text(alloc, (time / 1_000_000_000) as i64)? else {
         return Ok(None);
     };
     text.pop();
     let part = microseconds(time) % 1_000_000;
     text.push_str(format!(in alloc; ".{part:06}+0000")?.as_str())?;
-    Ok(Some(Cell::Text(text)))
+    Ok(Some(Cell::Text(Text::Owned(text))))
 }
 
 fn proto_name(protocol: Protocol) -> &'static str {
@@ -212,16 +222,16 @@ fn flow_number(summary: &Summary<'_>) -> u64 {
 }
 
 /// What any event has.
-fn front_row(alloc: Global, summary: &Summary<'_>) -> Result<Row, AllocError> {
+fn front_row(alloc: Global, summary: &Summary<'_>) -> Result<Row<'static>, AllocError> {
     let time = summary.first_time;
     let mut cells = Vec::with_capacity(alloc, 9)?;
     cells.push(("timestamp", timestamp_cell(alloc, time)?))?;
     cells.push(("flow_id", Some(Cell::Number(flow_number(summary)))))?;
-    cells.push(("event_type", Some(Cell::Name("tls"))))?;
+    cells.push(("event_type", Some(name_cell("tls"))))?;
     for (name, end) in FRONT {
         cells.push((*name, end_cell(alloc, summary, time, end)?))?;
     }
-    cells.push(("proto", Some(Cell::Name(proto_name(summary.protocol)))))?;
+    cells.push(("proto", Some(name_cell(proto_name(summary.protocol)))))?;
     let community_id = end_cell(alloc, summary, time, &End::CommunityId)?;
     cells.push(("community_id", community_id))?;
     Ok(Row { cells })
@@ -236,7 +246,7 @@ static FRONT: &[(&str, End)] = &[
 ];
 
 /// The object `tls`.
-fn tls_row(alloc: Global, told: &Told<'_>) -> Result<Row, AllocError> {
+fn tls_row<'a>(alloc: Global, told: &Told<'a>) -> Result<Row<'a>, AllocError> {
     let mut cells = Vec::with_capacity(alloc, TLS.len())?;
     for (name, said) in TLS {
         cells.push((*name, said_cell(alloc, told, said)?))?;
@@ -245,14 +255,15 @@ fn tls_row(alloc: Global, told: &Told<'_>) -> Result<Row, AllocError> {
 }
 
 /// The event of a connection, without a line break.
-pub fn line(alloc: Global, suites: &Suites, summary: &Summary<'_>) -> Result<String, AllocError> {
+pub fn line<'a>(
+    alloc: Global,
+    suites: &'a Suites,
+    summary: &'a Summary<'a>,
+) -> Result<String, AllocError> {
     let told = Told::new(suites, summary);
     let event = Event {
         front: front_row(alloc, summary)?,
         tls: tls_row(alloc, &told)?,
     };
-    match serde_json::to_string(alloc, &event) {
-        Ok(text) => Ok(text),
-        Err(_) => Err(AllocError),
-    }
+    json_text(alloc, &event, LINE_LEN)
 }

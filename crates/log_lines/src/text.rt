@@ -1,88 +1,218 @@
-//! How what a peer sent is written.
+//! How texts are written: names of ours, numbers in hexadecimal, and what a peer sent.
 use crate::cell::Cell;
 use crate::names::{group_name, version_name};
+use serde::{Described, Serialize, Serializer};
 use std::alloc::{AllocError, Global};
+use std::fmt::{self, Display, Formatter, InlineText};
+use std::net::IpAddr;
+use std::str;
 use tls_base::{NamedGroup, SignatureScheme, TlsExtensionType, TlsVersion};
 use tls_json::extension_name;
 
-/// The number in hexadecimal, as `0xc02f`.
-pub fn number(alloc: Global, number: u16) -> Result<String, AllocError> {
-    format!(in alloc; "0x{number:04x}")
+/// So many bytes are written in hexadecimal at once: as many as a fingerprint or a session id has.
+const PIECE: usize = 32;
+
+/// A text, by what it is made of. It is put together where it is written.
+#[derive(Drop)]
+pub enum Text<'a> {
+    /// One that stands so.
+    Plain(&'a str),
+    /// The same, held here.
+    Owned(String),
+    /// A number of 2 bytes, as `0xc02f`.
+    Code(u16),
+    /// One of 3 bytes, as `0x010080`.
+    LongCode(u32),
+    /// Bytes, in hexadecimal.
+    Digits(&'a [u8]),
+    /// What a peer sent, with what is no printable ASCII escaped, as `\xff`, and `\` as `\\`.
+    Escaped(&'a [u8]),
+    /// The same behind the number of its type, as `1:name`.
+    Typed(u8, &'a [u8]),
+    /// A name of ours behind a place, as `0:verify`.
+    Placed(usize, &'a str),
+    /// A signature scheme by its name, or else its number.
+    Scheme(u16),
+    /// An address.
+    Address(IpAddr),
+}
+
+/// Whether a byte stands so where bytes are escaped.
+fn is_plain(byte: u8) -> bool {
+    matches!(byte, b' '..=b'~') && !matches!(byte, b'\\' | b'\'' | b'"')
+}
+
+/// The text that the bytes are, if none of them is escaped.
+fn plain_text(bytes: &[u8]) -> Option<&str> {
+    for byte in bytes {
+        if !is_plain(*byte) {
+            return None;
+        }
+    }
+    match str::from_utf8(bytes) {
+        Ok(text) => Some(text),
+        Err(_) => None,
+    }
+}
+
+/// Writes what a peer sent.
+fn write_escaped<W: fmt::Write>(f: &mut Formatter<W>, bytes: &[u8]) -> fmt::Result {
+    match plain_text(bytes) {
+        Some(text) => f.write_str(text),
+        None => write!(f, "{}", bytes.escape_ascii()),
+    }
+}
+
+/// Writes a text of ASCII.
+fn write_ascii<W: fmt::Write>(f: &mut Formatter<W>, text: &[u8]) -> fmt::Result {
+    match str::from_utf8(text) {
+        Ok(text) => f.write_str(text),
+        Err(_) => Err(fmt::Error),
+    }
+}
+
+/// Writes bytes in hexadecimal.
+fn write_digits<W: fmt::Write>(f: &mut Formatter<W>, bytes: &[u8]) -> fmt::Result {
+    for piece in bytes.chunks(PIECE) {
+        let mut digits = [0; 2 * PIECE];
+        let len = 2 * piece.len().min(PIECE);
+        let _written = hex::encode_to_slice(piece, &mut digits[..len]);
+        write_ascii(f, &digits[..len])?;
+    }
+    Ok(())
+}
+
+/// Writes a number of 2 bytes.
+fn write_code<W: fmt::Write>(f: &mut Formatter<W>, code: u16) -> fmt::Result {
+    let mut text = *b"0x0000";
+    let _written = hex::encode_to_slice(code.to_be_bytes(), &mut text[2..]);
+    write_ascii(f, &text)
+}
+
+/// Writes a signature scheme. The library shows one that it has no name of with its number behind, in parentheses.
+fn write_scheme<W: fmt::Write>(f: &mut Formatter<W>, scheme: u16) -> fmt::Result {
+    let shown = InlineText::<64>::of(SignatureScheme(scheme));
+    let name = shown.as_str();
+    if name.ends_with(')') {
+        write_code(f, scheme)
+    } else {
+        f.write_str(name)
+    }
+}
+
+impl Display for Text<'_> {
+    fn fmt<W: fmt::Write>(&self, f: &mut Formatter<W>) -> fmt::Result {
+        match self {
+            Text::Plain(text) => f.write_str(text),
+            Text::Owned(text) => f.write_str(text.as_str()),
+            Text::Code(code) => write_code(f, *code),
+            Text::LongCode(code) => write!(f, "0x{:06x}", *code),
+            Text::Digits(bytes) => write_digits(f, bytes),
+            Text::Escaped(bytes) => write_escaped(f, bytes),
+            Text::Typed(kind, name) => {
+                write!(f, "{kind}:")?;
+                write_escaped(f, name)
+            }
+            Text::Placed(place, name) => write!(f, "{place}:{name}"),
+            Text::Scheme(scheme) => write_scheme(f, *scheme),
+            Text::Address(address) => write!(f, "{address}"),
+        }
+    }
+}
+
+impl Text<'_> {
+    /// The text, where nothing is to be put together.
+    pub fn as_plain(&self) -> Option<&str> {
+        match self {
+            Text::Plain(text) => Some(*text),
+            Text::Owned(text) => Some(text.as_str()),
+            Text::Escaped(bytes) => plain_text(bytes),
+            _ => None,
+        }
+    }
+}
+
+impl Described for Text<'_> {}
+
+impl Serialize for Text<'_> {
+    fn serialize<S: Serializer>(&self, out: &mut S) -> Result<(), S::Error> {
+        match self.as_plain() {
+            Some(text) => out.str(text),
+            None => out.collect_str(self),
+        }
+    }
 }
 
 /// The name, or else the number.
-pub fn name_or_number(alloc: Global, name: Option<&str>, n: u16) -> Result<String, AllocError> {
+pub fn name_or_number<'a>(name: Option<&'a str>, n: u16) -> Text<'a> {
     match name {
-        Some(name) => String::from_str(alloc, name),
-        None => number(alloc, n),
+        Some(name) => Text::Plain(name),
+        None => Text::Code(n),
     }
-}
-
-/// Bytes, in hexadecimal.
-pub fn hexadecimal(alloc: Global, bytes: &[u8]) -> Result<String, AllocError> {
-    hex::encode(alloc, bytes)
-}
-
-/// Text that a peer sent, with what is no printable ASCII escaped, as `\xff`, and `\` as `\\`.
-pub fn escaped(alloc: Global, bytes: &[u8]) -> Result<String, AllocError> {
-    format!(in alloc; "{}", bytes.escape_ascii())
-}
-
-/// A name behind the number of its type, as `1:name`, escaped too.
-pub fn other_name(alloc: Global, kind: u8, name: &[u8]) -> Result<String, AllocError> {
-    format!(in alloc; "{kind}:{}", name.escape_ascii())
 }
 
 /// A version.
-pub fn version(alloc: Global, version: TlsVersion) -> Result<String, AllocError> {
-    name_or_number(alloc, version_name(version), version.0)
+pub fn version<'a>(version: TlsVersion) -> Text<'a> {
+    name_or_number(version_name(version), version.0)
 }
 
 /// A group.
-pub fn group(alloc: Global, group: NamedGroup) -> Result<String, AllocError> {
-    name_or_number(alloc, group_name(group.0), group.0)
+pub fn group<'a>(group: NamedGroup) -> Text<'a> {
+    name_or_number(group_name(group.0), group.0)
 }
 
 /// The type of an extension.
-pub fn extension(alloc: Global, kind: TlsExtensionType) -> Result<String, AllocError> {
-    name_or_number(alloc, extension_name(kind), kind.0)
-}
-
-/// A signature scheme. The library shows one that it has no name of with its number behind, in parentheses.
-pub fn scheme(alloc: Global, scheme: u16) -> Result<String, AllocError> {
-    let shown = SignatureScheme(scheme).to_string(alloc)?;
-    if shown.ends_with(')') {
-        return number(alloc, scheme);
-    }
-    Ok(shown)
+pub fn extension<'a>(kind: TlsExtensionType) -> Text<'a> {
+    name_or_number(extension_name(kind), kind.0)
 }
 
 /// What is there, as text.
-pub fn some_text(text: Result<String, AllocError>) -> Result<Option<Cell>, AllocError> {
-    Ok(Some(Cell::Text(text?)))
+pub fn some_text<'a>(text: Result<String, AllocError>) -> Result<Option<Cell<'a>>, AllocError> {
+    Ok(Some(Cell::Text(Text::Owned(text?))))
+}
+
+/// A name of ours.
+pub fn name_cell<'a>(name: &'static str) -> Cell<'a> {
+    Cell::Text(Text::Plain(name))
+}
+
+/// A name of ours, where there is one.
+pub fn some_name<'a>(name: Option<&'static str>) -> Option<Cell<'a>> {
+    match name {
+        Some(name) => Some(Cell::Text(Text::Plain(name))),
+        None => None,
+    }
 }
 
 /// A version, where there is one.
-pub fn some_version(alloc: Global, chosen: Option<TlsVersion>) -> Result<Option<Cell>, AllocError> {
+pub fn some_version<'a>(chosen: Option<TlsVersion>) -> Option<Cell<'a>> {
     match chosen {
-        Some(chosen) => some_text(version(alloc, chosen)),
-        None => Ok(None),
+        Some(chosen) => Some(Cell::Text(version(chosen))),
+        None => None,
     }
 }
 
 /// A group, where there is one.
-pub fn some_group(alloc: Global, chosen: Option<NamedGroup>) -> Result<Option<Cell>, AllocError> {
+pub fn some_group<'a>(chosen: Option<NamedGroup>) -> Option<Cell<'a>> {
     match chosen {
-        Some(chosen) => some_text(group(alloc, chosen)),
-        None => Ok(None),
+        Some(chosen) => Some(Cell::Text(group(chosen))),
+        None => None,
     }
 }
 
 /// What a peer sent, where there is something.
-pub fn some_escaped(alloc: Global, bytes: Option<&[u8]>) -> Result<Option<Cell>, AllocError> {
+pub fn some_escaped(bytes: Option<&[u8]>) -> Option<Cell<'_>> {
     match bytes {
-        Some(bytes) => some_text(escaped(alloc, bytes)),
-        None => Ok(None),
+        Some(bytes) => Some(Cell::Text(Text::Escaped(bytes))),
+        None => None,
+    }
+}
+
+/// Bytes, in hexadecimal, where there are some.
+pub fn some_digits(bytes: Option<&[u8]>) -> Option<Cell<'_>> {
+    match bytes {
+        Some(bytes) => Some(Cell::Text(Text::Digits(bytes))),
+        None => None,
     }
 }
 
@@ -95,28 +225,13 @@ pub fn add_text(
     Ok(())
 }
 
-/// A list of texts; nothing where it is empty.
-pub fn some_texts(texts: Vec<String>) -> Option<Cell> {
-    if texts.is_empty() {
-        return None;
-    }
-    Some(Cell::Texts(texts))
-}
-
-/// Codes of one byte; nothing where there are none.
-pub fn some_codes(alloc: Global, codes: &[u8]) -> Result<Option<Cell>, AllocError> {
-    if codes.is_empty() {
-        return Ok(None);
-    }
-    let mut all = Vec::with_capacity(alloc, codes.len())?;
-    for code in codes {
-        all.push(u64::from(*code))?;
-    }
-    Ok(Some(Cell::Numbers(all)))
+/// Bytes, in hexadecimal.
+pub fn hexadecimal(alloc: Global, bytes: &[u8]) -> Result<String, AllocError> {
+    hex::encode(alloc, bytes)
 }
 
 /// The mark of what is there; nothing of what isn't.
-pub fn some_mark(is_there: bool) -> Option<Cell> {
+pub fn some_mark<'a>(is_there: bool) -> Option<Cell<'a>> {
     if is_there {
         return Some(Cell::Mark(true));
     }

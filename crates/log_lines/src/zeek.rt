@@ -2,6 +2,9 @@
 //! (docs.zeek.org, "Zeek Log Formats and Inspection").
 use crate::cell::{Cell, Row};
 use crate::columns::{Column, Type};
+use crate::lists::{Numbers, TakesTexts, Texts};
+use crate::objects::{LINE_LEN, json_text};
+use crate::text::Text;
 use std::alloc::{AllocError, Global};
 use x509_text::time_text;
 
@@ -23,7 +26,7 @@ impl Type {
             Type::Address => "addr",
             Type::Port => "port",
             Type::Enum => "enum",
-            Type::Text => "string",
+            Type::Text | Type::Fields => "string",
             Type::Mark => "bool",
             Type::Count => "count",
             Type::Texts => "vector[string]",
@@ -136,40 +139,69 @@ fn add_text(
     Ok(())
 }
 
+/// Adds a text of a line, or of a list in one.
+fn add_shown(
+    alloc: Global,
+    line: &mut String,
+    text: &Text<'_>,
+    is_listed: bool,
+) -> Result<(), AllocError> {
+    match text.as_plain() {
+        Some(text) => add_text(alloc, line, text, is_listed),
+        None => add_text(alloc, line, text.to_string(alloc)?.as_str(), is_listed),
+    }
+}
+
+/// Adds each text behind the others of its list.
+#[derive(Drop)]
+struct Adds<'a> {
+    alloc: Global,
+    line: &'a mut String,
+    is_first: bool,
+}
+
+impl TakesTexts for Adds<'_> {
+    type Error = AllocError;
+
+    fn take_text(&mut self, text: &Text<'_>) -> Result<(), AllocError> {
+        if !self.is_first {
+            self.line.push(',')?;
+        }
+        self.is_first = false;
+        add_shown(self.alloc, &mut *self.line, text, true)
+    }
+}
+
 /// Adds a list of texts.
-fn add_texts(alloc: Global, line: &mut String, texts: &[String]) -> Result<(), AllocError> {
+fn add_texts(alloc: Global, line: &mut String, texts: &Texts<'_>) -> Result<(), AllocError> {
     if texts.is_empty() {
         return line.push_str(EMPTY);
     }
-    let mut is_first = true;
-    for text in texts {
-        if !is_first {
-            line.push(',')?;
-        }
-        add_text(alloc, line, text.as_str(), true)?;
-        is_first = false;
-    }
-    Ok(())
+    texts.hand(&mut Adds {
+        alloc,
+        line,
+        is_first: true,
+    })
 }
 
 /// Adds a list of numbers.
-fn add_numbers(alloc: Global, line: &mut String, numbers: &[u64]) -> Result<(), AllocError> {
-    if numbers.is_empty() {
+fn add_numbers(alloc: Global, line: &mut String, numbers: Numbers<'_>) -> Result<(), AllocError> {
+    if numbers.len() == 0 {
         return line.push_str(EMPTY);
     }
-    let mut is_first = true;
-    for number in numbers {
-        if !is_first {
+    for place in 0..numbers.len() {
+        if place > 0 {
             line.push(',')?;
         }
-        line.push_str(format!(in alloc; "{number}")?.as_str())?;
-        is_first = false;
+        if let Some(number) = numbers.get(place) {
+            line.push_str(format!(in alloc; "{number}")?.as_str())?;
+        }
     }
     Ok(())
 }
 
 /// A number, a time or a mark.
-fn plain_text(alloc: Global, cell: &Cell) -> Result<String, AllocError> {
+fn plain_text(alloc: Global, cell: &Cell<'_>) -> Result<String, AllocError> {
     match cell {
         Cell::Number(n) => format!(in alloc; "{n}"),
         // (of whole seconds)
@@ -186,30 +218,26 @@ fn plain_text(alloc: Global, cell: &Cell) -> Result<String, AllocError> {
 }
 
 /// Adds what a field says; what has fields of its own as JSON.
-fn add_cell(alloc: Global, line: &mut String, cell: &Option<Cell>) -> Result<(), AllocError> {
+fn add_cell(alloc: Global, line: &mut String, cell: &Option<Cell<'_>>) -> Result<(), AllocError> {
     match cell {
         None => line.push_str(UNSET),
-        Some(Cell::Name(name)) => add_text(alloc, line, name, false),
-        Some(Cell::Text(text)) => add_text(alloc, line, text.as_str(), false),
-        Some(Cell::Texts(texts)) => add_texts(alloc, line, texts.as_slice()),
-        Some(Cell::Numbers(numbers)) => add_numbers(alloc, line, numbers.as_slice()),
+        Some(Cell::Text(text)) => add_shown(alloc, line, text, false),
+        Some(Cell::Texts(texts)) => add_texts(alloc, line, texts),
+        Some(Cell::Numbers(numbers)) => add_numbers(alloc, line, *numbers),
         Some(Cell::Stop(_) | Cell::Message(_) | Cell::Print(_)) => {
-            add_text(alloc, line, json_text(alloc, cell)?.as_str(), false)
+            add_text(
+                alloc,
+                line,
+                json_text(alloc, cell, LINE_LEN)?.as_str(),
+                false,
+            )
         }
         Some(other) => line.push_str(plain_text(alloc, other)?.as_str()),
     }
 }
 
-/// What a field says, as JSON.
-fn json_text(alloc: Global, cell: &Option<Cell>) -> Result<String, AllocError> {
-    match serde_json::to_string(alloc, cell) {
-        Ok(text) => Ok(text),
-        Err(_) => Err(AllocError),
-    }
-}
-
 /// A line, without its line break.
-pub fn line(alloc: Global, row: &Row) -> Result<String, AllocError> {
+pub fn line(alloc: Global, row: &Row<'_>) -> Result<String, AllocError> {
     let mut line = String::new(alloc);
     let mut is_first = true;
     for (_name, cell) in &row.cells {

@@ -32,7 +32,7 @@ use Rattle.std.specs.Prelude.{
   map,
 }
 use Rattle.tls_fields.specs.Bytes.{Bytes}
-use Rattle.tls_stream.specs.Frames.{Shape, body_length, front, frames, left, IsTooLarge}
+use Rattle.tls_stream.specs.Frames.{Shape, body_length, frame_of, front, frames, left, IsTooLarge}
 use Rattle.tls_events.specs.Messages.{event_of, messages_of}
 use Rattle.tls_events.specs.Held.{Held, joined}
 use Rattle.tls_events.specs.Item.{
@@ -49,8 +49,10 @@ use Rattle.tls_events.specs.Item.{
   wide_record,
 }
 use Rattle.tls_events.specs.declared.stream.Stream.{Stream}
-use Rattle.tls_events.specs.declared.stream.Next.{Next}
-use Rattle.tls_events.specs.declared.stream.Next.TheVariants as next
+use Rattle.tls_events.specs.declared.view.Next.{Next}
+use Rattle.tls_events.specs.declared.view.Next.TheVariants as next
+use Rattle.tls_events.specs.declared.view.Source as rust
+use Rattle.tls_events.specs.declared.view.Source.TheVariants as source
 use Rattle.tls_events.specs.declared.fault.Fault.{Fault}
 use Rattle.tls_events.specs.declared.fault.Fault.TheVariants as fault
 
@@ -166,6 +168,33 @@ first_message d None = first_record d (front wide_record d.held.unread)
 -- itself.
 abbrev pub first : Stream → Option (Event × Stream)
 first d = first_message d (front (messages_of d.limit d.kind) d.held.part)
+
+-- The bytes that an event is taken from: a message's, in front of the part, or a record's, in front of what isn't read.
+pub data Source : Type 0 where
+  OfMessage : Bytes → Source
+  OfRecord : Bytes → Source
+
+abbrev pub view_source : rust.Source → Source
+view_source (source.Message b) = OfMessage b.now
+view_source (source.Record b) = OfRecord b.now
+
+abbrev pub source_by : Stream → Option Bytes → Option (Event × Source)
+source_by d (Some y) = Some (event_of d.kind y, OfMessage y)
+source_by d None = option_map (λ x. (x.0, OfRecord x.1)) (alone_record d)
+
+-- The event that stands in front, and its bytes.
+abbrev pub first_source : Stream → Option (Event × Source)
+first_source d = source_by d (frame_of (front (messages_of d.limit d.kind) d.held.part))
+
+-- The stream behind what is taken from these bytes.
+abbrev pub behind : Stream → Source → Stream
+behind d (OfMessage y) = behind_message d (y, drop (length y) d.held.part)
+behind d (OfRecord y) = behind_record d (y, drop (length y) d.held.unread)
+
+-- The bytes stand where they are taken from.
+abbrev pub Fits : Stream → Source → Type 0
+Fits d (OfMessage y) = length y ≤ length d.held.part
+Fits d (OfRecord y) = (5 ≤ length y) × (length y ≤ length d.held.unread)
 
 -- Taking it off: true where one stands there; else nothing changes.
 abbrev pub FirstTaken : {A : Type 0} → Option (Event × A) → A → Bool → A → Type 0

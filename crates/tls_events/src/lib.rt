@@ -11,8 +11,10 @@ mod item;
 pub mod laws;
 mod stream;
 mod taken;
+mod view;
 
 pub use direction::{DEFAULT_LIMIT, Direction};
 pub use event::Event;
 pub use fault::Fault;
 pub use taken::{join_pieces, take_messages};
+pub use view::{Next, Source, StreamView};

@@ -142,6 +142,14 @@ fn part<'a>(alloc: Global) -> Arg<'a> {
     option(alloc, "part", "K/N", help)
 }
 
+/// Whether networks are told apart.
+fn by_network<'a>(alloc: Global) -> Arg<'a> {
+    Arg::new(alloc, "by-network")
+        .long("by-network")
+        .help("Keep connections apart whose VLAN tags or tunnels differ")
+        .action(ArgAction::SetTrue)
+}
+
 /// The matches of the command line.
 pub fn matches<'a>(alloc: Global, words: &'a [String]) -> Result<ArgMatches<'a>, clap::Error> {
     Command::new(alloc, "tlslog")
@@ -158,6 +166,7 @@ pub fn matches<'a>(alloc: Global, words: &'a [String]) -> Result<ArgMatches<'a>,
         .arg(checksums(alloc))?
         .arg(join(alloc))?
         .arg(part(alloc))?
+        .arg(by_network(alloc))?
         .try_get_matches_from(words)
 }
 

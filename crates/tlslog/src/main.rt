@@ -184,6 +184,7 @@ fn asked_of<'a, R: Runtime + AllocGlobal>(
         part: part_of(matches)?,
         style: style_of(rt, matches)?,
         checksums: checksums_of(matches),
+        is_by_network: matches.get_flag("by-network"),
     })
 }
 

@@ -9,8 +9,8 @@ use crate::output::{LineError, Output};
 use crate::progress::{STANDARD_INPUT, Source, Watched};
 use connection_parts::Part;
 use connections::Connection;
-use log_connections::{Arrival, Checksums, Counts, Log, Pieces, add_one};
-use log_lines::{Lines, Presented, Spoken, Style, Summary, certificate_row, message_row};
+use log_connections::{Arrival, Checksums, Counts, Joined, Log, Pieces, add_one};
+use log_lines::{Lines, Presented, Spoken, Style, Summary};
 use packets::{Packet, PacketVisitor, visit_packets};
 use std::alloc::Global;
 use std::fs;
@@ -18,6 +18,7 @@ use std::hash::RandomState;
 use std::io::{self, ErrorKind, Read, Write};
 use std::random::RandomSource;
 use std::rt::Runtime;
+use tunnels::MAX_TUNNELS;
 
 /// What failures to write are of.
 pub const STANDARD_OUTPUT: &str = "standard output";
@@ -96,8 +97,7 @@ fn print_message<W: Write>(
 ) -> Result<(), LineError>
     ensures { Tells out.old.has_failed out.new.has_failed result }
 {
-    let row = message_row(alloc, places, summary, time, spoken)?;
-    let line = style.text(alloc, &row)?;
+    let line = style.message_text(alloc, places, summary, time, spoken)?;
     out.write_line(line)
 }
 
@@ -132,8 +132,7 @@ fn print_certificate<W: Write>(
 ) -> Result<(), LineError>
     ensures { Tells out.old.has_failed out.new.has_failed result }
 {
-    let row = certificate_row(alloc, places, summary, time, presented)?;
-    let line = style.text(alloc, &row)?;
+    let line = style.certificate_text(alloc, places, summary, time, presented)?;
     out.write_line(line)
 }
 
@@ -238,16 +237,29 @@ fn log_packet<W: Write>(
 ) -> Result<(), LineError>
     ensures { Tells out.old.has_failed out.new.has_failed result }
 {
-    let Some(arrival) = log.arrival(packet) else {
-        return Ok(());
-    };
+    match log.arrival(packet)? {
+        Some(arrival) => log_arrival(alloc, style, log, &arrival, out),
+        None => log_joined_datagram(alloc, style, log, packet, out),
+    }
+}
+
+/// Logs what arrived.
+fn log_arrival<W: Write>(
+    alloc: Global,
+    style: &Style,
+    log: &mut Log<Kept>,
+    arrival: &Arrival<'_>,
+    out: &mut Output<W>,
+) -> Result<(), LineError>
+    ensures { Tells out.old.has_failed out.new.has_failed result }
+{
     'over: for _ in 0..u64::MAX {
-        match log.take_over(&arrival)? {
+        match log.take_over(arrival)? {
             Some(connection) => print_one(alloc, style, &mut log.counts, connection, out)?,
             None => break,
         }
     }
-    match log.accept(&arrival)? {
+    match log.accept(arrival)? {
         Some(connection) => print_last(
             alloc,
             style,
@@ -256,8 +268,53 @@ fn log_packet<W: Write>(
             arrival.time(),
             out,
         ),
-        None => print_spoken(alloc, style, log, &arrival, out),
+        None => print_spoken(alloc, style, log, arrival, out),
     }
+}
+
+/// Logs what arrived in a datagram that was put together from fragments, and says whether something did.
+fn log_inside<W: Write>(
+    alloc: Global,
+    style: &Style,
+    log: &mut Log<Kept>,
+    packet: Packet<'_>,
+    joined: &Joined,
+    out: &mut Output<W>,
+) -> Result<bool, LineError>
+    ensures { Tells out.old.has_failed out.new.has_failed result }
+{
+    let Some(arrival) = log.arrival_in(packet, joined)? else {
+        return Ok(false);
+    };
+    let is_noted = log.note_disagreeing(&arrival, joined);
+    log_arrival(alloc, style, log, &arrival, out)?;
+    if !is_noted {
+        log.note_disagreeing(&arrival, joined);
+    }
+    Ok(true)
+}
+
+/// Logs the datagram that a packet's fragment made whole, if it holds one: the datagram may hold another fragment, in a tunnel.
+fn log_joined_datagram<W: Write>(
+    alloc: Global,
+    style: &Style,
+    log: &mut Log<Kept>,
+    packet: Packet<'_>,
+    out: &mut Output<W>,
+) -> Result<(), LineError>
+    ensures { Tells out.old.has_failed out.new.has_failed result }
+{
+    let mut whole = log.join(packet)?;
+    'inside: for _ in 0..MAX_TUNNELS + 1 {
+        let Some(joined) = whole else {
+            break;
+        };
+        if log_inside(alloc, style, log, packet, &joined, out)? {
+            break;
+        }
+        whole = log.join_inner(&joined)?;
+    }
+    Ok(())
 }
 
 /// Logs each packet that it visits.
@@ -416,6 +473,8 @@ pub struct Asked {
     pub checksums: Checksums,
     /// The part whose connections are logged, where not all are.
     pub part: Option<Part>,
+    /// Whether connections in several networks are told apart.
+    pub is_by_network: bool,
 }
 
 /// The log of what is asked for, of which nothing was read.
@@ -439,6 +498,9 @@ fn begin_log<R: Runtime + AllocGlobal + RandomSource>(
     log.set_checksums(asked.checksums);
     if let Some(part) = asked.part {
         log.set_part(part);
+    }
+    if asked.is_by_network && log.tell_networks_apart(keys).is_err() {
+        return Err(tell(rt, name, Failure::OutOfMemory, 0));
     }
     Ok(log)
 }

@@ -1,2 +1,3 @@
 mod PlainLemmas
 mod WalkLemmas
+mod TagLemmas

@@ -6,6 +6,8 @@ pub mod Gtp
 pub mod Teredo
 pub mod Carriers
 pub mod Walk
+pub mod Tags
+pub mod Fragments
 pub use Rattle.tls_fields.specs.Bytes
 pub use Rattle.tls_fields.specs.Layout
 pub use Rattle.tls_fields.specs.Meaning

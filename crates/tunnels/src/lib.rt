@@ -6,19 +6,23 @@
 #![tactic(auto, using(tls_fields::proofs::OneAnswerLemmas::read_allowed))]
 
 mod carriers;
+mod fragments;
 mod gre;
 mod gtp;
 mod labels;
 pub mod laws;
 mod overlay;
+mod tags;
 mod teredo;
 mod tunnel;
 mod walk;
 
+pub use fragments::{fragment_in, innermost_fragment, inside_of};
 pub use gre::parse_gre;
 pub use gtp::parse_gtp;
 pub use labels::{parse_backbone, parse_mpls};
 pub use overlay::{parse_geneve, parse_vxlan};
+pub use tags::vlan_tags;
 pub use teredo::parse_teredo;
 pub use tunnel::{ETHERNET, Header, MAX_TUNNELS, Tunnel, TunnelKind, Tunnels};
 pub use walk::{Inside, Unwrapped, innermost};

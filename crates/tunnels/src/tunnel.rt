@@ -20,7 +20,7 @@ pub(crate) const IPV4: u16 = 0x0800;
 pub(crate) const IPV6: u16 = 0x86dd;
 
 /// By which header a tunnel begins.
-#[derive(Clone, Copy, Debug, PartialEq, Eq)]
+#[derive(Clone, Copy, Debug, PartialEq, Eq, Hash)]
 pub enum TunnelKind {
     /// IPv4 in a datagram (RFC 2003; RFC 2473): it has no header of its own.
     Ipv4,
@@ -45,7 +45,7 @@ pub enum TunnelKind {
 }
 
 /// A tunnel.
-#[derive(Clone, Copy, Debug, PartialEq, Eq)]
+#[derive(Clone, Copy, Debug, PartialEq, Eq, Hash)]
 pub struct Tunnel {
     /// By which header it begins.
     pub kind: TunnelKind,
@@ -65,7 +65,7 @@ pub struct Header<'a> {
 }
 
 /// The tunnels that a packet comes in, from outside in, at most [`MAX_TUNNELS`].
-#[derive(Clone, Copy, Debug)]
+#[derive(Clone, Copy, Debug, PartialEq, Eq, Hash)]
 pub struct Tunnels {
     pub(crate) slots: [Tunnel; MAX_TUNNELS],
     pub(crate) count: usize,

@@ -22,10 +22,11 @@ const MPLS_TO_MANY: u16 = 0x8848;
 const BACKBONE: u16 = 0x88e7;
 
 /// The link type of Ethernet.
-const LINK_ETHERNET: u16 = 1;
+pub(crate) const LINK_ETHERNET: u16 = 1;
 
 /// What stands in front.
-enum Layer<'a> {
+#[derive(Drop)]
+pub(crate) enum Layer<'a> {
     /// A header that begins a tunnel.
     Wraps(Header<'a>),
     /// A datagram that holds no such header.
@@ -70,7 +71,7 @@ fn wrapped_or<'a>(datagram: Datagram<'a>, header: IResult<&'a [u8], Header<'a>>)
 
 /// A datagram, or the header in it that begins a tunnel.
 #[inline(always)]
-fn datagram_layer(datagram: Datagram<'_>) -> Layer<'_>
+pub(crate) fn datagram_layer(datagram: Datagram<'_>) -> Layer<'_>
     ensures { view_layer result ≡ datagram_layer_of (view_datagram datagram.entry) }
 {
     match &datagram.content {
@@ -113,7 +114,7 @@ fn layer_of_type(i: &[u8], kind: u16) -> IResult<&[u8], Layer>
 
 /// The same of a packet of that link type.
 #[inline(always)]
-fn packet_layer(i: &[u8], link_type: u16) -> IResult<&[u8], Layer>
+pub(crate) fn packet_layer(i: &[u8], link_type: u16) -> IResult<&[u8], Layer>
     ensures { Gives view_layer (packet_layer_layout link_type) i.now result }
 {
     let (i, kind) = parse_link(i, link_type)?;
@@ -121,7 +122,7 @@ fn packet_layer(i: &[u8], link_type: u16) -> IResult<&[u8], Layer>
 }
 
 /// The same of what stands in a tunnel.
-fn inner_layer(i: &[u8], kind: u16) -> IResult<&[u8], Layer>
+pub(crate) fn inner_layer(i: &[u8], kind: u16) -> IResult<&[u8], Layer>
     ensures { Gives view_layer (inner_layer_layout kind) i.now result }
 {
     if kind == ETHERNET {
@@ -132,7 +133,11 @@ fn inner_layer(i: &[u8], kind: u16) -> IResult<&[u8], Layer>
 
 /// What a packet holds behind these tunnels and what was read in front, through at most so many tunnels more, which are added.
 #[tactic(auto, using(crate::proofs::WalkLemmas::refused, crate::proofs::WalkLemmas::unknown, crate::proofs::WalkLemmas::holds, crate::proofs::WalkLemmas::deeper, crate::proofs::WalkLemmas::one_more))]
-fn follow<'a>(read: IResult<&'a [u8], Layer<'a>>, tunnels: &mut Tunnels, most: u8) -> Inside<'a>
+pub(crate) fn follow<'a>(
+    read: IResult<&'a [u8], Layer<'a>>,
+    tunnels: &mut Tunnels,
+    most: u8,
+) -> Inside<'a>
     requires is_answer { IsAnswer read }
     requires fits { tunnels.old.count + most ≤ 8 }
     ensures { followed most (listed tunnels.old) (answer_of view_layer read.entry) ≡ record { tunnels = listed tunnels.new; inside = view_inside result } }

@@ -1,5 +1,6 @@
-use Rattle.std.proofs.Common.{◌∙◌, ap, refl}
-use Rattle.tls_events.specs.Stream.{events, fed}
+use Rattle.std.proofs.Common.{◌∙◌, ap, refl, subst}
+use Rattle.tls_events.specs.Stream.{SaysTheSame, events, fed, joined_to}
+use Rattle.tls_events.specs.declared.stream.Stream.{Stream}
 use Rattle.tls_events.proofs.stream.Stream.ready.Goals as goal
 
 pub fragments-init : goal.fragments-init
@@ -15,5 +16,5 @@ fragments-preserved c = λ s.
       kind = c.in-Joins.kind;
       held = h;
     }) s)) c.join.ensures
-    ∙ c.in-Joins.ensures.1 s
+    ∙ subst (λ (v : Stream). SaysTheSame (joined_to v c.in-Joins.kind c.in-Joins.len) v) c.view.ensures c.in-Joins.ensures.1 s
     ∙ c.fragments.invariant s

@@ -1,0 +1,141 @@
+-- Fragments of datagrams (RFC 791, section 3.2; RFC 8200, section 4.5).
+use Rattle.std.specs.Prelude.{ℕ, zero, suc, ◌+◌, ◌-◌, ◌*◌, ◌/◌, ◌%◌, ◌==◌, ◌&&◌, not, nat_le, Bool, true, Option, Some, None, length, if◌then◌else◌}
+use Rattle.tls_fields.specs.Bytes.{Bytes}
+use Rattle.tls_fields.specs.Layout.{Layout, done, refuse, number, block, rest, look, window, complete, test, choose, mapped, ◌>>=◌, ◌>>◌}
+use Rattle.tls_fields.specs.declared.result.ErrorKind.TheVariants.{LengthValue, Switch}
+use Rattle.capture.specs.Words.{words, is_right}
+use Rattle.capture.specs.Transport.{Content, view_content}
+use Rattle.capture.specs.Ip.{Address, V4, V6, Datagram, view_address, address_v6, fields_v4, front_v6, headers, is_extension, is_fragment_v4, lengths_v4, protected, skipped}
+use Rattle.capture.specs.declared.fragment.Fragment.{Fragment as LentFragment}
+use Rattle.capture.specs.declared.fragment.Piece.{Piece as LentPiece}
+use Rattle.capture.specs.declared.fragment.PieceStep.{PieceStep as LentPieceStep}
+use Rattle.capture.specs.declared.fragment.PieceStep.TheVariants as piece_step
+
+-- What a header says of a datagram's fragment, and the bytes of that.
+pub record Fragment : Type 0 where
+  pub source : Address
+  pub destination : Address
+  pub identification : ℕ
+  -- the protocol of what the datagram holds; in IPv6 the header that its fragments begin with
+  pub protocol : ℕ
+  -- where its bytes stand among those of the datagram, and whether others stand behind
+  pub offset : ℕ
+  pub has_more : Bool
+  -- how many bytes that count for the datagram's length stand in front of all fragments
+  pub in_front : ℕ
+  pub is_header_right : Bool
+  pub payload : Bytes
+
+abbrev pub view_fragment : LentFragment → Fragment
+view_fragment f = record {
+  source = view_address f.source;
+  destination = view_address f.destination;
+  identification = f.identification;
+  protocol = f.protocol;
+  offset = f.offset;
+  has_more = f.has_more;
+  in_front = f.in_front;
+  is_header_right = f.is_header_right;
+  payload = f.payload.now;
+}
+
+-- A fragment of IPv4: the bit MF (0x2000) and the offset, 13 bits that count 8 bytes each. It ends where its total length says.
+unfoldable pub fragment_v4 : Layout Fragment
+fragment_v4 = do
+  lengths ← lengths_v4
+  identification ← look (number 2)
+  fields ← fields_v4
+  test (is_fragment_v4 fields.flags) Switch
+  options ← block (lengths.header - 20)
+  payload ← block (lengths.total - lengths.header)
+  done (record {
+    source = V4 fields.source;
+    destination = V4 fields.destination;
+    identification = identification;
+    protocol = fields.protocol;
+    offset = fields.flags % 8192 * 8;
+    has_more = fields.flags / 8192 % 2 == 1;
+    in_front = lengths.header;
+    is_header_right = is_right (lengths.words + fields.words + words options);
+    payload = payload;
+  })
+
+-- What a Fragment header says, and the bytes behind it.
+pub record Piece : Type 0 where
+  pub next : ℕ
+  pub offset : ℕ
+  pub identification : ℕ
+  pub payload : Bytes
+
+abbrev pub view_piece : LentPiece → Piece
+view_piece p = record { next = p.next; offset = p.offset; identification = p.identification; payload = p.payload.now }
+
+-- What a header leads to, in front of a fragment.
+pub data PieceStep : Type 0 where
+  -- a header of this number
+  Further : ℕ → PieceStep
+  -- a part of a datagram that was cut
+  Cut : Piece → PieceStep
+
+abbrev pub view_piece_step : LentPieceStep → PieceStep
+view_piece_step (piece_step.Further next) = Further next
+view_piece_step (piece_step.Cut p) = Cut (view_piece p)
+
+-- Next header; reserved; offset (13 bits), reserved (2), the bit M; identification (RFC 8200, section 4.5). A header that says that its
+-- fragment is the whole datagram leads to the next one (RFC 6946).
+unfoldable pub piece : Layout PieceStep
+piece = do
+  next ← number 1
+  block 1
+  offset ← number 2
+  identification ← number 4
+  payload ← look rest
+  done (if (offset / 8 == 0) && (offset % 2 == 0) then Further next
+      else Cut (record { next = next; offset = offset; identification = identification; payload = payload }))
+
+-- What a header of that number leads to: 51 is the Authentication Header (RFC 4302, section 2.2), 44 a Fragment header.
+unfoldable pub piece_step_at : ℕ → Layout PieceStep
+piece_step_at next =
+    choose (is_extension next) (mapped Further (skipped 8)) (
+    choose (next == 51) (mapped Further (skipped 4)) (
+    choose (next == 44) piece (
+    refuse Switch)))
+
+abbrev pub piece_then : (ℕ → Layout Piece) → PieceStep → Layout Piece
+piece_then f (Further next) = f next
+piece_then f (Cut p) = done p
+
+-- The fragment behind at most so many headers.
+unfoldable pub piece_behind : ℕ → ℕ → Layout Piece
+piece_behind zero next = refuse Switch
+piece_behind (suc n) next = piece_step_at next >>= piece_then (piece_behind n)
+
+-- A fragment of IPv6, behind at most 16 headers, which ends where its payload length says. What stands between the header and the Fragment
+-- header, which has 8 bytes, stands in front of the whole datagram too.
+unfoldable pub fragment_v6 : Layout Fragment
+fragment_v6 = do
+  front ← front_v6
+  source ← address_v6
+  destination ← address_v6
+  piece ← window front.0 (complete (piece_behind 16 front.1))
+  done (record {
+    source = source;
+    destination = destination;
+    identification = piece.identification;
+    protocol = piece.next;
+    offset = piece.offset / 8 * 8;
+    has_more = piece.offset % 2 == 1;
+    in_front = front.0 - length piece.payload - 8;
+    is_header_right = true;
+    payload = piece.payload;
+  })
+
+-- What a datagram holds whose fragments were put together, by the protocol that the first of them says: all of these bytes.
+abbrev pub joined_content : Address → ℕ → Layout Content
+joined_content (V4 n) protocol = complete (protected protocol)
+joined_content (V6 upper lower) protocol = complete (headers 16 protocol)
+
+unfoldable pub joined : Address → Address → ℕ → Bool → Layout Datagram
+joined source destination protocol right = do
+  content ← joined_content source protocol
+  done (record { source = source; destination = destination; is_header_right = right; content = content })

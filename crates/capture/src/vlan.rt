@@ -1,0 +1,157 @@
+//! The VLAN tags of a link's header.
+#![tactic(auto, using(tls_fields::proofs::OneAnswerLemmas::read_allowed), unfolding(crate::specs::Vlan::vlan, crate::specs::Vlan::sll2_front, crate::specs::Vlan::hdlc_front, crate::specs::Vlan::other_front, crate::specs::Vlan::tags_front))]
+
+ghost use Rattle.std.specs.Prelude.{◌≡◌, ◌<◌, ◌++◌, ◌∷◌, [], take};
+ghost use Rattle.tls_fields.specs.Answers.{Gives};
+ghost use Rattle.tls_fields.specs.Items.{items_in};
+ghost use Rattle.capture.specs.Vlan.{found_in, hdlc_front as hdlc_front_layout, link_vlans, other_front as other_front_layout, sll2_front as sll2_front_layout, tags_front as tags_front_layout, vlan as vlan_layout};
+
+use crate::link::is_vlan;
+use tls_fields::{ErrorKind, IResult, block, number2, refused};
+
+/// The most VLAN tags of a packet that are told.
+pub const MAX_VLAN_TAGS: usize = 16;
+
+/// The VLANs of a packet's tags, from outside in: those of the first [`MAX_VLAN_TAGS`].
+#[derive(Clone, Copy, Debug, PartialEq, Eq, Hash)]
+pub struct VlanTags {
+    slots: [u16; MAX_VLAN_TAGS],
+    count: usize,
+}
+
+/// The VLAN of a tag.
+fn vlan(i: &[u8]) -> IResult<&[u8], u16>
+    ensures { Gives (λ v. v) vlan_layout i.now result }
+{
+    let (i, kind) = number2(i)?;
+    if !is_vlan(kind) {
+        return refused(i, ErrorKind::Tag);
+    }
+    let (i, control) = number2(i)?;
+    Ok((i, control % 4096))
+}
+
+/// In front of the second tag in LINKTYPE_LINUX_SLL2.
+fn sll2_front(i: &[u8]) -> IResult<&[u8], Option<u16>>
+    ensures { Gives (λ v. v) sll2_front_layout i.now result }
+{
+    let (i, kind) = number2(i)?;
+    if !is_vlan(kind) {
+        return refused(i, ErrorKind::Tag);
+    }
+    let (i, _) = block(i, 18)?;
+    let (i, control) = number2(i)?;
+    Ok((i, Some(control % 4096)))
+}
+
+/// In front of the tags in Cisco's form of HDLC.
+fn hdlc_front(i: &[u8]) -> IResult<&[u8], Option<u16>>
+    ensures { Gives (λ v. v) hdlc_front_layout i.now result }
+{
+    let (i, front) = number2(i)?;
+    if front != 0x0f00 && front != 0x8f00 {
+        return refused(i, ErrorKind::Switch);
+    }
+    Ok((i, None))
+}
+
+/// The same in front of the tags of other links, or of all but the first, which it has.
+fn other_front(i: &[u8], link_type: u16) -> IResult<&[u8], Option<u16>>
+    ensures { Gives (λ v. v) (other_front_layout link_type) i.now result }
+{
+    match link_type {
+        276 => sll2_front(i),
+        9 | 50 => hdlc_front(i),
+        _ => refused(i, ErrorKind::Switch),
+    }
+}
+
+/// What stands in front of a link's tags, or of all but the first, which it has.
+fn tags_front(i: &[u8], link_type: u16) -> IResult<&[u8], Option<u16>>
+    ensures { Gives (λ v. v) (tags_front_layout link_type) i.now result }
+{
+    match link_type {
+        1 => {
+            let (i, _) = block(i, 12)?;
+            Ok((i, None))
+        }
+        113 => {
+            let (i, _) = block(i, 14)?;
+            Ok((i, None))
+        }
+        _ => other_front(i, link_type),
+    }
+}
+
+impl VlanTags {
+    /// None.
+    pub fn new() -> VlanTags
+        ensures { found_in result ≡ [] }
+    {
+        VlanTags {
+            slots: [0; MAX_VLAN_TAGS],
+            count: 0,
+        }
+    }
+
+    /// The VLANs.
+    pub fn as_slice(&self) -> &[u16]
+        ensures { result.now ≡ found_in self.now }
+    {
+        match self.slots.get(..self.count) {
+            Some(tags) => tags,
+            None => &self.slots,
+        }
+    }
+
+    /// One more, behind the others.
+    fn push(&mut self, vlan: u16)
+        requires { self.old.count < 16 }
+        ensures { found_in self.new ≡ found_in self.old ++ vlan ∷ [] }
+    {
+        self.slots[self.count] = vlan;
+        self.count += 1;
+    }
+
+    /// The same, where there is room.
+    #[tactic(auto, using(crate::proofs::VlanLemmas::fits, crate::proofs::VlanLemmas::is_full))]
+    fn add(&mut self, vlan: u16)
+        ensures { found_in self.new ≡ take 16 (found_in self.old ++ vlan ∷ []) }
+    {
+        if self.count < MAX_VLAN_TAGS {
+            self.push(vlan);
+        }
+    }
+
+    /// Those of the tags in front, as long as there is room.
+    #[tactic(auto, using(crate::proofs::VlanLemmas::is_full, crate::proofs::VlanLemmas::first, crate::proofs::VlanLemmas::ended, crate::proofs::VlanLemmas::still))]
+    fn add_all(&mut self, i: &[u8])
+        ensures { found_in self.new ≡ take 16 (found_in self.old ++ items_in vlan_layout i.now) }
+    {
+        if self.count >= MAX_VLAN_TAGS {
+            return;
+        }
+        match vlan(i) {
+            Ok((rest, id)) if rest.len() < i.len() => {
+                self.add(id);
+                self.add_all(rest);
+            }
+            _ => {}
+        }
+    }
+
+    /// Those of the link's header in front of the packet `i`, behind the others. The link types are those of [`crate::parse_packet`]; a link without types of
+    /// Ethernet has no tags.
+    #[tactic(auto, using(crate::proofs::VlanLemmas::none_behind, crate::proofs::VlanLemmas::joined))]
+    pub fn add_of_link(&mut self, i: &[u8], link_type: u16)
+        ensures { found_in self.new ≡ take 16 (found_in self.old ++ link_vlans link_type i.now) }
+    {
+        let Ok((i, first)) = tags_front(i, link_type) else {
+            return;
+        };
+        if let Some(id) = first {
+            self.add(id);
+        }
+        self.add_all(i);
+    }
+}

@@ -1,0 +1,4 @@
+pub mod Key
+pub mod Waiting
+pub mod Table
+pub mod Law

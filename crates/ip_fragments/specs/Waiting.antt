@@ -1,0 +1,89 @@
+-- A datagram of which fragments came.
+use Rattle.std.specs.Prelude.{◌≡◌, ℕ, ◌+◌, ◌*◌, ◌%◌, ◌==◌, ◌&&◌, ◌||◌, not, nat_lt, max, Bool, true, false, Option, Some, None, is_some, [], ◌∷◌, length, if◌then◌else◌}
+use Rattle.segments.specs.Cells.{Bytes, Cells, cell, differing, earlier, run}
+use Rattle.segments.specs.Pages.{written}
+use Rattle.capture.specs.declared.fragment.Fragment.{Fragment}
+use Rattle.ip_fragments.specs.declared.waiting.Whole.{Whole}
+
+-- At each place the byte that came there first; up to which place fragments reach, and whether the last one came, which ends the datagram; the
+-- protocol that the fragment with offset 0 says; whether the checksums of all headers were right; how many bytes came twice and disagreed; for
+-- how many bytes it counts among those that wait; when its first fragment came.
+pub record Waiting : Type 0 where
+  pub cells : Cells
+  pub reach : ℕ
+  pub is_ended : Bool
+  pub protocol : Option ℕ
+  pub is_header_right : Bool
+  pub disagreeing : ℕ
+  pub weight : ℕ
+  pub since : ℕ
+
+-- None did.
+abbrev pub begun : ℕ → Waiting
+begun time = record {
+  cells = [];
+  reach = 0;
+  is_ended = false;
+  protocol = None;
+  is_header_right = true;
+  disagreeing = 0;
+  weight = 0;
+  since = time;
+}
+
+-- The place behind a fragment's last byte, and its byte at a place.
+abbrev pub end_of : Fragment → ℕ
+end_of f = f.offset + length f.payload.now
+
+abbrev pub given : Fragment → ℕ → Option ℕ
+given f i = written f.offset f.payload.now i
+
+-- Twice its bytes, and what surrounds them.
+abbrev pub weight_of : Fragment → ℕ
+weight_of f = length f.payload.now * 2 + 2048
+
+-- The datagram would have more than 65,535 bytes.
+abbrev pub is_too_long : Fragment → Bool
+is_too_long f = nat_lt 65535 (f.in_front + end_of f)
+
+-- It isn't the last, and its length isn't a multiple of 8.
+abbrev pub is_uneven : Fragment → Bool
+is_uneven f = f.has_more && not (length f.payload.now % 8 == 0)
+
+-- Two fragments say different ends, or bytes stand behind the end.
+abbrev pub is_other_end : Fragment → Waiting → Bool
+is_other_end f w = (not f.has_more && nat_lt (end_of f) w.reach) || (w.is_ended && nat_lt w.reach (end_of f))
+
+abbrev pub first_protocol : Option ℕ → Fragment → Option ℕ
+first_protocol (Some p) f = Some p
+first_protocol None f = if f.offset == 0 then Some f.protocol else None
+
+-- A fragment's bytes stand where none stood.
+pub record IsWith (f : Fragment) (v w : Waiting) : Type 0 where
+  pub bytes : (i : ℕ) → cell w.cells i ≡ earlier (cell v.cells i) (given f i)
+  pub reach : w.reach ≡ max v.reach (end_of f)
+  pub ended : w.is_ended ≡ (v.is_ended || not f.has_more)
+  pub protocol : w.protocol ≡ first_protocol v.protocol f
+  pub right : w.is_header_right ≡ (v.is_header_right && f.is_header_right)
+  pub disagreeing : w.disagreeing ≡ v.disagreeing + differing f.offset f.payload.now v.cells
+  pub weight : w.weight ≡ v.weight + weight_of f
+  pub since : w.since ≡ v.since
+
+-- All bytes up to its end came.
+abbrev pub is_whole : Waiting → Bool
+is_whole w = w.is_ended && ((length (run w.cells) == w.reach) && is_some w.protocol)
+
+-- At how many places two rows of bytes differ, as far as both go.
+abbrev pub unlike : Bytes → Bytes → ℕ
+unlike [] ys = 0
+unlike (x ∷ xs) [] = 0
+unlike (x ∷ xs) (y ∷ ys) = (if x == y then 0 else 1) + unlike xs ys
+
+-- What is handed out, with the addresses of its last fragment, which are those of all.
+pub record IsHandedOut (f : Fragment) (w : Waiting) (d : Whole) : Type 0 where
+  pub source : d.source ≡ f.source
+  pub destination : d.destination ≡ f.destination
+  pub protocol : Some d.protocol ≡ w.protocol
+  pub right : d.is_header_right ≡ w.is_header_right
+  pub payload : d.payload.items ≡ run w.cells
+  pub disagreeing : d.disagreeing ≡ w.disagreeing

@@ -1,0 +1,63 @@
+//! To which datagram a fragment belongs.
+ghost use Rattle.std.specs.Prelude.{◌≡◌, ◌++◌};
+ghost use Rattle.std.proofs.Common.{rules};
+ghost use Rattle.std.specs.Hash as fed;
+ghost use Rattle.std.specs.Cmp.Rules.{hashing};
+ghost use Rattle.ip_fragments.specs.Key.{address_fed, key_of, number_of};
+
+use capture::{Address, Fragment};
+use std::hash::{Hash, Hasher};
+
+/// What the fragments of a datagram have in common.
+#[derive(Clone, Copy, Debug, PartialEq, Eq)]
+pub struct Key {
+    source: Address,
+    destination: Address,
+    identification: u32,
+    // 0 in IPv6, where fragments may say different ones.
+    protocol: u8,
+}
+
+impl Key {
+    /// Source, destination, identification and protocol (RFC 791, section 3.2); in IPv6 the first three (RFC 8200, section 4.5).
+    pub(crate) fn of(fragment: &Fragment<'_>) -> Key
+        ensures { result ≡ key_of fragment.now }
+    {
+        let protocol = match fragment.source {
+            Address::V4(_) => fragment.protocol,
+            Address::V6(_, _) => 0,
+        };
+        Key {
+            source: fragment.source,
+            destination: fragment.destination,
+            identification: fragment.identification,
+            protocol,
+        }
+    }
+}
+
+// In whole words, of which a hash is made fastest.
+impl Hash for Key {
+    ghost hash_input = { λ k. address_fed k.source ++ (address_fed k.destination ++ fed.u64 (number_of k)) };
+
+    ghost respects_eq = { Prim.search (hashing, rules) };
+
+    fn hash<H: Hasher>(&self, state: &mut H) {
+        match self.source {
+            Address::V4(bits) => bits.hash(state),
+            Address::V6(upper, lower) => {
+                upper.hash(state);
+                lower.hash(state);
+            }
+        }
+        match self.destination {
+            Address::V4(bits) => bits.hash(state),
+            Address::V6(upper, lower) => {
+                upper.hash(state);
+                lower.hash(state);
+            }
+        }
+        let number = u64::from(self.identification) * 256 + u64::from(self.protocol);
+        number.hash(state);
+    }
+}

@@ -1,0 +1,258 @@
+//! Lists in a line. They are walked where they are written.
+use crate::cell::Cell;
+use crate::suites::Suites;
+use crate::text::{Text, extension, group, version};
+use serde::{Described, Serialize, Serializer};
+use ssl2_hello::CipherSpec;
+use tls_base::{NamedGroup, TlsCipherSuiteID, TlsVersion};
+use tls_ext::{ExtensionType, KeyShareEntry};
+use tls_facts::CertificateFacts;
+use tls_fields::{Counted1, InPlace, Items};
+use tunnels::Tunnel;
+
+/// A list of texts, by what they are made of.
+#[derive(Drop)]
+pub enum Texts<'a> {
+    /// Texts, held here.
+    Owned(Vec<String>),
+    /// Versions.
+    Versions(Items<'a, TlsVersion>),
+    /// Types of extensions.
+    Types(Items<'a, ExtensionType>),
+    /// Groups.
+    Groups(Items<'a, NamedGroup>),
+    /// Signature schemes.
+    Schemes(Items<'a, u16>),
+    /// Names of protocols.
+    Protocols(Items<'a, Counted1>),
+    /// Key shares, as they stand, by their groups.
+    Shares(&'a [u8]),
+    /// Cipher suites, by these names.
+    Suites(&'a Suites, Items<'a, TlsCipherSuiteID>),
+    /// CipherSpecs of SSL 2.0, by these names.
+    Specs(&'a Suites, Items<'a, CipherSpec>),
+    /// Certificates, by their fingerprints.
+    Prints(&'a [CertificateFacts]),
+}
+
+/// Whether none of these items is read.
+fn has_none<'a, T: InPlace<'a>>(list: Items<'a, T>) -> bool {
+    let mut walk = list;
+    walk.next().is_none()
+}
+
+/// The same of key shares.
+fn has_no_share(bytes: &[u8]) -> bool {
+    let mut walk: Items<KeyShareEntry> = Items::new(bytes);
+    walk.next().is_none()
+}
+
+/// Who takes the texts of a list, one after the other.
+pub trait TakesTexts {
+    /// Why no further one is taken.
+    type Error;
+
+    /// Takes the next.
+    fn take_text(&mut self, text: &Text<'_>) -> Result<(), Self::Error>;
+}
+
+/// Hands on groups.
+fn hand_groups<T: TakesTexts>(list: Items<'_, NamedGroup>, taker: &mut T) -> Result<(), T::Error> {
+    for one in list {
+        taker.take_text(&group(one))?;
+    }
+    Ok(())
+}
+
+fn hand_versions<T: TakesTexts>(
+    list: Items<'_, TlsVersion>,
+    taker: &mut T,
+) -> Result<(), T::Error> {
+    for one in list {
+        taker.take_text(&version(one))?;
+    }
+    Ok(())
+}
+
+fn hand_types<T: TakesTexts>(
+    list: Items<'_, ExtensionType>,
+    taker: &mut T,
+) -> Result<(), T::Error> {
+    for one in list {
+        taker.take_text(&extension(one))?;
+    }
+    Ok(())
+}
+
+fn hand_schemes<T: TakesTexts>(list: Items<'_, u16>, taker: &mut T) -> Result<(), T::Error> {
+    for one in list {
+        taker.take_text(&Text::Scheme(one))?;
+    }
+    Ok(())
+}
+
+fn hand_protocols<T: TakesTexts>(list: Items<'_, Counted1>, taker: &mut T) -> Result<(), T::Error> {
+    for one in list {
+        taker.take_text(&Text::Escaped(one))?;
+    }
+    Ok(())
+}
+
+fn hand_shares<T: TakesTexts>(bytes: &[u8], taker: &mut T) -> Result<(), T::Error> {
+    let list: Items<KeyShareEntry> = Items::new(bytes);
+    for one in list {
+        taker.take_text(&group(one.group))?;
+    }
+    Ok(())
+}
+
+fn hand_suites<T: TakesTexts>(
+    suites: &Suites,
+    list: Items<'_, TlsCipherSuiteID>,
+    taker: &mut T,
+) -> Result<(), T::Error> {
+    for one in list {
+        taker.take_text(&suites.text(one))?;
+    }
+    Ok(())
+}
+
+fn hand_specs<T: TakesTexts>(
+    suites: &Suites,
+    list: Items<'_, CipherSpec>,
+    taker: &mut T,
+) -> Result<(), T::Error> {
+    for one in list {
+        taker.take_text(&suites.spec_text(one))?;
+    }
+    Ok(())
+}
+
+impl Texts<'_> {
+    /// Whether there are none.
+    pub fn is_empty(&self) -> bool {
+        match self {
+            Texts::Owned(all) => all.is_empty(),
+            Texts::Versions(list) => has_none(*list),
+            Texts::Types(list) => has_none(*list),
+            Texts::Groups(list) => has_none(*list),
+            Texts::Schemes(list) => has_none(*list),
+            Texts::Protocols(list) => has_none(*list),
+            Texts::Shares(bytes) => has_no_share(bytes),
+            Texts::Suites(_, list) => has_none(*list),
+            Texts::Specs(_, list) => has_none(*list),
+            Texts::Prints(all) => all.is_empty(),
+        }
+    }
+
+    /// Hands them on, one after the other.
+    pub fn hand<T: TakesTexts>(&self, taker: &mut T) -> Result<(), T::Error> {
+        match self {
+            Texts::Owned(all) => {
+                for one in all {
+                    taker.take_text(&Text::Plain(one.as_str()))?;
+                }
+                Ok(())
+            }
+            Texts::Versions(list) => hand_versions(*list, taker),
+            Texts::Types(list) => hand_types(*list, taker),
+            Texts::Groups(list) => hand_groups(*list, taker),
+            Texts::Schemes(list) => hand_schemes(*list, taker),
+            Texts::Protocols(list) => hand_protocols(*list, taker),
+            Texts::Shares(bytes) => hand_shares(bytes, taker),
+            Texts::Suites(suites, list) => hand_suites(suites, *list, taker),
+            Texts::Specs(suites, list) => hand_specs(suites, *list, taker),
+            Texts::Prints(all) => {
+                for one in *all {
+                    taker.take_text(&Text::Digits(one.sha256.as_slice()))?;
+                }
+                Ok(())
+            }
+        }
+    }
+}
+
+/// Sends each text as one of a sequence.
+#[derive(Drop)]
+struct Sends<'a, S> {
+    out: &'a mut S,
+}
+
+impl<S: Serializer> TakesTexts for Sends<'_, S> {
+    type Error = S::Error;
+
+    fn take_text(&mut self, text: &Text<'_>) -> Result<(), S::Error> {
+        text.serialize(&mut *self.out)
+    }
+}
+
+/// A list of texts; nothing where it is empty.
+pub fn some_texts(texts: Texts<'_>) -> Option<Cell<'_>> {
+    if texts.is_empty() {
+        return None;
+    }
+    Some(Cell::Texts(texts))
+}
+
+impl Described for Texts<'_> {}
+
+impl Serialize for Texts<'_> {
+    fn serialize<S: Serializer>(&self, out: &mut S) -> Result<(), S::Error> {
+        out.begin_seq(None)?;
+        self.hand(&mut Sends { out: &mut *out })?;
+        out.end_seq()
+    }
+}
+
+/// A list of numbers, by what has them.
+#[derive(Clone, Copy)]
+pub enum Numbers<'a> {
+    /// Codes of one byte.
+    Codes(&'a [u8]),
+    /// Certificates, by their lengths.
+    Lengths(&'a [CertificateFacts]),
+    /// Tunnels, by their identifiers; 0 of one that has none.
+    Ids(&'a [Tunnel]),
+}
+
+impl Numbers<'_> {
+    /// The number at that place; `None` behind the last.
+    pub fn get(&self, place: usize) -> Option<u64> {
+        match self {
+            Numbers::Codes(codes) => Some(u64::from(*codes.get(place)?)),
+            Numbers::Lengths(chain) => Some(chain.get(place)?.length as u64),
+            Numbers::Ids(tunnels) => Some(u64::from(tunnels.get(place)?.id.unwrap_or(0))),
+        }
+    }
+
+    /// How many there are.
+    pub fn len(&self) -> usize {
+        match self {
+            Numbers::Codes(codes) => codes.len(),
+            Numbers::Lengths(chain) => chain.len(),
+            Numbers::Ids(tunnels) => tunnels.len(),
+        }
+    }
+}
+
+/// A list of numbers; nothing where it is empty.
+pub fn some_numbers(numbers: Numbers<'_>) -> Option<Cell<'_>> {
+    if numbers.len() == 0 {
+        return None;
+    }
+    Some(Cell::Numbers(numbers))
+}
+
+impl Described for Numbers<'_> {}
+
+impl Serialize for Numbers<'_> {
+    fn serialize<S: Serializer>(&self, out: &mut S) -> Result<(), S::Error> {
+        out.begin_seq(None)?;
+        for place in 0..self.len() {
+            if let Some(number) = self.get(place) {
+                out.u64(number)?;
+            }
+        }
+        out.end_seq()
+    }
+}

@@ -1,0 +1,203 @@
+//! Values as JSON.
+use json::Writer;
+use serde::{Case, NameKind, Serialize, Serializer};
+use std::alloc::{AllocError, Global};
+use std::fmt::{Display, Write};
+
+/// Most lines of JSON are no longer than so many bytes.
+pub const LINE_LEN: usize = 4096;
+
+/// Why a value isn't written.
+#[derive(Clone, Copy)]
+enum Refusal {
+    /// Memory ran out.
+    OutOfMemory,
+    /// It is of a kind that no line has: a number of 128 bits, an object within another's braces, or one with keys that are no names.
+    NotOfLines,
+}
+
+impl From<AllocError> for Refusal {
+    fn from(_e: AllocError) -> Refusal {
+        Refusal::OutOfMemory
+    }
+}
+
+/// Writes values of lines as JSON, as `serde_json` does. Its refusal is small, since each call hands it on by value.
+#[derive(Drop)]
+struct Json {
+    out: Writer,
+    // Room for a text that is put together.
+    room: String,
+}
+
+impl Json {
+    /// A name in that case: the key of a field, or a text.
+    fn name(
+        &mut self,
+        name: &str,
+        case: Case,
+        kind: NameKind,
+        is_key: bool,
+    ) -> Result<(), Refusal> {
+        self.room.clear();
+        case.append(kind, name, &mut self.room)?;
+        if is_key {
+            self.out.key(self.room.as_str())?;
+        } else {
+            self.out.string(self.room.as_str())?;
+        }
+        Ok(())
+    }
+}
+
+impl Serializer for Json {
+    type Error = Refusal;
+
+    fn bool(&mut self, v: bool) -> Result<(), Refusal> {
+        self.out.boolean(v)?;
+        Ok(())
+    }
+
+    fn i64(&mut self, v: i64) -> Result<(), Refusal> {
+        self.out.i64(v)?;
+        Ok(())
+    }
+
+    fn u64(&mut self, v: u64) -> Result<(), Refusal> {
+        self.out.u64(v)?;
+        Ok(())
+    }
+
+    fn i128(&mut self, _v: i128) -> Result<(), Refusal> {
+        Err(Refusal::NotOfLines)
+    }
+
+    fn u128(&mut self, _v: u128) -> Result<(), Refusal> {
+        Err(Refusal::NotOfLines)
+    }
+
+    fn f32(&mut self, v: f32) -> Result<(), Refusal> {
+        if v.is_finite() {
+            self.out.float_with_plus(v)?;
+        } else {
+            self.out.null()?;
+        }
+        Ok(())
+    }
+
+    fn f64(&mut self, v: f64) -> Result<(), Refusal> {
+        if v.is_finite() {
+            self.out.float_with_plus(v)?;
+        } else {
+            self.out.null()?;
+        }
+        Ok(())
+    }
+
+    fn char(&mut self, v: char) -> Result<(), Refusal> {
+        self.room.clear();
+        self.room.push(v)?;
+        self.out.string(self.room.as_str())?;
+        Ok(())
+    }
+
+    fn str(&mut self, v: &str) -> Result<(), Refusal> {
+        self.out.string(v)?;
+        Ok(())
+    }
+
+    fn bytes(&mut self, v: &[u8]) -> Result<(), Refusal> {
+        self.out.begin_array()?;
+        for byte in v {
+            self.out.u64(u64::from(*byte))?;
+        }
+        self.out.end_array()?;
+        Ok(())
+    }
+
+    fn unit(&mut self) -> Result<(), Refusal> {
+        self.out.null()?;
+        Ok(())
+    }
+
+    fn str_cased(&mut self, name: &str, case: Case) -> Result<(), Refusal> {
+        self.name(name, case, NameKind::Variant, false)
+    }
+
+    fn begin_seq(&mut self, _len: Option<usize>) -> Result<(), Refusal> {
+        self.out.begin_array()?;
+        Ok(())
+    }
+
+    fn end_seq(&mut self) -> Result<(), Refusal> {
+        self.out.end_array()?;
+        Ok(())
+    }
+
+    fn begin_map(&mut self, _len: Option<usize>) -> Result<(), Refusal> {
+        self.out.begin_object()?;
+        Ok(())
+    }
+
+    fn end_map(&mut self) -> Result<(), Refusal> {
+        self.out.end_object()?;
+        Ok(())
+    }
+
+    fn key_cased(&mut self, name: &str, case: Case) -> Result<(), Refusal> {
+        if let Case::AsIs = case {
+            self.out.key(name)?;
+            return Ok(());
+        }
+        self.name(name, case, NameKind::Field, true)
+    }
+
+    fn variant_key(&mut self, name: &str, case: Case) -> Result<(), Refusal> {
+        self.name(name, case, NameKind::Variant, true)
+    }
+
+    fn begin_key(&mut self) -> Result<(), Refusal> {
+        Err(Refusal::NotOfLines)
+    }
+
+    fn end_key(&mut self) -> Result<(), Refusal> {
+        Err(Refusal::NotOfLines)
+    }
+
+    fn flatten_next(&mut self) -> Result<(), Refusal> {
+        Err(Refusal::NotOfLines)
+    }
+
+    fn custom(&self, _message: &str) -> Refusal {
+        Refusal::NotOfLines
+    }
+
+    fn collect_str<T: Display>(&mut self, value: &T) -> Result<(), Refusal> {
+        self.room.clear();
+        if write!(self.room, "{value}").is_err() {
+            return Err(Refusal::OutOfMemory);
+        }
+        self.out.string(self.room.as_str())?;
+        Ok(())
+    }
+}
+
+/// A value as JSON, in which so many bytes have room at first.
+pub fn json_text<T: Serialize>(
+    alloc: Global,
+    value: &T,
+    room: usize,
+) -> Result<String, AllocError> {
+    let mut json = Json {
+        out: Writer::new(Vec::with_capacity(alloc, room)?),
+        room: String::new(alloc),
+    };
+    if value.serialize(&mut json).is_err() {
+        return Err(AllocError);
+    }
+    let Json { out, .. } = json;
+    match String::from_utf8(out.into_inner()) {
+        Ok(text) => Ok(text),
+        Err(_) => Err(AllocError),
+    }
+}

@@ -1,0 +1,1 @@
+"""Scenes with what hosts drop, played beside a live connection."""

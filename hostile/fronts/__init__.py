@@ -1,0 +1,1 @@
+"""TLS behind other bytes, of live peers."""

@@ -1,0 +1,13 @@
+"""What scripts hand each other, as types."""
+
+from __future__ import annotations
+
+from collections.abc import Callable
+from typing import Any
+
+# A line of a log, or another object of JSON, by its fields.
+Line = dict[str, Any]
+# Runs a program with these arguments: its status, what it prints, and what it says of faults.
+Ask = Callable[..., tuple[int, str, str]]
+# The fields of tshark of a packet, each with its values.
+Row = dict[str, list[str]]

@@ -1,0 +1,1 @@
+"""The rows of tlscall as inputs of views."""
