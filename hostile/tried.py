@@ -13,7 +13,7 @@ from pathlib import Path
 TOP = Path(__file__).resolve().parent.parent
 HOST = "tlsview"
 # What the programs stand on beside that.
-MORE = "tls_events tls_flow"
+MORE = "tls_parser tls_flow"
 
 
 def tree(room: Path, name: str, keeps: bool = False) -> Path:

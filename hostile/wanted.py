@@ -47,7 +47,7 @@ LETTERS = {
 ALWAYS = ["comp_method", "cert_count", "client_cert_count", *wanted_certificates.ALWAYS]
 # What tshark doesn't tell.
 UNTOLD = """
-    orig_dropped_pkts resp_dropped_pkts orig_dropped_for resp_dropped_for orig_preamble_bytes resp_preamble_bytes tunnels tunnel_ids ssl2_hello
+    orig_dropped_pkts resp_dropped_pkts orig_dropped_for resp_dropped_for orig_preamble_bytes resp_preamble_bytes tunnels tunnel_ids ssl2_hello ended_early
 """.split()
 ORDER = [name for name in log_columns.names() if name not in UNTOLD]
 

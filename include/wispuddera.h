@@ -39,7 +39,9 @@ enum {
     WISPUDDERA_COMPLETE = 7,     /* bytes are missing where no further bytes could help */
     WISPUDDERA_NONE = 8,         /* what was asked for isn't there */
     WISPUDDERA_OUTSIDE = 9,      /* the offset lies behind the end of the bytes */
-    WISPUDDERA_NO_ROOM = 10      /* the buffer is too short for what is told */
+    WISPUDDERA_NO_ROOM = 10,     /* the buffer is too short for what is told, or for what is to be held */
+    WISPUDDERA_ABOVE_LIMIT = 11, /* the length of a handshake message is above the limit of its conversation */
+    WISPUDDERA_INTERRUPTED = 12  /* another record stands between two parts of a handshake message */
 };
 
 /* A status in words. */
@@ -54,7 +56,9 @@ static inline const char *wispuddera_status_text(uint32_t status) {
                                         "bytes are missing where no further bytes could help",
                                         "there is none",
                                         "the offset lies behind the end of the bytes",
-                                        "the buffer is too short"};
+                                        "the buffer is too short",
+                                        "the length of a handshake message is above the limit",
+                                        "another record stands between two parts of a message"};
     return status < sizeof texts / sizeof *texts ? texts[status] : "no status";
 }
 
@@ -458,6 +462,106 @@ void wispuddera_flow_step(wispuddera_flow *flow, const wispuddera_event *event);
 /* How the conversation stands: as wispuddera_outcome tells it of its events so far. */
 uint32_t wispuddera_flow_outcome(const wispuddera_flow *flow);
 
+/* ---- Both sides of a conversation, from their bytes ----
+ *
+ * A conversation takes the pieces of both sides' streams of TLS in the order in which they come, and tells event by event what they say:
+ * handshake messages joined over records, and the other records; what is encrypted it tells apart by itself. Each side has a buffer of
+ * the caller's, which holds what isn't told yet and is passed with each call on that side; the conversation itself has no pointer. Of these
+ * structs a caller reads `stop` and `said` alone.
+ *
+ * A side holds at most a message with its header of 4 bytes, which has up to `limit` bytes, and a record of up to 18437: with a buffer of
+ * 4 + limit + 18437 bytes, and as many more as the longest piece has, wispuddera_conversation_feed has room whenever all was taken that
+ * wispuddera_conversation_next tells. */
+
+/* What a side says. */
+enum {
+    WISPUDDERA_SAID_MESSAGE = 0,            /* a handshake message in the clear */
+    WISPUDDERA_SAID_CHANGE_CIPHER_SPEC = 1,
+    WISPUDDERA_SAID_ALERT = 2,              /* an alert in the clear */
+    WISPUDDERA_SAID_HEARTBEAT = 3,
+    WISPUDDERA_SAID_APPLICATION_DATA = 4,   /* application data that isn't encrypted */
+    WISPUDDERA_SAID_ENCRYPTED = 5,          /* an encrypted record, of whatever type */
+    WISPUDDERA_SAID_FAULT = 6               /* what ends the side: nothing is read behind it */
+};
+
+/* An event of a side. */
+typedef struct {
+    wispuddera_place content; /* in the side's buffer, up to the next call with it: the bytes of a message, its header of 4 bytes first; the
+                               * level and the description of an alert; no bytes of a fault; else the whole record, its header of 5
+                               * bytes first */
+    uint32_t fault; /* of a fault: the status that refuses a record, as WISPUDDERA_SWITCH where its type is none of TLS,
+                     * WISPUDDERA_TOO_LARGE or WISPUDDERA_VERIFY; WISPUDDERA_ABOVE_LIMIT or WISPUDDERA_INTERRUPTED; else 0 */
+    uint8_t form;
+    uint8_t kind; /* one of WISPUDDERA_EVENT_; of a fault WISPUDDERA_EVENT_UNKNOWN */
+} wispuddera_said;
+
+/* The event that ended a handshake without success. */
+typedef struct {
+    uint64_t events_before; /* how many events came before it, of both sides */
+    wispuddera_event event;
+    bool is_alert; /* it is an alert in the clear */
+    uint8_t alert; /* its description (RFC 5246, section 7.2); else 0 */
+} wispuddera_stop;
+
+/* What is held of a side: offsets in its buffer. */
+typedef struct {
+    size_t part;
+    size_t part_end;
+    size_t unread;
+    size_t end;
+    uint8_t kind;
+    bool has_changed;
+    bool is_over;
+} wispuddera_side;
+
+/* How a conversation stands. */
+typedef struct {
+    uint64_t events;
+    wispuddera_stop stop;
+    wispuddera_flow flow;
+} wispuddera_course;
+
+/* Both sides. */
+typedef struct {
+    wispuddera_side client;
+    wispuddera_side server;
+    size_t limit;
+    wispuddera_course course;
+    bool is_tls13;
+    bool has_session;
+} wispuddera_conversation;
+
+/* The limit that most callers want: no peer sends longer messages (RFC 8446, section 4, has no limit but the 3 bytes of the length). */
+enum { WISPUDDERA_CONVERSATION_LIMIT = 131072 };
+
+/* Begins a conversation of which nothing came, where the body of a handshake message may have at most `limit` bytes. Nothing is refused. */
+void wispuddera_conversation_start(wispuddera_conversation *conversation, size_t limit);
+
+/* Puts a piece of a side's stream behind what the side's buffer holds, whose bytes may be moved. Behind a fault of that side the piece is left out,
+ * which is WISPUDDERA_READ too. WISPUDDERA_NO_ROOM where the piece doesn't fit: nothing changed, and it can be fed in shorter pieces, or
+ * with its bytes and the buffer's in a longer buffer. WISPUDDERA_OUTSIDE, and nothing changed, where what the side holds doesn't lie in such a buffer: it is another
+ * side's, or shorter. */
+uint32_t wispuddera_conversation_feed(uint8_t *buffer, size_t capacity, wispuddera_conversation *conversation, bool to_server, const uint8_t *piece,
+                                      size_t count);
+
+/* Takes what a side says next off, and follows it; it moves bytes in the buffer to join a message. WISPUDDERA_NONE where further bytes are needed, or a fault
+ * ended the side: `out` stays. WISPUDDERA_OUTSIDE as above. Call it up to WISPUDDERA_NONE behind each piece, so that both sides' events are
+ * followed in their order. */
+uint32_t wispuddera_conversation_next(uint8_t *buffer, size_t capacity, wispuddera_conversation *conversation, bool to_server, wispuddera_said *out);
+
+/* How it stands by the events that were told: as wispuddera_outcome tells it of these. */
+uint32_t wispuddera_conversation_outcome(const wispuddera_conversation *conversation);
+
+/* What ended the handshake, where the outcome is WISPUDDERA_BROKEN_OFF, WISPUDDERA_UNKNOWN or WISPUDDERA_NO_HANDSHAKE; else WISPUDDERA_NONE, and `out`
+ * stays. */
+uint32_t wispuddera_conversation_stop(const wispuddera_conversation *conversation, wispuddera_stop *out);
+
+/* Whether the part of the handshake that can be read came to its end; in TLS 1.3 that is with the ServerHello. */
+bool wispuddera_conversation_established(const wispuddera_conversation *conversation);
+
+/* Whether a session was taken up: in TLS 1.3 by the pre_shared_key of the ServerHello (RFC 8446, section 4.2.11). */
+bool wispuddera_conversation_resumed(const wispuddera_conversation *conversation);
+
 /* ---- Certificates of X.509 (RFC 5280), in DER ----
  *
  * Nothing is verified: no signature, no name against a host, no time against a clock. What is refused: WISPUDDERA_INCOMPLETE where
@@ -505,7 +609,8 @@ uint32_t wispuddera_read_x509_name(const uint8_t *bytes, size_t count, size_t of
 /* ---- This header and the library ----
  *
  * How many bytes a struct takes in the library: of place, record, part, client_hello, server_hello, found, number, dtls_record,
- * dtls_message, dtls_client_hello, event, flow, x509, x509_extension the one at that index; 0 behind the last. */
+ * dtls_message, dtls_client_hello, event, flow, x509, x509_extension, said, stop, side, course, conversation the one at that index; 0 behind
+ * the last. */
 size_t wispuddera_struct_size(size_t index);
 
 /* Where a field of that struct begins, by its index in this header's order; behind the last field, the size of the struct. */

@@ -151,8 +151,37 @@ static void test_layout(void) {
                                          offsetof(wispuddera_x509_extension, critical)};
         IS_LAID_OUT(13, x509_extension);
     }
-    IS(wispuddera_struct_size(14), 0);
-    IS(wispuddera_field_offset(14, 0), 0);
+    {
+        static const size_t offsets[] = {offsetof(wispuddera_said, content), offsetof(wispuddera_said, fault),
+                                         offsetof(wispuddera_said, form), offsetof(wispuddera_said, kind)};
+        IS_LAID_OUT(14, said);
+    }
+    {
+        static const size_t offsets[] = {offsetof(wispuddera_stop, events_before), offsetof(wispuddera_stop, event),
+                                         offsetof(wispuddera_stop, is_alert), offsetof(wispuddera_stop, alert)};
+        IS_LAID_OUT(15, stop);
+    }
+    {
+        static const size_t offsets[] = {offsetof(wispuddera_side, part), offsetof(wispuddera_side, part_end),
+                                         offsetof(wispuddera_side, unread), offsetof(wispuddera_side, end),
+                                         offsetof(wispuddera_side, kind), offsetof(wispuddera_side, has_changed),
+                                         offsetof(wispuddera_side, is_over)};
+        IS_LAID_OUT(16, side);
+    }
+    {
+        static const size_t offsets[] = {offsetof(wispuddera_course, events), offsetof(wispuddera_course, stop),
+                                         offsetof(wispuddera_course, flow)};
+        IS_LAID_OUT(17, course);
+    }
+    {
+        static const size_t offsets[] = {offsetof(wispuddera_conversation, client), offsetof(wispuddera_conversation, server),
+                                         offsetof(wispuddera_conversation, limit), offsetof(wispuddera_conversation, course),
+                                         offsetof(wispuddera_conversation, is_tls13),
+                                         offsetof(wispuddera_conversation, has_session)};
+        IS_LAID_OUT(18, conversation);
+    }
+    IS(wispuddera_struct_size(19), 0);
+    IS(wispuddera_field_offset(19, 0), 0);
 }
 
 static void test_record(void) {
@@ -463,6 +492,139 @@ static void test_outcome(void) {
 /* What the header says of each call's refusals. */
 #define BYTES(text) (const uint8_t *)(text), sizeof(text) - 1
 
+/* A ServerHello of TLS 1.3 with pre_shared_key, in two records. */
+static const uint8_t server_records[] = {
+    0x16, 0x03, 0x03, 0x00, 0x08, 0x02, 0x00, 0x00, 0x34, 0x03, 0x03, 1, 2,                 /* 0: the message's header, and 4 bytes of the body */
+    0x16, 0x03, 0x03, 0x00, 0x30,                                                           /* 13: the second record */
+    3, 4, 5, 6, 7, 8, 9, 10, 11, 12, 13, 14, 15, 16, 17, 18, 19, 20, 21, 22, 23, 24, 25, 26, 27, 28, 29, 30, 31, 32, /* 18 */
+    0x00, 0x13, 0x01, 0x00,                                                                 /* 48: no session id, suite and method */
+    0x00, 0x0c, 0x00, 0x2b, 0x00, 0x02, 0x03, 0x04,                                         /* 52: supported_versions */
+    0x00, 0x29, 0x00, 0x02, 0x00, 0x00,                                                     /* 60: pre_shared_key */
+    0x17, 0x03, 0x03, 0x00, 0x02, 0xe1, 0xe2,                                               /* 66: an encrypted record */
+};
+
+enum { SERVER_HELLO_END = 66, SERVER_RECORDS = 73 };
+
+/* Whether bytes make up what is told of an event: its form, its kind, and where they stand in the buffer. */
+static void is_said(int line, const uint8_t *buffer, const wispuddera_said *said, int form, int kind, const uint8_t *bytes, size_t count) {
+    is(line, said->form, (unsigned long long)form);
+    is(line, said->kind, (unsigned long long)kind);
+    is(line, said->fault, 0);
+    is(line, said->content.length, count);
+    if (said->content.length == count) {
+        is(line, (unsigned long long)memcmp(buffer + said->content.offset, bytes, count), 0);
+    }
+}
+
+#define IS_SAID(form, kind, bytes, count) is_said(__LINE__, buffer, &said, form, kind, bytes, count)
+
+static void test_conversation(void) {
+    static uint8_t buffer[120], server_buffer[70];
+    wispuddera_conversation it = WISPUDDERA_EMPTY;
+    wispuddera_said said = WISPUDDERA_EMPTY;
+    wispuddera_stop stop = WISPUDDERA_EMPTY;
+    uint8_t hello[56];
+    size_t i;
+    wispuddera_conversation_start(&it, 93);
+    IS(wispuddera_conversation_outcome(&it), WISPUDDERA_WAITING);
+    for (i = 0; i < WHOLE; i++) {
+        IS(wispuddera_conversation_next(buffer, sizeof buffer, &it, true, &said), WISPUDDERA_NONE);
+        IS(wispuddera_conversation_feed(buffer, sizeof buffer, &it, true, record + i, 1), WISPUDDERA_READ);
+    }
+    IS(wispuddera_conversation_next(buffer, sizeof buffer, &it, true, &said), WISPUDDERA_READ);
+    IS_SAID(WISPUDDERA_SAID_MESSAGE, WISPUDDERA_EVENT_CLIENT_HELLO, record + 5, 97);
+    IS(wispuddera_conversation_next(buffer, sizeof buffer, &it, true, &said), WISPUDDERA_NONE);
+    IS(wispuddera_conversation_established(&it), false);
+    /* What doesn't fit is not held, and what is held lies in its side's buffer alone. */
+    IS(wispuddera_conversation_feed(server_buffer, sizeof server_buffer, &it, false, server_records, SERVER_RECORDS), WISPUDDERA_NO_ROOM);
+    IS(it.server.end, 0);
+    IS(wispuddera_conversation_feed(server_buffer, sizeof server_buffer, &it, false, server_records, SERVER_HELLO_END), WISPUDDERA_READ);
+    IS(wispuddera_conversation_next(server_buffer, SERVER_HELLO_END - 1, &it, false, &said), WISPUDDERA_OUTSIDE);
+    IS(wispuddera_conversation_feed(server_buffer, SERVER_HELLO_END - 1, &it, false, NULL, 0), WISPUDDERA_OUTSIDE);
+    IS(wispuddera_conversation_next(server_buffer, sizeof server_buffer, &it, false, &said), WISPUDDERA_READ);
+    memcpy(hello, server_records + 5, 8);
+    memcpy(hello + 8, server_records + 18, 48);
+    is_said(__LINE__, server_buffer, &said, WISPUDDERA_SAID_MESSAGE, WISPUDDERA_EVENT_SERVER_HELLO_13, hello, sizeof hello);
+    IS(wispuddera_conversation_outcome(&it), WISPUDDERA_TLS13);
+    IS(wispuddera_conversation_established(&it), true);
+    IS(wispuddera_conversation_resumed(&it), true);
+    IS(wispuddera_conversation_stop(&it, &stop), WISPUDDERA_NONE);
+    /* The buffer is full again, behind what was told. */
+    IS(wispuddera_conversation_feed(server_buffer, sizeof server_buffer, &it, false, server_records + SERVER_HELLO_END, 7), WISPUDDERA_READ);
+    IS(wispuddera_conversation_next(server_buffer, sizeof server_buffer, &it, false, &said), WISPUDDERA_READ);
+    is_said(__LINE__, server_buffer, &said, WISPUDDERA_SAID_ENCRYPTED, WISPUDDERA_EVENT_ENCRYPTED, server_records + SERVER_HELLO_END, 7);
+    IS(it.course.events, 3);
+    IS(wispuddera_conversation_resumed(&it), true);
+}
+
+/* What one side says by bytes behind a ClientHello, and by what it is stopped. */
+static void test_conversation_stops(void) {
+    static const struct {
+        const char *bytes;
+        size_t count;
+        uint32_t fault;
+        uint8_t kind, form;
+    } tries[] = {
+        {"GET /", 5, WISPUDDERA_SWITCH, WISPUDDERA_EVENT_UNKNOWN, WISPUDDERA_SAID_FAULT},
+        {"\x16\x03\x01\x41\x01", 5, WISPUDDERA_TOO_LARGE, WISPUDDERA_EVENT_UNKNOWN, WISPUDDERA_SAID_FAULT},
+        {"\x14\x03\x01\x00\x01\x02", 6, WISPUDDERA_VERIFY, WISPUDDERA_EVENT_UNKNOWN, WISPUDDERA_SAID_FAULT},
+        {"\x16\x03\x01\x00\x04\x01\x00\x00\x5e", 9, WISPUDDERA_ABOVE_LIMIT, WISPUDDERA_EVENT_UNKNOWN, WISPUDDERA_SAID_FAULT},
+        {"\x16\x03\x01\x00\x02\x01\x00\x15\x03\x01\x00\x02\x02\x28", 14, WISPUDDERA_INTERRUPTED, WISPUDDERA_EVENT_UNKNOWN,
+         WISPUDDERA_SAID_FAULT},
+        {"\x15\x03\x01\x00\x02\x02\x28", 7, 0, WISPUDDERA_EVENT_FATAL, WISPUDDERA_SAID_ALERT},
+        {"\x14\x03\x01\x00\x01\x01", 6, 0, WISPUDDERA_EVENT_CHANGE_CIPHER_SPEC, WISPUDDERA_SAID_CHANGE_CIPHER_SPEC},
+        {"\x18\x03\x01\x00\x01\x07", 6, 0, WISPUDDERA_EVENT_HEARTBEAT, WISPUDDERA_SAID_HEARTBEAT},
+        {"\x17\x03\x01\x00\x01\x07", 6, 0, WISPUDDERA_EVENT_ENCRYPTED, WISPUDDERA_SAID_APPLICATION_DATA},
+        {"\x15\x03\x01\x00\x02\x03\x28", 7, 0, WISPUDDERA_EVENT_ENCRYPTED, WISPUDDERA_SAID_ENCRYPTED},
+    };
+    /* There a server may send a ChangeCipherSpec (RFC 8446, section D.4) and noise, but nothing encrypted. */
+    static const uint32_t outcomes[] = {WISPUDDERA_UNKNOWN, WISPUDDERA_UNKNOWN, WISPUDDERA_UNKNOWN, WISPUDDERA_UNKNOWN, WISPUDDERA_UNKNOWN,
+                                        WISPUDDERA_BROKEN_OFF, WISPUDDERA_WAITING, WISPUDDERA_WAITING, WISPUDDERA_NO_HANDSHAKE,
+                                        WISPUDDERA_NO_HANDSHAKE};
+    static uint8_t buffer[WHOLE], server_buffer[20];
+    size_t i;
+    for (i = 0; i < sizeof tries / sizeof *tries; i++) {
+        wispuddera_conversation it = WISPUDDERA_EMPTY;
+        wispuddera_said said = WISPUDDERA_EMPTY;
+        wispuddera_stop stop = WISPUDDERA_EMPTY;
+        const uint8_t *bytes = (const uint8_t *)tries[i].bytes;
+        wispuddera_conversation_start(&it, 93);
+        IS(wispuddera_conversation_feed(buffer, sizeof buffer, &it, true, record, WHOLE), WISPUDDERA_READ);
+        IS(wispuddera_conversation_next(buffer, sizeof buffer, &it, true, &said), WISPUDDERA_READ);
+        IS(wispuddera_conversation_feed(server_buffer, sizeof server_buffer, &it, false, bytes, tries[i].count), WISPUDDERA_READ);
+        IS(wispuddera_conversation_next(server_buffer, sizeof server_buffer, &it, false, &said), WISPUDDERA_READ);
+        IS(said.fault, tries[i].fault);
+        IS(said.kind, tries[i].kind);
+        IS(said.form, tries[i].form);
+        if (said.form == WISPUDDERA_SAID_FAULT) {
+            IS(said.content.length, 0);
+        } else if (said.form == WISPUDDERA_SAID_ALERT) {
+            IS(said.content.length, 2);
+            IS(memcmp(server_buffer + said.content.offset, bytes + 5, 2), 0);
+        } else {
+            IS(said.content.length, tries[i].count);
+            IS(memcmp(server_buffer + said.content.offset, bytes, tries[i].count), 0);
+        }
+        IS(wispuddera_conversation_next(server_buffer, sizeof server_buffer, &it, false, &said), WISPUDDERA_NONE);
+        /* Behind a fault nothing is held. */
+        IS(wispuddera_conversation_feed(server_buffer, sizeof server_buffer, &it, false, record, WHOLE),
+           said.form == WISPUDDERA_SAID_FAULT ? WISPUDDERA_READ : WISPUDDERA_NO_ROOM);
+        IS(wispuddera_conversation_outcome(&it), outcomes[i]);
+        IS(wispuddera_conversation_established(&it), false);
+        IS(wispuddera_conversation_resumed(&it), false);
+        if (outcomes[i] == WISPUDDERA_WAITING) {
+            IS(wispuddera_conversation_stop(&it, &stop), WISPUDDERA_NONE);
+        } else {
+            IS(wispuddera_conversation_stop(&it, &stop), WISPUDDERA_READ);
+            IS(stop.events_before, 1);
+            IS(stop.event.kind, tries[i].kind);
+            IS(stop.event.to_server, false);
+            IS(stop.is_alert, tries[i].form == WISPUDDERA_SAID_ALERT);
+            IS(stop.alert, stop.is_alert ? 40 : 0);
+        }
+    }
+}
+
 static void test_refusals_of_finds(void) {
     wispuddera_found f = WISPUDDERA_EMPTY;
     /* A list without a name, one whose first name isn't whole, a name of another type, no content, and a content that isn't whole. */
@@ -728,7 +890,7 @@ static void test_certificate(void) {
 
 int main(void) {
     uint32_t status;
-    for (status = 0; status <= WISPUDDERA_NO_ROOM; status++) {
+    for (status = 0; status <= WISPUDDERA_INTERRUPTED; status++) {
         IS(strcmp(wispuddera_status_text(status), "no status") != 0, 1);
     }
     IS(strcmp(wispuddera_status_text(status), "no status"), 0);
@@ -744,6 +906,8 @@ int main(void) {
     test_certificate();
     test_stream();
     test_outcome();
+    test_conversation();
+    test_conversation_stops();
     test_no_state();
     test_refusals_of_finds();
     test_refusals_of_numbers();

@@ -1,6 +1,10 @@
-"""`wispuddera.Conversation` on the recorded conversations of tests/flow_rows: the outcomes of the rows, however the bytes are cut."""
+"""`wispuddera.Conversation` on the recorded conversations of tests/flow_rows: the outcomes of the rows, however the bytes are cut. And
+conversations that follow handshakes of OpenSSL's between two sockets: conversation.py [PROGRAM..]
+
+Each PROGRAM takes the numbers of two sockets, and prints what it made of the conversation: those of bindings/test/relay.c and relay.rs."""
 
 import doctest
+import functools
 import pathlib
 import re
 import shutil
@@ -111,43 +115,78 @@ def relay_of_the_page():
     return names["relay"]
 
 
+# What is printed of an outcome, whether it is established and resumed: by C, which has numbers, by Rust and by Python.
+PRINTED = {
+    "FULL": {"1 1 0", "Full true false"},
+    "RESUMED": {"2 1 1", "Resumed true true"},
+    "TLS13": {"6 1 0", "Tls13 { retried: false, early_data: false } true false"},
+    "TLS13 resumed": {"6 1 1", "Tls13 { retried: false, early_data: false } true true"},
+}
+
+
+def told_by_program(program, client, server):
+    ends = (client.fileno(), server.fileno())
+    done = subprocess.run([program, *map(str, ends)], pass_fds=ends, check=True, capture_output=True, text=True)
+    return done.stdout.strip()
+
+
+def told_by_page(client, server):
+    conversation = relay_of_the_page()(client, server)
+    kinds = [event.kind for event in conversation]
+    assert kinds[0] == w.EventKind.CLIENT_HELLO and w.EventKind.ENCRYPTED in kinds
+    return f"{conversation.outcome} {conversation.established:d} {conversation.resumed:d}"
+
+
+def follow(tell, serving, asking, session=None):
+    """What is told of a handshake whose bytes are passed on, and its session."""
+    (client, proxied_client), (server, proxied_server) = socket.socketpair(), socket.socketpair()
+    sessions = []
+
+    def serve():
+        with serving.wrap_socket(server, server_side=True) as tls:
+            tls.sendall(tls.recv(5))
+
+    def ask():
+        with asking.wrap_socket(client, server_hostname="a.test", session=session) as tls:
+            tls.sendall(b"hello")
+            assert tls.recv(5) == b"hello"
+            sessions.append(tls.session)
+
+    threads = [threading.Thread(target=serve), threading.Thread(target=ask)]
+    for thread in threads:
+        thread.start()
+    told = tell(proxied_client, proxied_server)
+    proxied_client.close()
+    proxied_server.close()
+    for thread in threads:
+        thread.join()
+    return told, sessions[0]
+
+
 def test_socket_pair():
     if shutil.which("openssl") is None:
         print("conversation: there is no openssl, so no handshake is made")
         return
-    relay = relay_of_the_page()
+    tellers = [told_by_page, *(functools.partial(told_by_program, program) for program in sys.argv[1:])]
     with tempfile.TemporaryDirectory() as folder:
         key, certificate = f"{folder}/key", f"{folder}/certificate"
         made = ["openssl", "req", "-x509", "-newkey", "ec", "-pkeyopt", "ec_paramgen_curve:P-256", "-nodes", "-subj", "/CN=a.test"]
         subprocess.run([*made, "-keyout", key, "-out", certificate], check=True, capture_output=True)
-        for version, wanted in ((ssl.TLSVersion.TLSv1_2, w.Outcome.FULL), (ssl.TLSVersion.TLSv1_3, w.Outcome.TLS13)):
-            (client, proxied_client), (server, proxied_server) = socket.socketpair(), socket.socketpair()
+        for version, first, second in (
+            (ssl.TLSVersion.TLSv1_2, "FULL", "RESUMED"),
+            (ssl.TLSVersion.TLSv1_3, "TLS13", "TLS13 resumed"),
+        ):
             serving, asking = ssl.SSLContext(ssl.PROTOCOL_TLS_SERVER), ssl.SSLContext(ssl.PROTOCOL_TLS_CLIENT)
             serving.load_cert_chain(certificate, key)
             asking.load_verify_locations(certificate)
             asking.check_hostname = False
             asking.maximum_version = version
-
-            def serve():
-                with serving.wrap_socket(server, server_side=True) as tls:
-                    tls.sendall(tls.recv(5))
-
-            def ask():
-                with asking.wrap_socket(client, server_hostname="a.test") as tls:
-                    tls.sendall(b"hello")
-                    assert tls.recv(5) == b"hello"
-
-            threads = [threading.Thread(target=serve), threading.Thread(target=ask)]
-            for thread in threads:
-                thread.start()
-            conversation = relay(proxied_client, proxied_server)
-            proxied_client.close()
-            proxied_server.close()
-            for thread in threads:
-                thread.join()
-            assert conversation.outcome == wanted and conversation.established and not conversation.resumed
-            kinds = [event.kind for event in conversation]
-            assert kinds[0] == w.EventKind.CLIENT_HELLO and w.EventKind.ENCRYPTED in kinds
+            for tell in tellers:
+                told, session = follow(tell, serving, asking)
+                assert told in PRINTED[first], (told, first)
+                told, _ = follow(tell, serving, asking, session)
+                assert told in PRINTED[second], (told, second)
+    print(f"conversation: handshakes of OpenSSL's are followed, by {len(tellers)} programs")
 
 
 test_socket_pair()

@@ -264,6 +264,59 @@ static void call_streams(const uint8_t *b, size_t n, size_t at) {
     free(buffer);
 }
 
+/* A conversation whose client says these bytes, up to `at` at first, in a buffer that holds no more than they are. */
+static void call_conversation(const uint8_t *b, size_t n, size_t at) {
+    uint8_t *buffer = n == 0 ? NULL : (uint8_t *)malloc(n);
+    const size_t cut = at < n ? at : n, none = 0;
+    wispuddera_conversation it = WISPUDDERA_EMPTY;
+    wispuddera_said said = WISPUDDERA_EMPTY;
+    wispuddera_stop stop = WISPUDDERA_EMPTY;
+    size_t i;
+    if (buffer == NULL && n != 0) {
+        exit(2);
+    }
+    wispuddera_conversation_start(&it, n);
+    for (i = 0; i < 2; i++) {
+        is_read(wispuddera_conversation_feed(buffer, n, &it, true, i == 0 || n == 0 ? b : b + cut, i == 0 ? cut : n - cut), &none);
+        while (is_read(wispuddera_conversation_next(buffer, n, &it, true, &said), &none)) {
+            lies(n, said.content);
+            if (said.form > WISPUDDERA_SAID_FAULT || said.kind > WISPUDDERA_EVENT_UNKNOWN || (said.form == WISPUDDERA_SAID_FAULT) != (said.fault != 0)) {
+                printf("mutated: an event that is none\n");
+                exit(1);
+            }
+        }
+    }
+    if ((wispuddera_conversation_stop(&it, &stop) == WISPUDDERA_READ) !=
+        (wispuddera_conversation_outcome(&it) >= WISPUDDERA_BROKEN_OFF && wispuddera_conversation_outcome(&it) <= WISPUDDERA_NO_HANDSHAKE)) {
+        printf("mutated: a stop without an outcome\n");
+        exit(1);
+    }
+    free(buffer);
+    /* Numbers that nobody wrote: what they say to lie in the buffer does, or nothing is read. */
+    for (i = 0; i < n; i++) {
+        ((uint8_t *)&it)[i % sizeof it] = b[i] % 2 == 0 ? 0 : b[i];
+    }
+    it.client.is_over = it.client.has_changed = it.server.is_over = it.server.has_changed = it.is_tls13 = it.has_session = it.course.stop.is_alert =
+        it.course.stop.event.to_server = false;
+    if (n > 0) {
+        it.client.part = at;
+        it.client.part_end = at + b[0] % 8;
+        it.client.unread = it.client.part_end + b[n - 1] % 8;
+        it.client.end = it.client.unread + b[n / 2];
+    }
+    buffer = (uint8_t *)malloc(n + 40);
+    if (buffer == NULL) {
+        exit(2);
+    }
+    memset(buffer, 0x16, n + 40);
+    while (is_read(wispuddera_conversation_next(buffer, n + 40, &it, true, &said), &none)) {
+        lies(n + 40, said.content);
+    }
+    is_read(wispuddera_conversation_feed(buffer, n + 40, &it, true, b, n), &none);
+    is_read(wispuddera_conversation_feed(buffer, n + 40, &it, false, b, n), &none);
+    free(buffer);
+}
+
 int main(int argc, char **argv) {
     const long wanted = argc > 1 ? atol(argv[1]) : 10000;
     static const size_t begins[] = {0, 5, 9, 58, 92};
@@ -291,6 +344,7 @@ int main(int argc, char **argv) {
         call_others(block, count, at);
         call_certificates(block, count, at);
         call_streams(block, count, at);
+        call_conversation(block, count, at);
         call_flow(block, count, at);
         call_fingerprints(block, count);
         free(block);

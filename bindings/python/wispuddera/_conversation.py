@@ -1,18 +1,22 @@
-"""A conversation of TLS from the bytes of both sides: `Conversation`. It does what `Conversation` of crates/tls_conversations does, over the
-library's reading of hellos and alerts and its `Flow`. What stands here is tested, and not proved."""
+"""A conversation of TLS from the bytes of both sides: `Conversation`."""
 
 from __future__ import annotations
 
+import ctypes
 from collections import deque
 from collections.abc import Iterator
 from dataclasses import dataclass
 from typing import TYPE_CHECKING, Optional
 
+from . import _library as _c
+
 if TYPE_CHECKING:
     from . import Data, EventKind, Outcome
 
-_HEADER, _WIDEST, _LARGEST = 5, 18432, 16640
-_CHANGE_CIPHER_SPEC, _ALERT, _APPLICATION_DATA, _HEARTBEAT = 20, 21, 23, 24
+# What stands in front of what is told of an event, by its form: the header of a message, or of a record.
+_MESSAGE, _FAULT = 0, 6
+_HEADERS = {_MESSAGE: 4, 1: 5, 3: 5, 4: 5}
+_FAULTS = {**_c.KINDS, 11: "TooLarge", 12: "Interrupted"}
 
 
 @dataclass(frozen=True)
@@ -36,80 +40,19 @@ class ConversationStop:
     events_before: int
 
 
-class _Side:
-    """One side's stream: records that aren't read, and the part of a message that is open (RFC 8446, section 5.1)."""
+class _Buffer:
+    """What is held of one side, in as many bytes as were needed so far."""
 
-    def __init__(self, to_server: bool, limit: int) -> None:
-        self.to_server, self.limit = to_server, limit
-        self.unread, self.part, self.part_kind = bytearray(), bytearray(), 22
-        self.is_tls13 = self.has_changed = self.is_over = False
+    def __init__(self) -> None:
+        self.bytes = (ctypes.c_ubyte * 4096)()
 
-    def next(self) -> Optional[tuple[str, object]]:
-        """What it says next: its name, and what belongs to it."""
-        while not self.is_over:
-            said = self._message() or self._record()
-            if said is None:
-                return None
-            if said[0] == "fault":
-                self.is_over = True
-            if said[0] != "joined":
-                return said
-        return None
+    def grow(self, more: int) -> None:
+        grown = (ctypes.c_ubyte * (2 * len(self.bytes) + more))()
+        ctypes.memmove(grown, self.bytes, len(self.bytes))
+        self.bytes = grown
 
-    def _message(self) -> Optional[tuple[str, object]]:
-        part = self.part
-        if self.part_kind == _ALERT:
-            if len(part) < 2:
-                return None
-            said = ("alert", bytes(part[:2]))
-            del part[:2]
-            return said
-        if len(part) < 4:
-            return None
-        length = int.from_bytes(part[1:4], "big")
-        if length > self.limit:
-            return ("fault", "TooLarge")
-        if len(part) < 4 + length:
-            return None
-        said = ("message", (part[0], bytes(part[4 : 4 + length])))
-        del part[: 4 + length]
-        return said
-
-    def _record(self) -> Optional[tuple[str, object]]:
-        unread = self.unread
-        if len(unread) < _HEADER:
-            return None
-        kind, length = unread[0], int.from_bytes(unread[3:5], "big")
-        is_encrypted = kind == _APPLICATION_DATA if self.is_tls13 else self.has_changed
-        if not is_encrypted and not 20 <= kind <= 24:
-            return ("fault", "Switch")
-        if length > (_WIDEST if is_encrypted else _LARGEST):
-            return ("fault", "TooLarge")
-        if len(unread) < _HEADER + length:
-            return None
-        record = bytes(unread[: _HEADER + length])
-        fragment = record[_HEADER:]
-        is_alert = len(fragment) == 2 and fragment[0] in (1, 2)
-        if is_encrypted or (kind == _ALERT and not is_alert):
-            said: tuple[str, object] = ("encrypted", record)
-        elif kind == _CHANGE_CIPHER_SPEC:
-            said = ("change", fragment) if fragment == b"\x01" else ("fault", "Verify")
-        elif kind == _APPLICATION_DATA:
-            said = ("data", fragment)
-        elif kind == _HEARTBEAT:
-            said = ("heartbeat", fragment)
-        else:
-            said = ("joined", None)
-        if said == ("fault", "Verify"):
-            return said
-        if self.part and (said[0] != "joined" or kind != self.part_kind):
-            return ("fault", "Interrupted")
-        del unread[: _HEADER + length]
-        self.has_changed = self.has_changed or kind == _CHANGE_CIPHER_SPEC
-        if said[0] == "joined":
-            self.part += fragment
-            self.part_kind = kind
-        return said
+    def at(self, place: _c.Place) -> bytes:
+        return ctypes.string_at(ctypes.addressof(self.bytes) + place.offset, place.length)
 
 
 class Conversation:
@@ -124,51 +67,43 @@ class Conversation:
     """
 
     def __init__(self, limit: int = 131072) -> None:
-        from . import Flow
-
-        self._sides = {"client": _Side(True, limit), "server": _Side(False, limit)}
-        self._flow = Flow()
+        self._state, self._said, self._stopped = _c.Conversation(), _c.Said(), _c.Stop()
+        _c.conversation_start(self._state, limit)
+        self._buffers = {"client": _Buffer(), "server": _Buffer()}
         self._events: deque[ConversationEvent] = deque()
-        self._count = 0
         self._stop: Optional[ConversationStop] = None
-        self._is_tls13 = self._has_key = False
 
     def feed(self, side: str, piece: Data) -> None:
         """Puts a piece behind the stream of "client" or of "server", and follows what is whole then. `ValueError` at any other name."""
-        if side not in self._sides:
+        from . import _Given
+
+        if side not in self._buffers:
             raise ValueError(f"a side is client or server, not {side}")
-        speaker = self._sides[side]
-        if not speaker.is_over:
-            speaker.unread += piece
-        while (said := speaker.next()) is not None:
-            self._follow(speaker.to_server, *said)
+        held, given, to_server = self._buffers[side], _Given(piece), side == "client"
 
-    def _follow(self, to_server: bool, name: str, what: object) -> None:
-        from . import EventKind, event_of_alert, event_of_message
+        def feed() -> int:
+            return _c.conversation_feed(held.bytes, len(held.bytes), self._state, to_server, given.address, given.count)
 
-        if name == "message":
-            message, body = what
-            event = ConversationEvent(to_server, event_of_message(message, body), body, message)
-        elif name == "fault":
-            event = ConversationEvent(to_server, EventKind.UNKNOWN, fault=what)
-        else:
-            kind = {
-                "change": EventKind.CHANGE_CIPHER_SPEC,
-                "heartbeat": EventKind.HEARTBEAT,
-                "data": EventKind.ENCRYPTED,
-                "encrypted": EventKind.ENCRYPTED,
-            }.get(name) or event_of_alert(what[0], what[1])
-            event = ConversationEvent(to_server, kind, what)
-        if not to_server and event.kind in (EventKind.SERVER_HELLO_13, EventKind.HELLO_RETRY_REQUEST):
-            for side in self._sides.values():
-                side.is_tls13 = True
-            if event.kind == EventKind.SERVER_HELLO_13 and not self._is_tls13:
-                self._is_tls13, self._has_key = True, _has_key(event.content)
-        self._flow.step(event.kind, to_server)
-        if self._stop is None and self.outcome.name in ("BROKEN_OFF", "UNKNOWN", "NO_HANDSHAKE"):
-            self._stop = ConversationStop(event, self._count)
-        self._count += 1
+        if feed() == _c.NO_ROOM:
+            held.grow(given.count)
+            feed()
+        while _c.conversation_next(held.bytes, len(held.bytes), self._state, to_server, self._said) == _c.READ:
+            self._tell(to_server, held.at(self._said.content))
+
+    def _tell(self, to_server: bool, content: bytes) -> None:
+        from . import EventKind
+
+        said = self._said
+        event = ConversationEvent(
+            to_server,
+            EventKind(said.kind),
+            content[_HEADERS.get(said.form, 0) :],
+            content[0] if said.form == _MESSAGE else None,
+            _FAULTS[said.fault] if said.form == _FAULT else None,
+        )
         self._events.append(event)
+        if self._stop is None and _c.conversation_stop(self._state, self._stopped) == _c.READ:
+            self._stop = ConversationStop(event, self._stopped.events_before)
 
     def __iter__(self) -> Iterator[ConversationEvent]:
         while self._events:
@@ -177,7 +112,9 @@ class Conversation:
     @property
     def outcome(self) -> Outcome:
         """How the conversation stands."""
-        return self._flow.outcome
+        from . import Outcome
+
+        return Outcome(_c.conversation_outcome(self._state))
 
     @property
     def stop(self) -> Optional[ConversationStop]:
@@ -187,19 +124,9 @@ class Conversation:
     @property
     def established(self) -> bool:
         """Whether the part of the handshake that can be read came to its end; in TLS 1.3 that is with the ServerHello."""
-        return self.outcome.name in ("FULL", "RESUMED") or self.outcome.name.startswith("TLS13")
+        return _c.conversation_established(self._state)
 
     @property
     def resumed(self) -> bool:
         """Whether a session was taken up: in TLS 1.3 by the pre_shared_key of the ServerHello (RFC 8446, section 4.2.11)."""
-        return self.outcome.name == "RESUMED" or (self.outcome.name.startswith("TLS13") and self._has_key)
-
-
-def _has_key(body: bytes) -> bool:
-    from . import find_extension, server_hello
-
-    try:
-        block = server_hello(body).extensions
-        return block is not None and find_extension(block, 41) is not None
-    except ValueError:
-        return False
+        return _c.conversation_resumed(self._state)

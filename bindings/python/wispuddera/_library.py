@@ -12,7 +12,7 @@ try:
 except OSError as reason:
     _missing = reason
 
-READ, INCOMPLETE, NONE, OUTSIDE = 0, 1, 8, 9
+READ, INCOMPLETE, NONE, OUTSIDE, NO_ROOM = 0, 1, 8, 9, 10
 KINDS = {2: "TooLarge", 3: "LengthValue", 4: "Verify", 5: "Switch", 6: "Tag", 7: "Complete"}
 TEXTS = {
     "TooLarge": "a length is too large",
@@ -165,6 +165,41 @@ class X509Extension(ctypes.Structure):
     _fields_ = [("missing", _SIZE), ("oid", Place), ("value", Place), ("next", _SIZE), ("critical", _BOOL)]
 
 
+class Said(ctypes.Structure):
+    _fields_ = [("content", Place), ("fault", _U32), ("form", _U8), ("kind", _U8)]
+
+
+class Stop(ctypes.Structure):
+    _fields_ = [("events_before", _U64), ("event", Event), ("is_alert", _BOOL), ("alert", _U8)]
+
+
+class Side(ctypes.Structure):
+    _fields_ = [
+        ("part", _SIZE),
+        ("part_end", _SIZE),
+        ("unread", _SIZE),
+        ("end", _SIZE),
+        ("kind", _U8),
+        ("has_changed", _BOOL),
+        ("is_over", _BOOL),
+    ]
+
+
+class Course(ctypes.Structure):
+    _fields_ = [("events", _U64), ("stop", Stop), ("flow", Flow)]
+
+
+class Conversation(ctypes.Structure):
+    _fields_ = [
+        ("client", Side),
+        ("server", Side),
+        ("limit", _SIZE),
+        ("course", Course),
+        ("is_tls13", _BOOL),
+        ("has_session", _BOOL),
+    ]
+
+
 def _refuse(*_):
     raise OSError(f"the library of wispuddera isn't there: {_missing}")
 
@@ -232,9 +267,18 @@ outcome = _function("outcome", _OUT(Event), _SIZE)
 flow_start = _function("flow_start", _OUT(Flow), answer=None)
 flow_step = _function("flow_step", _OUT(Flow), _OUT(Event), answer=None)
 flow_outcome = _function("flow_outcome", _OUT(Flow))
+
+conversation_start = _function("conversation_start", _OUT(Conversation), _SIZE, answer=None)
+conversation_feed = _function("conversation_feed", _BYTES, _SIZE, _OUT(Conversation), _BOOL, _BYTES, _SIZE)
+conversation_next = _function("conversation_next", _BYTES, _SIZE, _OUT(Conversation), _BOOL, _OUT(Said))
+conversation_outcome = _function("conversation_outcome", _OUT(Conversation))
+conversation_stop = _function("conversation_stop", _OUT(Conversation), _OUT(Stop))
+conversation_established = _function("conversation_established", _OUT(Conversation), answer=_BOOL)
+conversation_resumed = _function("conversation_resumed", _OUT(Conversation), answer=_BOOL)
+
 struct_size = _function("struct_size", _SIZE, answer=_SIZE)
 field_offset = _function("field_offset", _SIZE, _SIZE, answer=_SIZE)
 
 # The structs, as the header lists them for `wispuddera_struct_size`.
 STRUCTS = (Place, Record, Part, ClientHello, ServerHello, Found, Number, DtlsRecord, DtlsMessage, DtlsClientHello, Event, Flow)
-STRUCTS += (X509, X509Extension)
+STRUCTS += (X509, X509Extension, Said, Stop, Side, Course, Conversation)

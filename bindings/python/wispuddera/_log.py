@@ -69,6 +69,7 @@ class Connection:
     outcome: Optional[str] = None
     stop: Optional[Stop] = None
     gap: Optional[str] = None
+    ended_early: Optional[bool] = None
     ssl_history: Optional[str] = None
     orig_pkts: Optional[int] = None
     resp_pkts: Optional[int] = None

@@ -28,8 +28,8 @@
 //! # assert_eq!(show_names(&[]), Ok(()));
 //! ```
 //!
-//! What comes in pieces is held in a buffer of the caller's, by a [`RecordStream`] and a [`MessageStream`]. How a conversation of what both
-//! sides said stands is told by [`outcome`], or event by event by a [`Flow`].
+//! What comes in pieces is held in a buffer of the caller's, by a [`RecordStream`] and a [`MessageStream`]. A [`Conversation`] takes the pieces of
+//! both sides, and tells their events and the outcome. Of events that the caller has, [`outcome`] tells it, or event by event a [`Flow`].
 //!
 //! The library is proved (`crates/wispuddera_c`), and this crate is written by hand over it. A place that the library answers is
 //! looked up in the caller's slice by a check, so no answer of it is trusted for memory.
@@ -40,6 +40,7 @@
 compile_error!("libwispuddera.a is made for processors of 64 bits");
 
 mod certificate;
+mod conversation;
 mod detection;
 mod dtls;
 mod error;
@@ -53,6 +54,7 @@ mod stream;
 mod sys;
 
 pub use certificate::{x509_extensions, x509_names, PublicKey, X509Extension, X509Name, SUBJECT_ALT_NAME, X509};
+pub use conversation::{Conversation, ConversationEvent, Fault, NoRoom, Said, Side, Stop};
 pub use detection::looks_like_tls;
 pub use dtls::{dtls_messages, dtls_records, DtlsClientHello, DtlsMessage, DtlsRecord};
 pub use error::{Error, Kind};

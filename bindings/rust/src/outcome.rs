@@ -78,7 +78,7 @@ const KINDS: [EventKind; 22] = [
 ];
 
 impl EventKind {
-    fn of_number(number: u8) -> Self {
+    pub(crate) fn of_number(number: u8) -> Self {
         KINDS.get(usize::from(number)).copied().unwrap_or(EventKind::Unknown)
     }
 
@@ -144,7 +144,7 @@ pub enum Outcome {
 }
 
 impl Outcome {
-    fn of_number(number: u32) -> Self {
+    pub(crate) fn of_number(number: u32) -> Self {
         match number {
             0 => Outcome::Waiting,
             1 => Outcome::Full,

@@ -10,6 +10,8 @@ pub const VERIFY: u32 = 4;
 pub const SWITCH: u32 = 5;
 pub const TAG: u32 = 6;
 pub const NONE: u32 = 8;
+pub const ABOVE_LIMIT: u32 = 11;
+pub const INTERRUPTED: u32 = 12;
 
 #[repr(C)]
 #[derive(Clone, Copy, Debug, Default)]
@@ -163,9 +165,66 @@ pub struct X509Extension {
 }
 
 #[repr(C)]
-#[derive(Clone, Copy, Debug, PartialEq, Eq, Hash)]
+#[derive(Clone, Copy, Debug, Default, PartialEq, Eq, Hash)]
 pub struct Flow {
     pub state: u32,
+}
+
+/// An event that the library writes, whose kind is a number here.
+#[repr(C)]
+#[derive(Clone, Copy, Debug, Default)]
+pub struct WrittenEvent {
+    pub kind: u8,
+    pub to_server: bool,
+}
+
+#[repr(C)]
+#[derive(Default)]
+pub struct Said {
+    pub content: Place,
+    pub fault: u32,
+    pub form: u8,
+    pub kind: u8,
+}
+
+#[repr(C)]
+#[derive(Clone, Copy, Debug, Default)]
+pub struct Stop {
+    pub events_before: u64,
+    pub event: WrittenEvent,
+    pub is_alert: bool,
+    pub alert: u8,
+}
+
+#[repr(C)]
+#[derive(Clone, Copy, Debug, Default)]
+pub struct Side {
+    pub part: usize,
+    pub part_end: usize,
+    pub unread: usize,
+    pub end: usize,
+    pub kind: u8,
+    pub has_changed: bool,
+    pub is_over: bool,
+}
+
+#[repr(C)]
+#[derive(Clone, Copy, Debug, Default)]
+pub struct Course {
+    pub events: u64,
+    pub stop: Stop,
+    pub flow: Flow,
+}
+
+#[repr(C)]
+#[derive(Clone, Copy, Debug, Default)]
+pub struct Conversation {
+    pub client: Side,
+    pub server: Side,
+    pub limit: usize,
+    pub course: Course,
+    pub is_tls13: bool,
+    pub has_session: bool,
 }
 
 /// A call that reads what stands at an offset.
@@ -228,6 +287,27 @@ extern "C" {
     pub fn wispuddera_flow_step(flow: *mut Flow, event: *const crate::outcome::Event);
     pub fn wispuddera_flow_outcome(flow: *const Flow) -> u32;
 
+    pub fn wispuddera_conversation_start(conversation: *mut Conversation, limit: usize);
+    pub fn wispuddera_conversation_feed(
+        buffer: *mut u8,
+        capacity: usize,
+        conversation: *mut Conversation,
+        to_server: bool,
+        piece: *const u8,
+        count: usize,
+    ) -> u32;
+    pub fn wispuddera_conversation_next(
+        buffer: *mut u8,
+        capacity: usize,
+        conversation: *mut Conversation,
+        to_server: bool,
+        out: *mut Said,
+    ) -> u32;
+    pub fn wispuddera_conversation_outcome(conversation: *const Conversation) -> u32;
+    pub fn wispuddera_conversation_stop(conversation: *const Conversation, out: *mut Stop) -> u32;
+    pub fn wispuddera_conversation_established(conversation: *const Conversation) -> bool;
+    pub fn wispuddera_conversation_resumed(conversation: *const Conversation) -> bool;
+
     pub fn wispuddera_read_x509(bytes: *const u8, count: usize, out: *mut X509) -> u32;
     pub fn wispuddera_read_x509_extension(bytes: *const u8, count: usize, offset: usize, out: *mut X509Extension) -> u32;
     pub fn wispuddera_find_x509_names(bytes: *const u8, count: usize, out: *mut Found) -> u32;
@@ -287,6 +367,11 @@ mod tests {
             layout!(X509: missing, signed_bytes, serial_number, signature_algorithm, issuer, subject, key_algorithm, key_parameters,
                 public_key, extensions, signature, not_before, not_after, next, key_bits, key_kind, version),
             layout!(X509Extension: missing, oid, value, next, critical),
+            layout!(Said: content, fault, form, kind),
+            layout!(Stop: events_before, event, is_alert, alert),
+            layout!(Side: part, part_end, unread, end, kind, has_changed, is_over),
+            layout!(Course: events, stop, flow),
+            layout!(Conversation: client, server, limit, course, is_tls13, has_session),
             ("none", &[0]),
         ];
         for (index, (name, offsets)) in layouts.iter().enumerate() {

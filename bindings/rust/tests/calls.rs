@@ -115,7 +115,9 @@ fn detection() {
     for first in [b"\x14\x03\x00\x00\x00", b"\x18\x03\x04\x41\x00", b"\x16\x03\x05\x00\x01"] {
         assert_eq!((looks_like_tls(first), looks_like_tls(&first[..4])), (Some(true), None));
     }
-    for first in [&b"\x18\x03\x04\x41\x01"[..], b"\x13\x03\x03\x00\x01", b"\x19\x03\x03\x00\x01", b"\x16\x04\x00\x00\x01", b"GET / HTTP/1.0"] {
+    for first in
+        [&b"\x18\x03\x04\x41\x01"[..], b"\x13\x03\x03\x00\x01", b"\x19\x03\x03\x00\x01", b"\x16\x04\x00\x00\x01", b"GET / HTTP/1.0"]
+    {
         assert_eq!(looks_like_tls(first), Some(false));
     }
     assert_eq!(looks_like_tls(b""), None);
@@ -284,6 +286,77 @@ fn outcomes_are_told() {
     said.insert(1, Event::new(EventKind::Encrypted, true));
     assert_eq!(outcome(&said[..3]), Outcome::Tls13 { retried: false, early_data: true });
     assert_eq!(EventKind::of_dtls_message(3), EventKind::HelloVerifyRequest);
+}
+
+/// The ServerHello of `bindings/test/calls.c`, of TLS 1.3 and with pre_shared_key if that is asked for, in two records.
+fn server_records(takes_session: bool) -> Vec<u8> {
+    let key = if takes_session { &b"\x00\x29\x00\x02\x00\x00"[..] } else { b"" };
+    let body = [&b"\x03\x03"[..], &random(), b"\x00\x13\x01\x00\x00", &[6 + key.len() as u8], b"\x00\x2b\x00\x02\x03\x04", key].concat();
+    let message = [&b"\x02\x00\x00"[..], &[body.len() as u8], &body].concat();
+    let (first, second) = message.split_at(8);
+    [&b"\x16\x03\x03\x00\x08"[..], first, b"\x16\x03\x03\x00", &[second.len() as u8], second].concat()
+}
+
+#[test]
+fn conversations_are_followed() {
+    for (takes_session, size) in [(true, 1), (false, 7), (true, 1000)] {
+        let mut conversation = Conversation::with_limit(93, vec![0; 300], vec![0; 300]);
+        let (mut kinds, server) = (Vec::new(), [server_records(takes_session), b"\x17\x03\x03\x00\x02\xe1\xe2".to_vec()].concat());
+        for (side, bytes) in [(Side::Client, record()), (Side::Server, server)] {
+            for piece in bytes.chunks(size) {
+                conversation.feed(side, piece).unwrap();
+                while let Some(told) = conversation.next_event(side) {
+                    match told.said {
+                        Said::Message(message) if side == Side::Client => assert_eq!(message, Message { kind: 1, body: &body() }),
+                        Said::Message(message) => assert_eq!((message.kind, &message.body[2..34]), (2, &random()[..])),
+                        said => assert_eq!(said, Said::Encrypted(b"\x17\x03\x03\x00\x02\xe1\xe2")),
+                    }
+                    kinds.push(told.event);
+                }
+            }
+        }
+        let wanted = [(EventKind::ClientHello, true), (EventKind::ServerHello13, false), (EventKind::Encrypted, false)];
+        assert_eq!(kinds, wanted.map(|(kind, to_server)| Event::new(kind, to_server)));
+        assert_eq!(conversation.outcome(), outcome(&kinds));
+        assert_eq!(conversation.outcome(), Outcome::Tls13 { retried: false, early_data: false });
+        assert_eq!((conversation.is_established(), conversation.is_resumed(), conversation.stop()), (true, takes_session, None));
+    }
+}
+
+#[test]
+fn conversations_stop() {
+    let tries = [
+        (&b"GET /"[..], Said::Fault(Fault::UnknownType), Outcome::Unknown),
+        (b"\x16\x03\x01\x41\x01", Said::Fault(Fault::RecordTooLarge), Outcome::Unknown),
+        (b"\x14\x03\x01\x00\x01\x02", Said::Fault(Fault::WrongChange), Outcome::Unknown),
+        (b"\x16\x03\x01\x00\x04\x01\x00\x00\x5e", Said::Fault(Fault::AboveLimit), Outcome::Unknown),
+        (b"\x16\x03\x01\x00\x02\x01\x00\x15\x03\x01\x00\x02\x02\x28", Said::Fault(Fault::Interrupted), Outcome::Unknown),
+        (b"\x15\x03\x01\x00\x02\x02\x28", Said::Alert { level: 2, description: 40 }, Outcome::BrokenOff),
+        (b"\x14\x03\x01\x00\x01\x01", Said::ChangeCipherSpec, Outcome::Waiting),
+        (b"\x18\x03\x01\x00\x01\x07", Said::Heartbeat(b"\x07"), Outcome::Waiting),
+        (b"\x17\x03\x01\x00\x01\x07", Said::ApplicationData(b"\x07"), Outcome::NoHandshake),
+    ];
+    for (bytes, said, wanted) in tries {
+        let (mut client, mut server) = ([0; 102], [0; 20]);
+        let mut conversation = Conversation::with_limit(93, &mut client[..], &mut server[..]);
+        conversation.feed(Side::Client, &record()).unwrap();
+        assert_eq!(conversation.next_event(Side::Client).map(|it| it.event.kind), Some(EventKind::ClientHello));
+        assert_eq!(conversation.feed(Side::Server, &record()), Err(NoRoom));
+        conversation.feed(Side::Server, bytes).unwrap();
+        let told = conversation.next_event(Side::Server).unwrap();
+        let kind = told.event.kind;
+        assert_eq!(told.said, said);
+        assert_eq!(conversation.next_event(Side::Server), None);
+        assert_eq!(conversation.outcome(), wanted);
+        let alert = matches!(said, Said::Alert { .. }).then_some(40);
+        let stop = Stop { events_before: 1, event: Event::new(kind, false), alert };
+        assert_eq!(conversation.stop(), (wanted != Outcome::Waiting).then_some(stop));
+        assert_eq!((conversation.is_established(), conversation.is_resumed()), (false, false));
+        // Behind a fault nothing is held.
+        let is_over = matches!(said, Said::Fault(_));
+        assert_eq!(conversation.feed(Side::Server, &record()), if is_over { Ok(()) } else { Err(NoRoom) });
+    }
+    assert_eq!((NoRoom.to_string(), Fault::Interrupted.to_string().is_empty()), ("the buffer is too short".to_owned(), false));
 }
 
 /// Digests of texts that were written by hand, those of `bindings/test/calls.c`.

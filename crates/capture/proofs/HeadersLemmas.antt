@@ -1,9 +1,9 @@
 -- Extension headers of IPv6, of which so many may still come.
 use Rattle.std.proofs.Common.{◌≡◌, ◌≢◌, ℕ, zero, suc, ◌-◌, refl, ap, arith}
-use Rattle.tls_fields.specs.Layout.{chain}
+use Rattle.layouts.specs.Layout.{chain}
 use Rattle.capture.specs.Transport.{transport}
-use Rattle.tls_fields.specs.Layout.{refuse}
-use Rattle.tls_fields.specs.declared.result.ErrorKind.TheVariants.{Switch}
+use Rattle.layouts.specs.Layout.{refuse}
+use Rattle.layouts.specs.declared.result.ErrorKind.TheVariants.{Switch}
 use Rattle.capture.specs.Fragment.{piece_behind, piece_step_at, piece_then}
 use Rattle.capture.specs.Ip.{headers, step, step_then}
 

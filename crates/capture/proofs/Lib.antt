@@ -2,3 +2,4 @@ pub mod HeadersLemmas
 pub mod OptionLemmas
 pub mod SumLemmas
 pub mod VlanLemmas
+pub mod LinkLemmas

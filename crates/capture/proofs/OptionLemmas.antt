@@ -1,7 +1,7 @@
 -- Options, one by one.
 use Rattle.std.proofs.Common.{◌≡◌, ◌≢◌, ℕ, zero, suc, ◌-◌, ◌<◌, ◌≤◌, [], ◌∷◌, length, take, drop, get_or, Some, None, refl, ap, arith}
 use Rattle.std.specs.Prelude.{◌==◌, ◌||◌, nat_lt, if◌then◌else◌}
-use Rattle.tls_fields.specs.Bytes.{Bytes}
+use Rattle.layouts.specs.Bytes.{Bytes}
 use Rattle.capture.specs.Options.{option_in}
 
 pub none_left : (n kind : ℕ) (xs : Bytes) → n ≡ 0 → None ≡ option_in n kind xs

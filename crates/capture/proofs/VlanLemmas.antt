@@ -1,12 +1,12 @@
 -- Lists of which no more than the first 16 are kept.
 use Rattle.std.proofs.Common.{◌≡◌, ℕ, zero, suc, ◌<◌, ◌≤◌, List, [], ◌∷◌, ◌++◌, Ok, Err, length, take, refl, sym, ap, ◌∙◌, arith, append-nil, append_assoc, length-append, length-take, take_all}
 use Rattle.std.proofs.lemmas.List.{take-append-le}
-use Rattle.tls_fields.specs.Bytes.{Bytes}
-use Rattle.tls_fields.specs.Items.{items_in}
-use Rattle.tls_fields.specs.Layout.{Layout}
-use Rattle.tls_fields.specs.Meaning.{Refusal}
-use Rattle.tls_fields.specs.Reading.{reading}
-use Rattle.tls_fields.proofs.ItemsLemmas.{items_first, items_none, items_still}
+use Rattle.layouts.specs.Bytes.{Bytes}
+use Rattle.layouts.specs.Items.{items_in}
+use Rattle.layouts.specs.Layout.{Layout}
+use Rattle.layouts.specs.Meaning.{Refusal}
+use Rattle.layouts.specs.Reading.{reading}
+use Rattle.layouts.proofs.ItemsLemmas.{items_first, items_none, items_still}
 
 pub again : (n : ℕ) (xs ys : List ℕ) → take n (take n xs ++ ys) ≡ take n (xs ++ ys)
 again zero xs ys = refl

@@ -1,8 +1,8 @@
 -- Fragments of datagrams (RFC 791, section 3.2; RFC 8200, section 4.5).
 use Rattle.std.specs.Prelude.{ℕ, zero, suc, ◌+◌, ◌-◌, ◌*◌, ◌/◌, ◌%◌, ◌==◌, ◌&&◌, not, nat_le, Bool, true, Option, Some, None, length, if◌then◌else◌}
-use Rattle.tls_fields.specs.Bytes.{Bytes}
-use Rattle.tls_fields.specs.Layout.{Layout, done, refuse, number, block, rest, look, window, complete, test, choose, mapped, ◌>>=◌, ◌>>◌}
-use Rattle.tls_fields.specs.declared.result.ErrorKind.TheVariants.{LengthValue, Switch}
+use Rattle.layouts.specs.Bytes.{Bytes}
+use Rattle.layouts.specs.Layout.{Layout, done, refuse, number, block, rest, look, window, complete, test, choose, mapped, ◌>>=◌, ◌>>◌}
+use Rattle.layouts.specs.declared.result.ErrorKind.TheVariants.{LengthValue, Switch}
 use Rattle.capture.specs.Words.{words, is_right}
 use Rattle.capture.specs.Transport.{Content, view_content}
 use Rattle.capture.specs.Ip.{Address, V4, V6, Datagram, view_address, address_v6, fields_v4, front_v6, headers, is_extension, is_fragment_v4, lengths_v4, protected, skipped}

@@ -1,7 +1,7 @@
 -- Datagrams of the Internet Protocol (RFC 791; RFC 8200).
 use Rattle.std.specs.Prelude.{ℕ, zero, suc, ◌+◌, ◌-◌, ◌*◌, ◌/◌, ◌%◌, ◌==◌, ◌||◌, ◌&&◌, nat_le, Bool, true, if◌then◌else◌}
-use Rattle.tls_fields.specs.Layout.{Layout, done, number, block, window, complete, test, choose, mapped, ◌>>=◌, ◌>>◌}
-use Rattle.tls_fields.specs.declared.result.ErrorKind.TheVariants.{Verify, LengthValue}
+use Rattle.layouts.specs.Layout.{Layout, done, number, block, window, complete, test, choose, mapped, ◌>>=◌, ◌>>◌}
+use Rattle.layouts.specs.declared.result.ErrorKind.TheVariants.{Verify, LengthValue}
 use Rattle.capture.specs.Jumbo.{payload_length}
 use Rattle.capture.specs.Words.{words, words4, is_right}
 use Rattle.capture.specs.Transport.{Content, Fragment, view_content, transport}

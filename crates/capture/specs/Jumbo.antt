@@ -1,7 +1,7 @@
 -- Datagrams of IPv6 that are longer than 65,535 bytes (RFC 2675).
 use Rattle.std.specs.Prelude.{ℕ, ◌+◌, ◌*◌, ◌==◌, ◌&&◌, not, nat_le}
-use Rattle.tls_fields.specs.Layout.{Layout, done, number, block, window, list, look, complete, test, choose, mapped, ◌>>=◌, ◌>>◌}
-use Rattle.tls_fields.specs.declared.result.ErrorKind.TheVariants.{Tag, LengthValue}
+use Rattle.layouts.specs.Layout.{Layout, done, number, block, window, list, look, complete, test, choose, mapped, ◌>>=◌, ◌>>◌}
+use Rattle.layouts.specs.declared.result.ErrorKind.TheVariants.{Tag, LengthValue}
 
 -- An option that isn't the jumbo payload: Pad1, which is one byte; or type, length, and as many bytes (RFC 8200, section 4.2).
 unfoldable pub other_option : Layout Unit

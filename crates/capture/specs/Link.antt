@@ -1,8 +1,8 @@
 -- What a packet begins with, by the link type of its capture (the LINKTYPE pages of tcpdump.org).
 use Rattle.std.specs.Prelude.{ℕ, ◌/◌, ◌%◌, ◌==◌, ◌||◌, Bool, Option, Some, None, if◌then◌else◌}
 use Rattle.std.specs.Option.{option_map}
-use Rattle.tls_fields.specs.Layout.{Layout, done, refuse, number, block, list, look, test, choose, mapped, ◌>>=◌, ◌>>◌}
-use Rattle.tls_fields.specs.declared.result.ErrorKind.TheVariants.{Tag, Verify, Switch}
+use Rattle.layouts.specs.Layout.{Layout, done, refuse, number, block, list, look, test, choose, mapped, ◌>>=◌, ◌>>◌}
+use Rattle.layouts.specs.declared.result.ErrorKind.TheVariants.{Tag, Verify, Switch}
 use Rattle.capture.specs.Ip.{Datagram, ipv4, ipv6, view_datagram}
 use Rattle.capture.specs.declared.ip.Datagram.{Datagram as LentDatagram}
 
@@ -27,9 +27,9 @@ ether_type = do
   list vlan_tag
   number 2
 
--- LINKTYPE_ETHERNET: destination, source, tags, type (IEEE 802.3, section 3.1.1).
-unfoldable pub ethernet : Layout ℕ
-ethernet = block 12 >> ether_type
+-- So many bytes, tags, and the type of what follows.
+unfoldable pub behind : ℕ → Layout ℕ
+behind count = block count >> ether_type
 
 -- What a family or a protocol of another numbering is as a type of Ethernet; 0 for one that isn't read.
 abbrev pub IPV4 : ℕ
@@ -50,10 +50,6 @@ family n =
 
 unfoldable pub loopback : Layout ℕ
 loopback = mapped family (number 4)
-
--- LINKTYPE_LINUX_SLL: packet type, ARPHRD type, length of the link's address and 8 bytes of it; protocol.
-unfoldable pub sll : Layout ℕ
-sll = block 14 >> ether_type
 
 -- What stands behind a type of Ethernet that was read: where it is that of a tag, the tag's control information, and any number
 -- of further tags.
@@ -98,33 +94,27 @@ ppp_by front =
 unfoldable pub ppp_link : Layout ℕ
 ppp_link = look (number 2) >>= ppp_by
 
--- LINKTYPE_RAW, LINKTYPE_IPV4 and LINKTYPE_IPV6: no header of a link.
-unfoldable pub no_link : ℕ → Layout ℕ
-no_link link_type =
-    choose (link_type == 101) raw_ip (
-    choose (link_type == 228) (done IPV4) (
-    choose (link_type == 229) (done IPV6) (
-    refuse Switch)))
-
 -- The type of a packet of a PPPoE session.
 abbrev pub PPPOE : ℕ
 PPPOE = 0x8864
 
--- LINKTYPE_PPP_ETHER has packets of PPPoE sessions.
-unfoldable pub ppp_or_none : ℕ → Layout ℕ
-ppp_or_none link_type =
-    choose ((link_type == 9) || (link_type == 50)) ppp_link (
-    choose (link_type == 51) (done PPPOE) (
-    no_link link_type))
-
--- The type of what follows, by the link type.
+-- The type of what follows the header of a link, by the link type (LINKTYPE of tcpdump.org): NULL, ETHERNET (destination and source: IEEE 802.3, section
+-- 3.1.1), PPP, PPP_HDLC, PPP_ETHER (PPPoE), RAW, LOOP, LINUX_SLL (packet type, ARPHRD type, length of the link's address and 8 bytes of it), IPV4,
+-- IPV6, LINUX_SLL2.
 unfoldable pub link : ℕ → Layout ℕ
 link link_type =
-    choose (link_type == 1) ethernet (
-    choose ((link_type == 0) || (link_type == 108)) loopback (
-    choose (link_type == 113) sll (
+    choose (link_type == 0) loopback (
+    choose (link_type == 1) (behind 12) (
+    choose (link_type == 9) ppp_link (
+    choose (link_type == 50) ppp_link (
+    choose (link_type == 51) (done PPPOE) (
+    choose (link_type == 101) raw_ip (
+    choose (link_type == 108) loopback (
+    choose (link_type == 113) (behind 14) (
+    choose (link_type == 228) (done IPV4) (
+    choose (link_type == 229) (done IPV6) (
     choose (link_type == 276) sll2 (
-    ppp_or_none link_type))))
+    refuse Switch)))))))))))
 
 -- A packet of a PPPoE session: version and type, code 0, session, length; and PPP (RFC 2516, section 4).
 unfoldable pub pppoe : Layout ℕ

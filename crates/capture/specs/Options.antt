@@ -1,6 +1,6 @@
 -- The options of a segment of TCP (RFC 9293, section 3.1; RFC 7323).
 use Rattle.std.specs.Prelude.{ℕ, zero, suc, ◌+◌, ◌-◌, ◌*◌, ◌^◌, ◌==◌, ◌||◌, nat_lt, if◌then◌else◌, Option, Some, None, min, [], ◌∷◌, length, take, drop}
-use Rattle.tls_fields.specs.Bytes.{Bytes}
+use Rattle.layouts.specs.Bytes.{Bytes}
 
 -- The content of the first option of a kind, among so many: kind 0 ends them, kind 1 is a byte of padding, and any other has its length behind
 -- its kind, which counts both. Of one that isn't whole nothing is read, and nothing behind it.

@@ -1,8 +1,8 @@
 -- Numbers in the order of bytes of the machine that wrote a file (draft-ietf-opsawg-pcap, section 4;
 -- draft-ietf-opsawg-pcapng, section 4.1).
 use Rattle.std.specs.Prelude.{ℕ, ◌+◌, ◌*◌, [], ◌∷◌}
-use Rattle.tls_fields.specs.Bytes.{Bytes}
-use Rattle.tls_fields.specs.Layout.{Layout, number, block, mapped}
+use Rattle.layouts.specs.Bytes.{Bytes}
+use Rattle.layouts.specs.Layout.{Layout, number, block, mapped}
 use Rattle.capture.specs.declared.order.Order.{Order}
 use Rattle.capture.specs.declared.order.Order.TheVariants.{Big, Little}
 

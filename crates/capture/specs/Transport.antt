@@ -1,8 +1,8 @@
 -- What stands in a datagram of the Internet Protocol: a segment of TCP (RFC 9293), a user datagram of UDP (RFC 768).
 use Rattle.std.specs.Prelude.{ℕ, ◌-◌, ◌*◌, ◌/◌, ◌==◌, nat_le}
-use Rattle.tls_fields.specs.Bytes.{Bytes}
-use Rattle.tls_fields.specs.Layout.{Layout, done, number, block, rest, test, choose, mapped, ◌>>=◌, ◌>>◌}
-use Rattle.tls_fields.specs.declared.result.ErrorKind.TheVariants.{LengthValue}
+use Rattle.layouts.specs.Bytes.{Bytes}
+use Rattle.layouts.specs.Layout.{Layout, done, number, block, rest, test, choose, mapped, ◌>>=◌, ◌>>◌}
+use Rattle.layouts.specs.declared.result.ErrorKind.TheVariants.{LengthValue}
 use Rattle.capture.specs.declared.transport.Numbers.{Numbers as LentNumbers}
 use Rattle.capture.specs.declared.transport.Control.{Control as LentControl}
 use Rattle.capture.specs.declared.transport.TcpSegment.{TcpSegment}

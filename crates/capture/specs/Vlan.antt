@@ -1,11 +1,11 @@
 -- The VLAN tags of a link's header.
 use Rattle.std.specs.Prelude.{ℕ, ◌%◌, ◌==◌, ◌||◌, List, [], ◌∷◌, ◌++◌, take, Option, Some, None, Ok, Err}
-use Rattle.tls_fields.specs.Bytes.{Bytes}
-use Rattle.tls_fields.specs.Items.{items_in}
-use Rattle.tls_fields.specs.Layout.{Layout, done, refuse, number, block, test, choose, mapped, ◌>>=◌, ◌>>◌}
-use Rattle.tls_fields.specs.Meaning.{Answer}
-use Rattle.tls_fields.specs.Reading.{reading}
-use Rattle.tls_fields.specs.declared.result.ErrorKind.TheVariants.{Tag, Switch}
+use Rattle.layouts.specs.Bytes.{Bytes}
+use Rattle.layouts.specs.Items.{items_in}
+use Rattle.layouts.specs.Layout.{Layout, done, refuse, number, block, test, choose, mapped, ◌>>=◌, ◌>>◌}
+use Rattle.layouts.specs.Meaning.{Answer}
+use Rattle.layouts.specs.Reading.{reading}
+use Rattle.layouts.specs.declared.result.ErrorKind.TheVariants.{Tag, Switch}
 use Rattle.capture.specs.Link.{is_vlan}
 use Rattle.capture.specs.declared.vlan.VlanTags.{VlanTags}
 
@@ -38,27 +38,32 @@ hdlc_front = do
   test ((front == 0x0f00) || (front == 0x8f00)) Switch
   done None
 
--- What stands in front of a link's tags, or of all but the first, which it has; other links have none.
-unfoldable pub other_front : ℕ → Layout (Option ℕ)
-other_front link_type =
-    choose (link_type == 276) sll2_front (
-    choose ((link_type == 9) || (link_type == 50)) hdlc_front (
-    refuse Switch))
+-- So many bytes in front of the tags.
+unfoldable pub tags_behind : ℕ → Layout (Option ℕ)
+tags_behind count = block count >> done None
 
+-- A link that has no tags.
+unfoldable pub no_tags : Layout (Option ℕ)
+no_tags = refuse Switch
+
+-- What stands in front of a link's tags, or of all but the first, which it has; links of other types have none.
 unfoldable pub tags_front : ℕ → Layout (Option ℕ)
 tags_front link_type =
-    choose (link_type == 1) (block 12 >> done None) (
-    choose (link_type == 113) (block 14 >> done None) (
-    other_front link_type))
+    choose (link_type == 1) (tags_behind 12) (
+    choose (link_type == 9) hdlc_front (
+    choose (link_type == 50) hdlc_front (
+    choose (link_type == 113) (tags_behind 14) (
+    choose (link_type == 276) sll2_front (
+    no_tags)))))
 
 abbrev pub first_of : Option ℕ → List ℕ
 first_of None = []
 first_of (Some id) = id ∷ []
 
-abbrev pub tags_behind : Answer (Option ℕ) → List ℕ
-tags_behind (Ok x) = first_of x.0 ++ items_in vlan x.1
-tags_behind (Err e) = []
+abbrev pub tags_in : Answer (Option ℕ) → List ℕ
+tags_in (Ok x) = first_of x.0 ++ items_in vlan x.1
+tags_in (Err e) = []
 
 -- The VLANs of the tags in front of a packet of that link type, from outside in.
 abbrev pub link_vlans : ℕ → Bytes → List ℕ
-link_vlans link_type b = tags_behind (reading (tags_front link_type) b)
+link_vlans link_type b = tags_in (reading (tags_front link_type) b)

@@ -1,6 +1,6 @@
 -- Sums of words of 16 bits (RFC 1071).
 use Rattle.std.specs.Prelude.{ℕ, ◌+◌, ◌*◌, ◌/◌, ◌%◌, ◌^◌, ◌==◌, Bool, [], ◌∷◌}
-use Rattle.tls_fields.specs.Bytes.{Bytes}
+use Rattle.layouts.specs.Bytes.{Bytes}
 
 -- The sum of the words that bytes spell; a last odd byte is the upper half of one.
 unfoldable pub words : Bytes → ℕ

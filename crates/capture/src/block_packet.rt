@@ -1,13 +1,13 @@
 //! Packets in blocks (draft-ietf-opsawg-pcapng, sections 4.3 and 4.4).
-#![tactic(auto, using(tls_fields::proofs::OneAnswerLemmas::read_allowed), unfolding(crate::specs::Pcapng::packet_of, crate::specs::Pcapng::enhanced_packet, crate::specs::Pcapng::obsolete_packet, crate::specs::Pcapng::simple_packet))]
+#![tactic(auto, using(layouts::proofs::OneAnswerLemmas::read_allowed), unfolding(crate::specs::Pcapng::packet_of, crate::specs::Pcapng::enhanced_packet, crate::specs::Pcapng::obsolete_packet, crate::specs::Pcapng::simple_packet))]
 
 ghost use Rattle.std.specs.Prelude.{◌≡◌};
-ghost use Rattle.tls_fields.specs.Answers.{Gives};
+ghost use Rattle.layouts.specs.Answers.{Gives};
 ghost use Rattle.capture.specs.Pcapng.{packet_of as packet_of_layout, enhanced_packet, obsolete_packet};
 ghost use Rattle.capture.specs.Pcapng.{simple_packet, view_packet, captured_of};
 
 use crate::order::{Order, number2_by, number4_by};
-use tls_fields::{IResult, block};
+use layouts::{IResult, block};
 
 /// A packet of a block.
 #[derive(Clone, Copy, Debug, PartialEq)]

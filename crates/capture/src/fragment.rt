@@ -1,9 +1,9 @@
 //! Fragments of datagrams (RFC 791, section 3.2; RFC 8200, section 4.5), and what they hold once they are put together.
-#![tactic(auto, using(tls_fields::proofs::OneAnswerLemmas::read_allowed), unfolding(crate::specs::Fragment::piece_step_at, crate::specs::Fragment::joined))]
+#![tactic(auto, using(layouts::proofs::OneAnswerLemmas::read_allowed), unfolding(crate::specs::Fragment::piece_step_at, crate::specs::Fragment::joined))]
 
 ghost use Rattle.std.specs.Prelude.{◌≡◌};
-ghost use Rattle.tls_fields.specs.Layout.{complete};
-ghost use Rattle.tls_fields.specs.Answers.{Gives};
+ghost use Rattle.layouts.specs.Layout.{complete};
+ghost use Rattle.layouts.specs.Answers.{Gives};
 ghost use Rattle.capture.specs.Transport.{view_content};
 ghost use Rattle.capture.specs.Ip.{view_address, view_datagram};
 ghost use Rattle.capture.specs.Fragment.{fragment_v4, fragment_v6, joined, joined_content as joined_content_layout, piece as piece_layout, piece_behind as piece_behind_layout, piece_step_at as piece_step_layout, view_fragment, view_piece, view_piece_step};
@@ -14,7 +14,7 @@ use crate::ip::{
     skipped, whole_protected, whole_v6,
 };
 use crate::transport::Content;
-use tls_fields::{Err, ErrorKind, IResult, block, number1, number2, number4, refused, rest};
+use layouts::{Err, ErrorKind, IResult, block, number1, number2, number4, refused, rest};
 
 /// The number of a Fragment header of IPv6.
 const FRAGMENT: u8 = 44;
@@ -69,7 +69,7 @@ enum PieceStep<'a> {
 /// - `Error` of kind `Verify` where the version isn't 4.
 /// - `Error` of kind `LengthValue` where the header's length is below 5 words or above a total length.
 /// - `Error` of kind `Switch` where it is a whole datagram: its offset is 0, and no more fragments follow.
-#[tactic(auto, using(tls_fields::proofs::OneAnswerLemmas::read_allowed), unfolding(crate::specs::Fragment::fragment_v4, crate::specs::Ip::is_fragment_v4))]
+#[tactic(auto, using(layouts::proofs::OneAnswerLemmas::read_allowed), unfolding(crate::specs::Fragment::fragment_v4, crate::specs::Ip::is_fragment_v4))]
 pub fn parse_fragment_v4(i: &[u8]) -> IResult<&[u8], Fragment>
     ensures { Gives view_fragment fragment_v4 i.now result }
 {
@@ -96,7 +96,7 @@ pub fn parse_fragment_v4(i: &[u8]) -> IResult<&[u8], Fragment>
 }
 
 /// A Fragment header, and the bytes behind it.
-#[tactic(auto, using(tls_fields::proofs::OneAnswerLemmas::read_allowed), unfolding(crate::specs::Fragment::piece))]
+#[tactic(auto, using(layouts::proofs::OneAnswerLemmas::read_allowed), unfolding(crate::specs::Fragment::piece))]
 fn cut_or_further(i: &[u8]) -> IResult<&[u8], PieceStep>
     ensures { Gives view_piece_step piece_layout i.now result }
 {
@@ -136,7 +136,7 @@ fn piece_step(i: &[u8], next: u8) -> IResult<&[u8], PieceStep>
 }
 
 /// The fragment behind at most so many headers.
-#[tactic(auto, using(tls_fields::proofs::OneAnswerLemmas::read_allowed, crate::proofs::HeadersLemmas::no_piece_left, crate::proofs::HeadersLemmas::one_more_piece))]
+#[tactic(auto, using(layouts::proofs::OneAnswerLemmas::read_allowed, crate::proofs::HeadersLemmas::no_piece_left, crate::proofs::HeadersLemmas::one_more_piece))]
 fn piece_behind(i: &[u8], next: u8, most: u8) -> IResult<&[u8], Piece>
     ensures { Gives view_piece (piece_behind_layout most next) i.now result }
 {
@@ -167,7 +167,7 @@ fn whole_piece(i: &[u8], next: u8) -> IResult<&[u8], Piece>
 /// - `Error` of kind `Verify` where the version isn't 6.
 /// - `Error` of kind `Complete` where a header doesn't fit in the payload length.
 /// - `Error` of kind `Switch` where no Fragment header is among the headers, but such as say that their fragment is the whole datagram.
-#[tactic(auto, using(tls_fields::proofs::OneAnswerLemmas::read_allowed), unfolding(crate::specs::Fragment::fragment_v6))]
+#[tactic(auto, using(layouts::proofs::OneAnswerLemmas::read_allowed), unfolding(crate::specs::Fragment::fragment_v6))]
 pub fn parse_fragment_v6(i: &[u8]) -> IResult<&[u8], Fragment>
     ensures { Gives view_fragment fragment_v6 i.now result }
 {

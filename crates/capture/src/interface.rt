@@ -1,17 +1,17 @@
 //! Interfaces of a section (draft-ietf-opsawg-pcapng, section 4.2).
-#![tactic(auto, using(tls_fields::proofs::OneAnswerLemmas::read_allowed), unfolding(crate::specs::Pcapng::option_but, crate::specs::Pcapng::option_front, crate::specs::Pcapng::resolution_option, crate::specs::Pcapng::offset_option, crate::specs::Pcapng::units_of))]
+#![tactic(auto, using(layouts::proofs::OneAnswerLemmas::read_allowed), unfolding(crate::specs::Pcapng::option_but, crate::specs::Pcapng::option_front, crate::specs::Pcapng::resolution_option, crate::specs::Pcapng::offset_option, crate::specs::Pcapng::units_of))]
 
 ghost use Rattle.std.specs.Prelude.{◌≡◌, ◌<◌, ◌^◌, pos};
-ghost use Rattle.tls_fields.specs.Layout.{either, done};
-ghost use Rattle.tls_fields.specs.Items.{left_in};
-ghost use Rattle.tls_fields.specs.Answers.{Gives};
+ghost use Rattle.layouts.specs.Layout.{either, done};
+ghost use Rattle.layouts.specs.Items.{left_in};
+ghost use Rattle.layouts.specs.Answers.{Gives};
 ghost use Rattle.capture.specs.declared.order.Order.TheVariants.{Big, Little};
 ghost use Rattle.capture.specs.Pcapng.{option_but as option_but_layout, option_front as option_front_layout};
 ghost use Rattle.capture.specs.Pcapng.{resolution_option as resolution_option_layout, offset_option as offset_option_layout};
 ghost use Rattle.capture.specs.Pcapng.{units_of, interface, view_interface, moved_by as moved_by_seconds, nanoseconds_of};
 
 use crate::order::{Order, number2_by, number4_by, number8_by};
-use tls_fields::{ErrorKind, IResult, InPlace, Items, block, number1, refused};
+use layouts::{ErrorKind, IResult, InPlace, Items, block, number1, refused};
 
 /// An interface of a section.
 #[derive(Clone, Copy, Debug, PartialEq, Eq)]
@@ -184,7 +184,7 @@ fn units(i: &[u8], resolution: u8) -> IResult<&[u8], u64>
 /// - `Incomplete` of what is missing of the link type, the reserved 2 bytes or the snap length.
 /// - `Error` of kind `Verify` where if_tsresol says that a second has a power of 10 above 10^18, or a power of 2 above
 ///   2^63, of units.
-#[tactic(auto, using(tls_fields::proofs::OneAnswerLemmas::read_allowed), unfolding(crate::specs::Pcapng::interface))]
+#[tactic(auto, using(layouts::proofs::OneAnswerLemmas::read_allowed), unfolding(crate::specs::Pcapng::interface))]
 pub fn parse_interface(i: &[u8], order: Order) -> IResult<&[u8], Interface>
     ensures { Gives view_interface (interface order) i.now result }
 {

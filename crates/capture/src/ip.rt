@@ -1,9 +1,9 @@
 //! Datagrams of the Internet Protocol (RFC 791; RFC 8200).
-#![tactic(auto, using(tls_fields::proofs::OneAnswerLemmas::read_allowed), unfolding(crate::specs::Ip::content_v4, crate::specs::Ip::front_v6, crate::specs::Ip::skipped, crate::specs::Ip::protected, crate::specs::Ip::fragment_header, crate::specs::Ip::step, crate::specs::Ip::address_v6))]
+#![tactic(auto, using(layouts::proofs::OneAnswerLemmas::read_allowed), unfolding(crate::specs::Ip::content_v4, crate::specs::Ip::front_v6, crate::specs::Ip::skipped, crate::specs::Ip::protected, crate::specs::Ip::fragment_header, crate::specs::Ip::step, crate::specs::Ip::address_v6))]
 
 ghost use Rattle.std.specs.Prelude.{◌≡◌, ◌⊎◌, ◌<◌, ◌≤◌, ◌^◌, IfOk};
-ghost use Rattle.tls_fields.specs.Layout.{complete};
-ghost use Rattle.tls_fields.specs.Answers.{Gives};
+ghost use Rattle.layouts.specs.Layout.{complete};
+ghost use Rattle.layouts.specs.Answers.{Gives};
 ghost use Rattle.capture.specs.Transport.{view_content};
 ghost use Rattle.capture.specs.Ip.{content_v4 as content_v4_layout, ipv4, ipv6, view_datagram, view_address};
 ghost use Rattle.capture.specs.Ip.{skipped as skipped_layout, protected as protected_layout, lengths_v4 as lengths_v4_layout, view_lengths_v4, fields_v4 as fields_v4_layout, view_fields_v4, held_v4 as held_v4_layout};
@@ -13,7 +13,7 @@ ghost use Rattle.capture.specs.Ip.{fragment_header as fragment_header_layout, is
 use crate::checksum::{is_right, sum_of, words4};
 use crate::jumbo::payload_length;
 use crate::transport::{Content, TCP, transport};
-use tls_fields::{Err, ErrorKind, IResult, block, number1, number2, number4, number8, refused};
+use layouts::{Err, ErrorKind, IResult, block, number1, number2, number4, number8, refused};
 
 /// An address, as the number that its bytes spell, the most significant first.
 #[derive(Clone, Copy, Debug, PartialEq, Eq)]
@@ -116,7 +116,7 @@ fn whole_v4(i: &[u8], flags: u16, protocol: u8) -> IResult<&[u8], Content>
 }
 
 /// The lengths of a header of IPv4 and of its datagram.
-#[tactic(auto, using(tls_fields::proofs::OneAnswerLemmas::read_allowed), unfolding(crate::specs::Ip::lengths_v4))]
+#[tactic(auto, using(layouts::proofs::OneAnswerLemmas::read_allowed), unfolding(crate::specs::Ip::lengths_v4))]
 #[inline]
 pub(crate) fn lengths_v4(i: &[u8]) -> IResult<&[u8], LengthsV4>
     ensures gives { Gives view_lengths_v4 lengths_v4_layout i.now result }
@@ -146,7 +146,7 @@ pub(crate) fn lengths_v4(i: &[u8]) -> IResult<&[u8], LengthsV4>
 }
 
 /// The fields of a header of IPv4 behind its lengths.
-#[tactic(auto, using(tls_fields::proofs::OneAnswerLemmas::read_allowed), unfolding(crate::specs::Ip::fields_v4))]
+#[tactic(auto, using(layouts::proofs::OneAnswerLemmas::read_allowed), unfolding(crate::specs::Ip::fields_v4))]
 #[inline]
 pub(crate) fn fields_v4(i: &[u8]) -> IResult<&[u8], FieldsV4>
     ensures gives { Gives view_fields_v4 fields_v4_layout i.now result }
@@ -176,7 +176,7 @@ pub(crate) fn fields_v4(i: &[u8]) -> IResult<&[u8], FieldsV4>
 }
 
 /// What a datagram of IPv4 holds, behind a header of this length.
-#[tactic(auto, using(tls_fields::proofs::OneAnswerLemmas::read_allowed), unfolding(crate::specs::Ip::held_v4))]
+#[tactic(auto, using(layouts::proofs::OneAnswerLemmas::read_allowed), unfolding(crate::specs::Ip::held_v4))]
 fn held_v4<'a>(i: &'a [u8], lengths: LengthsV4, fields: FieldsV4) -> IResult<&'a [u8], Content<'a>>
     requires { (lengths.total ≡ 0) ⊎ (lengths.header ≤ lengths.total) }
     ensures { Gives view_content (held_v4_layout lengths.header lengths.total (content_v4_layout fields.flags fields.protocol)) i.now result }
@@ -199,7 +199,7 @@ fn held_v4<'a>(i: &'a [u8], lengths: LengthsV4, fields: FieldsV4) -> IResult<&'a
 /// - `Error` of kind `LengthValue` where the header's length is below 5 words or above the total length; or where the
 ///   data offset of a segment is below 5 words, or the length of a user datagram below 8.
 /// - `Error` of kind `Complete` where a segment or user datagram doesn't fit in the total length.
-#[tactic(auto, using(tls_fields::proofs::OneAnswerLemmas::read_allowed), unfolding(crate::specs::Ip::ipv4))]
+#[tactic(auto, using(layouts::proofs::OneAnswerLemmas::read_allowed), unfolding(crate::specs::Ip::ipv4))]
 pub fn parse_ipv4(i: &[u8]) -> IResult<&[u8], Datagram>
     ensures { Gives view_datagram ipv4 i.now result }
 {
@@ -268,7 +268,7 @@ fn step_at(i: &[u8], next: u8) -> IResult<&[u8], Step>
 }
 
 /// At most so many extension headers, and what the datagram holds.
-#[tactic(auto, using(tls_fields::proofs::OneAnswerLemmas::read_allowed, crate::proofs::HeadersLemmas::none_left, crate::proofs::HeadersLemmas::one_more))]
+#[tactic(auto, using(layouts::proofs::OneAnswerLemmas::read_allowed, crate::proofs::HeadersLemmas::none_left, crate::proofs::HeadersLemmas::one_more))]
 fn headers(i: &[u8], next: u8, most: u8) -> IResult<&[u8], Content>
     ensures { Gives view_content (headers_layout most next) i.now result }
 {
@@ -319,7 +319,7 @@ pub(crate) fn front_v6(i: &[u8]) -> IResult<&[u8], (u16, u8)>
 }
 
 /// What a datagram of IPv6 holds, behind a header that says this length and this next header.
-#[tactic(auto, using(tls_fields::proofs::OneAnswerLemmas::read_allowed), unfolding(crate::specs::Ip::held_v6))]
+#[tactic(auto, using(layouts::proofs::OneAnswerLemmas::read_allowed), unfolding(crate::specs::Ip::held_v6))]
 fn held_v6(i: &[u8], len: u16, next: u8) -> IResult<&[u8], Content>
     ensures { Gives view_content (held_v6_layout len next) i.now result }
 {
@@ -344,7 +344,7 @@ fn held_v6(i: &[u8], len: u16, next: u8) -> IResult<&[u8], Content>
 ///   datagram below 8; or where a jumbo payload is said in another length than 4 bytes, or is below 65,536.
 /// - `Error` of kind `Complete` where an extension header, a segment or a user datagram doesn't fit in the payload
 ///   length; or where there is no jumbo payload among the options that should say the length.
-#[tactic(auto, using(tls_fields::proofs::OneAnswerLemmas::read_allowed), unfolding(crate::specs::Ip::ipv6))]
+#[tactic(auto, using(layouts::proofs::OneAnswerLemmas::read_allowed), unfolding(crate::specs::Ip::ipv6))]
 pub fn parse_ipv6(i: &[u8]) -> IResult<&[u8], Datagram>
     ensures { Gives view_datagram ipv6 i.now result }
 {

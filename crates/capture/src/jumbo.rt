@@ -1,12 +1,12 @@
 //! Datagrams of IPv6 that are longer than 65,535 bytes (RFC 2675).
-#![tactic(auto, using(tls_fields::proofs::OneAnswerLemmas::read_allowed), unfolding(crate::specs::Jumbo::other_option, crate::specs::Jumbo::jumbo_length, crate::specs::Jumbo::payload_length))]
+#![tactic(auto, using(layouts::proofs::OneAnswerLemmas::read_allowed), unfolding(crate::specs::Jumbo::other_option, crate::specs::Jumbo::jumbo_length, crate::specs::Jumbo::payload_length))]
 
-ghost use Rattle.tls_fields.specs.Layout.{complete};
-ghost use Rattle.tls_fields.specs.Answers.{Gives};
+ghost use Rattle.layouts.specs.Layout.{complete};
+ghost use Rattle.layouts.specs.Answers.{Gives};
 ghost use Rattle.capture.specs.Jumbo.{other_option, jumbo_option as jumbo_option_layout};
 ghost use Rattle.capture.specs.Jumbo.{jumbo_length as jumbo_length_layout, payload_length as payload_length_layout};
 
-use tls_fields::{Err, ErrorKind, IResult, InPlace, Items, block, number1, number4, refused};
+use layouts::{Err, ErrorKind, IResult, InPlace, Items, block, number1, number4, refused};
 
 /// The type of the option that says a jumbo payload's length.
 const JUMBO_PAYLOAD: u8 = 0xc2;
@@ -38,7 +38,7 @@ impl<'a> InPlace<'a> for OtherOption {
 }
 
 /// The length that the first jumbo payload among the options says.
-#[tactic(auto, using(tls_fields::proofs::OneAnswerLemmas::read_allowed), unfolding(crate::specs::Jumbo::jumbo_option))]
+#[tactic(auto, using(layouts::proofs::OneAnswerLemmas::read_allowed), unfolding(crate::specs::Jumbo::jumbo_option))]
 fn jumbo_option(i: &[u8]) -> IResult<&[u8], u32>
     ensures { Gives (λ v. v) jumbo_option_layout i.now result }
 {

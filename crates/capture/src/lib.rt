@@ -2,7 +2,7 @@
 //!
 //! Each call reads one structure from the front of bytes, takes no memory, and answers what a layout of `specs/` allows
 //! there: the value and the exact rest, the kind of the broken rule, or the exact count of missing bytes.
-#![tactic(auto, using(tls_fields::proofs::OneAnswerLemmas::read_allowed))]
+#![tactic(auto, using(layouts::proofs::OneAnswerLemmas::read_allowed))]
 
 mod block_packet;
 mod checksum;
@@ -11,6 +11,7 @@ mod interface;
 mod ip;
 mod jumbo;
 mod link;
+mod links;
 mod options;
 mod order;
 mod pcap;
@@ -31,6 +32,9 @@ pub use order::{Order, number2_by, number4_by, number8_by};
 pub use pcap::{
     Captured, Format, MAX_PACKET_LEN, PcapHeader, Unit, parse_pcap_header, parse_pcap_packet,
 };
-pub use pcapng::{Block, MAX_BLOCK_LEN, SECTION_HEADER, parse_block};
+pub use pcapng::{
+    Block, ENHANCED_PACKET, INTERFACE_DESCRIPTION, MAX_BLOCK_LEN, OBSOLETE_PACKET, SECTION_HEADER,
+    SIMPLE_PACKET, parse_block,
+};
 pub use transport::{Content, TcpSegment, UdpDatagram, parse_tcp, parse_udp};
 pub use vlan::{MAX_VLAN_TAGS, VlanTags};

@@ -1,18 +1,21 @@
 //! What a packet begins with, by the link type of its capture (the LINKTYPE pages of tcpdump.org).
-#![tactic(auto, using(tls_fields::proofs::OneAnswerLemmas::read_allowed), unfolding(crate::specs::Link::vlan_tag, crate::specs::Link::ethernet, crate::specs::Link::loopback, crate::specs::Link::sll, crate::specs::Link::behind_type, crate::specs::Link::sll2, crate::specs::Link::raw_ip, crate::specs::Link::ppp, crate::specs::Link::ppp_by, crate::specs::Link::ppp_link, crate::specs::Link::no_link, crate::specs::Link::ppp_or_none, crate::specs::Link::link, crate::specs::Link::datagram, crate::specs::Link::pppoe, crate::specs::Link::network))]
+#![tactic(auto, using(layouts::proofs::OneAnswerLemmas::read_allowed))]
 
-ghost use Rattle.tls_fields.specs.Meaning.{AllowsOne};
-ghost use Rattle.tls_fields.specs.Answers.{Gives};
+ghost use Rattle.layouts.specs.Meaning.{AllowsOne};
+ghost use Rattle.layouts.specs.Answers.{Gives};
 ghost use Rattle.capture.specs.Link.{vlan_tag, view_packet, ether_type as ether_type_layout};
 ghost use Rattle.capture.specs.Link.{loopback as loopback_layout, behind_type as behind_type_layout, sll2 as sll2_layout};
 ghost use Rattle.capture.specs.Link.{raw_ip as raw_ip_layout, ppp as ppp_layout, ppp_by as ppp_by_layout, ppp_link as ppp_link_layout};
-ghost use Rattle.capture.specs.Link.{no_link as no_link_layout, ppp_or_none as ppp_or_none_layout, link as link_layout, datagram as datagram_layout};
+ghost use Rattle.capture.specs.Link.{behind as behind_layout, link as link_layout, datagram as datagram_layout};
+ghost use Rattle.layouts.specs.Layout.{done, refuse};
+ghost use Rattle.layouts.specs.declared.result.ErrorKind.TheVariants.{Switch};
 ghost use Rattle.capture.specs.Link.{pppoe as pppoe_layout, network as network_layout, carried, packet};
 ghost use Rattle.capture.specs.Link.{family as type_of_family, type_of_ppp, is_vlan as is_vlan_type};
 ghost use Rattle.std.specs.Prelude.{◌≡◌};
 
 use crate::ip::{Datagram, parse_ipv4, parse_ipv6};
-use tls_fields::{ErrorKind, IResult, InPlace, Items, block, number1, number2, number4, refused};
+use crate::links::links;
+use layouts::{ErrorKind, IResult, InPlace, Items, block, number1, number2, number4, refused};
 
 /// The type of Ethernet that is IPv4.
 const IPV4: u16 = 0x0800;
@@ -43,6 +46,7 @@ impl<'a> InPlace<'a> for VlanTag {
 
     ghost layout = { vlan_tag };
 
+    #[tactic(auto, using(layouts::proofs::OneAnswerLemmas::read_allowed), unfolding(crate::specs::Link::vlan_tag))]
     fn read(i: &'a [u8]) -> IResult<&'a [u8], ()> {
         let (i, kind) = number2(i)?;
         if !is_vlan(kind) {
@@ -54,7 +58,7 @@ impl<'a> InPlace<'a> for VlanTag {
 }
 
 /// Any number of VLAN tags, and the type of what follows.
-#[tactic(auto, using(tls_fields::proofs::OneAnswerLemmas::read_allowed), unfolding(crate::specs::Link::ether_type))]
+#[tactic(auto, using(layouts::proofs::OneAnswerLemmas::read_allowed), unfolding(crate::specs::Link::ether_type))]
 fn ether_type(i: &[u8]) -> IResult<&[u8], u16>
     ensures { Gives (λ v. v) ether_type_layout i.now result }
 {
@@ -73,6 +77,7 @@ fn family_type(family: u32) -> u16
 }
 
 /// LINKTYPE_NULL and LINKTYPE_LOOP.
+#[tactic(auto, using(layouts::proofs::OneAnswerLemmas::read_allowed), unfolding(crate::specs::Link::loopback))]
 fn loopback(i: &[u8]) -> IResult<&[u8], u16>
     ensures { Gives (λ v. v) loopback_layout i.now result }
 {
@@ -81,6 +86,7 @@ fn loopback(i: &[u8]) -> IResult<&[u8], u16>
 }
 
 /// The type of what follows a type of Ethernet that was read, behind tags.
+#[tactic(auto, using(layouts::proofs::OneAnswerLemmas::read_allowed), unfolding(crate::specs::Link::behind_type))]
 fn behind_type(i: &[u8], kind: u16) -> IResult<&[u8], u16>
     ensures { Gives (λ v. v) (behind_type_layout kind) i.now result }
 {
@@ -92,6 +98,7 @@ fn behind_type(i: &[u8], kind: u16) -> IResult<&[u8], u16>
 }
 
 /// LINKTYPE_LINUX_SLL2.
+#[tactic(auto, using(layouts::proofs::OneAnswerLemmas::read_allowed), unfolding(crate::specs::Link::sll2))]
 fn sll2(i: &[u8]) -> IResult<&[u8], u16>
     ensures { Gives (λ v. v) sll2_layout i.now result }
 {
@@ -101,6 +108,7 @@ fn sll2(i: &[u8]) -> IResult<&[u8], u16>
 }
 
 /// LINKTYPE_RAW.
+#[tactic(auto, using(layouts::proofs::OneAnswerLemmas::read_allowed), unfolding(crate::specs::Link::raw_ip))]
 fn raw_ip(i: &[u8]) -> IResult<&[u8], u16>
     ensures { Gives (λ v. v) raw_ip_layout i.now result }
 {
@@ -124,6 +132,7 @@ fn ppp_type(protocol: u16) -> u16
 }
 
 /// The type of what follows the protocol of PPP, which has one byte or two.
+#[tactic(auto, using(layouts::proofs::OneAnswerLemmas::read_allowed), unfolding(crate::specs::Link::ppp))]
 fn ppp(i: &[u8]) -> IResult<&[u8], u16>
     ensures { Gives (λ v. v) ppp_layout i.now result }
 {
@@ -137,6 +146,7 @@ fn ppp(i: &[u8]) -> IResult<&[u8], u16>
 }
 
 /// The type of what follows behind the address and the control byte of HDLC, where these are the 2 bytes in front.
+#[tactic(auto, using(layouts::proofs::OneAnswerLemmas::read_allowed), unfolding(crate::specs::Link::ppp_by))]
 fn ppp_by(i: &[u8], front: u16) -> IResult<&[u8], u16>
     ensures { Gives (λ v. v) (ppp_by_layout front) i.now result }
 {
@@ -154,6 +164,7 @@ fn ppp_by(i: &[u8], front: u16) -> IResult<&[u8], u16>
 }
 
 /// LINKTYPE_PPP and LINKTYPE_PPP_HDLC.
+#[tactic(auto, using(layouts::proofs::OneAnswerLemmas::read_allowed), unfolding(crate::specs::Link::ppp_link))]
 fn ppp_link(i: &[u8]) -> IResult<&[u8], u16>
     ensures { Gives (λ v. v) ppp_link_layout i.now result }
 {
@@ -161,49 +172,49 @@ fn ppp_link(i: &[u8]) -> IResult<&[u8], u16>
     ppp_by(i, front)
 }
 
-/// The type of what follows, by the link type, where no header of a link is there.
-fn no_link(i: &[u8], link_type: u16) -> IResult<&[u8], u16>
-    ensures { Gives (λ v. v) (no_link_layout link_type) i.now result }
+/// What follows is of that type: the link has no header, or one that was read.
+fn carries(i: &[u8], kind: u16) -> IResult<&[u8], u16>
+    ensures { Gives (λ v. v) (done kind) i.now result }
 {
-    match link_type {
-        101 => raw_ip(i),
-        228 => Ok((i, IPV4)),
-        229 => Ok((i, IPV6)),
-        _ => refused(i, ErrorKind::Switch),
-    }
+    Ok((i, kind))
 }
 
-/// The same, where there is PPP, or no header.
-fn ppp_or_none(i: &[u8], link_type: u16) -> IResult<&[u8], u16>
-    ensures { Gives (λ v. v) (ppp_or_none_layout link_type) i.now result }
+/// The same behind so many bytes, and VLAN tags.
+#[tactic(auto, using(layouts::proofs::OneAnswerLemmas::read_allowed), unfolding(crate::specs::Link::behind))]
+fn behind(i: &[u8], count: usize) -> IResult<&[u8], u16>
+    ensures { Gives (λ v. v) (behind_layout count) i.now result }
 {
-    match link_type {
-        9 | 50 => ppp_link(i),
-        51 => Ok((i, PPPOE)),
-        _ => no_link(i, link_type),
-    }
+    let (i, _) = block(i, count)?;
+    ether_type(i)
+}
+
+/// A link of another type.
+fn no_link(i: &[u8]) -> IResult<&[u8], u16>
+    ensures { Gives (λ v. v) (refuse Switch) i.now result }
+{
+    refused(i, ErrorKind::Switch)
+}
+
+/// What the row of the link type reads as a header.
+macro_rules! header {
+    ($i:ident, $link_type:ident: $($number:literal $name:ident => $read:ident($($of:expr)?), $front:ident($($count:expr)?);)*) => {
+        match $link_type {
+            $($number => $read($i $(, $of)?),)*
+            _ => no_link($i),
+        }
+    };
 }
 
 /// The type of what follows, by the link type.
+#[tactic(auto, using(layouts::proofs::OneAnswerLemmas::read_allowed), unfolding(crate::specs::Link::link))]
 fn link(i: &[u8], link_type: u16) -> IResult<&[u8], u16>
     ensures { Gives (λ v. v) (link_layout link_type) i.now result }
 {
-    match link_type {
-        1 => {
-            let (i, _) = block(i, 12)?;
-            ether_type(i)
-        }
-        0 | 108 => loopback(i),
-        113 => {
-            let (i, _) = block(i, 14)?;
-            ether_type(i)
-        }
-        276 => sll2(i),
-        _ => ppp_or_none(i, link_type),
-    }
+    links!(header i, link_type)
 }
 
 /// The type of what a packet of a PPPoE session carries (RFC 2516, section 4).
+#[tactic(auto, using(layouts::proofs::OneAnswerLemmas::read_allowed), unfolding(crate::specs::Link::pppoe))]
 fn pppoe(i: &[u8]) -> IResult<&[u8], u16>
     ensures { Gives (λ v. v) pppoe_layout i.now result }
 {
@@ -216,6 +227,7 @@ fn pppoe(i: &[u8]) -> IResult<&[u8], u16>
 }
 
 /// The type of what follows, in a PPPoE session too.
+#[tactic(auto, using(layouts::proofs::OneAnswerLemmas::read_allowed), unfolding(crate::specs::Link::network))]
 fn network(i: &[u8], kind: u16) -> IResult<&[u8], u16>
     ensures { Gives (λ v. v) (network_layout kind) i.now result }
 {
@@ -231,7 +243,7 @@ fn network(i: &[u8], kind: u16) -> IResult<&[u8], u16>
 /// - `Incomplete` of what is missing of the first part that isn't whole.
 /// - `Error` of kind `Switch` where the link type is another.
 /// - `Error` of kind `Verify` where a PPPoE packet isn't one of a session, or raw IP has another version.
-#[tactic(auto, using(tls_fields::proofs::OneAnswerLemmas::read_allowed), unfolding(crate::specs::Link::carried))]
+#[tactic(auto, using(layouts::proofs::OneAnswerLemmas::read_allowed), unfolding(crate::specs::Link::carried))]
 pub fn parse_link(i: &[u8], link_type: u16) -> IResult<&[u8], u16>
     ensures { Gives (λ v. v) (carried link_type) i.now result }
 {
@@ -240,6 +252,7 @@ pub fn parse_link(i: &[u8], link_type: u16) -> IResult<&[u8], u16>
 }
 
 /// A datagram, by its type.
+#[tactic(auto, using(layouts::proofs::OneAnswerLemmas::read_allowed), unfolding(crate::specs::Link::datagram))]
 fn datagram(i: &[u8], kind: u16) -> IResult<&[u8], Option<Datagram>>
     ensures { Gives view_packet (datagram_layout kind) i.now result }
 {
@@ -267,7 +280,7 @@ fn datagram(i: &[u8], kind: u16) -> IResult<&[u8], Option<Datagram>>
 /// - `Error` of kind `Switch` where the link type is another.
 /// - `Error` of kind `Verify` where a PPPoE packet isn't one of a session, or raw IP has another version.
 /// - What [`parse_ipv4`] and [`parse_ipv6`] refuse.
-#[tactic(auto, using(tls_fields::proofs::OneAnswerLemmas::read_allowed, tls_fields::proofs::OneAnswerLemmas::one_answer), unfolding(crate::specs::Link::packet))]
+#[tactic(auto, using(layouts::proofs::OneAnswerLemmas::read_allowed, layouts::proofs::OneAnswerLemmas::one_answer), unfolding(crate::specs::Link::packet))]
 pub fn parse_packet(i: &[u8], link_type: u16) -> IResult<&[u8], Option<Datagram>>
     ensures gives { Gives view_packet (packet link_type) i.now result }
     ensures only_one { AllowsOne (packet link_type) i.now }

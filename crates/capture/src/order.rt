@@ -1,11 +1,11 @@
 //! Numbers in the order of bytes of the machine that wrote a file.
-#![tactic(auto, using(tls_fields::proofs::GivesLemmas::reads), unfolding(tls_fields::specs::Reading::split_at, crate::specs::Order::little))]
+#![tactic(auto, using(layouts::proofs::GivesLemmas::reads), unfolding(layouts::specs::Reading::split_at, crate::specs::Order::little))]
 
-ghost use Rattle.tls_fields.specs.Answers.{Gives};
+ghost use Rattle.layouts.specs.Answers.{Gives};
 ghost use Rattle.std.specs.Prelude.{◌≡◌, length};
 ghost use Rattle.capture.specs.Order.{little, little_of, number_by};
 
-use tls_fields::{Err, IResult, Needed, number2, number4, number8};
+use layouts::{Err, IResult, Needed, number2, number4, number8};
 
 /// Which byte of a number stands first.
 #[derive(Clone, Copy, Debug, PartialEq, Eq)]
@@ -61,7 +61,7 @@ fn little8(i: &[u8]) -> IResult<&[u8], u64>
 /// A number of 2 bytes in that order.
 ///
 /// `Incomplete` of the missing bytes where there are fewer than 2.
-#[tactic(auto, using(tls_fields::proofs::OneAnswerLemmas::read_allowed), unfolding(crate::specs::Order::number_by))]
+#[tactic(auto, using(layouts::proofs::OneAnswerLemmas::read_allowed), unfolding(crate::specs::Order::number_by))]
 pub fn number2_by(i: &[u8], order: Order) -> IResult<&[u8], u16>
     ensures { Gives (λ v. v) (number_by order 2) i.now result }
 {
@@ -74,7 +74,7 @@ pub fn number2_by(i: &[u8], order: Order) -> IResult<&[u8], u16>
 /// A number of 4 bytes in that order.
 ///
 /// `Incomplete` of the missing bytes where there are fewer than 4.
-#[tactic(auto, using(tls_fields::proofs::OneAnswerLemmas::read_allowed), unfolding(crate::specs::Order::number_by))]
+#[tactic(auto, using(layouts::proofs::OneAnswerLemmas::read_allowed), unfolding(crate::specs::Order::number_by))]
 pub fn number4_by(i: &[u8], order: Order) -> IResult<&[u8], u32>
     ensures { Gives (λ v. v) (number_by order 4) i.now result }
 {
@@ -87,7 +87,7 @@ pub fn number4_by(i: &[u8], order: Order) -> IResult<&[u8], u32>
 /// A number of 8 bytes in that order.
 ///
 /// `Incomplete` of the missing bytes where there are fewer than 8.
-#[tactic(auto, using(tls_fields::proofs::OneAnswerLemmas::read_allowed), unfolding(crate::specs::Order::number_by))]
+#[tactic(auto, using(layouts::proofs::OneAnswerLemmas::read_allowed), unfolding(crate::specs::Order::number_by))]
 pub fn number8_by(i: &[u8], order: Order) -> IResult<&[u8], u64>
     ensures { Gives (λ v. v) (number_by order 8) i.now result }
 {

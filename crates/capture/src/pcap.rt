@@ -1,11 +1,11 @@
 //! Files of captured packets (draft-ietf-opsawg-pcap).
 ghost use Rattle.std.specs.Prelude.{◌≡◌};
-ghost use Rattle.tls_fields.specs.Meaning.{AllowsOne};
-ghost use Rattle.tls_fields.specs.Answers.{Gives};
+ghost use Rattle.layouts.specs.Meaning.{AllowsOne};
+ghost use Rattle.layouts.specs.Answers.{Gives};
 ghost use Rattle.capture.specs.Pcap.{format_of, view_format, header, view_header, packet, view_packet, nanoseconds};
 
 use crate::order::{Order, number2_by, number4_by};
-use tls_fields::{ErrorKind, IResult, block, number4, refused};
+use layouts::{ErrorKind, IResult, block, number4, refused};
 
 /// No packet of a file is longer than this, in bytes (`MAXIMUM_SNAPLEN` of libpcap).
 pub const MAX_PACKET_LEN: u32 = 262_144;
@@ -63,7 +63,7 @@ impl Unit {
 }
 
 /// The format that a magic number stands for.
-#[tactic(auto, using(tls_fields::proofs::OneAnswerLemmas::read_allowed), unfolding(crate::specs::Pcap::format_of))]
+#[tactic(auto, using(layouts::proofs::OneAnswerLemmas::read_allowed), unfolding(crate::specs::Pcap::format_of))]
 fn format_by_magic(i: &[u8], magic: u32) -> IResult<&[u8], Format>
     ensures { Gives view_format (format_of magic) i.now result }
 {
@@ -82,7 +82,7 @@ fn format_by_magic(i: &[u8], magic: u32) -> IResult<&[u8], Format>
 /// - `Incomplete` of the count that is missing of the first field that isn't whole.
 /// - `Error` of kind `Tag` where the first 4 bytes are no magic number: it is no such file.
 /// - `Error` of kind `Verify` where the major version isn't 2.
-#[tactic(auto, using(tls_fields::proofs::OneAnswerLemmas::read_allowed, tls_fields::proofs::OneAnswerLemmas::one_answer), unfolding(crate::specs::Pcap::header))]
+#[tactic(auto, using(layouts::proofs::OneAnswerLemmas::read_allowed, layouts::proofs::OneAnswerLemmas::one_answer), unfolding(crate::specs::Pcap::header))]
 pub fn parse_pcap_header(i: &[u8]) -> IResult<&[u8], PcapHeader>
     ensures gives { Gives view_header header i.now result }
     ensures only_one { AllowsOne header i.now }
@@ -110,7 +110,7 @@ pub fn parse_pcap_header(i: &[u8]) -> IResult<&[u8], PcapHeader>
 /// - `Incomplete` of the count that is missing of the first field that isn't whole, or else of the packet's bytes.
 /// - `Error` of kind `TooLarge` where more than [`MAX_PACKET_LEN`] bytes are said to follow, even if they aren't there
 ///   yet.
-#[tactic(auto, using(tls_fields::proofs::OneAnswerLemmas::read_allowed, tls_fields::proofs::OneAnswerLemmas::one_answer), unfolding(crate::specs::Pcap::packet))]
+#[tactic(auto, using(layouts::proofs::OneAnswerLemmas::read_allowed, layouts::proofs::OneAnswerLemmas::one_answer), unfolding(crate::specs::Pcap::packet))]
 pub fn parse_pcap_packet(i: &[u8], format: Format) -> IResult<&[u8], Captured>
     ensures gives { Gives view_packet (packet (view_format format)) i.now result }
     ensures only_one { AllowsOne (packet (view_format format)) i.now }

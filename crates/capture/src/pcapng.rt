@@ -1,14 +1,14 @@
 //! Blocks of a file in sections (draft-ietf-opsawg-pcapng).
-#![tactic(auto, using(tls_fields::proofs::OneAnswerLemmas::read_allowed), unfolding(crate::specs::Pcapng::order_of, crate::specs::Pcapng::section_order, crate::specs::Pcapng::order_next, crate::specs::Pcapng::block_by))]
+#![tactic(auto, using(layouts::proofs::OneAnswerLemmas::read_allowed), unfolding(crate::specs::Pcapng::order_of, crate::specs::Pcapng::section_order, crate::specs::Pcapng::order_next, crate::specs::Pcapng::block_by))]
 
-ghost use Rattle.tls_fields.specs.Meaning.{AllowsOne};
-ghost use Rattle.tls_fields.specs.Answers.{Gives};
+ghost use Rattle.layouts.specs.Meaning.{AllowsOne};
+ghost use Rattle.layouts.specs.Answers.{Gives};
 ghost use Rattle.capture.specs.Pcapng.{order_of, section_order as section_order_layout};
 ghost use Rattle.capture.specs.Pcapng.{order_next as order_next_layout};
 ghost use Rattle.capture.specs.Pcapng.{block_by as block_by_layout, next_block, view_block};
 
 use crate::order::{Order, number4_by};
-use tls_fields::{ErrorKind, IResult, block, number4, refused};
+use layouts::{ErrorKind, IResult, block, number4, refused};
 
 /// No block is longer than this, in bytes.
 pub const MAX_BLOCK_LEN: u32 = 16_777_216;
@@ -16,13 +16,24 @@ pub const MAX_BLOCK_LEN: u32 = 16_777_216;
 /// The type of a block that begins a section (draft-ietf-opsawg-pcapng, section 4.1).
 pub const SECTION_HEADER: u32 = 0x0a0d_0d0a;
 
+/// The type of a block that describes an interface (section 4.2).
+pub const INTERFACE_DESCRIPTION: u32 = 1;
+
+/// The type of a block that holds a packet in the obsolete form (appendix A).
+pub const OBSOLETE_PACKET: u32 = 2;
+
+/// The type of a block that holds a packet without a time (section 4.4).
+pub const SIMPLE_PACKET: u32 = 3;
+
+/// The type of a block that holds a packet (section 4.3).
+pub const ENHANCED_PACKET: u32 = 6;
+
 /// A block (draft-ietf-opsawg-pcapng, section 3.1).
 #[derive(Clone, Copy, Debug, PartialEq)]
 pub struct Block<'a> {
     /// The order of its numbers, and of those in the blocks behind it.
     pub order: Order,
-    /// Its type: [`SECTION_HEADER`], 1 an interface's description, 2 an obsolete packet, 3 a simple packet, 6 an
-    /// enhanced packet.
+    /// Its type: [`SECTION_HEADER`], [`INTERFACE_DESCRIPTION`], [`OBSOLETE_PACKET`], [`SIMPLE_PACKET`], [`ENHANCED_PACKET`], or another.
     pub kind: u32,
     /// What it holds.
     pub body: &'a [u8],
@@ -88,7 +99,7 @@ fn block_by(i: &[u8], order: Order) -> IResult<&[u8], Block>
 /// - `Error` of kind `LengthValue` where the length is below 12 or no multiple of 4, or the one behind the body
 ///   differs.
 /// - `Error` of kind `TooLarge` where the length is above [`MAX_BLOCK_LEN`], even if the body isn't there yet.
-#[tactic(auto, using(tls_fields::proofs::OneAnswerLemmas::read_allowed, tls_fields::proofs::OneAnswerLemmas::one_answer), unfolding(crate::specs::Pcapng::next_block))]
+#[tactic(auto, using(layouts::proofs::OneAnswerLemmas::read_allowed, layouts::proofs::OneAnswerLemmas::one_answer), unfolding(crate::specs::Pcapng::next_block))]
 pub fn parse_block(i: &[u8], order: Order) -> IResult<&[u8], Block>
     ensures gives { Gives view_block (next_block order) i.now result }
     ensures only_one { AllowsOne (next_block order) i.now }

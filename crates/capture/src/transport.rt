@@ -1,11 +1,11 @@
 //! What stands in a datagram of the Internet Protocol.
 ghost use Rattle.std.specs.Prelude.{◌≤◌, IfOk};
-ghost use Rattle.tls_fields.specs.Answers.{Gives};
+ghost use Rattle.layouts.specs.Answers.{Gives};
 ghost use Rattle.capture.specs.Transport.{tcp as tcp_layout, view_segment, udp as udp_layout, view_datagram};
 ghost use Rattle.capture.specs.Transport.{numbers as numbers_layout, view_numbers, control_fields as control_fields_layout, view_control};
 ghost use Rattle.capture.specs.Transport.{transport as transport_layout, view_content};
 
-use tls_fields::{ErrorKind, IResult, block, number1, number2, number4, refused, rest};
+use layouts::{ErrorKind, IResult, block, number1, number2, number4, refused, rest};
 
 /// The number of the protocol TCP.
 pub(crate) const TCP: u8 = 6;
@@ -88,7 +88,7 @@ pub enum Content<'a> {
 }
 
 /// Reads the ports and numbers in front of a segment of TCP.
-#[tactic(auto, using(tls_fields::proofs::OneAnswerLemmas::read_allowed), unfolding(crate::specs::Transport::numbers))]
+#[tactic(auto, using(layouts::proofs::OneAnswerLemmas::read_allowed), unfolding(crate::specs::Transport::numbers))]
 #[inline]
 fn read_numbers(i: &[u8]) -> IResult<&[u8], Numbers>
     ensures { Gives view_numbers numbers_layout i.now result }
@@ -107,7 +107,7 @@ fn read_numbers(i: &[u8]) -> IResult<&[u8], Numbers>
 }
 
 /// Reads what stands behind the numbers, up to the options.
-#[tactic(auto, using(tls_fields::proofs::OneAnswerLemmas::read_allowed), unfolding(crate::specs::Transport::control_fields))]
+#[tactic(auto, using(layouts::proofs::OneAnswerLemmas::read_allowed), unfolding(crate::specs::Transport::control_fields))]
 #[inline]
 fn control_fields(i: &[u8]) -> IResult<&[u8], Control>
     ensures gives { Gives view_control control_fields_layout i.now result }
@@ -135,7 +135,7 @@ fn control_fields(i: &[u8]) -> IResult<&[u8], Control>
 ///
 /// - `Incomplete` of what is missing of the header, or of the options.
 /// - `Error` of kind `LengthValue` where the data offset is below 5.
-#[tactic(auto, using(tls_fields::proofs::OneAnswerLemmas::read_allowed), unfolding(crate::specs::Transport::tcp))]
+#[tactic(auto, using(layouts::proofs::OneAnswerLemmas::read_allowed), unfolding(crate::specs::Transport::tcp))]
 pub fn parse_tcp(i: &[u8]) -> IResult<&[u8], TcpSegment>
     ensures { Gives view_segment tcp_layout i.now result }
 {
@@ -163,7 +163,7 @@ pub fn parse_tcp(i: &[u8]) -> IResult<&[u8], TcpSegment>
 ///
 /// - `Incomplete` of what is missing of the header, or of the data.
 /// - `Error` of kind `LengthValue` where the length is below 8.
-#[tactic(auto, using(tls_fields::proofs::OneAnswerLemmas::read_allowed), unfolding(crate::specs::Transport::udp))]
+#[tactic(auto, using(layouts::proofs::OneAnswerLemmas::read_allowed), unfolding(crate::specs::Transport::udp))]
 pub fn parse_udp(i: &[u8]) -> IResult<&[u8], UdpDatagram>
     ensures { Gives view_datagram udp_layout i.now result }
 {
@@ -186,7 +186,7 @@ pub fn parse_udp(i: &[u8]) -> IResult<&[u8], UdpDatagram>
 }
 
 /// What a datagram holds, by the number of its protocol.
-#[tactic(auto, using(tls_fields::proofs::OneAnswerLemmas::read_allowed), unfolding(crate::specs::Transport::transport))]
+#[tactic(auto, using(layouts::proofs::OneAnswerLemmas::read_allowed), unfolding(crate::specs::Transport::transport))]
 pub(crate) fn transport(i: &[u8], protocol: u8) -> IResult<&[u8], Content>
     ensures { Gives view_content (transport_layout protocol) i.now result }
 {

@@ -1,13 +1,14 @@
 //! The VLAN tags of a link's header.
-#![tactic(auto, using(tls_fields::proofs::OneAnswerLemmas::read_allowed), unfolding(crate::specs::Vlan::vlan, crate::specs::Vlan::sll2_front, crate::specs::Vlan::hdlc_front, crate::specs::Vlan::other_front, crate::specs::Vlan::tags_front))]
+#![tactic(auto, using(layouts::proofs::OneAnswerLemmas::read_allowed))]
 
 ghost use Rattle.std.specs.Prelude.{◌≡◌, ◌<◌, ◌++◌, ◌∷◌, [], take};
-ghost use Rattle.tls_fields.specs.Answers.{Gives};
-ghost use Rattle.tls_fields.specs.Items.{items_in};
-ghost use Rattle.capture.specs.Vlan.{found_in, hdlc_front as hdlc_front_layout, link_vlans, other_front as other_front_layout, sll2_front as sll2_front_layout, tags_front as tags_front_layout, vlan as vlan_layout};
+ghost use Rattle.layouts.specs.Answers.{Gives};
+ghost use Rattle.layouts.specs.Items.{items_in};
+ghost use Rattle.capture.specs.Vlan.{found_in, hdlc_front as hdlc_front_layout, link_vlans, no_tags as no_tags_layout, sll2_front as sll2_front_layout, tags_behind as tags_behind_layout, tags_front as tags_front_layout, vlan as vlan_layout};
 
 use crate::link::is_vlan;
-use tls_fields::{ErrorKind, IResult, block, number2, refused};
+use crate::links::links;
+use layouts::{ErrorKind, IResult, block, number2, refused};
 
 /// The most VLAN tags of a packet that are told.
 pub const MAX_VLAN_TAGS: usize = 16;
@@ -20,6 +21,7 @@ pub struct VlanTags {
 }
 
 /// The VLAN of a tag.
+#[tactic(auto, using(layouts::proofs::OneAnswerLemmas::read_allowed), unfolding(crate::specs::Vlan::vlan))]
 fn vlan(i: &[u8]) -> IResult<&[u8], u16>
     ensures { Gives (λ v. v) vlan_layout i.now result }
 {
@@ -32,6 +34,7 @@ fn vlan(i: &[u8]) -> IResult<&[u8], u16>
 }
 
 /// In front of the second tag in LINKTYPE_LINUX_SLL2.
+#[tactic(auto, using(layouts::proofs::OneAnswerLemmas::read_allowed), unfolding(crate::specs::Vlan::sll2_front))]
 fn sll2_front(i: &[u8]) -> IResult<&[u8], Option<u16>>
     ensures { Gives (λ v. v) sll2_front_layout i.now result }
 {
@@ -45,6 +48,7 @@ fn sll2_front(i: &[u8]) -> IResult<&[u8], Option<u16>>
 }
 
 /// In front of the tags in Cisco's form of HDLC.
+#[tactic(auto, using(layouts::proofs::OneAnswerLemmas::read_allowed), unfolding(crate::specs::Vlan::hdlc_front))]
 fn hdlc_front(i: &[u8]) -> IResult<&[u8], Option<u16>>
     ensures { Gives (λ v. v) hdlc_front_layout i.now result }
 {
@@ -55,32 +59,39 @@ fn hdlc_front(i: &[u8]) -> IResult<&[u8], Option<u16>>
     Ok((i, None))
 }
 
-/// The same in front of the tags of other links, or of all but the first, which it has.
-fn other_front(i: &[u8], link_type: u16) -> IResult<&[u8], Option<u16>>
-    ensures { Gives (λ v. v) (other_front_layout link_type) i.now result }
+/// So many bytes in front of the tags.
+#[tactic(auto, using(layouts::proofs::OneAnswerLemmas::read_allowed), unfolding(crate::specs::Vlan::tags_behind))]
+fn tags_behind(i: &[u8], count: usize) -> IResult<&[u8], Option<u16>>
+    ensures { Gives (λ v. v) (tags_behind_layout count) i.now result }
 {
-    match link_type {
-        276 => sll2_front(i),
-        9 | 50 => hdlc_front(i),
-        _ => refused(i, ErrorKind::Switch),
-    }
+    let (i, _) = block(i, count)?;
+    Ok((i, None))
+}
+
+/// A link that has no tags.
+#[tactic(auto, using(layouts::proofs::OneAnswerLemmas::read_allowed), unfolding(crate::specs::Vlan::no_tags))]
+fn no_tags(i: &[u8]) -> IResult<&[u8], Option<u16>>
+    ensures { Gives (λ v. v) no_tags_layout i.now result }
+{
+    refused(i, ErrorKind::Switch)
+}
+
+/// What the row of the link type reads in front of tags.
+macro_rules! front {
+    ($i:ident, $link_type:ident: $($number:literal $name:ident => $read:ident($($of:expr)?), $front:ident($($count:expr)?);)*) => {
+        match $link_type {
+            $($number => $front($i $(, $count)?),)*
+            _ => no_tags($i),
+        }
+    };
 }
 
 /// What stands in front of a link's tags, or of all but the first, which it has.
+#[tactic(auto, using(layouts::proofs::OneAnswerLemmas::read_allowed), unfolding(crate::specs::Vlan::tags_front))]
 fn tags_front(i: &[u8], link_type: u16) -> IResult<&[u8], Option<u16>>
     ensures { Gives (λ v. v) (tags_front_layout link_type) i.now result }
 {
-    match link_type {
-        1 => {
-            let (i, _) = block(i, 12)?;
-            Ok((i, None))
-        }
-        113 => {
-            let (i, _) = block(i, 14)?;
-            Ok((i, None))
-        }
-        _ => other_front(i, link_type),
-    }
+    links!(front i, link_type)
 }
 
 impl VlanTags {

@@ -1,7 +1,7 @@
 -- A hash of bytes is one of the first, and then of those behind.
 use Rattle.std.proofs.Common.{ℕ, ◌+◌, ◌*◌, ◌/◌, ◌%◌, ◌^◌, ◌≡◌, ◌++◌, refl, ap, add_comm, [], ◌∷◌}
 use Rattle.std.specs.Prelude.{bit_xor, ◌==◌}
-use Rattle.tls_fields.specs.Bytes.{Bytes}
+use Rattle.layouts.specs.Bytes.{Bytes}
 use Rattle.connection_parts.specs.Part.{end_hash, falls_to, fnv_from, protocol_number, spread}
 use Rattle.connection_parts.specs.declared.part.Part.{Part}
 use Rattle.connections.specs.declared.ends.End.{End}

@@ -3,7 +3,7 @@ use Rattle.std.specs.Prelude.{ℕ, ◌+◌, ◌-◌, ◌*◌, ◌/◌, ◌%◌, 
 use Rattle.std.specs.Net.Addr.{ipv4_octets, ipv6_octets}
 use Rattle.std.specs.declared.net.ip_addr.IpAddr.{IpAddr}
 use Rattle.std.specs.declared.net.ip_addr.IpAddr.TheVariants.{V4, V6}
-use Rattle.tls_fields.specs.Bytes.{Bytes, bytes_of}
+use Rattle.layouts.specs.Bytes.{Bytes, bytes_of}
 use Rattle.connections.specs.declared.ends.Protocol.{Protocol}
 use Rattle.connections.specs.declared.ends.Protocol.TheVariants.{Tcp, Udp}
 use Rattle.connections.specs.declared.ends.End.{End}

@@ -2,3 +2,4 @@ pub mod ConnectionLemmas
 pub mod EndLemmas
 pub mod StreamLemmas
 pub mod TableLemmas
+pub mod MemoryLemmas

@@ -5,6 +5,7 @@ use Rattle.std.specs.Prelude.{IfSome, OnErr, Result, Ok, Err}
 use Rattle.std.specs.Map.{lookup_entry, set_value}
 use Rattle.lru.specs.LruCache.{LruCache, promoted, put_entries, last_entry}
 use Rattle.connections.specs.Ends.{are_ends}
+use Rattle.connections.specs.Lends.{with_first}
 use Rattle.connections.specs.Datagram.{ends_of_datagram}
 use Rattle.connections.specs.Segment.{ends_of}
 use Rattle.connections.specs.Connection.{Begins, ChangesCountsAlone, IsAfter, IsAnew, LeavesOut, Shows}
@@ -51,6 +52,13 @@ module _ {X : Type 0} (e : Ends) where
   -- The others of one that stands first are those behind it.
   pub others-first : (xs : List (Ends × X)) (w : X) → others e ((e, w) ∷ xs) ≡ xs
   others-first xs w = rw (are_ends-refl e)
+
+  -- One that stands first, under these ends, is found.
+  pub at-first : (xs : List (Ends × X)) (f : Ends) (x : X) → slice_get xs 0 ≡ Some (f, x) → are_ends e f ≡ true
+      → at e xs ≡ Some x
+  at-first [] f x h same = cc
+  at-first (y ∷ xs) f x h same =
+      let first : y ≡ (f, x) = cc in rw (first, same)
 
   take-all : (n : ℕ) (xs : List (Ends × X)) → length xs ≤ n → take n xs ≡ xs
   take-all zero [] h = refl
@@ -158,23 +166,33 @@ module _ {T : Type 0} where
       → IsAnewAt time e (at e old.live) old new
   none_anew time e old new h same = subst (λ o. IsAnewAt time e o old new) h same
 
-  pub after_at : (d : Datagram) (old : Table T) (c w : Connection T) → Some c ≡ at (ends_of_datagram d) old.live → IsAfter d c w
-      → BeginsAfter d (at (ends_of_datagram d) old.live) old (with_other (ends_of_datagram d) w old)
-  after_at d old c w h after = subst (λ o. BeginsAfter d o old (with_other (ends_of_datagram d) w old)) h (w, after, refl)
+  pub after_at : (d : Datagram) (old : Table T) (c w : Connection T) (n : ℕ) → Some c ≡ at (ends_of_datagram d) old.live → IsAfter d c w
+      → n ≡ old.held - c.weight
+      → BeginsAfter d (at (ends_of_datagram d) old.live) old (record (with_other (ends_of_datagram d) w old) { held = n })
+  after_at d old c w n h after less =
+      subst (λ o. BeginsAfter d o old (record (with_other (ends_of_datagram d) w old) { held = n })) h
+      (w, after, ap (λ m. record (with_other (ends_of_datagram d) w old) { held = m }) less)
 
   pub none_after : (d : Datagram) (old new : Table T) → None ≡ at (ends_of_datagram d) old.live → new ≡ old
       → BeginsAfter d (at (ends_of_datagram d) old.live) old new
   none_after d old new h same = subst (λ o. BeginsAfter d o old new) h same
 
   -- Another stands first, in the place of the one that is found.
-  pub replaced_by : (s : Segment) (old : Table T) (b : Beginning) (its was over : Connection T) → Shows s b → Begins b its
-      → Some was ≡ at (ends_of s) old.live → over ≡ record was { waiting = over.waiting }
-      → Replaces s old (record old { live = set_value (are_ends (ends_of s)) (promoted (are_ends (ends_of s)) old.live) its }) over
-  replaced_by s old b its was over shows begins h same = record {
+  pub replaced_by : (s : Segment) (old : Table T) (b : Beginning) (its was over : Connection T) (n : ℕ) → Shows s b → Begins b its
+      → Some was ≡ at (ends_of s) old.live → over ≡ record was { waiting = over.waiting } → n ≡ old.held - over.weight
+      → Replaces s old
+      (record old { live = set_value (are_ends (ends_of s)) (promoted (are_ends (ends_of s)) old.live) its; held = n }) over
+  replaced_by s old b its was over n shows begins h same less = record {
     beginning = b;
     its = its;
     shows = shows;
     begins = begins;
     was = subst (λ o. IfSome o (λ c. over ≡ record c { waiting = over.waiting })) h same;
-    stands = ap (λ l. record old { live = l }) (written (ends_of s) old.live was its (sym h));
+    stands = ap (λ l. record old { live = l; held = n }) (written (ends_of s) old.live was its (sym h))
+        ∙ ap (λ m. record old { live = (ends_of s, its) ∷ others (ends_of s) old.live; held = m }) less;
   }
+
+  -- What is written to the one that is found stands first.
+  pub stands_first : (e : Ends) (old : Table T) (c w : Connection T) → Some c ≡ at e old.live
+      → (with_first e w old).live ≡ (e, w) ∷ others e old.live
+  stands_first e old c w h = written e old.live c w (sym h)

@@ -1,11 +1,11 @@
 -- What is held of a connection.
-use Rattle.std.specs.Prelude.{◌≡◌, ◌⊎◌, ℕ, ◌==◌, Bool, true, false, ◌&&◌, ◌||◌, not, is_some, Option, Some, None, if◌then◌else◌, [], length}
+use Rattle.std.specs.Prelude.{◌≡◌, ◌⊎◌, ℕ, ◌+◌, ◌==◌, Bool, true, false, ◌&&◌, ◌||◌, not, is_some, Option, Some, None, if◌then◌else◌, [], length}
 use Rattle.connections.specs.Ends.{is_end}
 use Rattle.connections.specs.Segment.{acknowledges, answers, begins, begins_stream, bytes_alone, first_of, has_data, IsWithoutData}
 use Rattle.connections.specs.Hosts.{damaged_before, has_fin_of, host_after, later, silent_host, with_checksum, with_taken}
 use Rattle.connections.specs.Receiver.{is_damaged, judge}
 use Rattle.connections.specs.Dropped.{none_dropped, with_damaged, with_dropped}
-use Rattle.connections.specs.Stream.{begun_at, forgetting, front_of, silent_stream, noted, HasTaken, is_over}
+use Rattle.connections.specs.Stream.{begun_at, forgetting, front_of, held_in, silent_stream, noted, HasTaken, is_over}
 use Rattle.connections.specs.Traffic.{nothing_sent, with_packet}
 use Rattle.connections.specs.declared.datagram.Datagram.{Datagram}
 use Rattle.connections.specs.declared.ends.Protocol.{Protocol}
@@ -105,6 +105,7 @@ module _ {T : Type 0} where
     responder_sent = nothing_sent;
     originator_dropped = none_dropped;
     responder_dropped = none_dropped;
+    weight = 0;
     listener = listener;
   }
 
@@ -278,13 +279,18 @@ module _ {T : Type 0} where
   abbrev pub begun_by_datagram : Datagram → Waiting → T → Connection T
   begun_by_datagram d waiting listener = with_datagram d (silent Udp d.source d.destination d.time waiting listener)
 
-  -- The same ends anew, of which nothing came; what was damaged before is counted.
+  -- How many bytes both streams of it hold.
+  abbrev pub held_by : Connection T → ℕ
+  held_by c = held_in c.from_originator.reading + held_in c.from_responder.reading
+
+  -- The same ends anew, of which nothing came; what was damaged before is counted, and what it is accounted for stays.
   pub record IsAnew (time : ℕ) (old new : Connection T) : Type 0 where
     pub originator_damaged : ℕ
     pub responder_damaged : ℕ
     pub is_silent : new ≡ record (silent old.protocol old.originator old.responder time new.waiting new.listener) {
       originator_dropped = with_damaged originator_damaged none_dropped;
       responder_dropped = with_damaged responder_damaged none_dropped;
+      weight = old.weight;
     }
     pub waits : NoneWaits new
 

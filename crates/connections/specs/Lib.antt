@@ -7,6 +7,7 @@ pub mod Datagram
 pub mod Stream
 pub mod Connection
 pub mod Table
+pub mod Memory
 pub mod Traffic
 pub mod Dropped
 pub mod Lends

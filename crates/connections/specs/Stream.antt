@@ -304,3 +304,9 @@ abbrev pub IsNumberOf : ℕ → Reading → Type 0
 IsNumberOf next (Open h) = (next ≡ (h.first + h.taken) % 2 ^ 32) × (h.limit ≡ HELD_LIMIT)
 IsNumberOf next Unbegun = ⊤
 IsNumberOf next Over = ⊤
+
+-- How many bytes a direction holds.
+abbrev pub held_in : Reading → ℕ
+held_in (Open h) = length (run h.cells) + known_behind h.cells
+held_in Unbegun = 0
+held_in Over = 0

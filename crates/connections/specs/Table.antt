@@ -16,10 +16,12 @@ use Rattle.connections.specs.declared.receiver.Reason.TheVariants as reason
 use Rattle.connections.specs.declared.connection.Beginning.{Beginning}
 use Rattle.connections.specs.declared.table.TheConstants.{IDLE_LIMIT, MAX_CONNECTIONS}
 
--- Those that are open, and of those that both sides ended, the time: what still comes of these is left out.
+-- Those that are open, and of those that both sides ended, the time: what still comes of these is left out. And for how many bytes those that are open are
+-- accounted.
 pub record Table (T : Type 0) : Type 0 where
   pub live : List (Ends × Connection T)
   pub closed : List (Ends × ℕ)
+  pub held : ℕ
 
 -- One with this last time had no packet for more than the limit, or there are too many.
 abbrev pub IsOverAmong : ℕ → ℕ → ℕ → Type 0
@@ -70,7 +72,7 @@ module _ {T : Type 0} where
   pub record BeginsFirst (s : Segment) (e : Ends) (old new : Table T) : Type 0 where
     pub its : Connection T
     pub takes : TakesSegment s None its
-    pub stands : new ≡ record { live = (e, its) ∷ others e old.live; closed = others e old.closed }
+    pub stands : new ≡ record { live = (e, its) ∷ others e old.live; closed = others e old.closed; held = old.held }
 
   -- A datagram is counted, and its time noted, in the exchange that is there, or in one that it begins.
   abbrev pub TakesDatagram : Datagram → Option (Connection T) → Connection T → Type 0
@@ -141,7 +143,7 @@ module _ {T : Type 0} where
     pub shows : Shows s beginning
     pub begins : Begins beginning its
     pub was : IfSome (at (ends_of s) old.live) (λ c'. c ≡ record c' { waiting = c.waiting })
-    pub stands : new ≡ record old { live = (ends_of s, its) ∷ others (ends_of s) old.live }
+    pub stands : new ≡ record old { live = (ends_of s, its) ∷ others (ends_of s) old.live; held = old.held - c.weight }
 
   abbrev pub Replaced : Segment → Table T → Table T → Option (Connection T) → Type 0
   Replaced s old new None = new ≡ old
@@ -158,8 +160,13 @@ module _ {T : Type 0} where
   -- Another exchange stands in the place of the one between a datagram's ends.
   abbrev pub BeginsAfter : Datagram → Option (Connection T) → Table T → Table T → Type 0
   BeginsAfter d None old new = new ≡ old
-  BeginsAfter d (Some c) old new = (c' : Connection T) × IsAfter d c c' × (new ≡ with_other (ends_of_datagram d) c' old)
+  BeginsAfter d (Some c) old new = (c' : Connection T) × IsAfter d c c' × (new ≡ record (with_other (ends_of_datagram d) c' old) { held = old.held - c.weight })
 
   -- It stands among those that were closed from then on.
+  abbrev pub weight_of : Option (Connection T) → ℕ
+  weight_of None = 0
+  weight_of (Some c) = c.weight
+
   abbrev pub without_ended : Ends → ℕ → Table T → Table T
-  without_ended e time t = if is_some (ended e t) then record { live = others e t.live; closed = (e, time) ∷ others e t.closed } else t
+  without_ended e time t = if is_some (ended e t)
+      then record { live = others e t.live; closed = (e, time) ∷ others e t.closed; held = t.held - weight_of (at e t.live) } else t

@@ -1,7 +1,7 @@
 //! A connection of TCP, or an exchange over UDP.
-ghost use Rattle.std.specs.Prelude.{◌≡◌, IfOk, IfSome, OnOk, OnErr, Some, true};
+ghost use Rattle.std.specs.Prelude.{◌≡◌, ◌<◌, ◌≤◌, ◌^◌, IfOk, IfSome, OnOk, OnErr, Some, true};
 ghost use Rattle.connections.specs.declared.receiver.Reason.TheVariants as reason;
-ghost use Rattle.connections.specs.Connection.{adds_nothing as adds_none, begun_by_datagram, confirms as confirms_answer, counted as counting, dropped_from, goes_on_behind, has_opening, hosts_of, is_closed, is_datagram_damaged, judgement_of, last_of, noting, part_by, sent_by, side_of, silent, start_of, stream_of, with_datagram, without_bytes, Accepts, Begins, ChangesCountsAlone, IsAfter, IsAnew, IsBegunBy, LeavesOut, LeavesOutSyn, NoneWaits, Puts, PutsData, PutsSyn, Shows, TakesDatagramIn};
+ghost use Rattle.connections.specs.Connection.{adds_nothing as adds_none, begun_by_datagram, confirms as confirms_answer, counted as counting, dropped_from, goes_on_behind, has_opening, held_by, hosts_of, is_closed, is_datagram_damaged, judgement_of, last_of, noting, part_by, sent_by, side_of, silent, start_of, stream_of, with_datagram, without_bytes, Accepts, Begins, ChangesCountsAlone, IsAfter, IsAnew, IsBegunBy, LeavesOut, LeavesOutSyn, NoneWaits, Puts, PutsData, PutsSyn, Shows, TakesDatagramIn};
 
 use crate::datagram::Datagram;
 use crate::dropped::Dropped;
@@ -20,6 +20,9 @@ use std::alloc::{AllocError, Global};
 pub trait Listener: Drop {
     /// That of a connection of which nothing came.
     fn begin(alloc: Global, protocol: Protocol) -> Self;
+
+    /// How many bytes of memory it takes, at most, with itself.
+    fn capacity(&self) -> usize;
 }
 
 /// Which end sent a packet.
@@ -62,6 +65,8 @@ pub struct Connection<T> {
     pub originator_dropped: Dropped,
     /// What the responder sent over TCP, and the originator took nothing of.
     pub responder_dropped: Dropped,
+    // For how many bytes of memory it is accounted in its table.
+    pub(crate) weight: usize,
     /// The caller's own.
     pub listener: T,
 }
@@ -74,6 +79,10 @@ pub(crate) struct Beginning {
     /// The answer to it.
     pub(crate) answer: Option<Segment<'static>>,
 }
+
+/// What a connection takes besides its listener and what it holds, in bytes, at most: its fields, its entry in the table with the entry's share of a map that
+/// grows, and what the allocator takes.
+pub const CONNECTION_COST: usize = 1024;
 
 /// How far numbers of one connection may lie apart, at most, so that another isn't seen in them.
 const FAR: u32 = 0x1_0000;
@@ -169,6 +178,7 @@ impl<T: Listener> Connection<T> {
             responder_sent: Traffic::new(),
             originator_dropped: Dropped::new(),
             responder_dropped: Dropped::new(),
+            weight: 0,
             listener: T::begin(alloc, protocol),
         }
     }
@@ -190,7 +200,8 @@ impl<T: Listener> Connection<T> {
         alloc: Global,
         beginning: &Beginning,
     ) -> Result<Connection<T>, AllocError>
-        ensures { IfOk result (λ its. Begins beginning.now its) }
+        ensures begun { IfOk result (λ its. Begins beginning.now its) }
+        ensures weight { IfOk result (λ its. its.weight ≡ 0) }
     {
         let mut connection = Connection::of_segment(alloc, &beginning.first);
         connection.accept(alloc, &beginning.first)?;
@@ -207,6 +218,7 @@ impl<T: Listener> Connection<T> {
     pub(crate) fn of_datagram(alloc: Global, datagram: &Datagram<'_>) -> Connection<T>
         ensures begun { result ≡ begun_by_datagram datagram.now result.waiting result.listener }
         ensures waits { NoneWaits result }
+        ensures weight { result.weight ≡ 0 }
     {
         let mut exchange = Connection::new(
             alloc,
@@ -381,7 +393,7 @@ impl<T: Listener> Connection<T> {
         host.is_damaged() && checksum != Checksum::Wrong && other.packets == 0
     }
 
-    /// The connection anew, of which nobody took what came before: that is counted.
+    /// The connection anew, of which nobody took what came before: that is counted. What it is accounted for stays.
     pub(crate) fn restart(&mut self, alloc: Global, time: u64)
         ensures { IsAnew time self.old self.new }
     {
@@ -400,6 +412,7 @@ impl<T: Listener> Connection<T> {
         fresh.responder_dropped.add_damaged(damaged.saturating_add(
             self.dropped(Side::Responder).packets,
         ));
+        fresh.weight = self.weight;
         *self = fresh;
     }
 
@@ -569,7 +582,8 @@ impl<T: Listener> Connection<T> {
 
     /// Notes what a segment says of its sender, unless the receiver has all of it.
     fn note(&mut self, segment: &Segment<'_>, judgement: Judgement)
-        ensures { self.new ≡ noting judgement segment.now self.old }
+        ensures noted { self.new ≡ noting judgement segment.now self.old }
+        ensures weight { self.new.weight ≡ self.old.weight }
     {
         let is_new = judgement != Judgement::Again;
         let checksum = segment.checksum;
@@ -595,6 +609,7 @@ impl<T: Listener> Connection<T> {
     fn put(&mut self, alloc: Global, segment: &Segment<'_>) -> Result<(), AllocError>
         ensures taken { OnOk result (Puts segment.now self.old self.new) }
         ensures left_out { OnErr result (self.new ≡ without_bytes segment.now self.old) }
+        ensures weight { self.new.weight ≡ self.old.weight }
     {
         match self.side_of(segment.source) {
             Side::Originator => {
@@ -616,7 +631,8 @@ impl<T: Listener> Connection<T> {
 
     /// Counts a segment, and notes its time.
     fn count(&mut self, segment: &Segment<'_>)
-        ensures { self.new ≡ counting segment.now self.old }
+        ensures counted { self.new ≡ counting segment.now self.old }
+        ensures weight { self.new.weight ≡ self.old.weight }
     {
         self.last_time = segment.time;
         match self.side_of(segment.source) {
@@ -627,9 +643,10 @@ impl<T: Listener> Connection<T> {
 
     /// Puts the segment into its sender's stream, counts it, and notes what it says of its sender. `AllocError` where its bytes could not be
     /// held: they are left out.
-    pub(crate) fn accept(&mut self, alloc: Global, segment: &Segment<'_>) -> Result<(), AllocError>
+    pub fn accept(&mut self, alloc: Global, segment: &Segment<'_>) -> Result<(), AllocError>
         ensures taken { OnOk result (Accepts segment.now self.old self.new) }
         ensures left_out { OnErr result (LeavesOut segment.now self.old self.new) }
+        ensures weight { self.new.weight ≡ self.old.weight }
     {
         let judgement = self.judge(segment);
         self.count(segment);
@@ -649,6 +666,7 @@ impl<T: Listener> Connection<T> {
     ) -> Result<(), AllocError>
         ensures taken { OnOk result (PutsData (adds_none judgement segment.now) (part_by judgement segment.now) self.old self.new) }
         ensures left_out { OnErr result (self.new ≡ without_bytes (part_by judgement segment.now) self.old) }
+        ensures weight { self.new.weight ≡ self.old.weight }
     {
         if adds_nothing(segment, judgement) {
             return Ok(());
@@ -665,13 +683,16 @@ impl<T: Listener> Connection<T> {
     ) -> Result<(), AllocError>
         ensures taken { OnOk result (PutsSyn segment.now self.old self.new) }
         ensures left_out { OnErr result (LeavesOutSyn segment.now self.old self.new) }
+        ensures weight { self.new.weight ≡ self.old.weight }
     {
         self.keep_data_of_syn(alloc, segment, judgement)?;
         self.put(alloc, &segment.without_data())
     }
 
     /// Puts a segment that waited into its sender's stream; the data of a SYN was counted with it.
-    pub(crate) fn accept_kept(&mut self, alloc: Global, kept: &Kept) -> Result<(), AllocError> {
+    pub(crate) fn accept_kept(&mut self, alloc: Global, kept: &Kept) -> Result<(), AllocError>
+        ensures { self.new.weight ≡ self.old.weight }
+    {
         self.forget_belied(&kept.segment());
         if kept.is_of_syn() {
             return self.put(alloc, &kept.segment());
@@ -699,7 +720,8 @@ impl<T: Listener> Connection<T> {
 
     /// Notes the datagram's time, and counts it.
     pub(crate) fn accept_datagram(&mut self, datagram: &Datagram<'_>)
-        ensures { self.new ≡ with_datagram datagram.now self.old }
+        ensures counted { self.new ≡ with_datagram datagram.now self.old }
+        ensures weight { self.new.weight ≡ self.old.weight }
     {
         self.last_time = datagram.time;
         match self.side_of(datagram.source) {
@@ -718,12 +740,43 @@ impl<T: Listener> Connection<T> {
 
     /// The same, anew where the datagram shows that all before it was damaged.
     pub(crate) fn take_datagram(&mut self, alloc: Global, datagram: &Datagram<'_>)
-        ensures { TakesDatagramIn datagram.now self.old self.new }
+        ensures taken { TakesDatagramIn datagram.now self.old self.new }
+        ensures weight { self.new.weight ≡ self.old.weight }
     {
         if self.shows_damage(datagram.source, datagram.checksum) {
             self.restart(alloc, datagram.time);
         }
         self.accept_datagram(datagram);
+    }
+
+    /// How many bytes of memory it takes, at most: its streams hold no more.
+    fn capacity(&self) -> usize
+        ensures { held_by self.now < 2 ^ 64 → held_by self.now ≤ result }
+    {
+        let streams = self
+            .from_originator
+            .capacity()
+            .saturating_add(self.from_responder.capacity());
+        let others = self
+            .waiting
+            .capacity()
+            .saturating_add(self.listener.capacity())
+            .saturating_add(CONNECTION_COST);
+        streams.saturating_add(others)
+    }
+
+    /// Whether it is accounted for what it takes.
+    pub fn is_settled(&self) -> bool {
+        self.weight == self.capacity()
+    }
+
+    /// Lets it be accounted for what it takes, as far as there is room.
+    pub(crate) fn settle(&mut self, room: usize)
+        ensures settled { self.new ≡ record self.old { weight = self.new.weight } }
+        ensures within { self.new.weight ≤ room }
+        ensures enough { held_by self.new ≤ room → held_by self.new ≤ self.new.weight }
+    {
+        self.weight = self.capacity().min(room);
     }
 
     /// Whether it is over: one side broke it off, or both said their last, and each has that of the other.

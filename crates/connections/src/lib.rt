@@ -13,6 +13,7 @@ mod dropped;
 mod ends;
 mod host;
 mod laws;
+mod memory;
 mod numbers;
 mod receiver;
 mod segment;
@@ -21,7 +22,7 @@ mod table;
 mod traffic;
 mod waiting;
 
-pub use connection::{Connection, Listener, Side, Verdict};
+pub use connection::{CONNECTION_COST, Connection, Listener, Side, Verdict};
 pub use datagram::Datagram;
 pub use dropped::Dropped;
 pub use ends::{End, Ends, Protocol};
@@ -34,6 +35,6 @@ pub use laws::{
 pub use receiver::{Judgement, Reason, judge};
 pub use segment::{Checksum, Options, Segment};
 pub use stream::{Front, HELD_LIMIT, Stream};
-pub use table::{Connections, IDLE_LIMIT, MAX_CONNECTIONS};
+pub use table::{CLOSED_COST, CLOSED_SHARE, Connections, IDLE_LIMIT, MAX_CONNECTIONS};
 pub use traffic::Traffic;
 pub use waiting::{Kept, MAX_WAITING, Told};

@@ -1,7 +1,7 @@
 //! One direction of a connection.
 ghost use Rattle.std.specs.Prelude.{◌≡◌, ◌≤◌, ◌%◌, ◌^◌, length, false, OnOk, OnErr};
 ghost use Rattle.connections.specs.Segment.{breaks, first_of};
-ghost use Rattle.connections.specs.Stream.{begun_at, came, differing_in_order, end_of, forgetting, front_of, handed_on, handing_on, has_urgent_next, is_cut_short, is_missing, is_over, lacks, next_bytes, noted, passed, passed_before, passing_behind, passing_urgent, silent_stream, stopped, unheard_from, unlike, with_more_disagreeing, with_numbers, with_urgent, HasPut, HasTaken};
+ghost use Rattle.connections.specs.Stream.{begun_at, came, differing_in_order, end_of, forgetting, front_of, handed_on, handing_on, has_urgent_next, held_in, is_cut_short, is_missing, is_over, lacks, next_bytes, noted, passed, passed_before, passing_behind, passing_urgent, silent_stream, stopped, unheard_from, unlike, with_more_disagreeing, with_numbers, with_urgent, HasPut, HasTaken};
 
 use crate::numbers::{HALF, advance, is_behind};
 use crate::segment::Segment;
@@ -432,6 +432,16 @@ impl Stream {
         Front {
             reached,
             is_read: matches!(self.reading, Reading::Open(_)),
+        }
+    }
+
+    /// How many bytes of memory it takes besides itself, at most: as many as it holds, or more.
+    pub(crate) fn capacity(&self) -> usize
+        ensures { held_in self.now.reading ≤ result }
+    {
+        match &self.reading {
+            Reading::Open(segments) => segments.capacity(),
+            Reading::Unbegun | Reading::Over => 0,
         }
     }
 

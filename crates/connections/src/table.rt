@@ -1,11 +1,12 @@
 //! The connections that are open.
-ghost use Rattle.std.specs.Prelude.{◌≡◌, ◌-◌, ◌^◌, ◌≤◌, length, is_some, true, false, IfOk, IfSome, IfNone, OnErr, OnOk, [], ◌∷◌};
+ghost use Rattle.std.specs.Prelude.{◌≡◌, ◌-◌, ◌^◌, ◌≤◌, length, is_some, true, false, IfOk, IfSome, IfNone, IsNone, OnErr, OnOk, [], ◌∷◌};
 ghost use Rattle.std.specs.Borrow.{sem};
 ghost use Rattle.std.specs.Option.{option_copied_mut, option_map};
 ghost use Rattle.connections.specs.Segment.{ends_of};
 ghost use Rattle.connections.specs.Table.{at, belongs, closed_behind, ended, is_damaged_in, judgement_in, others, without_ended, BeginsAfter, BeginsFirst, Drops, DropsDatagram, IsForgotten, IsOver, IsOverAmong, IsPut, LeavesOutAt, NoneIsOver, NoneToForget, Puts, Replaced, Restarts, TakesDatagram, WasLast};
+ghost use Rattle.connections.specs.Memory.{IsAccounted};
 ghost use Rattle.connections.specs.Datagram.{ends_of_datagram};
-ghost use Rattle.connections.specs.Lends.{lends_connection};
+ghost use Rattle.connections.specs.Lends.{lends_connection, lends_first};
 
 use crate::connection::{Connection, Listener, Verdict};
 use crate::datagram::Datagram;
@@ -25,24 +26,32 @@ pub const IDLE_LIMIT: u64 = 300_000_000_000;
 /// No more connections are held than this; then the one that was longest without a packet is over.
 pub const MAX_CONNECTIONS: usize = 1_048_576;
 
+/// Of a limit of memory those that were closed may take this part.
+pub const CLOSED_SHARE: usize = 8;
+
+/// What one that was closed takes, in bytes, at most: its entry in the table, with its share of a map that grows.
+pub const CLOSED_COST: usize = 256;
+
 /// The connections that are open, each with a value of the caller, the one with the latest packet first.
 #[derive(Drop)]
 pub struct Connections<T> {
     alloc: Global,
-    live: LruCache<Ends, Connection<T>, RandomState>,
+    pub(crate) live: LruCache<Ends, Connection<T>, RandomState>,
     // Those that both sides ended, each with its last time. What still comes of them is left out.
-    closed: LruCache<Ends, u64, RandomState>,
+    pub(crate) closed: LruCache<Ends, u64, RandomState>,
+    // For how many bytes those that are open are accounted together.
+    pub(crate) held: usize,
 }
 
 impl<T> Model for Connections<T> {
-    ghost use Rattle.std.specs.Prelude.{◌≡◌, ◌-◌, ◌^◌};
+    ghost use Rattle.std.specs.Prelude.{◌≡◌, ◌-◌, ◌^◌, ◌<◌};
     ghost use Rattle.connections.specs.Table.{Table};
 
     ghost Value = { Table T };
 
-    ghost view = { λ c. record { live = c.live.entries; closed = c.closed.entries } };
+    ghost view = { λ c. record { live = c.live.entries; closed = c.closed.entries; held = c.held } };
 
-    ghost invariant = { λ c. (c.live.cap ≡ 2 ^ 64 - 1) × (c.closed.cap ≡ 2 ^ 64 - 1) };
+    ghost invariant = { λ c. (c.live.cap ≡ 2 ^ 64 - 1) × (c.closed.cap ≡ 2 ^ 64 - 1) × (c.held < 2 ^ 63) };
 }
 
 /// Puts a value under these ends, in the place of what stood there.
@@ -86,12 +95,13 @@ fn forget_idle(closed: &mut LruCache<Ends, u64, RandomState>, time: u64)
 impl<T: Listener> Connections<T> {
     /// None. The keys are for the hashes, so that nobody who doesn't know them can choose ends whose hashes are the same.
     pub fn new(alloc: Global, keys: RandomState) -> Result<Connections<T>, AllocError>
-        ensures { IfOk result (λ c. c ≡ record { live = []; closed = [] }) }
+        ensures { IfOk result (λ c. c ≡ record { live = []; closed = []; held = 0 }) }
     {
         Ok(Connections {
             alloc,
             live: LruCache::unbounded_with_hasher(alloc, keys)?,
             closed: LruCache::unbounded_with_hasher(alloc, keys)?,
+            held: 0,
         })
     }
 
@@ -99,7 +109,7 @@ impl<T: Listener> Connections<T> {
     pub fn verdict(&self, segment: &Segment<'_>) -> Option<Verdict>
         ensures { option_map (λ verdict. verdict.judgement) result ≡ judgement_in segment.now self.now }
     {
-        let connection = self.live.peek(&segment.between())?;
+        let connection = self.get(&segment.between())?;
         Some(connection.verdict(segment))
     }
 
@@ -108,7 +118,8 @@ impl<T: Listener> Connections<T> {
     ///
     /// `AllocError` where it could not be held.
     pub fn drop_segment(&mut self, segment: &Segment<'_>, reason: Reason) -> Result<(), AllocError>
-        ensures { Drops segment.now self.old self.new }
+        ensures drops { Drops segment.now self.old self.new }
+        ensures accounted { IsAccounted self.old → IsAccounted self.new }
     {
         let (alloc, ends) = (self.alloc, segment.between());
         if let Some(connection) = self.live.peek_mut(&ends) {
@@ -120,7 +131,8 @@ impl<T: Listener> Connections<T> {
     /// Begins the connection between a segment's ends anew, where the segment shows that nobody took what came before, since all of it was
     /// damaged.
     pub fn restart(&mut self, segment: &Segment<'_>)
-        ensures { Restarts segment.now self.old self.new }
+        ensures restarts { Restarts segment.now self.old self.new }
+        ensures accounted { IsAccounted self.old → IsAccounted self.new }
     {
         let (alloc, ends) = (self.alloc, segment.between());
         let Some(connection) = self.live.peek_mut(&ends) else {
@@ -134,7 +146,8 @@ impl<T: Listener> Connections<T> {
     ///
     /// `AllocError` where it could not be held.
     pub fn wait(&mut self, segment: &Segment<'_>, reason: Reason) -> Result<(), AllocError>
-        ensures { Drops segment.now self.old self.new }
+        ensures drops { Drops segment.now self.old self.new }
+        ensures accounted { IsAccounted self.old → IsAccounted self.new }
     {
         let (alloc, ends) = (self.alloc, segment.between());
         if let Some(connection) = self.live.peek_mut(&ends) {
@@ -146,7 +159,8 @@ impl<T: Listener> Connections<T> {
     /// Takes out a segment that waited until its receiver, the sender of this one, acknowledged it; one of which all bytes came otherwise counts
     /// as dropped. To be called before this one is put into its connection, until there is none.
     pub fn take_waiting(&mut self, segment: &Segment<'_>) -> Option<Told>
-        ensures { Drops segment.now self.old self.new }
+        ensures drops { Drops segment.now self.old self.new }
+        ensures accounted { IsAccounted self.old → IsAccounted self.new }
     {
         let ends = segment.between();
         if let Some(connection) = self.live.peek_mut(&ends) {
@@ -158,18 +172,21 @@ impl<T: Listener> Connections<T> {
     /// Puts a segment that waited into the connection between its ends.
     ///
     /// `AllocError` where its bytes could not be held: they are left out.
-    pub fn accept_kept(&mut self, kept: &Kept) -> Result<(), AllocError> {
-        let alloc = self.alloc;
-        match self.live.get_mut(&kept.segment().between()) {
-            Some(connection) => connection.accept_kept(alloc, kept),
-            None => Ok(()),
+    pub fn accept_kept(&mut self, kept: &Kept) -> Result<(), AllocError>
+        ensures { IsAccounted self.old → IsAccounted self.new }
+    {
+        let (alloc, ends) = (self.alloc, kept.segment().between());
+        if let Some(connection) = self.live.get_mut(&ends) {
+            return connection.accept_kept(alloc, kept);
         }
+        Ok(())
     }
 
     /// Puts a segment into a connection that it begins.
     fn begin(&mut self, ends: Ends, segment: &Segment<'_>) -> Result<(), AllocError>
         ensures begun { OnOk result (BeginsFirst segment.now ends self.old self.new) }
         ensures err { OnErr result (self.new ≡ self.old) }
+        ensures accounted { at ends self.old.live ≡ None → IsAccounted self.old → IsAccounted self.new }
     {
         let alloc = self.alloc;
         let mut connection = Connection::of_segment(alloc, segment);
@@ -190,6 +207,7 @@ impl<T: Listener> Connections<T> {
         ensures refused { OnErr result (belongs segment.now self.old ≡ true) }
         ensures left_out { OnErr result (LeavesOutAt segment.now (at (ends_of segment.now) self.old.live) self.old.live self.new.live) }
         ensures closed { IfOk result (λ belongs_to_one. self.new.closed ≡ closed_behind belongs_to_one segment.now self.old) }
+        ensures accounted { IsAccounted self.old → IsAccounted self.new }
     {
         let ends = segment.between();
         let alloc = self.alloc;
@@ -208,6 +226,7 @@ impl<T: Listener> Connections<T> {
     pub fn drop_damaged(&mut self, datagram: &Datagram<'_>) -> bool
         ensures dropped { DropsDatagram datagram.now result self.old self.new }
         ensures damaged { result ≡ is_damaged_in datagram.now (at (ends_of_datagram datagram.now) self.old.live) }
+        ensures accounted { IsAccounted self.old → IsAccounted self.new }
     {
         let ends = datagram.between();
         let Some(exchange) = self.live.peek_mut(&ends) else {
@@ -227,6 +246,7 @@ impl<T: Listener> Connections<T> {
         ensures put { OnOk result (IsPut (ends_of_datagram datagram.now) (TakesDatagram datagram.now) self.old.live self.new.live) }
         ensures err { OnErr result (self.new.live ≡ self.old.live) }
         ensures closed { self.new.closed ≡ self.old.closed }
+        ensures accounted { IsAccounted self.old → IsAccounted self.new }
     {
         let ends = datagram.between();
         let alloc = self.alloc;
@@ -247,11 +267,22 @@ impl<T: Listener> Connections<T> {
         self.live.peek_mut(ends)
     }
 
-    /// The same to look at.
+    /// The same, which stands first then.
+    pub fn get_first_mut(&mut self, ends: &Ends) -> Option<&mut Connection<T>>
+        ensures* writes_back { sem 𝓛 (lends_first T.row self.entry ends.now result) }
+        ensures value { option_copied_mut result ≡ at ends.now self.old.live }
+    {
+        self.live.get_mut(ends)
+    }
+
+    /// The connection between these ends, to look at. Packets mostly come several in a row, so the first one is looked at before the table is searched.
     pub fn get(&self, ends: &Ends) -> Option<&Connection<T>>
         ensures { option_map (λ c. c.now) result ≡ at ends.now self.now.live }
     {
-        self.live.peek(ends)
+        match self.live.peek_mru() {
+            Some((latest, connection)) if *ends == *latest => Some(connection),
+            _ => self.live.peek(ends),
+        }
     }
 
     /// Takes out the exchange between a datagram's ends, in whose place another begins with that. Nothing of it came; what the checksums of both ends
@@ -259,11 +290,14 @@ impl<T: Listener> Connections<T> {
     pub fn take_exchange(&mut self, datagram: &Datagram<'_>) -> Option<Connection<T>>
         ensures taken { result ≡ at (ends_of_datagram datagram.now) self.old.live }
         ensures left { BeginsAfter datagram.now (at (ends_of_datagram datagram.now) self.old.live) self.old self.new }
+        ensures accounted { IsAccounted self.old → IsAccounted self.new }
     {
         let (alloc, ends) = (self.alloc, datagram.between());
         let exchange = self.live.peek_mut(&ends)?;
         let another = exchange.after(alloc, datagram);
-        Some(mem::replace(exchange, another))
+        let over = mem::replace(exchange, another);
+        self.held = self.held.saturating_sub(over.weight);
+        Some(over)
     }
 
     /// Whether both sides ended the last connection between these ends, so that what still comes of it is left out. It is known up to
@@ -298,6 +332,9 @@ impl<T: Listener> Connections<T> {
         ensures none { IfNone result ((self.new.live ≡ self.old.live) × NoneIsOver time self.old.live) }
         ensures closed { IsForgotten time self.old.closed self.new.closed }
         ensures none_to_forget { NoneToForget time self.new.closed }
+        ensures held { IfSome result (λ c. self.new.held ≡ self.old.held - c.weight) }
+        ensures kept { IfNone result (self.new.held ≡ self.old.held) }
+        ensures accounted { IsAccounted self.old → IsAccounted self.new }
     {
         forget_idle(&mut self.closed, time);
         let (_, oldest) = self.live.peek_lru()?;
@@ -305,6 +342,7 @@ impl<T: Listener> Connections<T> {
             return None;
         }
         let (_, connection) = self.live.pop_lru()?;
+        self.held = self.held.saturating_sub(connection.weight);
         Some(connection)
     }
 
@@ -316,7 +354,8 @@ impl<T: Listener> Connections<T> {
         &mut self,
         segment: &Segment<'_>,
     ) -> Result<Option<Connection<T>>, AllocError>
-        ensures { IfOk result (λ taken. Replaced segment.now self.old self.new taken) }
+        ensures replaced { IfOk result (λ taken. Replaced segment.now self.old self.new taken) }
+        ensures accounted { IsAccounted self.old → IsAccounted self.new }
     {
         let ends = segment.between();
         let Some(connection) = self.live.peek(&ends) else {
@@ -331,6 +370,7 @@ impl<T: Listener> Connections<T> {
         };
         let mut over = mem::replace(place, another);
         over.forget_syns();
+        self.held = self.held.saturating_sub(over.weight);
         Ok(Some(over))
     }
 
@@ -345,6 +385,7 @@ impl<T: Listener> Connections<T> {
         ensures taken { IfOk result (λ taken. taken ≡ ended (ends_of segment.now) self.old) }
         ensures left { OnOk result (self.new ≡ without_ended (ends_of segment.now) segment.now.time self.old) }
         ensures err { OnErr result (self.new ≡ self.old) }
+        ensures accounted { IsAccounted self.old → IsAccounted self.new }
     {
         let ends = segment.between();
         match self.live.peek(&ends) {
@@ -352,7 +393,11 @@ impl<T: Listener> Connections<T> {
             _ => return Ok(None),
         }
         put_under(&mut self.closed, ends, segment.time)?;
-        Ok(self.live.pop(&ends))
+        let Some(over) = self.live.pop(&ends) else {
+            return Ok(None);
+        };
+        self.held = self.held.saturating_sub(over.weight);
+        Ok(Some(over))
     }
 
     /// Takes out one of the connections that are left, the one that was longest without a packet. To be called at the capture's
@@ -362,8 +407,11 @@ impl<T: Listener> Connections<T> {
         ensures none { IfNone result (self.old.live ≡ []) }
         ensures same { IfNone result (self.new ≡ self.old) }
         ensures closed { self.new.closed ≡ self.old.closed }
+        ensures held { IfSome result (λ c. self.new.held ≡ self.old.held - c.weight) }
+        ensures accounted { IsAccounted self.old → IsAccounted self.new }
     {
         let (_, connection) = self.live.pop_lru()?;
+        self.held = self.held.saturating_sub(connection.weight);
         Some(connection)
     }
 }

@@ -19,6 +19,9 @@ pub const MAX_WAITING: usize = 32;
 /// How many bytes of data they have together, at most.
 const MAX_BYTES: usize = 0x1_0000;
 
+/// How many bytes of memory one takes besides its data, at most: its fields, and what the allocator takes.
+const KEPT_COST: usize = 320;
+
 /// So much of both is left to segments that begin in the window, and acknowledge what was sent: most that is forged does neither.
 const KEPT_FREE: usize = 8;
 
@@ -191,6 +194,15 @@ impl Waiting {
         let mut bytes = 0_usize;
         for kept in &self.kept {
             bytes = bytes.saturating_add(kept.payload.len());
+        }
+        bytes
+    }
+
+    /// How many bytes of memory they take, at most.
+    pub(crate) fn capacity(&self) -> usize {
+        let mut bytes = self.kept.capacity().saturating_mul(KEPT_COST);
+        for kept in &self.kept {
+            bytes = bytes.saturating_add(kept.payload.capacity());
         }
         bytes
     }

@@ -2,13 +2,13 @@
 use Rattle.std.proofs.Common.{◌≡◌, ℕ, ◌^◌, ◌<◌, ◌≤◌, [], ◌∷◌, ◌++◌, length, Ok, eqb, leb, ltb, refl, sym, ◌∙◌, ap, arith, append_assoc}
 use Rattle.std.proofs.lemmas.Bool.{ltb-true, leb-true, eqb-true}
 use Rattle.std.proofs.lemmas.Bool.Decides.{nat_tests}
-use Rattle.tls_fields.specs.Bytes.{Bytes, AreBytes, bytes_of}
-use Rattle.tls_fields.specs.Layout.{Layout, done, refuse, choose}
-use Rattle.tls_fields.specs.Meaning.{Allows, Spells}
-use Rattle.tls_fields.specs.Reading.{reading}
-use Rattle.tls_fields.specs.declared.result.ErrorKind.TheVariants.{Switch, TooLarge}
-use Rattle.tls_fields.proofs.OneAnswerLemmas.{read_allowed}
-use Rattle.tls_fields.proofs.TextLemmas.{Picked, First, Second, picked, test_whole}
+use Rattle.layouts.specs.Bytes.{Bytes, AreBytes, bytes_of}
+use Rattle.layouts.specs.Layout.{Layout, done, refuse, choose}
+use Rattle.layouts.specs.Meaning.{Allows, Spells}
+use Rattle.layouts.specs.Reading.{reading}
+use Rattle.layouts.specs.declared.result.ErrorKind.TheVariants.{Switch, TooLarge}
+use Rattle.layouts.proofs.OneAnswerLemmas.{read_allowed}
+use Rattle.layouts.proofs.TextLemmas.{Picked, First, Second, picked, test_whole}
 use Rattle.der.specs.Element.{Element, long_length, length_by, der_length, element}
 use Rattle.der.specs.Text.{length_text, element_text}
 

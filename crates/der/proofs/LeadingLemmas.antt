@@ -1,15 +1,15 @@
 -- The bytes of a subidentifier stand at the front, as they are walked.
 use Rattle.std.proofs.Common.{◌≡◌, ℕ, ◌+◌, ◌-◌, [], ◌∷◌, ◌++◌, length, Ok, Err, Bool, true, false, leb, refl, sym, ◌∙◌, ap, arith, append_assoc}
 use Rattle.std.proofs.lemmas.List.{length-append}
-use Rattle.tls_fields.specs.Bytes.{Bytes, AreBytes}
-use Rattle.tls_fields.specs.Layout.{number, block, test, done, chain}
-use Rattle.tls_fields.specs.Meaning.{Broken, Answer}
-use Rattle.tls_fields.specs.Reading.{reading, number_at, split_at, ◌and_then◌}
-use Rattle.tls_fields.specs.Items.{items_in, left_in}
-use Rattle.tls_fields.specs.declared.result.ErrorKind.TheVariants.{Verify}
-use Rattle.tls_fields.proofs.OneAnswerLemmas.{number_read}
-use Rattle.tls_fields.proofs.ItemsLemmas.{items_first, items_none, left_first, left_none, none_in, left_over}
-use Rattle.tls_fields.proofs.TextLemmas.{spelled_read}
+use Rattle.layouts.specs.Bytes.{Bytes, AreBytes}
+use Rattle.layouts.specs.Layout.{number, block, test, done, chain}
+use Rattle.layouts.specs.Meaning.{Broken, Answer}
+use Rattle.layouts.specs.Reading.{reading, number_at, split_at, ◌and_then◌}
+use Rattle.layouts.specs.Items.{items_in, left_in}
+use Rattle.layouts.specs.declared.result.ErrorKind.TheVariants.{Verify}
+use Rattle.layouts.proofs.OneAnswerLemmas.{number_read}
+use Rattle.layouts.proofs.ItemsLemmas.{items_first, items_none, left_first, left_none, none_in, left_over}
+use Rattle.layouts.proofs.TextLemmas.{spelled_read}
 use Rattle.der.specs.ObjectIdentifier.{leading_byte}
 
 one_read : (x : ℕ) (xs : Bytes) → reading (number 1) (x ∷ xs) ≡ Ok (x, xs)

@@ -1,7 +1,7 @@
 -- Elements: a tag, a length, and as many bytes of content (X.690, sections 8.1 and 10.1).
 use Rattle.std.specs.Prelude.{ℕ, ◌-◌, ◌%◌, ◌==◌, not, nat_le, nat_lt, List, Option, Some, None}
-use Rattle.tls_fields.specs.Bytes.{Bytes}
-use Rattle.tls_fields.specs.Layout.{
+use Rattle.layouts.specs.Bytes.{Bytes}
+use Rattle.layouts.specs.Layout.{
   Layout,
   done,
   refuse,
@@ -19,7 +19,7 @@ use Rattle.tls_fields.specs.Layout.{
   ◌>>=◌,
   ◌>>◌,
 }
-use Rattle.tls_fields.specs.declared.result.ErrorKind.TheVariants.{TooLarge, LengthValue, Verify, Switch, Tag}
+use Rattle.layouts.specs.declared.result.ErrorKind.TheVariants.{TooLarge, LengthValue, Verify, Switch, Tag}
 use Rattle.der.specs.declared.element.Element.{Element as LentElement}
 
 -- A length in so many bytes behind the first, which is at least that large: with fewer bytes it couldn't be said.

@@ -3,10 +3,10 @@ pub mod Values
 pub mod ObjectIdentifier
 pub mod Time
 pub mod Text
-pub use Rattle.tls_fields.specs.Bytes
-pub use Rattle.tls_fields.specs.Layout
-pub use Rattle.tls_fields.specs.Meaning
-pub use Rattle.tls_fields.specs.Reading
-pub use Rattle.tls_fields.specs.Items
-pub use Rattle.tls_fields.specs.Answers
+pub use Rattle.layouts.specs.Bytes
+pub use Rattle.layouts.specs.Layout
+pub use Rattle.layouts.specs.Meaning
+pub use Rattle.layouts.specs.Reading
+pub use Rattle.layouts.specs.Items
+pub use Rattle.layouts.specs.Answers
 pub use Rattle.jiff_core.specs.Calendar

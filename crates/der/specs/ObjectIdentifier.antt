@@ -20,10 +20,10 @@ use Rattle.std.specs.Prelude.{
   None,
   if◌then◌else◌,
 }
-use Rattle.tls_fields.specs.Bytes.{Bytes}
-use Rattle.tls_fields.specs.Layout.{Layout, done, number, left, list, look, rest, test, ◌>>=◌, ◌>>◌}
-use Rattle.tls_fields.specs.Items.{items_in}
-use Rattle.tls_fields.specs.declared.result.ErrorKind.TheVariants.{LengthValue, Verify}
+use Rattle.layouts.specs.Bytes.{Bytes}
+use Rattle.layouts.specs.Layout.{Layout, done, number, left, list, look, rest, test, ◌>>=◌, ◌>>◌}
+use Rattle.layouts.specs.Items.{items_in}
+use Rattle.layouts.specs.declared.result.ErrorKind.TheVariants.{LengthValue, Verify}
 use Rattle.der.specs.Element.{tagged}
 use Rattle.der.specs.declared.identifier.ObjectIdentifier.{ObjectIdentifier as LentObjectIdentifier}
 use Rattle.der.specs.declared.identifier.ArcNumber.{ArcNumber}

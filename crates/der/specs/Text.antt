@@ -1,6 +1,6 @@
 -- The one encoding of a length, and of an element (X.690, section 10.1).
 use Rattle.std.specs.Prelude.{ℕ, [], ◌∷◌, ◌++◌, length, nat_lt, if◌then◌else◌}
-use Rattle.tls_fields.specs.Bytes.{Bytes, bytes_of}
+use Rattle.layouts.specs.Bytes.{Bytes, bytes_of}
 use Rattle.der.specs.Element.{Element}
 
 -- A length below 128 is a byte; others are as few bytes as they need, behind one that counts them. None above 2^24 - 1 is read.

@@ -1,8 +1,8 @@
 -- UTCTime and GeneralizedTime as certificates have them (RFC 5280, section 4.1.2.5), in seconds since 1970-01-01 00:00:00 UTC.
 use Rattle.std.specs.Prelude.{ℕ, ◌+◌, ◌-◌, ◌*◌, ◌==◌, ◌&&◌, nat_le, nat_lt, if◌then◌else◌, Bool, ℤ, pos, ◌+ℤ◌, ◌*ℤ◌}
 use Rattle.jiff_core.specs.Calendar.{days_in_month, days_from_civil}
-use Rattle.tls_fields.specs.Layout.{Layout, done, number, test, mapped, ◌>>=◌, ◌>>◌}
-use Rattle.tls_fields.specs.declared.result.ErrorKind.TheVariants.{Verify}
+use Rattle.layouts.specs.Layout.{Layout, done, number, test, mapped, ◌>>=◌, ◌>>◌}
+use Rattle.layouts.specs.declared.result.ErrorKind.TheVariants.{Verify}
 
 -- A digit of ASCII.
 unfoldable pub digit : Layout ℕ

@@ -1,21 +1,21 @@
 //! Elements: a tag, a length, and as many bytes of content (X.690, sections 8.1 and 10.1).
-#![tactic(auto, using(tls_fields::proofs::OneAnswerLemmas::read_allowed))]
+#![tactic(auto, using(layouts::proofs::OneAnswerLemmas::read_allowed))]
 
 ghost use Rattle.std.specs.Prelude.{List};
 ghost use Rattle.std.specs.Option.{option_map};
-ghost use Rattle.tls_fields.specs.Bytes.{Bytes};
-ghost use Rattle.tls_fields.specs.Answers.{Gives};
-ghost use Rattle.tls_fields.specs.Items.{items_in};
-ghost use Rattle.tls_fields.specs.Layout.{complete, rest as rest_layout};
+ghost use Rattle.layouts.specs.Bytes.{Bytes};
+ghost use Rattle.layouts.specs.Answers.{Gives};
+ghost use Rattle.layouts.specs.Items.{items_in};
+ghost use Rattle.layouts.specs.Layout.{complete, rest as rest_layout};
 ghost use Rattle.der.specs.Element.{whole as whole_layout, tagged as tagged_layout, optional as optional_layout, optional_element as optional_element_layout};
 ghost use Rattle.der.specs.Element.{Element as PlainElement, view_element, element, element_bytes as element_bytes_layout, items_of};
 
 use crate::length::der_length;
+use layouts::{Err, ErrorKind, IResult, InPlace, Items, block, number1, refused, rest};
 use std::marker::PhantomData;
-use tls_fields::{Err, ErrorKind, IResult, InPlace, Items, block, number1, refused, rest};
 
 /// What `T` reads, behind which no byte is left.
-#[tactic(auto, using(tls_fields::proofs::OneAnswerLemmas::read_allowed), unfolding(crate::specs::Element::whole))]
+#[tactic(auto, using(layouts::proofs::OneAnswerLemmas::read_allowed), unfolding(crate::specs::Element::whole))]
 fn whole<'a, T: InPlace<'a>>(i: &'a [u8]) -> IResult<&'a [u8], T::Read>
     ensures { Gives T.view (whole_layout T.layout) i.now result }
 {
@@ -42,7 +42,7 @@ fn whole_content<'a, T: InPlace<'a>>(i: &'a [u8]) -> IResult<&'a [u8], T::Read>
 /// - `Error` of kind `Tag` where the tag is another.
 /// - What [`der_length`] refuses.
 /// - What `T` refuses in the content; of kind `Complete` where bytes are missing there, and `LengthValue` where some are left.
-#[tactic(auto, using(tls_fields::proofs::OneAnswerLemmas::read_allowed), unfolding(crate::specs::Element::tagged))]
+#[tactic(auto, using(layouts::proofs::OneAnswerLemmas::read_allowed), unfolding(crate::specs::Element::tagged))]
 pub fn tagged<'a, T: InPlace<'a>>(i: &'a [u8], tag: u8) -> IResult<&'a [u8], T::Read>
     ensures { Gives T.view (tagged_layout tag T.layout) i.now result }
 {
@@ -57,7 +57,7 @@ pub fn tagged<'a, T: InPlace<'a>>(i: &'a [u8], tag: u8) -> IResult<&'a [u8], T::
 }
 
 /// As [`tagged`] where an element of this tag is next; else `None`, and nothing is taken (OPTIONAL).
-#[tactic(auto, using(tls_fields::proofs::OneAnswerLemmas::read_allowed), unfolding(crate::specs::Element::optional))]
+#[tactic(auto, using(layouts::proofs::OneAnswerLemmas::read_allowed), unfolding(crate::specs::Element::optional))]
 pub fn optional<'a, T: InPlace<'a>>(i: &'a [u8], tag: u8) -> IResult<&'a [u8], Option<T::Read>>
     ensures { Gives (λ v. option_map T.view v) (optional_layout tag T.layout) i.now result }
 {
@@ -96,7 +96,7 @@ impl<'a> InPlace<'a> for Element<'a> {
 
     ghost layout = { element };
 
-    #[tactic(auto, using(tls_fields::proofs::OneAnswerLemmas::read_allowed), unfolding(crate::specs::Element::element))]
+    #[tactic(auto, using(layouts::proofs::OneAnswerLemmas::read_allowed), unfolding(crate::specs::Element::element))]
     fn read(i: &'a [u8]) -> IResult<&'a [u8], Self> {
         let (i, tag) = number1(i)?;
         if tag % 32 == 31 {
@@ -111,7 +111,7 @@ impl<'a> InPlace<'a> for Element<'a> {
 /// Reads an element, or `None` where no byte is left (ANY OPTIONAL, at an end).
 ///
 /// It refuses what reading an [`Element`] does.
-#[tactic(auto, using(tls_fields::proofs::OneAnswerLemmas::read_allowed), unfolding(crate::specs::Element::optional_element))]
+#[tactic(auto, using(layouts::proofs::OneAnswerLemmas::read_allowed), unfolding(crate::specs::Element::optional_element))]
 pub fn optional_element(i: &[u8]) -> IResult<&[u8], Option<Element>>
     ensures { Gives (λ v. option_map view_element v) optional_element_layout i.now result }
 {
@@ -125,7 +125,7 @@ pub fn optional_element(i: &[u8]) -> IResult<&[u8], Option<Element>>
 /// Reads the bytes of an element, with its tag and its length.
 ///
 /// It refuses what reading an [`Element`] does.
-#[tactic(auto, using(tls_fields::proofs::OneAnswerLemmas::read_allowed), unfolding(crate::specs::Element::element_bytes))]
+#[tactic(auto, using(layouts::proofs::OneAnswerLemmas::read_allowed), unfolding(crate::specs::Element::element_bytes))]
 pub fn element_bytes(i: &[u8]) -> IResult<&[u8], &[u8]>
     ensures { Gives (λ v. v.now) element_bytes_layout i.now result }
 {
@@ -164,7 +164,7 @@ impl<'a, T: InPlace<'a>> InPlace<'a> for ItemsOf<'a, T> {
 
     ghost layout = { items_of T.InPlace.layout };
 
-    #[tactic(auto, using(tls_fields::proofs::OneAnswerLemmas::read_allowed), unfolding(crate::specs::Element::items_of))]
+    #[tactic(auto, using(layouts::proofs::OneAnswerLemmas::read_allowed), unfolding(crate::specs::Element::items_of))]
     fn read(i: &'a [u8]) -> IResult<&'a [u8], Items<'a, T>> {
         let items = Items::new(i);
         let (i, _) = rest(i)?;

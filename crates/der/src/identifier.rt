@@ -1,15 +1,15 @@
 //! OBJECT IDENTIFIER (X.690, section 8.19).
-#![tactic(auto, using(tls_fields::proofs::OneAnswerLemmas::read_allowed))]
+#![tactic(auto, using(layouts::proofs::OneAnswerLemmas::read_allowed))]
 
 ghost use Rattle.std.specs.Prelude.{◌≡◌, ℕ, Option};
-ghost use Rattle.tls_fields.specs.Bytes.{Bytes};
-ghost use Rattle.tls_fields.specs.Answers.{Gives};
+ghost use Rattle.layouts.specs.Bytes.{Bytes};
+ghost use Rattle.layouts.specs.Answers.{Gives};
 ghost use Rattle.der.specs.ObjectIdentifier.{leading_byte, subidentifier, object_identifier_content, object_identifier as object_identifier_layout, view_object_identifier};
 ghost use Rattle.der.specs.ObjectIdentifier.{base128_from, in_range, first_arc as first_arc_of, second_arc as second_arc_of, view_arc, arcs_of, arcs_left};
 
 use crate::element::tagged;
 use crate::tag;
-use tls_fields::{ErrorKind, IResult, InPlace, Items, block, number1, refused, rest};
+use layouts::{ErrorKind, IResult, InPlace, Items, block, number1, refused, rest};
 
 /// A byte of a subidentifier that another follows.
 struct LeadingByte;
@@ -23,7 +23,7 @@ impl<'a> InPlace<'a> for LeadingByte {
 
     ghost layout = { leading_byte };
 
-    #[tactic(auto, using(tls_fields::proofs::OneAnswerLemmas::read_allowed), unfolding(crate::specs::ObjectIdentifier::leading_byte))]
+    #[tactic(auto, using(layouts::proofs::OneAnswerLemmas::read_allowed), unfolding(crate::specs::ObjectIdentifier::leading_byte))]
     fn read(i: &'a [u8]) -> IResult<&'a [u8], u8> {
         let (i, n) = number1(i)?;
         if n < 128 {
@@ -45,7 +45,7 @@ impl<'a> InPlace<'a> for Subidentifier {
 
     ghost layout = { subidentifier };
 
-    #[tactic(auto, using(tls_fields::proofs::OneAnswerLemmas::read_allowed, crate::proofs::LeadingLemmas::with_last), unfolding(crate::specs::ObjectIdentifier::subidentifier))]
+    #[tactic(auto, using(layouts::proofs::OneAnswerLemmas::read_allowed, crate::proofs::LeadingLemmas::with_last), unfolding(crate::specs::ObjectIdentifier::subidentifier))]
     fn read(i: &'a [u8]) -> IResult<&'a [u8], &'a [u8]> {
         let (_, first) = number1(i)?;
         if first == 0x80 {
@@ -77,7 +77,7 @@ impl<'a> InPlace<'a> for ObjectIdentifier<'a> {
 
     ghost layout = { object_identifier_content };
 
-    #[tactic(auto, using(tls_fields::proofs::OneAnswerLemmas::read_allowed), unfolding(crate::specs::ObjectIdentifier::object_identifier_content))]
+    #[tactic(auto, using(layouts::proofs::OneAnswerLemmas::read_allowed), unfolding(crate::specs::ObjectIdentifier::object_identifier_content))]
     fn read(i: &'a [u8]) -> IResult<&'a [u8], Self> {
         if i.is_empty() {
             return refused(i, ErrorKind::LengthValue);
@@ -93,7 +93,7 @@ impl<'a> InPlace<'a> for ObjectIdentifier<'a> {
 /// Reads an OBJECT IDENTIFIER.
 ///
 /// It refuses what [`tagged`] does, and what reading an [`ObjectIdentifier`] does in its content.
-#[tactic(auto, using(tls_fields::proofs::OneAnswerLemmas::read_allowed), unfolding(crate::specs::ObjectIdentifier::object_identifier))]
+#[tactic(auto, using(layouts::proofs::OneAnswerLemmas::read_allowed), unfolding(crate::specs::ObjectIdentifier::object_identifier))]
 pub fn object_identifier(i: &[u8]) -> IResult<&[u8], ObjectIdentifier>
     ensures { Gives view_object_identifier object_identifier_layout i.now result }
 {

@@ -1,8 +1,8 @@
 //! What holds of the layouts alone. Each function's contract is one law; its body is empty.
 
 ghost use Rattle.std.specs.Prelude.{◌≡◌, ◌++◌, ℕ, Ok};
-ghost use Rattle.tls_fields.specs.Bytes.{Bytes, AreBytes};
-ghost use Rattle.tls_fields.specs.Reading.{reading};
+ghost use Rattle.layouts.specs.Bytes.{Bytes, AreBytes};
+ghost use Rattle.layouts.specs.Reading.{reading};
 ghost use Rattle.der.specs.Element.{Element, der_length, element};
 ghost use Rattle.der.specs.Text.{length_text, element_text};
 

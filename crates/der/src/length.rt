@@ -1,13 +1,13 @@
 //! Lengths (X.690, sections 8.1.3 and 10.1).
-#![tactic(auto, using(tls_fields::proofs::OneAnswerLemmas::read_allowed))]
+#![tactic(auto, using(layouts::proofs::OneAnswerLemmas::read_allowed))]
 
-ghost use Rattle.tls_fields.specs.Answers.{Gives};
+ghost use Rattle.layouts.specs.Answers.{Gives};
 ghost use Rattle.der.specs.Element.{long_length, length_by as length_by_layout, der_length as der_length_layout};
 
-use tls_fields::{ErrorKind, IResult, number1, number2, number3, refused};
+use layouts::{ErrorKind, IResult, number1, number2, number3, refused};
 
 /// The length that a first byte begins.
-#[tactic(auto, using(tls_fields::proofs::OneAnswerLemmas::read_allowed), unfolding(crate::specs::Element::long_length, crate::specs::Element::length_by))]
+#[tactic(auto, using(layouts::proofs::OneAnswerLemmas::read_allowed), unfolding(crate::specs::Element::long_length, crate::specs::Element::length_by))]
 fn length_by(i: &[u8], first: u8) -> IResult<&[u8], usize>
     ensures { Gives (λ v. v) (length_by_layout first) i.now result }
 {
@@ -49,7 +49,7 @@ fn length_by(i: &[u8], first: u8) -> IResult<&[u8], usize>
 /// - `Error` of kind `Switch` where it is the indefinite form, which DER doesn't have.
 /// - `Error` of kind `Verify` where fewer bytes could say it.
 /// - `Error` of kind `TooLarge` where more than 3 bytes follow the first.
-#[tactic(auto, using(tls_fields::proofs::OneAnswerLemmas::read_allowed), unfolding(crate::specs::Element::der_length))]
+#[tactic(auto, using(layouts::proofs::OneAnswerLemmas::read_allowed), unfolding(crate::specs::Element::der_length))]
 pub fn der_length(i: &[u8]) -> IResult<&[u8], usize>
     ensures { Gives (λ v. v) der_length_layout i.now result }
 {

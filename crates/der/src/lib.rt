@@ -5,7 +5,7 @@
 //! `specs/` allows there: the value and the exact rest, the kind of the broken rule, or the exact count of missing bytes.
 //!
 //! What isn't judged: the order of a SET OF, and whether a default is left out.
-#![tactic(auto, using(tls_fields::proofs::OneAnswerLemmas::read_allowed))]
+#![tactic(auto, using(layouts::proofs::OneAnswerLemmas::read_allowed))]
 
 mod element;
 mod identifier;

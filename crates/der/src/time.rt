@@ -1,17 +1,17 @@
 //! UTCTime and GeneralizedTime as certificates have them (RFC 5280, section 4.1.2.5), in seconds since 1970-01-01 00:00:00 UTC.
-#![tactic(auto, using(tls_fields::proofs::OneAnswerLemmas::read_allowed))]
+#![tactic(auto, using(layouts::proofs::OneAnswerLemmas::read_allowed))]
 
 ghost use Rattle.std.specs.Prelude.{◌≡◌, ◌<◌, ◌≤◌, ℤ, pos, ◌+ℤ◌, ◌*ℤ◌, IfOk, true};
 ghost use Rattle.jiff_core.specs.Calendar.{days_from_civil, IsEpochDay};
-ghost use Rattle.tls_fields.specs.Answers.{Gives};
+ghost use Rattle.layouts.specs.Answers.{Gives};
 ghost use Rattle.der.specs.Time.{digit as digit_layout, two_digits as two_digits_layout, short_year as short_year_layout, full_year as full_year_layout};
 ghost use Rattle.der.specs.Time.{is_day as is_day_of, is_clock as is_clock_of, day_of as day_layout, clock as clock_layout, behind_year as behind_year_layout, utc_time, generalized_time};
 
 use jiff_core::civil::{Date, days_in_month};
-use tls_fields::{ErrorKind, IResult, InPlace, number1, refused};
+use layouts::{ErrorKind, IResult, InPlace, number1, refused};
 
 /// A digit of ASCII.
-#[tactic(auto, using(tls_fields::proofs::OneAnswerLemmas::read_allowed), unfolding(crate::specs::Time::digit))]
+#[tactic(auto, using(layouts::proofs::OneAnswerLemmas::read_allowed), unfolding(crate::specs::Time::digit))]
 fn digit(i: &[u8]) -> IResult<&[u8], u8>
     ensures gives { Gives (λ v. v) digit_layout i.now result }
     ensures fits { IfOk result (λ x. x.1 ≤ 9) }
@@ -24,7 +24,7 @@ fn digit(i: &[u8]) -> IResult<&[u8], u8>
 }
 
 /// A number of two digits.
-#[tactic(auto, using(tls_fields::proofs::OneAnswerLemmas::read_allowed), unfolding(crate::specs::Time::two_digits))]
+#[tactic(auto, using(layouts::proofs::OneAnswerLemmas::read_allowed), unfolding(crate::specs::Time::two_digits))]
 fn two_digits(i: &[u8]) -> IResult<&[u8], u8>
     ensures gives { Gives (λ v. v) two_digits_layout i.now result }
     ensures fits { IfOk result (λ x. x.1 ≤ 99) }
@@ -35,7 +35,7 @@ fn two_digits(i: &[u8]) -> IResult<&[u8], u8>
 }
 
 /// A year from 1950 to 2049, of two digits.
-#[tactic(auto, using(tls_fields::proofs::OneAnswerLemmas::read_allowed), unfolding(crate::specs::Time::short_year))]
+#[tactic(auto, using(layouts::proofs::OneAnswerLemmas::read_allowed), unfolding(crate::specs::Time::short_year))]
 fn short_year(i: &[u8]) -> IResult<&[u8], u16>
     ensures gives { Gives (λ v. v) short_year_layout i.now result }
     ensures fits { IfOk result (λ x. x.1 ≤ 9999) }
@@ -48,7 +48,7 @@ fn short_year(i: &[u8]) -> IResult<&[u8], u16>
 }
 
 /// A year of four digits.
-#[tactic(auto, using(tls_fields::proofs::OneAnswerLemmas::read_allowed), unfolding(crate::specs::Time::full_year))]
+#[tactic(auto, using(layouts::proofs::OneAnswerLemmas::read_allowed), unfolding(crate::specs::Time::full_year))]
 fn full_year(i: &[u8]) -> IResult<&[u8], u16>
     ensures gives { Gives (λ v. v) full_year_layout i.now result }
     ensures fits { IfOk result (λ x. x.1 ≤ 9999) }
@@ -80,7 +80,7 @@ fn day_number(year: u16, month: u8, day: u8) -> i32
 }
 
 /// Month and day.
-#[tactic(auto, using(tls_fields::proofs::OneAnswerLemmas::read_allowed), unfolding(crate::specs::Time::day_of))]
+#[tactic(auto, using(layouts::proofs::OneAnswerLemmas::read_allowed), unfolding(crate::specs::Time::day_of))]
 fn day_of(i: &[u8], year: u16) -> IResult<&[u8], i32>
     requires { year ≤ 9999 }
     ensures gives { Gives (λ v. v) (day_layout year) i.now result }
@@ -102,7 +102,7 @@ fn is_clock(hour: u8, minute: u8, second: u8) -> bool
 }
 
 /// Hour, minute and second, in seconds.
-#[tactic(auto, using(tls_fields::proofs::OneAnswerLemmas::read_allowed), unfolding(crate::specs::Time::clock))]
+#[tactic(auto, using(layouts::proofs::OneAnswerLemmas::read_allowed), unfolding(crate::specs::Time::clock))]
 fn clock(i: &[u8]) -> IResult<&[u8], u32>
     ensures gives { Gives (λ v. v) clock_layout i.now result }
     ensures fits { IfOk result (λ x. x.1 < 86400) }
@@ -126,7 +126,7 @@ fn seconds_of(day: i32, seconds: u32) -> i64
 }
 
 /// What follows a year, with the Z at the end.
-#[tactic(auto, using(tls_fields::proofs::OneAnswerLemmas::read_allowed), unfolding(crate::specs::Time::behind_year))]
+#[tactic(auto, using(layouts::proofs::OneAnswerLemmas::read_allowed), unfolding(crate::specs::Time::behind_year))]
 fn behind_year(i: &[u8], year: u16) -> IResult<&[u8], i64>
     requires { year ≤ 9999 }
     ensures { Gives (λ v. v) (behind_year_layout year) i.now result }
@@ -157,7 +157,7 @@ impl<'a> InPlace<'a> for UtcTime {
 
     ghost layout = { utc_time };
 
-    #[tactic(auto, using(tls_fields::proofs::OneAnswerLemmas::read_allowed), unfolding(crate::specs::Time::utc_time))]
+    #[tactic(auto, using(layouts::proofs::OneAnswerLemmas::read_allowed), unfolding(crate::specs::Time::utc_time))]
     fn read(i: &'a [u8]) -> IResult<&'a [u8], i64> {
         let (i, year) = short_year(i)?;
         behind_year(i, year)
@@ -178,7 +178,7 @@ impl<'a> InPlace<'a> for GeneralizedTime {
 
     ghost layout = { generalized_time };
 
-    #[tactic(auto, using(tls_fields::proofs::OneAnswerLemmas::read_allowed), unfolding(crate::specs::Time::generalized_time))]
+    #[tactic(auto, using(layouts::proofs::OneAnswerLemmas::read_allowed), unfolding(crate::specs::Time::generalized_time))]
     fn read(i: &'a [u8]) -> IResult<&'a [u8], i64> {
         let (i, year) = full_year(i)?;
         behind_year(i, year)

@@ -1,14 +1,14 @@
 //! Contents of single values: BOOLEAN, INTEGER and BIT STRING.
-#![tactic(auto, using(tls_fields::proofs::OneAnswerLemmas::read_allowed))]
+#![tactic(auto, using(layouts::proofs::OneAnswerLemmas::read_allowed))]
 
 ghost use Rattle.std.specs.Prelude.{◌≡◌, ◌+◌, ◌*◌, ◌^◌, ◌≤◌, Bool, length, nat_lt};
-ghost use Rattle.tls_fields.specs.Bytes.{Bytes};
-ghost use Rattle.tls_fields.specs.Answers.{Gives};
+ghost use Rattle.layouts.specs.Bytes.{Bytes};
+ghost use Rattle.layouts.specs.Answers.{Gives};
 ghost use Rattle.der.specs.Values.{boolean, default_false as default_false_layout, integer, is_shortest as is_shortest_of, BitString as PlainBitString, view_bit_string, bit_string, is_padding as is_padding_of, bit_of};
 
 use crate::element::optional;
 use crate::tag;
-use tls_fields::{ErrorKind, IResult, InPlace, number1, refused, rest};
+use layouts::{ErrorKind, IResult, InPlace, number1, refused, rest};
 
 /// The content of a BOOLEAN (X.690, sections 8.2 and 11.1).
 ///
@@ -25,7 +25,7 @@ impl<'a> InPlace<'a> for Boolean {
 
     ghost layout = { boolean };
 
-    #[tactic(auto, using(tls_fields::proofs::OneAnswerLemmas::read_allowed), unfolding(crate::specs::Values::boolean))]
+    #[tactic(auto, using(layouts::proofs::OneAnswerLemmas::read_allowed), unfolding(crate::specs::Values::boolean))]
     fn read(i: &'a [u8]) -> IResult<&'a [u8], bool> {
         let (i, n) = number1(i)?;
         if n != 0 && n != 255 {
@@ -39,7 +39,7 @@ impl<'a> InPlace<'a> for Boolean {
 ///
 /// The default may be written out, which DER forbids (X.690, section 11.5) and certificates have. It refuses what
 /// [`crate::tagged`] and [`Boolean`] do.
-#[tactic(auto, using(tls_fields::proofs::OneAnswerLemmas::read_allowed), unfolding(crate::specs::Values::default_false))]
+#[tactic(auto, using(layouts::proofs::OneAnswerLemmas::read_allowed), unfolding(crate::specs::Values::default_false))]
 pub fn default_false(i: &[u8]) -> IResult<&[u8], bool>
     ensures { Gives (λ v. v) default_false_layout i.now result }
 {
@@ -76,7 +76,7 @@ impl<'a> InPlace<'a> for Integer {
 
     ghost layout = { integer };
 
-    #[tactic(auto, using(tls_fields::proofs::OneAnswerLemmas::read_allowed), unfolding(crate::specs::Values::integer))]
+    #[tactic(auto, using(layouts::proofs::OneAnswerLemmas::read_allowed), unfolding(crate::specs::Values::integer))]
     fn read(i: &'a [u8]) -> IResult<&'a [u8], &'a [u8]> {
         if i.is_empty() {
             return refused(i, ErrorKind::LengthValue);
@@ -161,7 +161,7 @@ impl<'a> InPlace<'a> for BitString<'a> {
 
     ghost layout = { bit_string };
 
-    #[tactic(auto, using(tls_fields::proofs::OneAnswerLemmas::read_allowed), unfolding(crate::specs::Values::bit_string))]
+    #[tactic(auto, using(layouts::proofs::OneAnswerLemmas::read_allowed), unfolding(crate::specs::Values::bit_string))]
     fn read(i: &'a [u8]) -> IResult<&'a [u8], Self> {
         let (i, unused) = number1(i)?;
         if unused > 7 {

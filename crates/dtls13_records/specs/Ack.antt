@@ -1,7 +1,7 @@
 -- ACK messages of DTLS 1.3 (RFC 9147, section 7).
 use Rattle.std.specs.Prelude.{ℕ, ◌%◌, ◌==◌, List}
-use Rattle.tls_fields.specs.Layout.{Layout, done, number, window, list, test, ◌>>=◌, ◌>>◌}
-use Rattle.tls_fields.specs.declared.result.ErrorKind.TheVariants.{LengthValue}
+use Rattle.layouts.specs.Layout.{Layout, done, number, window, list, test, ◌>>=◌, ◌>>◌}
+use Rattle.layouts.specs.declared.result.ErrorKind.TheVariants.{LengthValue}
 use Rattle.dtls13_records.specs.declared.ack.RecordNumber.{RecordNumber as StoredRecordNumber}
 
 pub record RecordNumber : Type 0 where

@@ -1,9 +1,9 @@
 -- Encrypted records of DTLS 1.3 (RFC 9147, section 4).
 use Rattle.std.specs.Prelude.{ℕ, ◌+◌, ◌/◌, ◌%◌, ◌^◌, ◌==◌, nat_le, Bool, Option, Some, None}
 use Rattle.std.specs.Option.{option_map}
-use Rattle.tls_fields.specs.Bytes.{Bytes}
-use Rattle.tls_fields.specs.Layout.{Layout, done, number, block, left, test, choose, mapped, ◌>>=◌, ◌>>◌}
-use Rattle.tls_fields.specs.declared.result.ErrorKind.TheVariants.{LengthValue, Tag, TooLarge, Verify}
+use Rattle.layouts.specs.Bytes.{Bytes}
+use Rattle.layouts.specs.Layout.{Layout, done, number, block, left, test, choose, mapped, ◌>>=◌, ◌>>◌}
+use Rattle.layouts.specs.declared.result.ErrorKind.TheVariants.{LengthValue, Tag, TooLarge, Verify}
 use Rattle.dtls13_records.specs.declared.ciphertext.SequenceNumber.{SequenceNumber as StoredSequenceNumber}
 use Rattle.dtls13_records.specs.declared.ciphertext.SequenceNumber.TheVariants as stored
 use Rattle.dtls13_records.specs.declared.ciphertext.UnifiedHeader.{UnifiedHeader as LentUnifiedHeader}

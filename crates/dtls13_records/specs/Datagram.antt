@@ -1,9 +1,9 @@
 -- The records of a datagram of DTLS, of versions up to 1.3 (RFC 9147, section 4.1).
 use Rattle.std.specs.Prelude.{ℕ, ◌+◌, ◌/◌, ◌%◌, ◌^◌, ◌==◌, ◌&&◌, ◌||◌, nat_le, Bool}
-use Rattle.tls_fields.specs.Bytes.{Bytes}
-use Rattle.tls_fields.specs.Layout.{Layout, done, refuse, number, block, look, test, choose, mapped, ◌>>=◌, ◌>>◌}
-use Rattle.tls_fields.specs.declared.result.ErrorKind.TheVariants.{Switch, TooLarge, Verify}
-use Rattle.tls_parser.specs.DtlsRecord.{RawRecord, RecordHeader, view_header, view_raw_record}
+use Rattle.layouts.specs.Bytes.{Bytes}
+use Rattle.layouts.specs.Layout.{Layout, done, refuse, number, block, look, test, choose, mapped, ◌>>=◌, ◌>>◌}
+use Rattle.layouts.specs.declared.result.ErrorKind.TheVariants.{Switch, TooLarge, Verify}
+use Rattle.tls_records.specs.DtlsRecord.{RawRecord, RecordHeader, view_header, view_raw_record}
 use Rattle.dtls_stream.specs.Datagrams.{datagram_record}
 use Rattle.dtls13_records.specs.Ciphertext.{Ciphertext, ciphertext, fixed_bits, view_ciphertext}
 use Rattle.dtls13_records.specs.declared.datagram.ConnectionIdHeader.{ConnectionIdHeader as LentHeader}

@@ -1,10 +1,10 @@
 pub mod Ciphertext
 pub mod Ack
 pub mod Datagram
-pub use Rattle.tls_fields.specs.Bytes
-pub use Rattle.tls_fields.specs.Layout
-pub use Rattle.tls_fields.specs.Meaning
-pub use Rattle.tls_fields.specs.Reading
-pub use Rattle.tls_fields.specs.Answers
-pub use Rattle.tls_parser.specs.DtlsRecord
+pub use Rattle.layouts.specs.Bytes
+pub use Rattle.layouts.specs.Layout
+pub use Rattle.layouts.specs.Meaning
+pub use Rattle.layouts.specs.Reading
+pub use Rattle.layouts.specs.Answers
+pub use Rattle.tls_records.specs.DtlsRecord
 pub use Rattle.dtls_stream.specs.Datagrams

@@ -1,9 +1,9 @@
 //! Acknowledgments of records (RFC 9147, section 7).
-ghost use Rattle.tls_fields.specs.Answers.{Gives};
-ghost use Rattle.tls_fields.specs.Items.{items_in};
+ghost use Rattle.layouts.specs.Answers.{Gives};
+ghost use Rattle.layouts.specs.Items.{items_in};
 ghost use Rattle.dtls13_records.specs.Ack.{RecordNumber as Numbered, ack, record_number, view_record_number};
 
-use tls_fields::{ErrorKind, IResult, InPlace, Items, block, number2, number8, refused};
+use layouts::{ErrorKind, IResult, InPlace, Items, block, number2, number8, refused};
 
 /// How many bytes a record's number has in an ACK.
 const RECORD_NUMBER_LEN: u16 = 16;
@@ -26,7 +26,7 @@ impl<'a> InPlace<'a> for RecordNumber {
 
     ghost layout = { record_number };
 
-    #[tactic(auto, using(tls_fields::proofs::OneAnswerLemmas::read_allowed), unfolding(crate::specs::Ack::record_number))]
+    #[tactic(auto, using(layouts::proofs::OneAnswerLemmas::read_allowed), unfolding(crate::specs::Ack::record_number))]
     #[inline(always)]
     fn read(i: &'a [u8]) -> IResult<&'a [u8], Self> {
         let (i, epoch) = number8(i)?;
@@ -46,7 +46,7 @@ impl<'a> InPlace<'a> for RecordNumber {
 ///
 /// - `Incomplete` of what is missing of the length, or else of the list.
 /// - `Error` of kind `LengthValue` where the length is no multiple of 16, even if the list isn't there yet.
-#[tactic(auto, using(tls_fields::proofs::OneAnswerLemmas::read_allowed), unfolding(crate::specs::Ack::ack))]
+#[tactic(auto, using(layouts::proofs::OneAnswerLemmas::read_allowed), unfolding(crate::specs::Ack::ack))]
 pub fn parse_dtls13_ack(i: &[u8]) -> IResult<&[u8], Items<RecordNumber>>
     ensures { Gives (λ v. items_in record_number v.bytes.now) ack i.now result }
 {

@@ -1,13 +1,13 @@
 //! Encrypted records (RFC 9147, section 4).
 ghost use Rattle.std.specs.Prelude.{◌≡◌};
 ghost use Rattle.std.specs.Option.{option_map};
-ghost use Rattle.tls_fields.specs.Answers.{Gives};
+ghost use Rattle.layouts.specs.Answers.{Gives};
 ghost use Rattle.dtls13_records.specs.Ciphertext.{connection_id as connection_id_layout, sequence_number as sequence_number_layout, view_sequence_number};
 ghost use Rattle.dtls13_records.specs.Ciphertext.{length_field as length_field_layout, unified_hdr, view_unified_header};
 ghost use Rattle.dtls13_records.specs.Ciphertext.{encrypted_record_of as encrypted_record_of_layout, encrypted_record as encrypted_record_layout, ciphertext, view_ciphertext};
 
-use tls_fields::{ErrorKind, IResult, block, number1, number2, refused};
-use tls_parser::MAX_RECORD_LEN;
+use layouts::{ErrorKind, IResult, block, number1, number2, refused};
+use tls_records::MAX_RECORD_LEN;
 
 /// The bit C of the first byte: a connection id is present.
 const C_BIT: u8 = 0x10;
@@ -56,7 +56,7 @@ pub struct DTLSCiphertext<'a> {
 }
 
 /// The connection id, where it is present.
-#[tactic(auto, using(tls_fields::proofs::OneAnswerLemmas::read_allowed), unfolding(crate::specs::Ciphertext::connection_id))]
+#[tactic(auto, using(layouts::proofs::OneAnswerLemmas::read_allowed), unfolding(crate::specs::Ciphertext::connection_id))]
 fn connection_id(i: &[u8], is_present: bool, len: usize) -> IResult<&[u8], Option<&[u8]>>
     ensures { Gives (λ v. option_map (λ x. x.now) v) (connection_id_layout is_present len) i.now result }
 {
@@ -71,7 +71,7 @@ fn connection_id(i: &[u8], is_present: bool, len: usize) -> IResult<&[u8], Optio
 }
 
 /// The sequence number, of 16 or of 8 bits.
-#[tactic(auto, using(tls_fields::proofs::OneAnswerLemmas::read_allowed), unfolding(crate::specs::Ciphertext::sequence_number))]
+#[tactic(auto, using(layouts::proofs::OneAnswerLemmas::read_allowed), unfolding(crate::specs::Ciphertext::sequence_number))]
 fn sequence_number(i: &[u8], is_long: bool) -> IResult<&[u8], SequenceNumber>
     ensures { Gives view_sequence_number (sequence_number_layout is_long) i.now result }
 {
@@ -84,7 +84,7 @@ fn sequence_number(i: &[u8], is_long: bool) -> IResult<&[u8], SequenceNumber>
 }
 
 /// The length, where it is present.
-#[tactic(auto, using(tls_fields::proofs::OneAnswerLemmas::read_allowed), unfolding(crate::specs::Ciphertext::length_field))]
+#[tactic(auto, using(layouts::proofs::OneAnswerLemmas::read_allowed), unfolding(crate::specs::Ciphertext::length_field))]
 fn length_field(i: &[u8], is_present: bool) -> IResult<&[u8], Option<u16>>
     ensures { Gives (λ v. v) (length_field_layout is_present) i.now result }
 {
@@ -96,7 +96,7 @@ fn length_field(i: &[u8], is_present: bool) -> IResult<&[u8], Option<u16>>
 }
 
 /// The header, where connection ids have that length.
-#[tactic(auto, using(tls_fields::proofs::OneAnswerLemmas::read_allowed), unfolding(crate::specs::Ciphertext::unified_hdr))]
+#[tactic(auto, using(layouts::proofs::OneAnswerLemmas::read_allowed), unfolding(crate::specs::Ciphertext::unified_hdr))]
 fn unified_header(i: &[u8], connection_id_len: usize) -> IResult<&[u8], UnifiedHeader>
     ensures { Gives view_unified_header (unified_hdr connection_id_len) i.now result }
 {
@@ -117,7 +117,7 @@ fn unified_header(i: &[u8], connection_id_len: usize) -> IResult<&[u8], UnifiedH
 }
 
 /// An encrypted record of that many bytes.
-#[tactic(auto, using(tls_fields::proofs::OneAnswerLemmas::read_allowed), unfolding(crate::specs::Ciphertext::encrypted_record_of))]
+#[tactic(auto, using(layouts::proofs::OneAnswerLemmas::read_allowed), unfolding(crate::specs::Ciphertext::encrypted_record_of))]
 fn encrypted_record_of(i: &[u8], len: usize) -> IResult<&[u8], &[u8]>
     ensures { Gives (λ v. v.now) (encrypted_record_of_layout len) i.now result }
 {
@@ -131,7 +131,7 @@ fn encrypted_record_of(i: &[u8], len: usize) -> IResult<&[u8], &[u8]>
 }
 
 /// An encrypted record behind a header with that length, or with none.
-#[tactic(auto, using(tls_fields::proofs::OneAnswerLemmas::read_allowed), unfolding(crate::specs::Ciphertext::encrypted_record))]
+#[tactic(auto, using(layouts::proofs::OneAnswerLemmas::read_allowed), unfolding(crate::specs::Ciphertext::encrypted_record))]
 fn encrypted_record(i: &[u8], length: Option<u16>) -> IResult<&[u8], &[u8]>
     ensures { Gives (λ v. v.now) (encrypted_record_layout length) i.now result }
 {
@@ -156,7 +156,7 @@ fn encrypted_record(i: &[u8], length: Option<u16>) -> IResult<&[u8], &[u8]>
 /// - `Error` of kind `Verify` where C is set and `connection_id_len` is 0.
 /// - `Error` of kind `TooLarge` where the encrypted record has more than 16640 bytes, even if they aren't there yet.
 /// - `Error` of kind `LengthValue` where it has fewer than 16 (RFC 9147, section 4.2.3).
-#[tactic(auto, using(tls_fields::proofs::OneAnswerLemmas::read_allowed), unfolding(crate::specs::Ciphertext::ciphertext))]
+#[tactic(auto, using(layouts::proofs::OneAnswerLemmas::read_allowed), unfolding(crate::specs::Ciphertext::ciphertext))]
 pub fn parse_dtls13_ciphertext(i: &[u8], connection_id_len: usize) -> IResult<&[u8], DTLSCiphertext>
     ensures { Gives view_ciphertext (ciphertext connection_id_len) i.now result }
 {

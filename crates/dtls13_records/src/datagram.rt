@@ -1,16 +1,14 @@
 //! The records of a datagram, of versions up to DTLS 1.3 (RFC 9147, section 4.1).
-ghost use Rattle.tls_fields.specs.Answers.{Gives};
+ghost use Rattle.layouts.specs.Answers.{Gives};
 ghost use Rattle.dtls13_records.specs.Datagram.{connection_id_header as connection_id_header_layout, view_connection_id_header};
 ghost use Rattle.dtls13_records.specs.Datagram.{connection_id_record as connection_id_record_layout, view_connection_id_record};
 ghost use Rattle.dtls13_records.specs.Datagram.{datagram_record13, view_datagram_record};
 
 use crate::ciphertext::{DTLSCiphertext, parse_dtls13_ciphertext};
-use dtls_stream::read_record;
-use tls_fields::{ErrorKind, IResult, block, number1, number2, number8, refused};
-use tls_parser::{DTLSRawRecord, DTLSRecordHeader, TlsRecordType, TlsVersion};
-
-/// The most bytes that an encrypted record of DTLS 1.2 may have (RFC 5246, section 6.2.3).
-const MAX_ENCRYPTED_LEN: u16 = 18_432;
+use dtls_stream::{MAX_ENCRYPTED_LEN, read_record};
+use layouts::{ErrorKind, IResult, block, number1, number2, number8, refused};
+use tls_base::{TlsRecordType, TlsVersion};
+use tls_records::{DTLSRawRecord, DTLSRecordHeader};
 
 /// The header of a record of DTLS 1.2 with a connection id (RFC 9146, section 4).
 #[derive(Debug, PartialEq, Drop)]
@@ -42,7 +40,7 @@ pub enum DatagramRecord<'a> {
 }
 
 /// The header of a record of DTLS 1.2, where connection ids have that length.
-#[tactic(auto, using(tls_fields::proofs::OneAnswerLemmas::read_allowed), unfolding(crate::specs::Datagram::connection_id_header))]
+#[tactic(auto, using(layouts::proofs::OneAnswerLemmas::read_allowed), unfolding(crate::specs::Datagram::connection_id_header))]
 fn connection_id_header(i: &[u8], connection_id_len: usize) -> IResult<&[u8], ConnectionIdHeader>
     ensures { Gives view_connection_id_header (connection_id_header_layout connection_id_len) i.now result }
 {
@@ -69,7 +67,7 @@ fn connection_id_header(i: &[u8], connection_id_len: usize) -> IResult<&[u8], Co
 }
 
 /// A record of DTLS 1.2, where connection ids have that length.
-#[tactic(auto, using(tls_fields::proofs::OneAnswerLemmas::read_allowed), unfolding(crate::specs::Datagram::connection_id_record))]
+#[tactic(auto, using(layouts::proofs::OneAnswerLemmas::read_allowed), unfolding(crate::specs::Datagram::connection_id_record))]
 fn connection_id_record(i: &[u8], connection_id_len: usize) -> IResult<&[u8], ConnectionIdRecord>
     ensures { Gives view_connection_id_record (connection_id_record_layout connection_id_len) i.now result }
 {
@@ -98,7 +96,7 @@ fn connection_id_record(i: &[u8], connection_id_len: usize) -> IResult<&[u8], Co
 /// - `Error` of kind `TooLarge` where the length is above what such a record may have: 16640 bytes in epoch 0 and in
 ///   DTLS 1.3, else 18432.
 /// - `Error` of kind `LengthValue` where an encrypted record of DTLS 1.3 has fewer than 16 bytes.
-#[tactic(auto, using(tls_fields::proofs::OneAnswerLemmas::read_allowed), unfolding(crate::specs::Datagram::datagram_record13))]
+#[tactic(auto, using(layouts::proofs::OneAnswerLemmas::read_allowed), unfolding(crate::specs::Datagram::datagram_record13))]
 pub fn read_datagram_record(i: &[u8], connection_id_len: usize) -> IResult<&[u8], DatagramRecord>
     ensures { Gives view_datagram_record (datagram_record13 connection_id_len) i.now result }
 {

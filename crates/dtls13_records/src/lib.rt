@@ -3,7 +3,7 @@
 //!
 //! Each call reads one structure from the front of bytes, takes no memory, and answers what a layout of `specs/` allows
 //! there: the value and the exact rest, the kind of the broken rule, or the exact count of missing bytes.
-#![tactic(auto, using(tls_fields::proofs::OneAnswerLemmas::read_allowed))]
+#![tactic(auto, using(layouts::proofs::OneAnswerLemmas::read_allowed))]
 
 mod ack;
 mod ciphertext;

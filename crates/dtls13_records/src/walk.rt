@@ -37,7 +37,7 @@ impl<'a> DatagramRecords<'a> {
 
 impl<'a> Iterator for DatagramRecords<'a> {
     ghost use Rattle.std.specs.Iterator.{YieldsFirstBy, item_count};
-    ghost use Rattle.tls_fields.specs.Items.{items_in};
+    ghost use Rattle.layouts.specs.Items.{items_in};
     ghost use Rattle.dtls13_records.specs.Datagram.{datagram_record13, view_datagram_record};
 
     type Item = DatagramRecord<'a>;
@@ -46,7 +46,7 @@ impl<'a> Iterator for DatagramRecords<'a> {
 
     ghost remaining = { item_count (λ s. items_in (datagram_record13 s.connection_id_len) s.left.now) };
 
-    #[tactic(auto, using(tls_fields::proofs::ItemsLemmas::items_first, tls_fields::proofs::ItemsLemmas::items_none, tls_fields::proofs::ItemsLemmas::items_still, tls_fields::proofs::ItemsLemmas::items_shorter))]
+    #[tactic(auto, using(layouts::proofs::ItemsLemmas::items_first, layouts::proofs::ItemsLemmas::items_none, layouts::proofs::ItemsLemmas::items_still, layouts::proofs::ItemsLemmas::items_shorter))]
     fn next(&mut self) -> Option<DatagramRecord<'a>> {
         match read_datagram_record(self.left, self.connection_id_len) {
             Ok((left, record)) if left.len() < self.left.len() => {

@@ -19,8 +19,8 @@ use Rattle.std.proofs.Common.{
   append-nil,
 }
 use Rattle.std.proofs.lemmas.List.{map-append, take-append-drop}
-use Rattle.dtls_messages.specs.Fragments.{Fragment}
-use Rattle.dtls_messages.specs.Messages.{
+use Rattle.dtls_stream.specs.Fragments.{Fragment}
+use Rattle.dtls_stream.specs.Messages.{
   Alert,
   AreHeard,
   ChangeCipherSpec,
@@ -39,7 +39,7 @@ use Rattle.dtls_messages.specs.Messages.{
   events,
   messages,
 }
-use Rattle.dtls_messages.proofs.StoppedLemmas.{after_append, events_append}
+use Rattle.dtls_stream.proofs.StoppedLemmas.{after_append, events_append}
 use Rattle.dtls_stream.specs.Datagrams.{AreToldInPart, IsCut}
 
 -- Messages among events.

@@ -37,13 +37,13 @@ use Rattle.std.specs.Borrow.{Bor}
 use Rattle.std.proofs.lemmas.Bool.{lt-ltb, le-ltb, eq-eqb, eqb-true}
 use Rattle.std.proofs.lemmas.List.{map-append, drop_more}
 use Rattle.std.proofs.Math.Seq.{take-suc}
-use Rattle.tls_fields.specs.Bytes.{Bytes}
-use Rattle.tls_fields.specs.Meaning.{Answer, Refusal}
-use Rattle.tls_fields.specs.Reading.{reading}
-use Rattle.tls_parser.specs.DtlsRecord.{Message, RawRecord, record_content, view_message}
-use Rattle.tls_parser.specs.declared.dtls.message.DTLSMessage.{DTLSMessage}
-use Rattle.dtls_messages.specs.Fragments.{Fragment}
-use Rattle.dtls_messages.specs.Messages.{AreHeard, Encrypted, Event, Failed, Heard, Kept, Limits, Stands, events}
+use Rattle.layouts.specs.Bytes.{Bytes}
+use Rattle.layouts.specs.Meaning.{Answer, Refusal}
+use Rattle.layouts.specs.Reading.{reading}
+use Rattle.tls_records.specs.DtlsRecord.{Message, RawRecord, record_content, view_message}
+use Rattle.tls_records.specs.declared.dtls.message.DTLSMessage.{DTLSMessage}
+use Rattle.dtls_stream.specs.Fragments.{Fragment}
+use Rattle.dtls_stream.specs.Messages.{AreHeard, Encrypted, Event, Failed, Heard, Kept, Limits, Stands, events}
 use Rattle.dtls_stream.specs.Datagrams.{
   IsStep,
   content_bytes,

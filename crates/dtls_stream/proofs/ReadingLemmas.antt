@@ -27,15 +27,15 @@ use Rattle.std.proofs.Common.{
 }
 use Rattle.std.specs.Prelude.{◌==◌}
 use Rattle.std.proofs.lemmas.Bool.{le-ltb, eq-eqb}
-use Rattle.tls_fields.specs.Bytes.{Bytes}
-use Rattle.tls_fields.specs.Layout.{list1}
-use Rattle.tls_fields.specs.Meaning.{Answer, Refusal}
-use Rattle.tls_fields.specs.Reading.{reading}
-use Rattle.tls_parser.specs.DtlsRecord.{Message, RawRecord, record_content, view_message}
-use Rattle.tls_parser.specs.declared.dtls.message.DTLSMessage.{DTLSMessage}
-use Rattle.tls_parser.specs.DtlsRecord as dtls_record
-use Rattle.dtls_messages.specs.Fragments.{Fragment, fragment}
-use Rattle.dtls_messages.specs.Messages.{
+use Rattle.layouts.specs.Bytes.{Bytes}
+use Rattle.layouts.specs.Layout.{list1}
+use Rattle.layouts.specs.Meaning.{Answer, Refusal}
+use Rattle.layouts.specs.Reading.{reading}
+use Rattle.tls_records.specs.DtlsRecord.{Message, RawRecord, record_content, view_message}
+use Rattle.tls_records.specs.declared.dtls.message.DTLSMessage.{DTLSMessage}
+use Rattle.tls_records.specs.DtlsRecord as dtls_record
+use Rattle.dtls_stream.specs.Fragments.{Fragment, fragment}
+use Rattle.dtls_stream.specs.Messages.{
   AreHeard,
   Encrypted,
   Event,
@@ -48,7 +48,7 @@ use Rattle.dtls_messages.specs.Messages.{
   events,
   messages,
 }
-use Rattle.dtls_messages.proofs.StoppedLemmas.{after_append}
+use Rattle.dtls_stream.proofs.StoppedLemmas.{after_append}
 use Rattle.dtls_stream.specs.Datagrams.{
   AreToldInPart,
   IsCut,

@@ -1,18 +1,18 @@
 -- What is told of the datagrams of one direction (RFC 6347, sections 4.1 and 4.2).
 use Rattle.std.specs.Prelude.{◌≡◌, ℕ, zero, suc, ◌+◌, cond, nat_le, nat_lt, Option, Some, None, Ok, Err, ◌==◌, ◌&&◌, if◌then◌else◌, List, [], ◌∷◌, ◌++◌, length, take, map}
 use Rattle.std.specs.Borrow.{Bor}
-use Rattle.tls_fields.specs.Bytes.{Bytes}
-use Rattle.tls_fields.specs.Layout.{Layout, done, block, list1, ◌>>=◌, ◌>>◌, test}
-use Rattle.tls_fields.specs.Meaning.{Answer, Broken, Lacks, Refusal}
-use Rattle.tls_fields.specs.Reading.{reading}
-use Rattle.tls_fields.specs.declared.result.ErrorKind.{ErrorKind}
-use Rattle.tls_fields.specs.declared.result.ErrorKind.TheVariants.{Complete, Switch, TooLarge}
-use Rattle.tls_parser.specs.DtlsRecord.{RawRecord, RecordHeader, record_content, record_header}
-use Rattle.tls_parser.specs.DtlsRecord as dtls_record
-use Rattle.tls_parser.specs.DtlsHandshake as handshakes
-use Rattle.tls_parser.specs.Framing.{max_fragment_length}
-use Rattle.dtls_messages.specs.Fragments.{Fragment, fragment}
-use Rattle.dtls_messages.specs.Messages.{Alert, ChangeCipherSpec, Encrypted, EncryptedRecord, Event, Failed, Handshake, Heard, Kept, Limits, Message, Stands, after, events, messages}
+use Rattle.layouts.specs.Bytes.{Bytes}
+use Rattle.layouts.specs.Layout.{Layout, done, block, list1, ◌>>=◌, ◌>>◌, test}
+use Rattle.layouts.specs.Meaning.{Answer, Broken, Lacks, Refusal}
+use Rattle.layouts.specs.Reading.{reading}
+use Rattle.layouts.specs.declared.result.ErrorKind.{ErrorKind}
+use Rattle.layouts.specs.declared.result.ErrorKind.TheVariants.{Complete, Switch, TooLarge}
+use Rattle.tls_records.specs.DtlsRecord.{RawRecord, RecordHeader, record_content, record_header}
+use Rattle.tls_records.specs.DtlsRecord as dtls_record
+use Rattle.tls_records.specs.DtlsHandshake as handshakes
+use Rattle.tls_records.specs.Framing.{max_fragment_length}
+use Rattle.dtls_stream.specs.Fragments.{Fragment, fragment}
+use Rattle.dtls_stream.specs.Messages.{Alert, ChangeCipherSpec, Encrypted, EncryptedRecord, Event, Failed, Handshake, Heard, Kept, Limits, Message, Stands, after, events, messages}
 
 abbrev pub fragment_by : handshakes.Handshake → handshakes.Body → Option Fragment
 fragment_by m (handshakes.Fragment b) = Some (record {

@@ -1,12 +1,13 @@
 //! Datagrams of one direction.
 ghost use Rattle.std.specs.Prelude.{◌≡◌, OnErr, OnOk, IfOk};
-ghost use Rattle.dtls_messages.specs.Messages.{Heard, Limits as Allowed, Stands, nothing, view_events, view_limits};
+ghost use Rattle.dtls_stream.specs.Messages.{Heard, Limits as Allowed, Stands, nothing, view_events, view_limits};
 ghost use Rattle.dtls_stream.specs.Datagrams.{IsDatagramCut, IsStep, datagram as datagram_step, datagrams as datagrams_step, views};
 
+use crate::event::Event;
+use crate::messages::{Limits, Messages};
 use crate::records::{hear_record, read_record, tell_unread};
-use dtls_messages::{Event, Limits, Messages};
+use layouts::OutOfMemory;
 use std::alloc::Global;
-use tls_parser::OutOfMemory;
 
 /// Takes a datagram of one direction, and puts what it says behind the events. `messages` holds what came of that direction.
 ///

@@ -1,24 +1,27 @@
 //! Records of a datagram, and what is told of each.
 ghost use Rattle.std.specs.Prelude.{◌≡◌, ◌++◌, OnErr, OnOk, map};
-ghost use Rattle.tls_fields.specs.Answers.{Gives, refusal_of};
-ghost use Rattle.tls_parser.specs.DtlsRecord.{view_header, view_message as view_content, view_raw_record};
+ghost use Rattle.layouts.specs.Answers.{Gives, refusal_of};
+ghost use Rattle.tls_records.specs.DtlsRecord.{view_header, view_message as view_content, view_raw_record};
 ghost use Rattle.std.specs.Option.{option_map};
-ghost use Rattle.tls_parser.specs.DtlsHandshake.{view_handshake};
-ghost use Rattle.dtls_messages.specs.Fragments.{view_fragment};
-ghost use Rattle.dtls_messages.specs.Messages.{Heard, Limits as Allowed, Stands, view_event, view_events};
+ghost use Rattle.tls_records.specs.DtlsHandshake.{view_handshake};
+ghost use Rattle.dtls_stream.specs.Fragments.{view_fragment};
+ghost use Rattle.dtls_stream.specs.Messages.{Heard, Limits as Allowed, Stands, view_event, view_events};
 ghost use Rattle.dtls_stream.specs.Datagrams.{AreToldInPart, IsCut, IsRecordCut, IsStep, content as content_layout, content_bytes as content_bytes_of, content_record_step, datagram_record, event_of, fragment_in, fragment_record_step, fragments_in_content, kind_of as kind_told, left_over, limit, record_step, unread};
 
-use dtls_messages::{EncryptedRecord, Event, Fragment, Messages, read_all};
+use crate::event::{EncryptedRecord, Event};
+use crate::fragments::Fragment;
+use crate::messages::Messages;
+use crate::read::read_all;
+use layouts::{Err as Refused, Error, ErrorKind, IResult, OutOfMemory, block, items1, refused};
 use std::alloc::Global;
-use tls_fields::{block, items1, refused};
-use tls_parser::{
+use tls_base::{TlsMessageAlert, TlsRecordType};
+use tls_records::{
     DTLSMessage, DTLSMessageHandshake, DTLSMessageHandshakeBody, DTLSRawRecord, DTLSRecordHeader,
-    Err as Refused, Error, ErrorKind, IResult, MAX_RECORD_LEN, OutOfMemory, TlsMessageAlert,
-    TlsRecordType, parse_dtls_record_header, parse_dtls_record_with_header,
+    MAX_RECORD_LEN, parse_dtls_record_header, parse_dtls_record_with_header,
 };
 
 /// The most bytes that an encrypted record may have behind its header (RFC 5246, section 6.2.3).
-const MAX_ENCRYPTED_LEN: u16 = 18_432;
+pub const MAX_ENCRYPTED_LEN: u16 = 18_432;
 
 /// The fragment that this message is. `None` where it was read whole: the value of a whole body doesn't keep the body's bytes.
 pub fn fragment_of<'a>(message: &DTLSMessageHandshake<'a>) -> Option<Fragment<'a>>
@@ -48,7 +51,7 @@ fn limit_of(header: &DTLSRecordHeader) -> u16
 }
 
 /// The content of a record with this header, as it stands.
-#[tactic(auto, using(tls_fields::proofs::OneAnswerLemmas::read_allowed), unfolding(crate::specs::Datagrams::content))]
+#[tactic(auto, using(layouts::proofs::OneAnswerLemmas::read_allowed), unfolding(crate::specs::Datagrams::content))]
 fn content<'a>(i: &'a [u8], header: &DTLSRecordHeader) -> IResult<&'a [u8], &'a [u8]>
     ensures { Gives (λ b. b.now) (content_layout (view_header header.now)) i.now result }
 {
@@ -61,7 +64,7 @@ fn content<'a>(i: &'a [u8], header: &DTLSRecordHeader) -> IResult<&'a [u8], &'a 
 /// Reads a record of a datagram, and leaves its content as it stands (RFC 6347, section 4.1).
 ///
 /// `Incomplete` where the datagram ends within it; `TooLarge` where its length is more than a record may have.
-#[tactic(auto, using(tls_fields::proofs::OneAnswerLemmas::read_allowed), unfolding(crate::specs::Datagrams::datagram_record))]
+#[tactic(auto, using(layouts::proofs::OneAnswerLemmas::read_allowed), unfolding(crate::specs::Datagrams::datagram_record))]
 pub fn read_record(i: &[u8]) -> IResult<&[u8], DTLSRawRecord>
     ensures { Gives view_raw_record datagram_record i.now result }
 {

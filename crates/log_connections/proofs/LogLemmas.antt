@@ -1,14 +1,15 @@
 -- What the connection of a packet comes to.
-use Rattle.std.proofs.Common.{◌≡◌, sym, ap, ◌∙◌, subst, Option, Some, None, List, ◌∷◌, Bool, true, false, Result, Ok, Err}
-use Rattle.std.specs.Prelude.{OnOk}
+use Rattle.std.proofs.Common.{◌≡◌, refl, sym, ap, ◌∙◌, subst, Option, Some, None, List, ◌∷◌, Bool, true, false, Result, Ok, Err}
+use Rattle.std.specs.Prelude.{is_some, not}
 use Rattle.std.specs.Option.{unwrap_or}
 use Rattle.std.specs.Map.{set_value}
-use Rattle.connections.proofs.TableLemmas.{are_ends-refl}
-use Rattle.connections.specs.Connection.{side_of}
+use Rattle.connections.proofs.TableLemmas.{are_ends-refl, stands_first}
+use Rattle.connections.specs.Connection.{side_of, Accepts}
 use Rattle.connections.specs.Datagram.{ends_of_datagram}
 use Rattle.connections.specs.Ends.{are_ends}
+use Rattle.connections.specs.Lends.{with_first}
 use Rattle.connections.specs.Segment.{ends_of}
-use Rattle.connections.specs.Table.{IsPut, Puts, Table, TakesDatagram, TakesSegment, at, closed_behind, others}
+use Rattle.connections.specs.Table.{IsPut, Puts, Table, TakesDatagram, TakesSegment, at, closed_behind, others, without_if}
 use Rattle.connections.specs.declared.connection.Connection.{Connection}
 use Rattle.connections.specs.declared.datagram.Datagram.{Datagram}
 use Rattle.connections.specs.declared.ends.Ends.{Ends}
@@ -42,11 +43,6 @@ module _ {K : Type 0} (e : Ends) (Takes : Option (Connection (Heard K)) → Conn
   written_first : (d : Connection (Heard K)) → set_value (are_ends e) ys d ≡ (e, d) ∷ others e xs
   written_first d = ap (λ l. set_value (are_ends e) l d) put.stands ∙ set_first e put.its d (others e xs)
 
--- What follows from an answer's value holds where there is one.
-pub where_ok : {A E : Type 0} (r : Result A E) (P Q : Type 0) → (P → Q) → OnOk r P → OnOk r Q
-where_ok (Ok a) P Q f h = f h
-where_ok (Err e) P Q f h = tt
-
 module _ {K : Type 0} where
   put_where_true : (b : Bool) (s : Segment) (old mid : Table (Heard K)) → b ≡ true → Puts b s old mid
       → IsPut (ends_of s) (TakesSegment s) old.live mid.live
@@ -68,6 +64,19 @@ module _ {K : Type 0} where
         stands = written_first (ends_of s) (TakesSegment s) old.live mid.live put d;
         closed = closed ∙ ap (λ x. closed_behind x s old) is;
       }
+
+  -- The connection that is open takes it.
+  pub heard_by_open : (s : Segment) (old : Table (Heard K)) (c put its : Connection (Heard K))
+      → Some c ≡ at (ends_of s) old.live → Accepts s c put → HearsSide (side_of put s.source) put its
+      → HearsSegment s old (with_first (ends_of s) its old)
+  heard_by_open s old c put its found accepts hears = record {
+    put = put;
+    its = its;
+    takes = subst (λ o. TakesSegment s o put) found accepts;
+    hears = hears;
+    stands = stands_first (ends_of s) old c its found;
+    closed = subst (λ o. old.closed ≡ without_if (not (is_some o)) (ends_of s) old.closed) found refl;
+  }
 
   pub segment_lent : (b : Bool) (s : Segment) (old mid : Table (Heard K)) → b ≡ true → Puts b s old mid
       → None ≡ at (ends_of s) mid.live → ⊥

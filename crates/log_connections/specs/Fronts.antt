@@ -1,7 +1,7 @@
 -- What stands in front of the TLS of a side of a stream.
 use Rattle.std.specs.Prelude.{ℕ, ◌+◌, ◌-◌, ◌^◌, ◌==◌, min, Bool, true, false, not, ◌&&◌, ◌||◌, nat_le, nat_lt, if◌then◌else◌, Option, Some, None, length, is_ok}
-use Rattle.tls_fields.specs.Bytes.{Bytes}
-use Rattle.tls_fields.specs.Reading.{reading}
+use Rattle.layouts.specs.Bytes.{Bytes}
+use Rattle.layouts.specs.Reading.{reading}
 use Rattle.ssl2_hello.specs.ClientHello.{client_hello}
 use Rattle.ssl2_hello.specs.Front.{begins_ssl2_hello_in}
 use Rattle.tls_detection.specs.Front.{begins_tls}

@@ -1,6 +1,6 @@
 -- What is heard of a connection's bytes.
 use Rattle.std.specs.Prelude.{◌≡◌, ◌⊎◌, ◌-◌, ◌&&◌, ℕ, Bool, true, false, Ok, Err, length, drop}
-use Rattle.tls_fields.specs.Bytes.{Bytes}
+use Rattle.layouts.specs.Bytes.{Bytes}
 use Rattle.connections.specs.Stream.{handing_on, has_urgent_next, is_cut_short, next_bytes, passing_urgent, stopped}
 use Rattle.connections.specs.declared.stream.Stream.{Stream}
 use Rattle.connections.specs.declared.stream.Reading.TheVariants.{Over}
@@ -12,8 +12,8 @@ use Rattle.tls_talks.specs.Datagrams.{IsKnown, heard}
 use Rattle.tls_talks.specs.Datagrams as datagrams
 use Rattle.tls_talks.specs.Talks.{IsHeardAsNone, IsHeardInSsl2, IsHeardOn}
 use Rattle.ssl2_hello.specs.ClientHello as ssl2
-use Rattle.tls_fields.specs.Meaning.{Answer}
-use Rattle.tls_fields.specs.Reading.{reading}
+use Rattle.layouts.specs.Meaning.{Answer}
+use Rattle.layouts.specs.Reading.{reading}
 use Rattle.tls_talks.specs.declared.talk.Talk.{Talk}
 use Rattle.log_connections.specs.declared.fronts.Fronts.{Fronts}
 use Rattle.log_connections.specs.Fronts.{are_answered, beginning, front_of, leaving, passing, with_begun}

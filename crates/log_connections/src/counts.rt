@@ -32,6 +32,8 @@ pub struct Counts {
     pub other_connections: u64,
     /// Connections of TLS in which bytes are missing, of one side or of both.
     pub gaps: u64,
+    /// Connections that ended before their time, since memory ran short.
+    pub ended_early: u64,
 }
 
 /// One more.
@@ -57,6 +59,7 @@ impl Counts {
             stray_segments: 0,
             other_connections: 0,
             gaps: 0,
+            ended_early: 0,
         }
     }
 
@@ -109,6 +112,10 @@ impl Counts {
                 "connections that are neither TLS nor DTLS",
             ),
             (self.gaps, "connections with lost bytes"),
+            (
+                self.ended_early,
+                "ends of connections, since memory ran short",
+            ),
         ];
         let packets = self.packets;
         eprintln!(rt; "{name}: {packets} packets")?;

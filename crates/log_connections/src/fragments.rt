@@ -94,10 +94,7 @@ impl<K: Keeper> Log<K> {
         };
         let unwrapped = inside_of(datagram, &joined.tunnels);
         self.tunnels = unwrapped.tunnels;
-        match self.datagram_inside(unwrapped.inside) {
-            Some(datagram) => self.arrival_of(packet, datagram),
-            None => Ok(None),
-        }
+        self.arrival_inside(packet, &unwrapped.inside)
     }
 
     /// The datagram that is whole with such a datagram, which brought no arrival, where that holds a fragment.

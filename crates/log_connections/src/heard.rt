@@ -8,6 +8,7 @@ use crate::fronts::{Beginning, Fronts, begins_at};
 use connections::{Listener, Protocol, Side, Stream};
 use ssl2_hello::parse_ssl2_client_hello;
 use std::alloc::{AllocError, Global};
+use std::mem::size_of;
 use tls_detection::{first_message, held_datagram};
 use tls_facts::Facts;
 use tls_flow::{Direction, Outcome, Stop};
@@ -18,6 +19,16 @@ use tunnels::{Tunnel, Tunnels};
 const CLIENT_HELLO: u8 = 1;
 
 const SERVER_HELLO: u8 = 2;
+
+/// What a connection takes besides what is known of it, in bytes, at most.
+pub const HEARD_COST: usize = 2048;
+
+/// What a keeper takes. The pieces that it keeps aren't counted: those that a packet makes whole are taken before the next is read.
+pub const KEEPER_COST: usize = 512;
+
+/// What the buffers of a conversation take at most: on each side twice as much as a message in parts, a record, what was handed out and is still to be moved
+/// over, and what comes at once behind a gap.
+const MAX_BUFFERS: usize = 2_621_440;
 
 /// What is to be had of a connection one by one, as it comes.
 #[derive(Clone, Copy, Debug, PartialEq, Eq)]
@@ -51,6 +62,10 @@ pub struct Heard<K> {
     said: Said,
     // Whether the originator is the server of TLS.
     is_turned: bool,
+    // How many bytes of both streams were heard: the buffers of a conversation take no more than twice as many.
+    heard: usize,
+    /// Whether it ended before its time, since it was longest without a packet as memory ran short.
+    pub is_ended_early: bool,
     // Who keeps the messages, where they are kept: in a place of its own, since most logs keep none.
     keeper: Option<Box<K>>,
     // The tunnels of the first packet that came in some: in a place of their own, since most come in none.
@@ -61,6 +76,11 @@ pub struct Heard<K> {
     // Over UDP, those in the datagrams of each side.
     by_originator: DatagramRecords,
     by_responder: DatagramRecords,
+}
+
+/// What the buffers of a conversation take, at most, in which so many bytes were heard: their room grows twofold.
+fn buffers_of(heard: usize) -> usize {
+    heard.saturating_mul(2).min(MAX_BUFFERS)
 }
 
 /// What is behind the first `n` bytes.
@@ -96,6 +116,8 @@ impl<K: Keeper> Listener for Heard<K> {
             protocol,
             said,
             is_turned: false,
+            heard: 0,
+            is_ended_early: false,
             keeper: None,
             tunnels: None,
             from_originator: Records::new(),
@@ -103,6 +125,26 @@ impl<K: Keeper> Listener for Heard<K> {
             by_originator: DatagramRecords::new(),
             by_responder: DatagramRecords::new(),
         }
+    }
+
+    fn capacity(&self) -> usize {
+        let said = match &self.said {
+            Said::Stream(talk, _) => talk.capacity().saturating_add(buffers_of(self.heard)),
+            Said::Datagrams(talk) => talk.capacity(),
+        };
+        let keeper = if self.keeper.is_some() {
+            KEEPER_COST
+        } else {
+            0
+        };
+        let tunnels = if self.tunnels.is_some() {
+            size_of::<Tunnels>()
+        } else {
+            0
+        };
+        said.saturating_add(keeper)
+            .saturating_add(tunnels)
+            .saturating_add(HEARD_COST)
     }
 }
 
@@ -296,6 +338,7 @@ impl<K: Keeper> Heard<K> {
             return Ok(());
         };
         fronts.begin(side, n);
+        self.heard = self.heard.saturating_add(bytes.len());
         talk.hear_with(self.alloc, direction, bytes, &mut self.keeper)?;
         let is_over = talk.is_over(direction);
         self.count_records(side, bytes);

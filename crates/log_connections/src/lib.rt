@@ -10,8 +10,9 @@ mod fragments;
 mod fronts;
 mod heard;
 mod log;
+mod memory;
 
 pub use counts::{Counts, add_one};
 pub use fragments::Joined;
-pub use heard::{Heard, Keeper, Pieces};
+pub use heard::{HEARD_COST, Heard, Keeper, Pieces};
 pub use log::{Arrival, Checksums, Log};

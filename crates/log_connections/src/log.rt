@@ -6,6 +6,7 @@ ghost use Rattle.log_connections.specs.Log.{HearsFrom, HearsSide, Logs, LogsData
 
 use crate::counts::{Counts, add_one};
 use crate::heard::{Heard, Keeper, Pieces};
+use crate::memory::SPARE;
 use capture::{
     Address, Content, TcpSegment, UdpDatagram, maximum_segment_size, option_of, timestamp,
     window_scale,
@@ -22,13 +23,18 @@ use std::alloc::{AllocError, Global};
 use std::hash::RandomState;
 use std::net::{IpAddr, Ipv4Addr, Ipv6Addr};
 use tls_flow::Direction;
-use tunnels::{Inside, Tunnels, innermost, vlan_tags};
+use tunnels::{Inside, Tunnels, innermost_into, vlan_tags};
 
 /// The weight of the flag SYN (RFC 9293, section 3.1).
 const SYN: u8 = 2;
 
 /// The kind of the option by which an end takes selective acknowledgements (RFC 2018, section 2).
 const SACK_PERMITTED: u8 = 4;
+
+/// The kind of a byte between options (RFC 9293, section 3.2), and that of the sender's clock (RFC 7323, section 3.2).
+const PADDING: u8 = 1;
+
+const TIMESTAMPS: u8 = 8;
 
 /// The kinds of the options by which a segment is signed (RFC 2385, section 3; RFC 5925, section 2.2).
 const MD5_SIGNATURE: u8 = 19;
@@ -49,13 +55,18 @@ pub enum Checksums {
 /// The log of one capture: its open connections.
 #[derive(Drop)]
 pub struct Log<K> {
-    alloc: Global,
-    connections: Connections<Heard<K>>,
+    pub(crate) alloc: Global,
+    pub(crate) connections: Connections<Heard<K>>,
     // The datagrams that came in fragments, and whether the packet that came last held one.
     pub(crate) fragments: Fragments,
     pub(crate) is_cut: bool,
     // What is kept of connections until it is taken.
     kept: Option<Pieces>,
+    // For how many bytes of memory connections may be accounted, and whether that of what arrived last is to be accounted anew.
+    pub(crate) memory: usize,
+    pub(crate) is_unsettled: bool,
+    // Memory that is let go where the system refuses more, so that connections can end.
+    pub(crate) spare: Vec<u8>,
     checksums: Checksums,
     // The part whose connections are logged, where not all are.
     part: Option<Part>,
@@ -85,9 +96,28 @@ fn end(address_there: Address, port: u16) -> End {
     }
 }
 
+/// The clock of a segment that has no other option, in the form that hosts send (RFC 7323, appendix A): most segments have it.
+fn clock_alone(options: &[u8]) -> Option<u32> {
+    match options {
+        [PADDING, PADDING, TIMESTAMPS, 10, a, b, c, d, _, _, _, _] => {
+            Some(u32::from_be_bytes([*a, *b, *c, *d]))
+        }
+        _ => None,
+    }
+}
+
 /// What the options of a segment say. What a SYN alone may say isn't asked of another (RFC 9293, section 3.7.1; RFC 7323, section 2.2; RFC 2018,
 /// section 2).
 fn options_of(options: &[u8], is_syn: bool) -> Options {
+    if let (false, Some(clock)) = (is_syn, clock_alone(options)) {
+        return Options {
+            scale: None,
+            clock: Some(clock),
+            size: None,
+            selects: false,
+            is_signed: false,
+        };
+    }
     let clock = timestamp(options);
     let is_signed = option_of(options, MD5_SIGNATURE).is_some()
         || option_of(options, AUTHENTICATION).is_some();
@@ -193,7 +223,7 @@ impl<'a> Arrival<'a> {
     }
 
     /// Between which ends it goes.
-    fn between(&self) -> Ends {
+    pub(crate) fn between(&self) -> Ends {
         match self {
             Arrival::Segment(segment) => segment.between(),
             Arrival::Datagram(datagram) => datagram.between(),
@@ -212,7 +242,7 @@ fn hear_last<K: Keeper>(connection: &mut Connection<Heard<K>>) -> Result<(), All
 }
 
 /// The same of a connection that was taken out, which is large: it is handed on in a place of its own.
-fn with_last<K: Keeper>(
+pub(crate) fn with_last<K: Keeper>(
     alloc: Global,
     taken: Option<Connection<Heard<K>>>,
 ) -> Result<Option<Box<Connection<Heard<K>>>>, AllocError> {
@@ -318,6 +348,9 @@ impl<K: Keeper> Log<K> {
             fragments: Fragments::new(alloc, keys)?,
             is_cut: false,
             kept,
+            memory: usize::MAX,
+            is_unsettled: false,
+            spare: Vec::with_capacity(alloc, SPARE)?,
             checksums: Checksums::Auto,
             part: None,
             networks: None,
@@ -344,11 +377,10 @@ impl<K: Keeper> Log<K> {
 
     /// The number of the network that the packet came in which came last; 0 where networks aren't told apart.
     fn network(&mut self, packet: Packet<'_>) -> Result<u64, AllocError> {
-        let tunnels = self.tunnels;
         match &mut self.networks {
             Some(networks) => networks.number(Network {
                 vlans: vlan_tags(packet.bytes, packet.link_type),
-                tunnels,
+                tunnels: self.tunnels,
             }),
             None => Ok(0),
         }
@@ -368,27 +400,20 @@ impl<K: Keeper> Log<K> {
         is_logged
     }
 
-    /// The innermost datagram of a packet, whose tunnels are noted; `None` where there is none that can be read, which is counted.
-    fn datagram<'a>(&mut self, packet: Packet<'a>) -> Option<capture::Datagram<'a>> {
-        add_one(&mut self.counts.packets);
-        let unwrapped = innermost(packet.bytes, packet.link_type);
-        self.tunnels = unwrapped.tunnels;
-        self.datagram_inside(unwrapped.inside)
-    }
-
-    /// The same of what stands behind all headers.
+    /// What arrives with a packet that holds this behind all headers; `None` where that is no datagram, which is counted.
     #[inline(always)]
-    pub(crate) fn datagram_inside<'a>(
+    pub(crate) fn arrival_inside<'a>(
         &mut self,
-        inside: Inside<'a>,
-    ) -> Option<capture::Datagram<'a>> {
+        packet: Packet<'_>,
+        inside: &Inside<'a>,
+    ) -> Result<Option<Arrival<'a>>, AllocError> {
         match inside {
-            Inside::Datagram(datagram) => return Some(datagram),
+            Inside::Datagram(datagram) => return self.arrival_of(packet, datagram),
             Inside::Other => add_one(&mut self.counts.other_protocols),
             Inside::Unread => add_one(&mut self.counts.unread),
             Inside::Deeper => add_one(&mut self.counts.in_too_many_tunnels),
         }
-        None
+        Ok(None)
     }
 
     /// The segment that a packet holds, unless it is of another part, which is counted.
@@ -432,22 +457,21 @@ impl<K: Keeper> Log<K> {
     ///
     /// `AllocError` where networks are told apart, and one more could not be held.
     pub fn arrival<'a>(&mut self, packet: Packet<'a>) -> Result<Option<Arrival<'a>>, AllocError> {
-        match self.datagram(packet) {
-            Some(datagram) => self.arrival_of(packet, datagram),
-            None => Ok(None),
-        }
+        add_one(&mut self.counts.packets);
+        let inside = innermost_into(packet.bytes, packet.link_type, &mut self.tunnels);
+        self.arrival_inside(packet, &inside)
     }
 
     /// The same of a datagram that came with that packet.
     #[inline(always)]
-    pub(crate) fn arrival_of<'a>(
+    fn arrival_of<'a>(
         &mut self,
         packet: Packet<'_>,
-        datagram: capture::Datagram<'a>,
+        datagram: &capture::Datagram<'a>,
     ) -> Result<Option<Arrival<'a>>, AllocError> {
         match &datagram.content {
-            Content::Tcp(tcp) => return self.segment(packet, &datagram, tcp),
-            Content::Udp(udp) => return self.user_datagram(packet, &datagram, udp),
+            Content::Tcp(tcp) => return self.segment(packet, datagram, tcp),
+            Content::Udp(udp) => return self.user_datagram(packet, datagram, udp),
             Content::Other(_, _) => add_one(&mut self.counts.other_protocols),
             Content::Fragment => self.is_cut = true,
         }
@@ -471,7 +495,22 @@ impl<K: Keeper> Log<K> {
     }
 
     /// Puts what arrives into its connection, lets that hear what is there then, and takes the connection out where it is over.
+    ///
+    /// `AllocError` where it could not be held: [`Log::take_refused`] ends its connection then.
     pub fn accept(
+        &mut self,
+        arrival: &Arrival<'_>,
+    ) -> Result<Option<Box<Connection<Heard<K>>>>, AllocError> {
+        self.is_unsettled = false;
+        let over = self.hear_arrival(arrival)?;
+        if self.is_unsettled {
+            self.connections.settle(&arrival.between());
+        }
+        Ok(over)
+    }
+
+    /// The same, and notes whether the connection is to be accounted anew.
+    fn hear_arrival(
         &mut self,
         arrival: &Arrival<'_>,
     ) -> Result<Option<Box<Connection<Heard<K>>>>, AllocError> {
@@ -493,13 +532,27 @@ impl<K: Keeper> Log<K> {
     fn hear_segment(&mut self, segment: &Segment<'_>) -> Result<Option<bool>, AllocError>
         ensures { IfOk result (λ heard. Logs (is_some heard) segment.now self.old.connections self.new.connections) }
     {
+        // (mostly there is one already, which is looked up once)
+        if let Some(connection) = self.connections.get_first_mut(&segment.between()) {
+            connection.accept(self.alloc, segment)?;
+            hear(connection, segment, self.kept, &self.tunnels)?;
+            self.is_unsettled = !connection.is_settled();
+            return Ok(Some(connection.is_closed()));
+        }
+        self.hear_first(segment)
+    }
+
+    /// The same where it may begin a connection.
+    fn hear_first(&mut self, segment: &Segment<'_>) -> Result<Option<bool>, AllocError>
+        ensures { IfOk result (λ heard. Logs (is_some heard) segment.now self.old.connections self.new.connections) }
+    {
         if !self.connections.accept(segment)? {
             return Ok(None);
         }
-        let (pieces, tunnels) = (self.kept, self.tunnels);
         match self.connections.get_mut(&segment.between()) {
             Some(connection) => {
-                hear(connection, segment, pieces, &tunnels)?;
+                hear(connection, segment, self.kept, &self.tunnels)?;
+                self.is_unsettled = !connection.is_settled();
                 Ok(Some(connection.is_closed()))
             }
             None => Ok(None),
@@ -509,16 +562,16 @@ impl<K: Keeper> Log<K> {
     /// Hears a segment that waited, and whether both sides of its connection said their last then.
     fn hear_kept(&mut self, kept: &Kept) -> Result<(), AllocError> {
         self.connections.accept_kept(kept)?;
-        let (pieces, tunnels) = (self.kept, self.tunnels);
         let segment = kept.segment();
         match self.connections.get_mut(&segment.between()) {
-            Some(connection) => hear(connection, &segment, pieces, &tunnels),
+            Some(connection) => hear(connection, &segment, self.kept, &self.tunnels),
             None => Ok(()),
         }
     }
 
     /// Hears the segments that waited until the sender of this one acknowledged them.
     fn hear_waiting(&mut self, segment: &Segment<'_>) -> Result<(), AllocError> {
+        self.is_unsettled = true;
         'waiting: for _ in 0..MAX_WAITING {
             match self.connections.take_waiting(segment) {
                 Some(Told::Taken(kept)) => self.hear_kept(&kept)?,
@@ -582,10 +635,12 @@ impl<K: Keeper> Log<K> {
         }
         match verdict.judgement {
             Judgement::Dropped(reason) => {
+                self.is_unsettled = segment.begins();
                 self.connections.drop_segment(segment, reason)?;
                 Ok(None)
             }
             Judgement::Waiting(reason) => {
+                self.is_unsettled = true;
                 self.connections.wait(segment, reason)?;
                 Ok(None)
             }
@@ -630,9 +685,12 @@ impl<K: Keeper> Log<K> {
         ensures { OnOk result (LogsDatagram datagram.now self.old.connections self.new.connections) }
     {
         self.connections.accept_datagram(datagram)?;
-        let (pieces, tunnels) = (self.kept, self.tunnels);
         match self.connections.get_mut(&datagram.between()) {
-            Some(exchange) => hear_from(exchange, datagram, pieces, &tunnels),
+            Some(exchange) => {
+                hear_from(exchange, datagram, self.kept, &self.tunnels)?;
+                self.is_unsettled = !exchange.is_settled();
+                Ok(())
+            }
             None => Ok(()),
         }
     }

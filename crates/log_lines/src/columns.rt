@@ -62,6 +62,7 @@ pub enum Course {
     Outcome,
     Stop,
     Gap,
+    EndedEarly,
     History,
     Retried,
 }
@@ -306,6 +307,10 @@ pub static FIELDS: &[Column<Field>] = columns! {
     /// Zeek: `missed_bytes` counts them
     /// absent: no bytes are missing
     "gap": Text = Field::Course(Course::Gap);
+    /// `true`: memory ran short (`--memory`) when no other connection was longer without a packet, so the line was printed then. What came later is another
+    /// connection
+    /// absent: it ended otherwise
+    "ended_early": Mark = Field::Course(Course::EndedEarly);
     /// a letter for each unencrypted message, alert and ChangeCipherSpec, and over TCP each heartbeat and record of data, in order, the client's in
     /// upper case: `H` hello_request, `C` client_hello, `S` server_hello, `V` hello_verify_request, `T` new_session_ticket, `E` end_of_early_data,
     /// `J` hello_retry_request, `O` encrypted_extensions, `X` certificate, `K` server_key_exchange, `R` certificate_request, `N` server_hello_done,

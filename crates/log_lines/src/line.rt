@@ -5,7 +5,7 @@ use crate::columns::{Carried, Certified, Course, End, FIELDS, Field, Named, Sent
 use crate::hellos::{answer_cell, chain_cell, offer_cell, other_names_cell};
 use crate::lists::{Numbers, Texts, some_numbers, some_texts};
 use crate::names::{REASONS, outcome_name, reason_name, tunnel_name};
-use crate::prints::print_cell;
+use crate::prints::{KeptTexts, print_cell};
 use crate::suites::Suites;
 use crate::summary::{Party, Summary};
 use crate::text::{
@@ -18,7 +18,6 @@ use std::alloc::{AllocError, Global};
 use tls_base::TlsAlertDescription;
 use tls_facts::Facts;
 use tls_flow::Stop;
-use tls_json::alert_name;
 use tunnels::Tunnel;
 use x509::Certificate;
 
@@ -106,7 +105,7 @@ fn stop_cell<'a>(stop: Option<Stop>) -> Option<Cell<'a>> {
 /// An alert by its name, where there was one.
 fn some_alert<'a>(alert: Option<TlsAlertDescription>) -> Option<Cell<'a>> {
     let alert = alert?;
-    let text = name_or_number(alert_name(alert), u16::from(alert.0));
+    let text = name_or_number(alert.registered_name(), u16::from(alert.0));
     Some(Cell::Text(text))
 }
 
@@ -144,6 +143,7 @@ fn course_cell<'a>(summary: &Summary<'a>, field: &Course) -> Option<Cell<'a>> {
         Course::Outcome => Some(name_cell(outcome_name(summary.outcome))),
         Course::Stop => stop_cell(summary.stop),
         Course::Gap => some_name(summary.gap()),
+        Course::EndedEarly => some_mark(summary.is_ended_early),
         Course::Retried => some_mark(summary.facts.is_retried),
         Course::History => history_cell(summary.history),
     }
@@ -220,13 +220,14 @@ fn carried_cell<'a>(
     }
 }
 
-/// A connection, and the certificates of both sides' own, if they are read.
+/// A connection, the certificates of both sides' own, if they are read, and texts that further fields may have.
 #[derive(Drop)]
 pub struct Told<'a> {
     suites: &'a Suites,
     pub summary: &'a Summary<'a>,
     pub server: Option<Certificate<'a>>,
     client: Option<Certificate<'a>>,
+    kept: KeptTexts,
 }
 
 impl<'a> Told<'a> {
@@ -238,6 +239,7 @@ impl<'a> Told<'a> {
             summary,
             server: certificate_of(facts.server_certificate.as_deref()),
             client: certificate_of(facts.client_certificate.as_deref()),
+            kept: KeptTexts::new(),
         }
     }
 }
@@ -257,7 +259,7 @@ fn own_cell<'a>(
 /// What one field says of a connection; nothing where it is missing.
 pub fn cell_of<'a>(
     alloc: Global,
-    told: &Told<'a>,
+    told: &mut Told<'a>,
     field: &Field,
 ) -> Result<Option<Cell<'a>>, AllocError> {
     let (suites, summary, facts) = (told.suites, told.summary, told.summary.facts);
@@ -270,7 +272,7 @@ pub fn cell_of<'a>(
         Field::Chain(field) => chain_cell(alloc, facts, &told.server, field),
         Field::ServerCertificate(field) => own_cell(alloc, &told.server, field),
         Field::ClientCertificate(field) => own_cell(alloc, &told.client, field),
-        Field::Print(field) => print_cell(alloc, facts, summary.protocol, field),
+        Field::Print(field) => print_cell(alloc, facts, summary.protocol, &mut told.kept, field),
         Field::Sent(side, field) => sent_cell(alloc, summary, *side, field),
         Field::Carried(field) => carried_cell(alloc, summary.tunnels, field),
     }
@@ -283,11 +285,11 @@ pub fn row_of<'a>(
     places: &[usize],
     summary: &'a Summary<'a>,
 ) -> Result<Row<'a>, AllocError> {
-    let told = Told::new(suites, summary);
+    let mut told = Told::new(suites, summary);
     let mut cells = Vec::with_capacity(alloc, places.len())?;
     for place in places {
         if let Some((name, _, field)) = FIELDS.get(*place) {
-            let cell = cell_of(alloc, &told, field)?;
+            let cell = cell_of(alloc, &mut told, field)?;
             cells.push((*name, cell))?;
         }
     }

@@ -2,12 +2,12 @@
 use crate::cell::Cell;
 use crate::suites::Suites;
 use crate::text::{Text, extension, group, version};
+use layouts::{Counted1, InPlace, Items};
 use serde::{Described, Serialize, Serializer};
 use ssl2_hello::CipherSpec;
 use tls_base::{NamedGroup, TlsCipherSuiteID, TlsVersion};
 use tls_ext::{ExtensionType, KeyShareEntry};
 use tls_facts::CertificateFacts;
-use tls_fields::{Counted1, InPlace, Items};
 use tunnels::Tunnel;
 
 /// A list of texts, by what they are made of.

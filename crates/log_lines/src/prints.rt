@@ -1,12 +1,12 @@
 //! Fingerprints of hellos, as fields.
 use crate::cell::Cell;
 use crate::columns::Print;
-use crate::text::some_text;
+use crate::text::{Text, some_text};
 use connections::Protocol;
+use layouts::Items;
 use std::alloc::{AllocError, Global};
 use tls_facts::Facts;
-use tls_fields::Items;
-use tls_fingerprints::{ClientHelloParts, ServerHelloParts, Transport};
+use tls_fingerprints::{ClientHelloParts, ServerHelloParts, Transport, ja3_digest};
 
 fn slice_of(bytes: &Option<Vec<u8>>) -> Option<&[u8]> {
     match bytes {
@@ -50,36 +50,70 @@ fn transport(protocol: Protocol) -> Transport {
     }
 }
 
-/// JA3 or its text; nothing where there was no ClientHello.
-fn ja3_cell<'a>(
-    alloc: Global,
-    facts: &'a Facts,
-    is_text: bool,
-) -> Result<Option<Cell<'a>>, AllocError> {
-    let Some(client) = client_parts(facts) else {
-        return Ok(None);
-    };
-    some_text(if is_text {
-        client.ja3_text(alloc)
-    } else {
-        client.ja3(alloc)
-    })
+/// The texts of JA3 and of JA3S, from the fields of their digests to those of the texts themselves.
+#[derive(Drop)]
+pub struct KeptTexts {
+    ja3: Option<String>,
+    ja3s: Option<String>,
 }
 
-/// JA3S or its text; nothing where there was no ServerHello.
-fn ja3s_cell<'a>(
+impl KeptTexts {
+    /// None yet.
+    pub fn new() -> KeptTexts {
+        KeptTexts {
+            ja3: None,
+            ja3s: None,
+        }
+    }
+}
+
+/// The text of JA3, or that which was kept; `None` where there was no ClientHello.
+fn ja3_text(
     alloc: Global,
-    facts: &'a Facts,
-    is_text: bool,
+    facts: &Facts,
+    kept: &mut KeptTexts,
+) -> Result<Option<String>, AllocError> {
+    if kept.ja3.is_some() {
+        return Ok(kept.ja3.take());
+    }
+    match client_parts(facts) {
+        Some(client) => Ok(Some(client.ja3_text(alloc)?)),
+        None => Ok(None),
+    }
+}
+
+/// The same of JA3S, and of the ServerHello.
+fn ja3s_text(
+    alloc: Global,
+    facts: &Facts,
+    kept: &mut KeptTexts,
+) -> Result<Option<String>, AllocError> {
+    if kept.ja3s.is_some() {
+        return Ok(kept.ja3s.take());
+    }
+    match server_parts(facts) {
+        Some(server) => Ok(Some(server.ja3s_text(alloc)?)),
+        None => Ok(None),
+    }
+}
+
+/// The digest of a text, which is kept; nothing where there is none.
+fn digest_cell<'a>(
+    alloc: Global,
+    text: Option<String>,
+    kept: &mut Option<String>,
 ) -> Result<Option<Cell<'a>>, AllocError> {
-    let Some(server) = server_parts(facts) else {
+    let Some(text) = text else {
         return Ok(None);
     };
-    some_text(if is_text {
-        server.ja3s_text(alloc)
-    } else {
-        server.ja3s(alloc)
-    })
+    let digest = ja3_digest(alloc, text.as_str())?;
+    *kept = Some(text);
+    Ok(Some(Cell::Text(Text::Owned(digest))))
+}
+
+/// A text as it is; nothing where there is none.
+fn text_cell<'a>(text: Option<String>) -> Option<Cell<'a>> {
+    Some(Cell::Text(Text::Owned(text?)))
 }
 
 /// JA4; nothing where there was no ClientHello.
@@ -99,13 +133,20 @@ pub fn print_cell<'a>(
     alloc: Global,
     facts: &'a Facts,
     protocol: Protocol,
+    kept: &mut KeptTexts,
     field: &Print,
 ) -> Result<Option<Cell<'a>>, AllocError> {
     match field {
-        Print::Ja3 => ja3_cell(alloc, facts, false),
-        Print::Ja3Text => ja3_cell(alloc, facts, true),
-        Print::Ja3s => ja3s_cell(alloc, facts, false),
-        Print::Ja3sText => ja3s_cell(alloc, facts, true),
+        Print::Ja3 => {
+            let text = ja3_text(alloc, facts, kept)?;
+            digest_cell(alloc, text, &mut kept.ja3)
+        }
+        Print::Ja3Text => Ok(text_cell(ja3_text(alloc, facts, kept)?)),
+        Print::Ja3s => {
+            let text = ja3s_text(alloc, facts, kept)?;
+            digest_cell(alloc, text, &mut kept.ja3s)
+        }
+        Print::Ja3sText => Ok(text_cell(ja3s_text(alloc, facts, kept)?)),
         Print::Ja4 => ja4_cell(alloc, facts, transport(protocol)),
     }
 }

@@ -5,7 +5,7 @@ use std::mem;
 use tls_base::{TlsHandshakeType, TlsMessageAlert};
 use tls_conversations::Said;
 use tls_flow::{Direction, HandshakeMessage};
-use tls_json::{AlertMessage, ChangeCipherSpec, Chosen, HeartbeatMessage, Message, message_name};
+use tls_json::{AlertMessage, ChangeCipherSpec, Chosen, HeartbeatMessage, Message};
 
 /// What stands in a message, by its fields.
 #[derive(Drop, Serialize)]
@@ -78,7 +78,7 @@ fn heartbeat_word(alloc: Global, fragment: &[u8]) -> Result<Word, AllocError> {
 /// The name of a handshake message of TLS, its header first.
 fn handshake_name(message: &[u8]) -> Option<&'static str> {
     let kind = message.first()?;
-    message_name(TlsHandshakeType(*kind))
+    TlsHandshakeType(*kind).registered_name()
 }
 
 /// A handshake message of TLS by its bytes, its header first, and as it was read, where it is whole; it may be a ServerHello that chooses.
@@ -113,7 +113,7 @@ fn handshake_word_of_datagrams(
     if let Some(choice) = Chosen::of(message) {
         *chosen = Some(choice);
     }
-    let name = message_name(message.msg_type);
+    let name = message.msg_type.registered_name();
     let read = Message::of_datagram_message(alloc, *chosen, message_seq, message)?;
     Word::new(alloc, 22, name, Body::Handshake(read))
 }

@@ -55,6 +55,8 @@ pub struct Summary<'a> {
     pub is_established: bool,
     /// Whether a session was taken up.
     pub is_resumed: bool,
+    /// Whether it ended before its time, since memory ran short.
+    pub is_ended_early: bool,
     /// The tunnels that it came in, from outside in.
     pub tunnels: &'a [Tunnel],
 }

@@ -3,6 +3,7 @@ use crate::cell::{Cell, PrintCell, Row};
 use crate::columns::{Certified, End, Field, Named, Offer, Print};
 use crate::line::{Told, cell_of, end_cell, microseconds};
 use crate::lists::Texts;
+use crate::names::suricata_version;
 use crate::objects::{LINE_LEN, json_text};
 use crate::suites::Suites;
 use crate::summary::Summary;
@@ -12,7 +13,6 @@ use connections::Protocol;
 use serde::{Described, Serialize, Serializer};
 use sha1::Sha1;
 use std::alloc::{AllocError, Global};
-use tls_base::TlsVersion;
 use tls_facts::Facts;
 use x509_text::time_text;
 
@@ -74,24 +74,9 @@ impl Serialize for Event<'_> {
     }
 }
 
-/// A version by Suricata's name.
-fn version_name(version: TlsVersion) -> Option<&'static str> {
-    match version.0 {
-        0x0300 => Some("SSLv3"),
-        0x0301 => Some("TLSv1"),
-        0x0302 => Some("TLS 1.1"),
-        0x0303 => Some("TLS 1.2"),
-        0x0304 => Some("TLS 1.3"),
-        0xfeff => Some("DTLS 1.0"),
-        0xfefd => Some("DTLS 1.2"),
-        0xfefc => Some("DTLS 1.3"),
-        _ => None,
-    }
-}
-
 fn version_cell<'a>(facts: &Facts) -> Option<Cell<'a>> {
     let version = facts.version()?;
-    let text = name_or_number(version_name(version), version.0);
+    let text = name_or_number(suricata_version(version), version.0);
     Some(Cell::Text(text))
 }
 
@@ -132,7 +117,7 @@ fn fingerprint_cell<'a>(alloc: Global, facts: &Facts) -> Result<Option<Cell<'a>>
 /// A time of the certificate, without its time zone, which is UTC.
 fn date_cell<'a>(
     alloc: Global,
-    told: &Told<'_>,
+    told: &mut Told<'_>,
     field: Certified,
 ) -> Result<Option<Cell<'a>>, AllocError> {
     match cell_of(alloc, told, &Field::ServerCertificate(field))? {
@@ -147,7 +132,7 @@ fn date_cell<'a>(
 /// A fingerprint beside its text.
 fn print_cell<'a>(
     alloc: Global,
-    told: &Told<'_>,
+    told: &mut Told<'_>,
     hash: Print,
     string: Print,
 ) -> Result<Option<Cell<'a>>, AllocError> {
@@ -175,7 +160,7 @@ fn chosen_cell<'a>(alloc: Global, facts: &Facts) -> Result<Option<Cell<'a>>, All
 /// What one field of the object `tls` says.
 fn said_cell<'a>(
     alloc: Global,
-    told: &Told<'a>,
+    told: &mut Told<'a>,
     said: &Said,
 ) -> Result<Option<Cell<'a>>, AllocError> {
     let summary = told.summary;
@@ -246,7 +231,7 @@ static FRONT: &[(&str, End)] = &[
 ];
 
 /// The object `tls`.
-fn tls_row<'a>(alloc: Global, told: &Told<'a>) -> Result<Row<'a>, AllocError> {
+fn tls_row<'a>(alloc: Global, told: &mut Told<'a>) -> Result<Row<'a>, AllocError> {
     let mut cells = Vec::with_capacity(alloc, TLS.len())?;
     for (name, said) in TLS {
         cells.push((*name, said_cell(alloc, told, said)?))?;
@@ -260,10 +245,10 @@ pub fn line<'a>(
     suites: &'a Suites,
     summary: &'a Summary<'a>,
 ) -> Result<String, AllocError> {
-    let told = Told::new(suites, summary);
+    let mut told = Told::new(suites, summary);
     let event = Event {
         front: front_row(alloc, summary)?,
-        tls: tls_row(alloc, &told)?,
+        tls: tls_row(alloc, &mut told)?,
     };
     json_text(alloc, &event, LINE_LEN)
 }

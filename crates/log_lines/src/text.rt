@@ -1,13 +1,12 @@
 //! How texts are written: names of ours, numbers in hexadecimal, and what a peer sent.
 use crate::cell::Cell;
-use crate::names::{group_name, version_name};
+use crate::names::zeek_version;
 use serde::{Described, Serialize, Serializer};
 use std::alloc::{AllocError, Global};
-use std::fmt::{self, Display, Formatter, InlineText};
+use std::fmt::{self, Display, Formatter};
 use std::net::IpAddr;
 use std::str;
 use tls_base::{NamedGroup, SignatureScheme, TlsExtensionType, TlsVersion};
-use tls_json::extension_name;
 
 /// So many bytes are written in hexadecimal at once: as many as a fingerprint or a session id has.
 const PIECE: usize = 32;
@@ -82,21 +81,23 @@ fn write_digits<W: fmt::Write>(f: &mut Formatter<W>, bytes: &[u8]) -> fmt::Resul
     Ok(())
 }
 
-/// Writes a number of 2 bytes.
-fn write_code<W: fmt::Write>(f: &mut Formatter<W>, code: u16) -> fmt::Result {
+/// A number of 2 bytes, as ASCII.
+fn code_text(code: u16) -> [u8; 6] {
     let mut text = *b"0x0000";
     let _written = hex::encode_to_slice(code.to_be_bytes(), &mut text[2..]);
-    write_ascii(f, &text)
+    text
 }
 
-/// Writes a signature scheme. The library shows one that it has no name of with its number behind, in parentheses.
+/// Writes a number of 2 bytes.
+fn write_code<W: fmt::Write>(f: &mut Formatter<W>, code: u16) -> fmt::Result {
+    write_ascii(f, &code_text(code))
+}
+
+/// Writes a signature scheme.
 fn write_scheme<W: fmt::Write>(f: &mut Formatter<W>, scheme: u16) -> fmt::Result {
-    let shown = InlineText::<64>::of(SignatureScheme(scheme));
-    let name = shown.as_str();
-    if name.ends_with(')') {
-        write_code(f, scheme)
-    } else {
-        f.write_str(name)
+    match SignatureScheme(scheme).registered_name() {
+        Some(name) => f.write_str(name),
+        None => write_code(f, scheme),
     }
 }
 
@@ -134,8 +135,19 @@ impl Text<'_> {
 
 impl Described for Text<'_> {}
 
+/// Sends a number of 2 bytes: there are many in a line, so it isn't put together in the room for other texts.
+fn serialize_code<S: Serializer>(code: u16, out: &mut S) -> Result<(), S::Error> {
+    match str::from_utf8(&code_text(code)) {
+        Ok(text) => out.str(text),
+        Err(_) => out.collect_str(&Text::Code(code)),
+    }
+}
+
 impl Serialize for Text<'_> {
     fn serialize<S: Serializer>(&self, out: &mut S) -> Result<(), S::Error> {
+        if let Text::Code(code) = self {
+            return serialize_code(*code, out);
+        }
         match self.as_plain() {
             Some(text) => out.str(text),
             None => out.collect_str(self),
@@ -153,17 +165,17 @@ pub fn name_or_number<'a>(name: Option<&'a str>, n: u16) -> Text<'a> {
 
 /// A version.
 pub fn version<'a>(version: TlsVersion) -> Text<'a> {
-    name_or_number(version_name(version), version.0)
+    name_or_number(zeek_version(version), version.0)
 }
 
 /// A group.
 pub fn group<'a>(group: NamedGroup) -> Text<'a> {
-    name_or_number(group_name(group.0), group.0)
+    name_or_number(group.registered_name(), group.0)
 }
 
 /// The type of an extension.
 pub fn extension<'a>(kind: TlsExtensionType) -> Text<'a> {
-    name_or_number(extension_name(kind), kind.0)
+    name_or_number(kind.registered_name(), kind.0)
 }
 
 /// What is there, as text.

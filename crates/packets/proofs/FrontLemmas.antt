@@ -4,11 +4,11 @@ use Rattle.std.proofs.Common.{cond, refl, ap, subst, sym, ◌∙◌, arith}
 use Rattle.std.specs.Prelude.{◌==◌, ⊤}
 use Rattle.std.proofs.lemmas.List.{length-append}
 use Rattle.std.proofs.Math.Seq.{drop-append_seam}
-use Rattle.tls_fields.specs.Bytes.{Bytes}
-use Rattle.tls_fields.specs.Layout.{number}
-use Rattle.tls_fields.specs.Meaning.{Broken, Lacks, Answer, EndsWith}
-use Rattle.tls_fields.specs.Reading.{reading}
-use Rattle.tls_fields.proofs.StableLemmas.{Stays, stays}
+use Rattle.layouts.specs.Bytes.{Bytes}
+use Rattle.layouts.specs.Layout.{number}
+use Rattle.layouts.specs.Meaning.{Broken, Lacks, Answer, EndsWith}
+use Rattle.layouts.specs.Reading.{reading}
+use Rattle.layouts.proofs.StableLemmas.{Stays, stays}
 use Rattle.capture.specs.Pcap as pcap
 use Rattle.capture.specs.Pcapng.{Block, SECTION, next_block}
 use Rattle.packets.specs.Section.{Section, Heard, beginning, hear}

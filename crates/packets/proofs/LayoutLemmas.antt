@@ -4,16 +4,16 @@ use Rattle.std.proofs.Common.{cond, ltb, refl, sym, ap, subst, arith}
 use Rattle.std.specs.Prelude.{◌==◌, ⊤}
 use Rattle.std.proofs.lemmas.List.{take-append-drop, length-append, length-drop}
 use Rattle.std.proofs.lemmas.Bool.{ltb-false}
-use Rattle.tls_fields.specs.Bytes.{Bytes, number_of}
-use Rattle.tls_fields.specs.Layout.{Layout, done, refuse, number, ignored, block, left, tag, window, list, maybe}
-use Rattle.tls_fields.specs.Layout.{either, complete, look, chain, test, choose}
-use Rattle.tls_fields.specs.Meaning.{Broken, Lacks, Answer, EndsWith}
-use Rattle.tls_fields.specs.Reading.{split_at, number_at, ignored_at, tag_at, reading, ◌and_then◌}
-use Rattle.tls_fields.specs.Stable.{IsStable}
-use Rattle.tls_fields.specs.declared.result.ErrorKind.{ErrorKind}
-use Rattle.tls_fields.specs.declared.result.ErrorKind.TheVariants.{Tag}
-use Rattle.tls_fields.proofs.EndLemmas.{ends_after}
-use Rattle.tls_fields.proofs.StableLemmas.{Stays, stays}
+use Rattle.layouts.specs.Bytes.{Bytes, number_of}
+use Rattle.layouts.specs.Layout.{Layout, done, refuse, number, ignored, block, left, tag, window, list, maybe}
+use Rattle.layouts.specs.Layout.{either, complete, look, chain, test, choose}
+use Rattle.layouts.specs.Meaning.{Broken, Lacks, Answer, EndsWith}
+use Rattle.layouts.specs.Reading.{split_at, number_at, ignored_at, tag_at, reading, ◌and_then◌}
+use Rattle.layouts.specs.Stable.{IsStable}
+use Rattle.layouts.specs.declared.result.ErrorKind.{ErrorKind}
+use Rattle.layouts.specs.declared.result.ErrorKind.TheVariants.{Tag}
+use Rattle.layouts.proofs.EndLemmas.{ends_after}
+use Rattle.layouts.proofs.StableLemmas.{Stays, stays}
 use Rattle.capture.specs.Order.{number_by, little}
 use Rattle.capture.specs.declared.order.Order.{Order}
 use Rattle.capture.specs.declared.order.Order.TheVariants.{Big, Little}

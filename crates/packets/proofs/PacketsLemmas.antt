@@ -1,7 +1,7 @@
 -- The packets of a capture, step by step.
 use Rattle.std.proofs.Common.{◌≡◌, ℕ, zero, suc, ◌<◌, ◌≤◌, [], ◌∷◌, ◌++◌, length, Ok, Err, refl, ◌∙◌, ap, arith}
 use Rattle.std.specs.Prelude.{⊤}
-use Rattle.tls_fields.specs.Bytes.{Bytes}
+use Rattle.layouts.specs.Bytes.{Bytes}
 use Rattle.packets.specs.Front.{Longer, State, Unknown, Pcap, Blocks, Captured, Other, Wait, Said, front}
 use Rattle.packets.specs.Packets.{Packets, Refused, followed, packets_in, packets_from}
 use Rattle.packets.proofs.FrontLemmas.{Takes, steps, front_longer, front_takes}

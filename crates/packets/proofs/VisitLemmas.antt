@@ -4,7 +4,7 @@ use Rattle.std.proofs.Common.{true, false, refl, sym, ◌∙◌, ap, subst, appe
 use Rattle.std.specs.Prelude.{⊤, IfSome, IfErr, OnOk}
 use Rattle.std.specs.Io.KnownBytes.{Consumes, IsAtEnd}
 use Rattle.std.proofs.lemmas.List.{append-nil}
-use Rattle.tls_fields.specs.Bytes.{Bytes}
+use Rattle.layouts.specs.Bytes.{Bytes}
 use Rattle.packets.specs.Section.{Packet}
 use Rattle.packets.specs.Front.{State, Unknown, Captured, Other, Wait, Said, front}
 use Rattle.packets.specs.Held.{Came}

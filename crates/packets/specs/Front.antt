@@ -1,10 +1,10 @@
 -- What stands in front of a capture's bytes.
 use Rattle.std.specs.Prelude.{◌≡◌, ℕ, ◌==◌, if◌then◌else◌, Option, Some, None, Result, Ok, Err, List, ◌++◌, ⊤}
 use Rattle.std.specs.Borrow.{Bor}
-use Rattle.tls_fields.specs.Bytes.{Bytes}
-use Rattle.tls_fields.specs.Layout.{number}
-use Rattle.tls_fields.specs.Meaning.{Answer, Lacks, Broken}
-use Rattle.tls_fields.specs.Reading.{reading}
+use Rattle.layouts.specs.Bytes.{Bytes}
+use Rattle.layouts.specs.Layout.{number}
+use Rattle.layouts.specs.Meaning.{Answer, Lacks, Broken}
+use Rattle.layouts.specs.Reading.{reading}
 use Rattle.capture.specs.Pcap as pcap
 use Rattle.capture.specs.Pcapng.{Block, SECTION, next_block}
 use Rattle.packets.specs.Section.{Packet, Section, Heard, view_packet, view_section, beginning, hear}

@@ -1,7 +1,7 @@
 -- What a read of a source adds to the bytes that are held.
 use Rattle.std.specs.Prelude.{◌≡◌, ℕ, ◌++◌, length, List, Option}
 use Rattle.std.specs.Io.KnownBytes.{Consumes, IsAtEnd}
-use Rattle.tls_fields.specs.Bytes.{Bytes}
+use Rattle.layouts.specs.Bytes.{Bytes}
 
 -- n bytes came off the front of those that the source has left, where these are known, and stand behind what was held;
 -- none came only at the source's end.

@@ -4,8 +4,8 @@ pub mod Held
 pub mod Packets
 pub mod Visit
 pub mod Kept
-pub use Rattle.tls_fields.specs.Bytes
-pub use Rattle.tls_fields.specs.Reading
-pub use Rattle.tls_fields.specs.Meaning
+pub use Rattle.layouts.specs.Bytes
+pub use Rattle.layouts.specs.Reading
+pub use Rattle.layouts.specs.Meaning
 pub use Rattle.capture.specs.Pcap
 pub use Rattle.capture.specs.Pcapng

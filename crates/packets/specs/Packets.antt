@@ -1,6 +1,6 @@
 -- The packets of a capture, by all its bytes.
 use Rattle.std.specs.Prelude.{ℕ, zero, suc, List, [], ◌∷◌, length, Ok, Err}
-use Rattle.tls_fields.specs.Bytes.{Bytes}
+use Rattle.layouts.specs.Bytes.{Bytes}
 use Rattle.packets.specs.Section.{Packet}
 use Rattle.packets.specs.Front.{State, Unknown, Captured, Other, Wait, Said, front}
 use Rattle.packets.specs.declared.reader.CaptureError.{CaptureError}

@@ -1,8 +1,8 @@
 -- A section of a capture in blocks, as far as it was read (draft-ietf-opsawg-pcapng).
 use Rattle.std.specs.Prelude.{ℕ, ◌==◌, List, [], ◌∷◌, ◌++◌, map, slice_get, Option, Some, None, if◌then◌else◌, Result, Ok, Err}
-use Rattle.tls_fields.specs.Bytes.{Bytes}
-use Rattle.tls_fields.specs.Meaning.{Answer}
-use Rattle.tls_fields.specs.Reading.{reading}
+use Rattle.layouts.specs.Bytes.{Bytes}
+use Rattle.layouts.specs.Meaning.{Answer}
+use Rattle.layouts.specs.Reading.{reading}
 use Rattle.capture.specs.declared.order.Order.{Order}
 use Rattle.capture.specs.declared.order.Order.TheVariants.{Big}
 use Rattle.capture.specs.Pcapng.{

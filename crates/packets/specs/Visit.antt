@@ -1,7 +1,7 @@
 -- The packets that a visitor took, and why a visit ends.
 use Rattle.std.specs.Prelude.{◌≡◌, List, [], ◌∷◌, ◌++◌, Option, Some, None, Result, Ok, Err, ⊤, Bool, true, false}
 use Rattle.std.specs.Io.KnownBytes.{IsAtEnd}
-use Rattle.tls_fields.specs.Bytes.{Bytes}
+use Rattle.layouts.specs.Bytes.{Bytes}
 use Rattle.packets.specs.Section.{Packet}
 use Rattle.packets.specs.Front.{State, Said, Captured, Other, Wait}
 use Rattle.packets.specs.Packets.{End, Packets, Whole, BrokenOff, Refused}

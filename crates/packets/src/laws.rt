@@ -1,6 +1,6 @@
 //! What stands of the packets of a capture. Each function's contract is one law; its body is empty.
 ghost use Rattle.std.specs.Prelude.{◌≡◌, ◌++◌};
-ghost use Rattle.tls_fields.specs.Bytes.{Bytes};
+ghost use Rattle.layouts.specs.Bytes.{Bytes};
 ghost use Rattle.packets.specs.Front.{Longer, State, front};
 ghost use Rattle.packets.specs.Packets.{followed, packets_from};
 

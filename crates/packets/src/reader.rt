@@ -1,7 +1,7 @@
 //! The next packet off the front of a capture's bytes.
 ghost use Rattle.std.specs.Prelude.{◌≡◌, ◌↔◌, ◌≢◌, true, Option, Some, None, Result, Ok, Err};
-ghost use Rattle.tls_fields.specs.Layout.{number};
-ghost use Rattle.tls_fields.specs.Reading.{reading};
+ghost use Rattle.layouts.specs.Layout.{number};
+ghost use Rattle.layouts.specs.Reading.{reading};
 ghost use Rattle.capture.specs.Pcap.{view_format};
 ghost use Rattle.capture.specs.Pcapng.{next_block};
 ghost use Rattle.packets.specs.Section.{view_section};
@@ -21,11 +21,11 @@ ghost use Rattle.packets.specs.Front.{
 
 use crate::section::Section;
 use capture::{Format, SECTION_HEADER, parse_block, parse_pcap_header, parse_pcap_packet};
+use layouts::{Err, number4};
 use std::alloc::Global;
 use std::error::Error;
 use std::fmt;
 use std::marker::Model;
-use tls_fields::{Err, number4};
 
 /// A packet, as it was captured.
 #[derive(Clone, Copy, Debug, PartialEq)]

@@ -1,7 +1,7 @@
 //! A section of a capture in blocks (draft-ietf-opsawg-pcapng).
 ghost use Rattle.std.specs.Prelude.{◌≡◌, slice_get, Option, Some, None};
 ghost use Rattle.std.specs.Option.{option_map};
-ghost use Rattle.tls_fields.specs.Reading.{reading};
+ghost use Rattle.layouts.specs.Reading.{reading};
 ghost use Rattle.capture.specs.Pcapng.{
   enhanced_packet,
   interface as interface_layout,
@@ -26,22 +26,11 @@ ghost use Rattle.packets.specs.Section.{
 
 use crate::reader::{CaptureError, Packet};
 use capture::{
-    Block, BlockPacket, Interface, Order, SECTION_HEADER, parse_enhanced_packet, parse_interface,
-    parse_obsolete_packet, parse_simple_packet,
+    Block, BlockPacket, ENHANCED_PACKET, INTERFACE_DESCRIPTION, Interface, OBSOLETE_PACKET, Order,
+    SECTION_HEADER, SIMPLE_PACKET, parse_enhanced_packet, parse_interface, parse_obsolete_packet,
+    parse_simple_packet,
 };
 use std::alloc::Global;
-
-/// The type of a block that describes an interface.
-const INTERFACE: u32 = 1;
-
-/// The type of a block that holds a packet in the obsolete form.
-const OBSOLETE_PACKET: u32 = 2;
-
-/// The type of a block that holds a packet without a time.
-const SIMPLE_PACKET: u32 = 3;
-
-/// The type of a block that holds a packet.
-const ENHANCED_PACKET: u32 = 6;
 
 /// What a section's blocks said so far.
 #[derive(Drop)]
@@ -152,7 +141,7 @@ impl Section {
                 self.interfaces.clear();
                 Ok(None)
             }
-            INTERFACE => {
+            INTERFACE_DESCRIPTION => {
                 self.describe(block)?;
                 Ok(None)
             }

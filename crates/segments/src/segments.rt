@@ -293,6 +293,16 @@ impl Segments {
         self.window.held()
     }
 
+    /// How many bytes of memory it takes besides itself, at most: what stands in order by the room that was asked for, what waits by its pages. They are at
+    /// least as many as the bytes that are held.
+    pub fn capacity(&self) -> usize
+        ensures { length (run self.now.cells) + known_behind self.now.cells ≤ result }
+    {
+        let front = self.front.capacity().max(self.available().len());
+        let behind = self.window.capacity().max(self.window.held());
+        front.saturating_add(behind)
+    }
+
     /// How many bytes are missing before the next that is held: 0 where bytes are available, or none are held behind those that
     /// are missing. It takes time by their count.
     pub fn missing(&self) -> usize

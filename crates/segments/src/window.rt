@@ -11,6 +11,12 @@ use std::alloc::{AllocError, Global};
 use std::collections::BTreeMap;
 use std::marker::Model;
 
+/// What a page takes at most, in bytes: its 520, what the allocator takes besides, and its share of a tree whose nodes are half full.
+const PAGE_COST: usize = 592;
+
+/// What a tree of one page takes besides.
+const TREE_COST: usize = 256;
+
 /// The places from one on, up to the last byte that came.
 ///
 /// Memory is taken for the pages in which a byte came, however far ahead they are.
@@ -70,6 +76,15 @@ impl Window {
         ensures within { result ≤ length self.now }
     {
         self.held
+    }
+
+    /// How many bytes of memory the pages take, at most.
+    pub(crate) fn capacity(&self) -> usize {
+        if self.pages.is_empty() {
+            return 0;
+        }
+        let pages = self.pages.len().saturating_mul(PAGE_COST);
+        pages.saturating_add(TREE_COST)
     }
 
     /// At how many places other bytes stand than these, the first of which is for a place.

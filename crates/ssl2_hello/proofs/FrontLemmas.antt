@@ -2,9 +2,9 @@
 use Rattle.std.proofs.Common.{◌≡◌, ℕ, ◌+◌, ◌%◌, ◌<◌, ◌≤◌, true}
 use Rattle.std.specs.Prelude.{◌==◌, ◌&&◌, nat_le, nat_lt}
 use Rattle.std.proofs.lemmas.Bool.{eqb-true, ltb-true, leb-true, and_parts}
-use Rattle.tls_fields.specs.Bytes.{Bytes}
-use Rattle.tls_fields.specs.Reading.{reading}
-use Rattle.tls_fields.specs.Stable.{IsStable, CountsMissing}
+use Rattle.layouts.specs.Bytes.{Bytes}
+use Rattle.layouts.specs.Reading.{reading}
+use Rattle.layouts.specs.Stable.{IsStable, CountsMissing}
 use Rattle.ssl2_hello.specs.Front.{FixedFields, record_length, lengths, fixed_fields, beginning}
 use Rattle.ssl2_hello.proofs.TakenLemmas.{Takes, takes_number, takes_test, takes_done, takes_chain, stable_test, counts_test}
 use Rattle.ssl2_hello.proofs.KnownLemmas.{Holds, ReadsOnly, reads_behind, reads_number, reads_tested, reads_done}

@@ -4,16 +4,16 @@ use Rattle.std.proofs.Common.{cond, ltb, refl, sym, ◌∙◌, ap, subst, arith}
 use Rattle.std.specs.Prelude.{IsTrue, IsOk, IsOkAnd, is_ok}
 use Rattle.std.proofs.lemmas.Bool.{ltb-true, ltb-false, true≢false}
 use Rattle.std.proofs.lemmas.List.{length-drop, length-take-le, take-append-drop}
-use Rattle.tls_fields.specs.Bytes.{Bytes, AreBytes}
-use Rattle.tls_fields.specs.Layout.{Layout, number, block, window, list, complete, chain, done}
-use Rattle.tls_fields.specs.Items.{items_in}
-use Rattle.tls_fields.specs.Meaning.{Answer, Broken, Lacks}
-use Rattle.tls_fields.specs.Reading.{reading, split_at, completed, ◌and_then◌}
-use Rattle.tls_fields.specs.Stable.{CountsMissing, Decides, CountsDown}
-use Rattle.tls_fields.specs.declared.result.ErrorKind.{ErrorKind}
-use Rattle.tls_fields.proofs.LackingLemmas.{never-complete}
-use Rattle.tls_fields.proofs.OneAnswerLemmas.{ltb_no, ltb_yes}
-use Rattle.tls_fields.proofs.StableLemmas.{decides, counts_down, counting_is_stable, read_stays, stays, Stays}
+use Rattle.layouts.specs.Bytes.{Bytes, AreBytes}
+use Rattle.layouts.specs.Layout.{Layout, number, block, window, list, complete, chain, done}
+use Rattle.layouts.specs.Items.{items_in}
+use Rattle.layouts.specs.Meaning.{Answer, Broken, Lacks}
+use Rattle.layouts.specs.Reading.{reading, split_at, completed, ◌and_then◌}
+use Rattle.layouts.specs.Stable.{CountsMissing, Decides, CountsDown}
+use Rattle.layouts.specs.declared.result.ErrorKind.{ErrorKind}
+use Rattle.layouts.proofs.LackingLemmas.{never-complete}
+use Rattle.layouts.proofs.OneAnswerLemmas.{ltb_no, ltb_yes}
+use Rattle.layouts.proofs.StableLemmas.{decides, counts_down, counting_is_stable, read_stays, stays, Stays}
 use Rattle.ssl2_hello.specs.Front.{FixedFields, record_length, fixed_fields, beginning, begins_ssl2_hello_in}
 use Rattle.ssl2_hello.specs.Front.{HasWholeRecord}
 use Rattle.ssl2_hello.specs.ClientHello.{ClientHello, message, client_hello}

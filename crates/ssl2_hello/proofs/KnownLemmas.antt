@@ -4,12 +4,12 @@ use Rattle.std.proofs.Common.{refl, sym, ◌∙◌, ap, subst}
 use Rattle.std.specs.Prelude.{⊤, IsOk}
 use Rattle.std.proofs.lemmas.Bool.{ltb-false}
 use Rattle.std.proofs.lemmas.List.{length-take-le}
-use Rattle.tls_fields.specs.Bytes.{Bytes}
-use Rattle.tls_fields.specs.Layout.{Layout, done, number, block, window, list, chain, test}
-use Rattle.tls_fields.specs.Meaning.{Answer, Lacks}
-use Rattle.tls_fields.specs.Reading.{reading, split_at, ◌and_then◌}
-use Rattle.tls_fields.specs.declared.result.ErrorKind.{ErrorKind}
-use Rattle.tls_fields.proofs.NumbersLemmas.{numbers_count}
+use Rattle.layouts.specs.Bytes.{Bytes}
+use Rattle.layouts.specs.Layout.{Layout, done, number, block, window, list, chain, test}
+use Rattle.layouts.specs.Meaning.{Answer, Lacks}
+use Rattle.layouts.specs.Reading.{reading, split_at, ◌and_then◌}
+use Rattle.layouts.specs.declared.result.ErrorKind.{ErrorKind}
+use Rattle.layouts.proofs.NumbersLemmas.{numbers_count}
 
 -- It holds of the value, if there is one.
 abbrev pub Holds : {A : Type 0} → (A → Type 0) → Answer A → Type 0

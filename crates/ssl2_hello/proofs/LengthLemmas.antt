@@ -3,10 +3,10 @@ use Rattle.std.proofs.Common.{◌≡◌, ℕ, ◌+◌, ◌-◌, ◌*◌, ◌/◌
 use Rattle.std.proofs.Common.{cond, ltb, refl, ap, subst, arith}
 use Rattle.std.proofs.lemmas.Bool.{ltb-false}
 use Rattle.std.proofs.lemmas.List.{length-drop}
-use Rattle.tls_fields.specs.Bytes.{Bytes}
-use Rattle.tls_fields.specs.Layout.{number, block, window, list}
-use Rattle.tls_fields.specs.Meaning.{Answer, Broken, Lacks}
-use Rattle.tls_fields.specs.Reading.{reading, split_at, completed, ◌and_then◌}
+use Rattle.layouts.specs.Bytes.{Bytes}
+use Rattle.layouts.specs.Layout.{number, block, window, list}
+use Rattle.layouts.specs.Meaning.{Answer, Broken, Lacks}
+use Rattle.layouts.specs.Reading.{reading, split_at, completed, ◌and_then◌}
 use Rattle.ssl2_hello.specs.Front.{FixedFields, record_length, fixed_fields}
 use Rattle.ssl2_hello.specs.ClientHello.{ClientHello, message, client_hello, hello_length, HasAllowedLengths}
 use Rattle.ssl2_hello.proofs.TakenLemmas.{Took}

@@ -3,12 +3,12 @@ use Rattle.std.proofs.Common.{◌≡◌, ℕ, ◌+◌, ◌-◌, ◌<◌, length,
 use Rattle.std.specs.Prelude.{⊤}
 use Rattle.std.proofs.lemmas.Bool.{ltb-true, ltb-false}
 use Rattle.std.proofs.lemmas.List.{length-drop}
-use Rattle.tls_fields.specs.Bytes.{Bytes, number_of}
-use Rattle.tls_fields.specs.Layout.{Layout, done, number, chain, test}
-use Rattle.tls_fields.specs.Meaning.{Answer, Broken, Lacks}
-use Rattle.tls_fields.specs.Reading.{reading, split_at, number_at, ◌and_then◌}
-use Rattle.tls_fields.specs.Stable.{IsStable, CountsMissing}
-use Rattle.tls_fields.specs.declared.result.ErrorKind.{ErrorKind}
+use Rattle.layouts.specs.Bytes.{Bytes, number_of}
+use Rattle.layouts.specs.Layout.{Layout, done, number, chain, test}
+use Rattle.layouts.specs.Meaning.{Answer, Broken, Lacks}
+use Rattle.layouts.specs.Reading.{reading, split_at, number_at, ◌and_then◌}
+use Rattle.layouts.specs.Stable.{IsStable, CountsMissing}
+use Rattle.layouts.specs.declared.result.ErrorKind.{ErrorKind}
 
 -- Of n bytes, k are taken, and missing where there are fewer.
 abbrev pub Took : {A : Type 0} → ℕ → ℕ → Answer A → Type 0

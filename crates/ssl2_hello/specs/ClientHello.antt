@@ -1,9 +1,9 @@
 -- A ClientHello in the form of SSL 2.0, by which a client may begin SSL 3.0 and TLS too: V2ClientHello (RFC 5246, appendix E.2; RFC 6101,
 -- appendix E), CLIENT-HELLO (Hickman, The SSL Protocol, 1995).
 use Rattle.std.specs.Prelude.{ℕ, ◌+◌, ◌*◌, ◌<◌, ◌≤◌, List, length}
-use Rattle.tls_fields.specs.Bytes.{Bytes}
-use Rattle.tls_fields.specs.Layout.{Layout, done, number, block, window, list, complete, ◌>>=◌}
-use Rattle.tls_fields.specs.Items.{items_in}
+use Rattle.layouts.specs.Bytes.{Bytes}
+use Rattle.layouts.specs.Layout.{Layout, done, number, block, window, list, complete, ◌>>=◌}
+use Rattle.layouts.specs.Items.{items_in}
 use Rattle.ssl2_hello.specs.Front.{record_length, fixed_fields}
 use Rattle.ssl2_hello.specs.declared.client_hello.Ssl2ClientHello.{Ssl2ClientHello}
 

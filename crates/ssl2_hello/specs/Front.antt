@@ -1,9 +1,9 @@
 -- The fields of fixed size that a ClientHello in the form of SSL 2.0 begins with, in its record.
 use Rattle.std.specs.Prelude.{ℕ, ◌+◌, ◌-◌, ◌%◌, ◌≤◌, ◌==◌, ◌&&◌, ◌||◌, nat_le, nat_lt, Bool, length, is_ok, IsOkAnd}
-use Rattle.tls_fields.specs.Bytes.{Bytes}
-use Rattle.tls_fields.specs.Layout.{Layout, done, number, test, ◌>>=◌, ◌>>◌}
-use Rattle.tls_fields.specs.Reading.{reading}
-use Rattle.tls_fields.specs.declared.result.ErrorKind.TheVariants.{Tag, LengthValue, Verify}
+use Rattle.layouts.specs.Bytes.{Bytes}
+use Rattle.layouts.specs.Layout.{Layout, done, number, test, ◌>>=◌, ◌>>◌}
+use Rattle.layouts.specs.Reading.{reading}
+use Rattle.layouts.specs.declared.result.ErrorKind.TheVariants.{Tag, LengthValue, Verify}
 use Rattle.ssl2_hello.specs.declared.front.FixedFields.{FixedFields as LentFields}
 
 pub record FixedFields : Type 0 where

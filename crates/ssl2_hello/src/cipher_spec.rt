@@ -3,8 +3,8 @@ ghost use Rattle.std.specs.Prelude.{◌≡◌};
 ghost use Rattle.std.specs.Option.{option_map};
 ghost use Rattle.ssl2_hello.specs.CipherSpec.{suite_of};
 
+use layouts::Number;
 use tls_base::TlsCipherSuiteID;
-use tls_fields::Number;
 
 /// A CipherSpec: the V2CipherSpec of RFC 5246, appendix E.2, its three bytes as one number, big-endian.
 #[derive(Clone, Copy, Debug, Default, PartialEq, Eq)]

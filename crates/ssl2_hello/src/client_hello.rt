@@ -1,12 +1,12 @@
 //! The ClientHello in its record.
-ghost use Rattle.tls_fields.specs.Answers.{Gives};
-ghost use Rattle.tls_fields.specs.Layout.{complete};
+ghost use Rattle.layouts.specs.Answers.{Gives};
+ghost use Rattle.layouts.specs.Layout.{complete};
 ghost use Rattle.ssl2_hello.specs.ClientHello.{view_client_hello, message as message_layout, client_hello as client_hello_layout};
 
 use crate::cipher_spec::CipherSpec;
 use crate::front::{fixed_fields, record_length};
+use layouts::{Err, ErrorKind, IResult, Items, block, refused};
 use tls_base::TlsVersion;
-use tls_fields::{Err, ErrorKind, IResult, Items, block, refused};
 
 /// A ClientHello in the form of SSL 2.0: the V2ClientHello of RFC 5246, appendix E.2.
 #[derive(Clone, Copy, Debug, PartialEq)]
@@ -22,7 +22,7 @@ pub struct Ssl2ClientHello<'a> {
 }
 
 /// Reads the message in a record of `n` bytes.
-#[tactic(auto, using(tls_fields::proofs::OneAnswerLemmas::read_allowed), unfolding(crate::specs::ClientHello::message))]
+#[tactic(auto, using(layouts::proofs::OneAnswerLemmas::read_allowed), unfolding(crate::specs::ClientHello::message))]
 fn message(i: &[u8], n: u16) -> IResult<&[u8], Ssl2ClientHello>
     ensures { Gives view_client_hello (message_layout n) i.now result }
 {
@@ -61,7 +61,7 @@ fn in_record(bytes: &[u8], n: u16) -> IResult<&[u8], Ssl2ClientHello>
 /// - `Error` of kind `Complete` where the record ends within the lengths.
 ///
 /// The record is judged once it is there whole; [`crate::begins_ssl2_hello`] tells from its first bytes whether it will be read.
-#[tactic(auto, using(tls_fields::proofs::OneAnswerLemmas::read_allowed), unfolding(crate::specs::ClientHello::client_hello))]
+#[tactic(auto, using(layouts::proofs::OneAnswerLemmas::read_allowed), unfolding(crate::specs::ClientHello::client_hello))]
 pub fn parse_ssl2_client_hello(i: &[u8]) -> IResult<&[u8], Ssl2ClientHello>
     ensures { Gives view_client_hello client_hello_layout i.now result }
 {

@@ -1,11 +1,11 @@
 //! The fields of fixed size that a hello begins with.
 ghost use Rattle.std.specs.Prelude.{◌≡◌};
-ghost use Rattle.tls_fields.specs.Answers.{Gives};
+ghost use Rattle.layouts.specs.Answers.{Gives};
 ghost use Rattle.ssl2_hello.specs.Front.{record_length as record_length_layout, fixed_fields as fixed_fields_layout, lengths as lengths_layout, view_fixed_fields};
 ghost use Rattle.ssl2_hello.specs.Front.{beginning as beginning_layout, begins_ssl2_hello_in};
 
+use layouts::{ErrorKind, IResult, number1, number2, refused};
 use tls_base::TlsVersion;
-use tls_fields::{ErrorKind, IResult, number1, number2, refused};
 
 /// The type of the message.
 const CLIENT_HELLO: u8 = 1;
@@ -26,7 +26,7 @@ pub(crate) struct FixedFields {
 ///
 /// - `Incomplete` of the missing bytes where there are fewer than 2.
 /// - `Error` of kind `Tag` where the first bit isn't set.
-#[tactic(auto, using(tls_fields::proofs::OneAnswerLemmas::read_allowed), unfolding(crate::specs::Front::record_length))]
+#[tactic(auto, using(layouts::proofs::OneAnswerLemmas::read_allowed), unfolding(crate::specs::Front::record_length))]
 pub(crate) fn record_length(i: &[u8]) -> IResult<&[u8], u16>
     ensures { Gives (λ n. n) record_length_layout i.now result }
 {
@@ -38,7 +38,7 @@ pub(crate) fn record_length(i: &[u8]) -> IResult<&[u8], u16>
 }
 
 /// Reads the lengths of what follows.
-#[tactic(auto, using(tls_fields::proofs::OneAnswerLemmas::read_allowed), unfolding(crate::specs::Front::lengths))]
+#[tactic(auto, using(layouts::proofs::OneAnswerLemmas::read_allowed), unfolding(crate::specs::Front::lengths))]
 fn lengths(i: &[u8], version: TlsVersion) -> IResult<&[u8], FixedFields>
     ensures { Gives view_fixed_fields (lengths_layout version.0) i.now result }
 {
@@ -64,7 +64,7 @@ fn lengths(i: &[u8], version: TlsVersion) -> IResult<&[u8], FixedFields>
 }
 
 /// Reads the fields of fixed size of a hello in a record of `n` bytes.
-#[tactic(auto, using(tls_fields::proofs::OneAnswerLemmas::read_allowed), unfolding(crate::specs::Front::fixed_fields))]
+#[tactic(auto, using(layouts::proofs::OneAnswerLemmas::read_allowed), unfolding(crate::specs::Front::fixed_fields))]
 pub(crate) fn fixed_fields(i: &[u8], n: u16) -> IResult<&[u8], FixedFields>
     ensures { Gives view_fixed_fields (fixed_fields_layout n) i.now result }
 {
@@ -88,7 +88,7 @@ pub(crate) fn fixed_fields(i: &[u8], n: u16) -> IResult<&[u8], FixedFields>
 }
 
 /// Reads what the first 11 bytes of a stream tell.
-#[tactic(auto, using(tls_fields::proofs::OneAnswerLemmas::read_allowed), unfolding(crate::specs::Front::beginning))]
+#[tactic(auto, using(layouts::proofs::OneAnswerLemmas::read_allowed), unfolding(crate::specs::Front::beginning))]
 fn beginning(i: &[u8]) -> IResult<&[u8], FixedFields>
     ensures { Gives view_fixed_fields beginning_layout i.now result }
 {

@@ -1,10 +1,10 @@
 //! What stands of the layouts alone. Each function's contract is one law; its body is empty.
 ghost use Rattle.std.specs.Prelude.{◌≡◌, ◌+◌, ◌≤◌, ◌↔◌, ◌++◌, length, Ok, Err, IsTrue, IsOk};
-ghost use Rattle.tls_fields.specs.Bytes.{Bytes, AreBytes};
-ghost use Rattle.tls_fields.specs.Meaning.{Broken};
-ghost use Rattle.tls_fields.specs.Reading.{reading};
-ghost use Rattle.tls_fields.specs.Stable.{Decides, CountsDown};
-ghost use Rattle.tls_fields.specs.declared.result.ErrorKind.{ErrorKind};
+ghost use Rattle.layouts.specs.Bytes.{Bytes, AreBytes};
+ghost use Rattle.layouts.specs.Meaning.{Broken};
+ghost use Rattle.layouts.specs.Reading.{reading};
+ghost use Rattle.layouts.specs.Stable.{Decides, CountsDown};
+ghost use Rattle.layouts.specs.declared.result.ErrorKind.{ErrorKind};
 ghost use Rattle.ssl2_hello.specs.Front.{begins_ssl2_hello_in, HasWholeRecord};
 ghost use Rattle.ssl2_hello.specs.ClientHello.{ClientHello, client_hello, hello_length, HasAllowedLengths};
 

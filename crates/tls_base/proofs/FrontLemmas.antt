@@ -2,12 +2,12 @@
 use Rattle.std.proofs.Common.{◌≡◌, ◌∙◌, ap, sym, refl, ℕ, ◌-◌, ◌≤◌, cond, [], ◌++◌, length, take, drop, Ok, Err}
 use Rattle.std.proofs.lemmas.List.{take-append-drop, length-take-le}
 use Rattle.std.specs.Borrow.{Bor}
-use Rattle.tls_fields.specs.Bytes.{Bytes}
-use Rattle.tls_fields.specs.Layout.{block}
-use Rattle.tls_fields.specs.Meaning.{Allows, Lacks}
-use Rattle.tls_fields.specs.Reading.{split_at}
-use Rattle.tls_fields.specs.Answers.{Gives}
-use Rattle.tls_fields.proofs.OneAnswerLemmas.{ltb_no}
+use Rattle.layouts.specs.Bytes.{Bytes}
+use Rattle.layouts.specs.Layout.{block}
+use Rattle.layouts.specs.Meaning.{Allows, Lacks}
+use Rattle.layouts.specs.Reading.{split_at}
+use Rattle.layouts.specs.Answers.{Gives}
+use Rattle.layouts.proofs.OneAnswerLemmas.{ltb_no}
 
 -- the first n bytes, and the others as the rest
 pub front_read : {X : Type 0} (view : X → Bytes) (n : ℕ) (b : Bytes) (x : X) (r : Bor Bytes) → n ≤ length b

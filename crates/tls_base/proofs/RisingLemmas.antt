@@ -36,7 +36,7 @@ use Rattle.std.specs.Borrow.{Bor}
 use Rattle.std.proofs.lemmas.Option.{slice_get_past, slice_get-get_or}
 use Rattle.std.specs.List.Sorted.{IsStrictlyIncreasing}
 use Rattle.std.proofs.lemmas.Bool.{ltb-true}
-use Rattle.tls_fields.proofs.OneAnswerLemmas.{eqb_same, eqb_other}
+use Rattle.layouts.proofs.OneAnswerLemmas.{eqb_same, eqb_other}
 use Rattle.tls_base.specs.Names.{look_up}
 
 -- each number is above x and above the one before it, as a test

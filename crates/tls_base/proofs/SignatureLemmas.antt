@@ -1,10 +1,10 @@
 -- A signature after what another reader has read.
 use Rattle.std.proofs.Common.{◌≡◌, ap, refl, inl, [], ◌++◌, Bool, Result, Ok, Err}
 use Rattle.std.specs.Result.{IsErrAnd}
-use Rattle.tls_fields.specs.Bytes.{Bytes}
-use Rattle.tls_fields.specs.Meaning.{Allows}
-use Rattle.tls_fields.specs.Reading.{◌and_then◌}
-use Rattle.tls_fields.specs.Answers.{Returned, Gives}
+use Rattle.layouts.specs.Bytes.{Bytes}
+use Rattle.layouts.specs.Meaning.{Allows}
+use Rattle.layouts.specs.Reading.{◌and_then◌}
+use Rattle.layouts.specs.Answers.{Returned, Gives}
 use Rattle.tls_base.specs.Signature.{view_signed, signature, beside_signature}
 use Rattle.tls_base.specs.declared.signature.DigitallySigned as signed_of
 

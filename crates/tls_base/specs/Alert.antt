@@ -1,6 +1,6 @@
 -- Alerts.
 use Rattle.std.specs.Prelude.{ℕ}
-use Rattle.tls_fields.specs.Layout.{Layout, done, number, ◌>>=◌}
+use Rattle.layouts.specs.Layout.{Layout, done, number, ◌>>=◌}
 use Rattle.tls_base.specs.declared.alert.TlsMessageAlert.{TlsMessageAlert}
 
 -- struct { AlertLevel level; AlertDescription description; } Alert (RFC 5246, section 7.2).

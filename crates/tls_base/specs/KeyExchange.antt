@@ -1,9 +1,9 @@
 -- Parameters of a key exchange. Where an RFC has a lower bound of 1, as opaque point<1..2^8-1>, these layouts take a
 -- block of no bytes too.
 use Rattle.std.specs.Prelude.{ℕ, ◌==◌}
-use Rattle.tls_fields.specs.Bytes.{Bytes}
-use Rattle.tls_fields.specs.Layout.{Layout, done, refuse, number, ◌>>=◌, mapped, choose, counted}
-use Rattle.tls_fields.specs.declared.result.ErrorKind.TheVariants.{Switch}
+use Rattle.layouts.specs.Bytes.{Bytes}
+use Rattle.layouts.specs.Layout.{Layout, done, refuse, number, ◌>>=◌, mapped, choose, counted}
+use Rattle.layouts.specs.declared.result.ErrorKind.TheVariants.{Switch}
 use Rattle.tls_base.specs.declared.dh.ServerDHParams as dh_params_of
 use Rattle.tls_base.specs.declared.ec.ECCurve as curve_of
 use Rattle.tls_base.specs.declared.ec.ECPoint as point_of

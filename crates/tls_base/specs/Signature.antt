@@ -1,9 +1,9 @@
 -- Signatures.
 use Rattle.std.specs.Prelude.{ℕ, ◌++◌, Bool, Option, Some, None, Ok, Err, ◌≡◌, codes}
 use Rattle.std.specs.Option.{option_map}
-use Rattle.tls_fields.specs.Bytes.{Bytes}
-use Rattle.tls_fields.specs.Layout.{Layout, done, number, ◌>>=◌, mapped, choose, counted}
-use Rattle.tls_fields.specs.Answers.{Returned, Gives}
+use Rattle.layouts.specs.Bytes.{Bytes}
+use Rattle.layouts.specs.Layout.{Layout, done, number, ◌>>=◌, mapped, choose, counted}
+use Rattle.layouts.specs.Answers.{Returned, Gives}
 use Rattle.tls_base.specs.Names.{Text, name}
 use Rattle.tls_base.specs.Constants.{hash_algorithms, signature_algorithms}
 use Rattle.tls_base.specs.declared.signature.SignatureAndHashAlgorithm as algorithm_of

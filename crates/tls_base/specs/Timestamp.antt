@@ -1,7 +1,7 @@
 -- Signed certificate timestamps (RFC 6962).
 use Rattle.std.specs.Prelude.{ℕ, List}
-use Rattle.tls_fields.specs.Bytes.{Bytes}
-use Rattle.tls_fields.specs.Layout.{Layout, done, number, block, list, ◌>>=◌, counted, counted_window}
+use Rattle.layouts.specs.Bytes.{Bytes}
+use Rattle.layouts.specs.Layout.{Layout, done, number, block, list, ◌>>=◌, counted, counted_window}
 use Rattle.tls_base.specs.Signature as signatures
 use Rattle.tls_base.specs.declared.timestamp.CtLogID as log_id_of
 use Rattle.tls_base.specs.declared.timestamp.SignedCertificateTimestamp as timestamp_of

@@ -1,10 +1,10 @@
 //! Alerts (RFC 5246, section 7.2).
-ghost use Rattle.tls_fields.specs.Answers.{Gives};
+ghost use Rattle.layouts.specs.Answers.{Gives};
 ghost use Rattle.tls_base.specs.Alert.{view_alert, alert};
 
 use crate::alert_description::TlsAlertDescription;
 use crate::alert_severity::TlsAlertSeverity;
-use tls_fields::IResult;
+use layouts::IResult;
 
 /// An alert (RFC 5246, section 7.2).
 #[derive(Clone, Debug, PartialEq, Drop)]
@@ -19,7 +19,7 @@ impl TlsMessageAlert {
     /// Reads 1 byte, the severity, and 1 byte, the description.
     ///
     /// `Incomplete(1)` where either is missing.
-    #[tactic(auto, using(tls_fields::proofs::OneAnswerLemmas::read_allowed), unfolding(crate::specs::Alert::alert))]
+    #[tactic(auto, using(layouts::proofs::OneAnswerLemmas::read_allowed), unfolding(crate::specs::Alert::alert))]
     pub fn parse(i: &[u8]) -> IResult<&[u8], Self>
         ensures { Gives view_alert alert i.now result }
     {

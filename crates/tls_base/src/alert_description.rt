@@ -1,13 +1,15 @@
 //! What an alert says.
-ghost use Rattle.std.specs.Prelude.{Some, codes};
-ghost use Rattle.tls_fields.specs.Layout.{number};
-ghost use Rattle.tls_fields.specs.Answers.{Gives};
-ghost use Rattle.tls_base.specs.Names.{name};
+ghost use Rattle.std.specs.Prelude.{Some, codes, ◌≡◌};
+ghost use Rattle.layouts.specs.Layout.{number};
+ghost use Rattle.layouts.specs.Answers.{Gives};
+ghost use Rattle.std.specs.Option.{option_map};
+ghost use Rattle.tls_base.specs.Names.{look_up, name};
+ghost use Rattle.tls_base.specs.Registered.{registered_alerts};
 ghost use Rattle.tls_base.specs.Constants.{alert_descriptions};
 
-use crate::name::{names, write_name};
+use crate::name::{find_name, names, registered, write_name};
+use layouts::{IResult, number1};
 use std::fmt;
-use tls_fields::{IResult, number1};
 
 /// What an alert says: the AlertDescription of RFC 8446, section 6, with the alerts of earlier versions.
 #[derive(Clone, Copy, Debug, PartialEq, Eq)]
@@ -116,6 +118,13 @@ impl TlsAlertDescription {
     /// The no_application_protocol of RFC 7301, section 3.2.
     pub const NoApplicationProtocol: TlsAlertDescription = TlsAlertDescription(120);
 
+    /// The name that IANA's registry of alerts has for the number, without a mark that it is reserved; `None` where it has none.
+    pub fn registered_name(self) -> Option<&'static str>
+        ensures { option_map (λ t. t.now) result ≡ look_up registered_alerts self.0 }
+    {
+        find_name(REGISTERED, self.0 as u16)
+    }
+
     /// Reads 1 byte. `Incomplete(1)` where there is none.
     pub fn parse(i: &[u8]) -> IResult<&[u8], Self>
         ensures { Gives (λ v. v.0) (number 1) i.now result }
@@ -125,17 +134,56 @@ impl TlsAlertDescription {
     }
 }
 
+/// The registry of alerts: a row for each number that has a constant or a name there, in the order of the numbers.
+macro_rules! rows {
+    ($column:ident) => {
+        $column! {
+            TlsAlertDescription:
+            CloseNotify = "close_notify";
+            UnexpectedMessage = "unexpected_message";
+            BadRecordMac = "bad_record_mac";
+            DecryptionFailed = "decryption_failed";
+            RecordOverflow = "record_overflow";
+            DecompressionFailure = "decompression_failure";
+            HandshakeFailure = "handshake_failure";
+            NoCertificate = "no_certificate";
+            BadCertificate = "bad_certificate";
+            UnsupportedCertificate = "unsupported_certificate";
+            CertificateRevoked = "certificate_revoked";
+            CertificateExpired = "certificate_expired";
+            CertificateUnknown = "certificate_unknown";
+            IllegalParameter = "illegal_parameter";
+            UnknownCa = "unknown_ca";
+            AccessDenied = "access_denied";
+            DecodeError = "decode_error";
+            DecryptError = "decrypt_error";
+            52 = "too_many_cids_requested"; // RFC 9147, section 9
+            ExportRestriction = "export_restriction";
+            ProtocolVersion = "protocol_version";
+            InsufficientSecurity = "insufficient_security";
+            InternalError = "internal_error";
+            InappropriateFallback = "inappropriate_fallback";
+            UserCancelled = "user_canceled";
+            NoRenegotiation = "no_renegotiation";
+            MissingExtension = "missing_extension";
+            UnsupportedExtension = "unsupported_extension";
+            CertUnobtainable = "certificate_unobtainable";
+            UnrecognizedName = "unrecognized_name";
+            BadCertStatusResponse = "bad_certificate_status_response";
+            BadCertHashValue = "bad_certificate_hash_value";
+            UnknownPskIdentity = "unknown_psk_identity";
+            CertificateRequired = "certificate_required";
+            NoApplicationProtocol = "no_application_protocol";
+            121 = "ech_required"; // draft-ietf-tls-esni
+        }
+    };
+}
+
 /// The constants, each with its number and its name.
-static NAMES: &[(u16, &str)] = names!(
-    TlsAlertDescription: CloseNotify, UnexpectedMessage, BadRecordMac, DecryptionFailed,
-    RecordOverflow, DecompressionFailure, HandshakeFailure, NoCertificate, BadCertificate,
-    UnsupportedCertificate, CertificateRevoked, CertificateExpired, CertificateUnknown,
-    IllegalParameter, UnknownCa, AccessDenied, DecodeError, DecryptError, ExportRestriction,
-    ProtocolVersion, InsufficientSecurity, InternalError, InappropriateFallback, UserCancelled,
-    NoRenegotiation, MissingExtension, UnsupportedExtension, CertUnobtainable, UnrecognizedName,
-    BadCertStatusResponse, BadCertHashValue, UnknownPskIdentity, CertificateRequired,
-    NoApplicationProtocol
-);
+static NAMES: &[(u16, &str)] = rows!(names);
+
+/// The names of the registry, each behind its number.
+static REGISTERED: &[(u16, &str)] = rows!(registered);
 
 impl fmt::Display for TlsAlertDescription {
     ghost output = { λ v. Some (name (codes "TlsAlertDescription") alert_descriptions v.0) };

@@ -1,13 +1,13 @@
 //! How severe an alert is.
 ghost use Rattle.std.specs.Prelude.{Some, codes};
-ghost use Rattle.tls_fields.specs.Layout.{number};
-ghost use Rattle.tls_fields.specs.Answers.{Gives};
+ghost use Rattle.layouts.specs.Layout.{number};
+ghost use Rattle.layouts.specs.Answers.{Gives};
 ghost use Rattle.tls_base.specs.Names.{name};
 ghost use Rattle.tls_base.specs.Constants.{alert_levels};
 
 use crate::name::{names, write_name};
+use layouts::{IResult, number1};
 use std::fmt;
-use tls_fields::{IResult, number1};
 
 /// How severe an alert is: the AlertLevel of RFC 5246, section 7.2.
 #[derive(Clone, Copy, Debug, PartialEq, Eq)]

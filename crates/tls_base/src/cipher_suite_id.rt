@@ -1,14 +1,14 @@
 //! Numbers of cipher suites.
 ghost use Rattle.std.specs.Prelude.{◌≡◌, Some, IfOk, string_bytes};
-ghost use Rattle.tls_fields.specs.Layout.{number};
-ghost use Rattle.tls_fields.specs.Answers.{Gives};
+ghost use Rattle.layouts.specs.Layout.{number};
+ghost use Rattle.layouts.specs.Answers.{Gives};
 ghost use Rattle.tls_base.specs.Names.{hexadecimal};
 ghost use Rattle.std.specs.Fmt.{decimal};
 
+use layouts::{IResult, Number, OutOfMemory, number2};
 use std::alloc::Global;
 use std::fmt;
 use std::ops::Deref;
-use tls_fields::{IResult, Number, OutOfMemory, number2};
 
 /// The number of a cipher suite: the CipherSuite of RFC 5246, section 7.4.1.2, its two bytes as one number,
 /// big-endian.

@@ -1,14 +1,14 @@
 //! Numbers of compression methods.
 ghost use Rattle.std.specs.Prelude.{Some, codes, ◌≡◌};
-ghost use Rattle.tls_fields.specs.Layout.{number};
-ghost use Rattle.tls_fields.specs.Answers.{Gives};
+ghost use Rattle.layouts.specs.Layout.{number};
+ghost use Rattle.layouts.specs.Answers.{Gives};
 ghost use Rattle.tls_base.specs.Names.{name};
 ghost use Rattle.tls_base.specs.Constants.{compression_methods};
 
 use crate::name::{names, write_name};
+use layouts::{IResult, Number, number1};
 use std::fmt;
 use std::ops::Deref;
-use tls_fields::{IResult, Number, number1};
 
 /// The number of a compression method: the CompressionMethod of RFC 5246, section 7.4.1.2.
 #[derive(Clone, Copy, Debug, Default, PartialEq, Eq)]

@@ -1,13 +1,13 @@
 //! Versions of signed certificate timestamps.
 ghost use Rattle.std.specs.Prelude.{Some, codes};
-ghost use Rattle.tls_fields.specs.Layout.{number};
-ghost use Rattle.tls_fields.specs.Answers.{Gives};
+ghost use Rattle.layouts.specs.Layout.{number};
+ghost use Rattle.layouts.specs.Answers.{Gives};
 ghost use Rattle.tls_base.specs.Names.{name};
 ghost use Rattle.tls_base.specs.Constants.{ct_versions};
 
 use crate::name::{names, write_name};
+use layouts::{IResult, number1};
 use std::fmt;
-use tls_fields::{IResult, number1};
 
 /// The version of a signed certificate timestamp: the Version of RFC 6962, section 3.2.
 #[derive(Clone, Copy, Debug, PartialEq, Eq)]

@@ -1,8 +1,8 @@
 //! Parameters of a Diffie-Hellman key exchange over the integers.
-ghost use Rattle.tls_fields.specs.Answers.{Gives};
+ghost use Rattle.layouts.specs.Answers.{Gives};
 ghost use Rattle.tls_base.specs.KeyExchange.{view_dh_params, dh_params};
 
-use tls_fields::{IResult, counted2};
+use layouts::{IResult, counted2};
 
 /// What a server sends for a Diffie-Hellman key exchange (RFC 5246, section 7.4.3). All numbers are big-endian, of any
 /// length.
@@ -21,7 +21,7 @@ impl<'a> ServerDHParams<'a> {
     /// takes empty ones too.
     ///
     /// `Incomplete` of the bytes that are missing of the first length or block that isn't whole.
-    #[tactic(auto, using(tls_fields::proofs::OneAnswerLemmas::read_allowed), unfolding(crate::specs::KeyExchange::dh_params))]
+    #[tactic(auto, using(layouts::proofs::OneAnswerLemmas::read_allowed), unfolding(crate::specs::KeyExchange::dh_params))]
     pub fn parse(i: &'a [u8]) -> IResult<&'a [u8], Self>
         ensures { Gives view_dh_params dh_params i.now result }
     {

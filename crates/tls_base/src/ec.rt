@@ -1,16 +1,16 @@
 //! Parameters of a Diffie-Hellman key exchange over elliptic curves.
-#![tactic(auto, using(tls_fields::proofs::OneAnswerLemmas::read_allowed), unfolding(crate::specs::KeyExchange::curve, crate::specs::KeyExchange::explicit_prime, crate::specs::KeyExchange::curve_parameters, crate::specs::KeyExchange::ec_parameters, crate::specs::KeyExchange::ecdh_params))]
+#![tactic(auto, using(layouts::proofs::OneAnswerLemmas::read_allowed), unfolding(crate::specs::KeyExchange::curve, crate::specs::KeyExchange::explicit_prime, crate::specs::KeyExchange::curve_parameters, crate::specs::KeyExchange::ec_parameters, crate::specs::KeyExchange::ecdh_params))]
 
 ghost use Rattle.std.specs.Prelude.{map};
-ghost use Rattle.tls_fields.specs.Answers.{Gives, GivesOrMemory};
-ghost use Rattle.tls_fields.specs.Layout.{pairs as pairs_layout};
+ghost use Rattle.layouts.specs.Answers.{Gives, GivesOrMemory};
+ghost use Rattle.layouts.specs.Layout.{pairs as pairs_layout};
 ghost use Rattle.tls_base.specs.KeyExchange.{view_curve, curve as curve_layout, view_point, point as point_layout, view_explicit_prime, explicit_prime, view_curve_parameters, curve_parameters, view_ec_parameters, ec_parameters, view_ecdh_params, ecdh_params};
 
 use crate::curve_type::ECCurveType;
 use crate::named_group::NamedGroup;
+use layouts::{ErrorKind, IResult, counted1, pairs, refused};
 use std::alloc::Global;
 use std::fmt;
-use tls_fields::{ErrorKind, IResult, counted1, pairs, refused};
 
 /// The coefficients of an elliptic curve (RFC 4492, section 5.4). RFC 8422 deprecates curves that are given so.
 #[derive(Debug, PartialEq, Drop)]

@@ -1,13 +1,15 @@
 //! Numbers of extensions.
 ghost use Rattle.std.specs.Prelude.{◌≡◌, Some, codes};
-ghost use Rattle.tls_fields.specs.Layout.{number};
-ghost use Rattle.tls_fields.specs.Answers.{Gives};
-ghost use Rattle.tls_base.specs.Names.{name};
+ghost use Rattle.layouts.specs.Layout.{number};
+ghost use Rattle.layouts.specs.Answers.{Gives};
+ghost use Rattle.std.specs.Option.{option_map};
+ghost use Rattle.tls_base.specs.Names.{look_up, name};
+ghost use Rattle.tls_base.specs.Registered.{registered_extension_types};
 ghost use Rattle.tls_base.specs.ExtensionNumbers.{extension_types};
 
-use crate::name::{numbers, texts, write_rising};
+use crate::name::{find_name, numbers, registered, texts, write_rising};
+use layouts::{IResult, number2};
 use std::fmt;
-use tls_fields::{IResult, number2};
 
 /// What an extension is: the ExtensionType of RFC 8446, section 4.2, its two bytes as one number, big-endian, with
 /// those of earlier versions and of drafts.
@@ -154,6 +156,13 @@ impl TlsExtensionType {
         TlsExtensionType(t)
     }
 
+    /// The name that IANA's registry of extension types has for the number, without a mark that it is reserved; `None` where it has none.
+    pub fn registered_name(self) -> Option<&'static str>
+        ensures { option_map (λ t. t.now) result ≡ look_up registered_extension_types self.0 }
+    {
+        find_name(REGISTERED, self.0)
+    }
+
     /// Reads 2 bytes, big-endian. `Incomplete` of the bytes that are missing, 2 or 1.
     pub fn parse(i: &[u8]) -> IResult<&[u8], Self>
         ensures { Gives (λ v. v.0) (number 2) i.now result }
@@ -171,29 +180,92 @@ impl From<TlsExtensionType> for u16 {
     }
 }
 
-/// The constants, in the order of their numbers, which rises.
-macro_rules! constants {
+/// The registry of extension types: a row for each number that has a constant or a name there, in the order of the numbers, which rises.
+macro_rules! rows {
     ($column:ident) => {
-        $column!(
-            TlsExtensionType: ServerName, MaxFragmentLength, ClientCertificate, TrustedCaKeys,
-            TruncatedHMac, StatusRequest, UserMapping, ClientAuthz, ServerAuthz, CertType,
-            SupportedGroups, EcPointFormats, Srp, SignatureAlgorithms, UseSrtp, Heartbeat,
-            ApplicationLayerProtocolNegotiation, StatusRequestv2, SignedCertificateTimestamp,
-            ClientCertificateType, ServerCertificateType, Padding, EncryptThenMac,
-            ExtendedMasterSecret, TokenBinding, CachedInfo, RecordSizeLimit, SessionTicketTLS,
-            KeyShareOld, PreSharedKey, EarlyData, SupportedVersions, Cookie, PskExchangeModes,
-            TicketEarlyDataInfo, CertificateAuthorities, OidFilters, PostHandshakeAuth,
-            SigAlgorithmsCert, KeyShare, NextProtocolNegotiation, Grease, RenegotiationInfo,
-            EncryptedServerName
-        )
+        $column! {
+            TlsExtensionType:
+            ServerName = "server_name";
+            MaxFragmentLength = "max_fragment_length";
+            ClientCertificate = "client_certificate_url";
+            TrustedCaKeys = "trusted_ca_keys";
+            TruncatedHMac = "truncated_hmac";
+            StatusRequest = "status_request";
+            UserMapping = "user_mapping";
+            ClientAuthz = "client_authz";
+            ServerAuthz = "server_authz";
+            CertType = "cert_type";
+            SupportedGroups = "supported_groups";
+            EcPointFormats = "ec_point_formats";
+            Srp = "srp";
+            SignatureAlgorithms = "signature_algorithms";
+            UseSrtp = "use_srtp";
+            Heartbeat = "heartbeat";
+            ApplicationLayerProtocolNegotiation = "application_layer_protocol_negotiation";
+            StatusRequestv2 = "status_request_v2";
+            SignedCertificateTimestamp = "signed_certificate_timestamp";
+            ClientCertificateType = "client_certificate_type";
+            ServerCertificateType = "server_certificate_type";
+            Padding = "padding";
+            EncryptThenMac = "encrypt_then_mac";
+            ExtendedMasterSecret = "extended_master_secret";
+            TokenBinding = "token_binding";
+            CachedInfo = "cached_info";
+            26 = "tls_lts"; // draft-gutmann-tls-lts
+            27 = "compress_certificate"; // RFC 8879, section 3
+            RecordSizeLimit = "record_size_limit";
+            29 = "pwd_protect"; // RFC 8492
+            30 = "pwd_clear"; // RFC 8492
+            31 = "password_salt"; // RFC 8492
+            32 = "ticket_pinning"; // RFC 8672
+            33 = "tls_cert_with_extern_psk"; // RFC 8773
+            34 = "delegated_credential"; // RFC 9345
+            SessionTicketTLS = "session_ticket";
+            36 = "TLMSP"; // ETSI TS 103 523-2
+            37 = "TLMSP_proxying"; // ETSI TS 103 523-2
+            38 = "TLMSP_delegate"; // ETSI TS 103 523-2
+            39 = "supported_ekt_ciphers"; // RFC 8870
+            [KeyShareOld];
+            PreSharedKey = "pre_shared_key";
+            EarlyData = "early_data";
+            SupportedVersions = "supported_versions";
+            Cookie = "cookie";
+            PskExchangeModes = "psk_key_exchange_modes";
+            [TicketEarlyDataInfo];
+            CertificateAuthorities = "certificate_authorities";
+            OidFilters = "oid_filters";
+            PostHandshakeAuth = "post_handshake_auth";
+            SigAlgorithmsCert = "signature_algorithms_cert";
+            KeyShare = "key_share";
+            52 = "transparency_info"; // RFC 9162
+            54 = "connection_id"; // RFC 9146
+            55 = "external_id_hash"; // RFC 8844
+            56 = "external_session_id"; // RFC 8844
+            57 = "quic_transport_parameters"; // RFC 9001
+            58 = "ticket_request"; // RFC 9149
+            59 = "dnssec_chain"; // RFC 9102
+            60 = "sequence_number_encryption_algorithms"; // draft-pismenny-tls-dtls-plaintext-sequence-number
+            61 = "rrc"; // draft-ietf-tls-dtls-rrc
+            62 = "tls_flags"; // draft-ietf-tls-tlsflags
+            NextProtocolNegotiation = "next_protocol_negotiation";
+            17513 = "application_settings"; // draft-vvv-tls-alps
+            [Grease];
+            0xfd00 = "ech_outer_extensions"; // draft-ietf-tls-esni
+            0xfe0d = "encrypted_client_hello"; // draft-ietf-tls-esni
+            RenegotiationInfo = "renegotiation_info";
+            [EncryptedServerName];
+        }
     };
 }
 
 /// The numbers of the constants.
-static NUMBERS: &[u16] = constants!(numbers);
+static NUMBERS: &[u16] = rows!(numbers);
 
 /// The names of the constants, in the same order.
-static NAMES: &[&str] = constants!(texts);
+static NAMES: &[&str] = rows!(texts);
+
+/// The names of the registry, each behind its number.
+static REGISTERED: &[(u16, &str)] = rows!(registered);
 
 impl fmt::Display for TlsExtensionType {
     ghost output = { λ v. Some (name (codes "TlsExtensionType") extension_types v.0) };

@@ -1,13 +1,15 @@
 //! Types of handshake messages.
 ghost use Rattle.std.specs.Prelude.{Some, codes, ◌≡◌};
-ghost use Rattle.tls_fields.specs.Layout.{number};
-ghost use Rattle.tls_fields.specs.Answers.{Gives};
-ghost use Rattle.tls_base.specs.Names.{name};
+ghost use Rattle.layouts.specs.Layout.{number};
+ghost use Rattle.layouts.specs.Answers.{Gives};
+ghost use Rattle.std.specs.Option.{option_map};
+ghost use Rattle.tls_base.specs.Names.{look_up, name};
+ghost use Rattle.tls_base.specs.Registered.{registered_handshake_types};
 ghost use Rattle.tls_base.specs.Constants.{handshake_types};
 
-use crate::name::{names, write_name};
+use crate::name::{find_name, names, registered, write_name};
+use layouts::{IResult, number1};
 use std::fmt;
-use tls_fields::{IResult, number1};
 
 /// Which handshake message follows: the HandshakeType of RFC 5246, section 7.4, and RFC 8446, section 4.
 #[derive(Clone, Copy, Debug, PartialEq, Eq)]
@@ -71,6 +73,13 @@ impl TlsHandshakeType {
     /// The next_protocol of draft-agl-tls-nextprotoneg.
     pub const NextProtocol: TlsHandshakeType = TlsHandshakeType(67);
 
+    /// The name that IANA's registry of handshake types has for the number, without a mark that it is reserved; `None` where it has none.
+    pub fn registered_name(self) -> Option<&'static str>
+        ensures { option_map (λ t. t.now) result ≡ look_up registered_handshake_types self.0 }
+    {
+        find_name(REGISTERED, self.0 as u16)
+    }
+
     /// Reads 1 byte. `Incomplete(1)` where there is none.
     pub fn parse(i: &[u8]) -> IResult<&[u8], Self>
         ensures { Gives (λ v. v.0) (number 1) i.now result }
@@ -80,13 +89,46 @@ impl TlsHandshakeType {
     }
 }
 
+/// The registry of handshake types: a row for each number that has a constant or a name there, in the order of the numbers.
+macro_rules! rows {
+    ($column:ident) => {
+        $column! {
+            TlsHandshakeType:
+            HelloRequest = "hello_request";
+            ClientHello = "client_hello";
+            ServerHello = "server_hello";
+            HelloVerifyRequest = "hello_verify_request";
+            NewSessionTicket = "new_session_ticket";
+            EndOfEarlyData = "end_of_early_data";
+            HelloRetryRequest = "hello_retry_request";
+            EncryptedExtensions = "encrypted_extensions";
+            9 = "request_connection_id"; // RFC 9147, section 9
+            10 = "new_connection_id"; // RFC 9147, section 9
+            Certificate = "certificate";
+            ServerKeyExchange = "server_key_exchange";
+            CertificateRequest = "certificate_request";
+            ServerDone = "server_hello_done";
+            CertificateVerify = "certificate_verify";
+            ClientKeyExchange = "client_key_exchange";
+            17 = "client_certificate_request"; // RFC 9261, section 4
+            Finished = "finished";
+            CertificateURL = "certificate_url";
+            CertificateStatus = "certificate_status";
+            23 = "supplemental_data"; // RFC 4680, section 3
+            KeyUpdate = "key_update";
+            25 = "compressed_certificate"; // RFC 8879, section 4
+            26 = "ekt_key"; // RFC 8870, section 5.2.2
+            NextProtocol = "next_protocol";
+            254 = "message_hash"; // RFC 8446, section 4.4.1
+        }
+    };
+}
+
 /// The constants, each with its number and its name.
-static NAMES: &[(u16, &str)] = names!(
-    TlsHandshakeType: HelloRequest, ClientHello, ServerHello, HelloVerifyRequest, NewSessionTicket,
-    EndOfEarlyData, HelloRetryRequest, EncryptedExtensions, Certificate, ServerKeyExchange,
-    CertificateRequest, ServerDone, CertificateVerify, ClientKeyExchange, Finished, CertificateURL,
-    CertificateStatus, KeyUpdate, NextProtocol
-);
+static NAMES: &[(u16, &str)] = rows!(names);
+
+/// The names of the registry, each behind its number.
+static REGISTERED: &[(u16, &str)] = rows!(registered);
 
 impl fmt::Display for TlsHandshakeType {
     ghost output = { λ v. Some (name (codes "TlsHandshakeType") handshake_types v.0) };

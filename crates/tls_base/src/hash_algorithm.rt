@@ -1,13 +1,13 @@
 //! Hashes that signatures are made over.
 ghost use Rattle.std.specs.Prelude.{Some, codes};
-ghost use Rattle.tls_fields.specs.Layout.{number};
-ghost use Rattle.tls_fields.specs.Answers.{Gives};
+ghost use Rattle.layouts.specs.Layout.{number};
+ghost use Rattle.layouts.specs.Answers.{Gives};
 ghost use Rattle.tls_base.specs.Names.{name};
 ghost use Rattle.tls_base.specs.Constants.{hash_algorithms};
 
 use crate::name::{names, write_name};
+use layouts::{IResult, number1};
 use std::fmt;
-use tls_fields::{IResult, number1};
 
 /// A hash: the HashAlgorithm of RFC 5246, section 7.4.1.4.1.
 #[derive(Clone, Debug, PartialEq, Eq, Drop)]

@@ -3,7 +3,7 @@
 //!
 //! A number with a name is the number that stands in the bytes; one without a name is read and kept. Each parse call
 //! answers what a layout of `specs/` allows on the bytes.
-#![tactic(auto, using(tls_fields::proofs::OneAnswerLemmas::read_allowed))]
+#![tactic(auto, using(layouts::proofs::OneAnswerLemmas::read_allowed))]
 
 mod alert;
 mod alert_description;
@@ -30,6 +30,7 @@ mod signature;
 mod signature_scheme;
 mod sni_type;
 mod status_type;
+mod suite_exchange;
 mod timestamp;
 mod timestamp_view;
 mod version;
@@ -55,6 +56,7 @@ pub use extension_type::TlsExtensionType;
 pub use handshake_type::TlsHandshakeType;
 pub use hash_algorithm::HashAlgorithm;
 pub use heartbeat_type::TlsHeartbeatMessageType;
+pub use layouts::{Err, Error, ErrorKind, IResult, Needed, OutOfMemory};
 pub use named_group::NamedGroup;
 pub use psk_mode::PskKeyExchangeMode;
 pub use record_type::TlsRecordType;
@@ -66,10 +68,10 @@ pub use signature::{
 pub use signature_scheme::SignatureScheme;
 pub use sni_type::SNIType;
 pub use status_type::CertificateStatusType;
+pub use suite_exchange::{KeyExchange, Public};
 pub use timestamp::{
     CtExtensions, CtLogID, SignedCertificateTimestamp, parse_ct_signed_certificate_timestamp,
     parse_ct_signed_certificate_timestamp_list,
 };
 pub use timestamp_view::certificate_timestamps;
-pub use tls_fields::{Err, Error, ErrorKind, IResult, Needed, OutOfMemory};
 pub use version::TlsVersion;

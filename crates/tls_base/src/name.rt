@@ -6,41 +6,62 @@ ghost use Rattle.std.specs.Option.{option_map};
 ghost use Rattle.std.specs.Fmt.{DisplaysOnOk};
 ghost use Rattle.tls_base.specs.Names.{look_up, name, names_of, shown};
 
+use layouts::place;
 use std::fmt;
-use tls_fields::place;
 
-/// Constants of a type, each as its number and its name.
+/// Constants of a type, each as its number and its name. They are listed by their names alone, or in the rows of a registry: a
+/// row has a constant and the name that IANA's registry has for its number, or a constant in brackets whose number has none there,
+/// or a number without a constant and its name there.
 macro_rules! names {
     ($type:ident: $($constant:ident),*) => {
         &[$(($type::$constant.0 as u16, stringify!($constant))),*]
+    };
+    ($type:ident: $($($constant:ident = $name:literal)? $([$own:ident])? $($number:literal = $other:literal)?;)*) => {
+        &[$($(($type::$constant.0 as u16, stringify!($constant)),)? $(($type::$own.0 as u16, stringify!($own)),)?)*]
     };
 }
 
 pub(crate) use names;
 
-/// The numbers of constants of a type.
+/// The numbers of constants, by the rows of a registry.
 macro_rules! numbers {
-    ($type:ident: $($constant:ident),*) => {
-        &[$($type::$constant.0),*]
+    ($type:ident: $($($constant:ident = $name:literal)? $([$own:ident])? $($number:literal = $other:literal)?;)*) => {
+        &[$($($type::$constant.0,)? $($type::$own.0,)?)*]
     };
 }
 
 pub(crate) use numbers;
 
-/// The names of constants of a type.
+/// The names of constants, by the rows of a registry.
 macro_rules! texts {
-    ($type:ident: $($constant:ident),*) => {
-        &[$(stringify!($constant)),*]
+    ($type:ident: $($($constant:ident = $name:literal)? $([$own:ident])? $($number:literal = $other:literal)?;)*) => {
+        &[$($(stringify!($constant),)? $(stringify!($own),)?)*]
     };
 }
 
 pub(crate) use texts;
+
+/// The numbers that have a name in IANA's registry, each with that name, by the rows of the registry.
+macro_rules! registered {
+    ($type:ident: $($($constant:ident = $name:literal)? $([$own:ident])? $($number:literal = $other:literal)?;)*) => {
+        &[$($(($type::$constant.0 as u16, $name),)? $(($number, $other),)?)*]
+    };
+}
+
+pub(crate) use registered;
 
 /// What a table has beside `n`, in its first entry with that number.
 pub(crate) fn find_number<T: Copy>(table: &[(u16, T)], n: u16) -> Option<T>
     ensures { result ≡ look_up table.now n }
 {
     table.iter().find(|x| x.0 == n).map(|x| x.1)
+}
+
+/// The name of `n` in a table.
+pub(crate) fn find_name(table: &[(u16, &'static str)], n: u16) -> Option<&'static str>
+    ensures { option_map (λ t. t.now) result ≡ look_up (names_of table.now) n }
+{
+    find_number(table, n)
 }
 
 /// Writes a number of a type: its name where it has one, else the type with the number in decimal and hexadecimal.

@@ -1,13 +1,15 @@
 //! Groups for a key exchange.
 ghost use Rattle.std.specs.Prelude.{Some, codes, ◌≡◌};
-ghost use Rattle.tls_fields.specs.Layout.{number};
-ghost use Rattle.tls_fields.specs.Answers.{Gives};
-ghost use Rattle.tls_base.specs.Names.{name};
+ghost use Rattle.layouts.specs.Layout.{number};
+ghost use Rattle.layouts.specs.Answers.{Gives};
+ghost use Rattle.std.specs.Option.{option_map};
+ghost use Rattle.tls_base.specs.Names.{look_up, name};
+ghost use Rattle.tls_base.specs.Registered.{registered_groups};
 ghost use Rattle.tls_base.specs.Constants.{key_bits as key_bits_of, named_groups};
 
-use crate::name::{find_number, names, write_name};
+use crate::name::{find_name, find_number, names, registered, write_name};
+use layouts::{IResult, Number, number2};
 use std::fmt;
-use tls_fields::{IResult, Number, number2};
 
 /// A group for a key exchange: the NamedGroup of RFC 8446, section 4.2.7, its two bytes as one number, big-endian, with
 /// the NamedCurve of RFC 4492, section 5.1.1, of which RFC 8422, section 5.1.1, deprecates 1 to 22, 0xff01 and 0xff02.
@@ -146,6 +148,13 @@ impl NamedGroup {
         find_number(KEY_BITS, self.0)
     }
 
+    /// The name that IANA's registry of groups has for the number, without a mark that it is reserved; `None` where it has none.
+    pub fn registered_name(self) -> Option<&'static str>
+        ensures { option_map (λ t. t.now) result ≡ look_up registered_groups self.0 }
+    {
+        find_name(REGISTERED, self.0)
+    }
+
     /// Reads 2 bytes, big-endian. `Incomplete` of the bytes that are missing, 2 or 1.
     pub fn parse(i: &[u8]) -> IResult<&[u8], Self>
         ensures { Gives (λ v. v.0) (number 2) i.now result }
@@ -202,15 +211,76 @@ static KEY_BITS: &[(u16, u16)] = &[
     (NamedGroup::EcdhX25519.0, 253),
 ];
 
+/// The registry of groups: a row for each number that has a constant or a name there, in the order of the numbers.
+macro_rules! rows {
+    ($column:ident) => {
+        $column! {
+            NamedGroup:
+            Sect163k1 = "sect163k1";
+            Sect163r1 = "sect163r1";
+            Sect163r2 = "sect163r2";
+            Sect193r1 = "sect193r1";
+            Sect193r2 = "sect193r2";
+            Sect233k1 = "sect233k1";
+            Sect233r1 = "sect233r1";
+            Sect239k1 = "sect239k1";
+            Sect283k1 = "sect283k1";
+            Sect283r1 = "sect283r1";
+            Sect409k1 = "sect409k1";
+            Sect409r1 = "sect409r1";
+            Sect571k1 = "sect571k1";
+            Sect571r1 = "sect571r1";
+            Secp160k1 = "secp160k1";
+            Secp160r1 = "secp160r1";
+            Secp160r2 = "secp160r2";
+            Secp192k1 = "secp192k1";
+            Secp192r1 = "secp192r1";
+            Secp224k1 = "secp224k1";
+            Secp224r1 = "secp224r1";
+            Secp256k1 = "secp256k1";
+            Secp256r1 = "secp256r1";
+            Secp384r1 = "secp384r1";
+            Secp521r1 = "secp521r1";
+            BrainpoolP256r1 = "brainpoolP256r1";
+            BrainpoolP384r1 = "brainpoolP384r1";
+            BrainpoolP512r1 = "brainpoolP512r1";
+            EcdhX25519 = "x25519";
+            EcdhX448 = "x448";
+            BrainpoolP256r1tls13 = "brainpoolP256r1tls13";
+            BrainpoolP384r1tls13 = "brainpoolP384r1tls13";
+            BrainpoolP512r1tls13 = "brainpoolP512r1tls13";
+            34 = "GC256A"; // RFC 9189
+            35 = "GC256B"; // RFC 9189
+            36 = "GC256C"; // RFC 9189
+            37 = "GC256D"; // RFC 9189
+            38 = "GC512A"; // RFC 9189
+            39 = "GC512B"; // RFC 9189
+            40 = "GC512C"; // RFC 9189
+            Sm2 = "curveSM2";
+            Ffdhe2048 = "ffdhe2048";
+            Ffdhe3072 = "ffdhe3072";
+            Ffdhe4096 = "ffdhe4096";
+            Ffdhe6144 = "ffdhe6144";
+            Ffdhe8192 = "ffdhe8192";
+            512 = "MLKEM512"; // draft-ietf-tls-mlkem
+            513 = "MLKEM768"; // draft-ietf-tls-mlkem
+            514 = "MLKEM1024"; // draft-ietf-tls-mlkem
+            4587 = "SecP256r1MLKEM768"; // draft-ietf-tls-ecdhe-mlkem
+            4588 = "X25519MLKEM768"; // draft-ietf-tls-ecdhe-mlkem
+            4589 = "SecP384r1MLKEM1024"; // draft-ietf-tls-ecdhe-mlkem
+            0x6399 = "X25519Kyber768Draft00"; // draft-tls-westerbaan-xyber768d00
+            0x639a = "SecP256r1Kyber768Draft00"; // draft-kwiatkowski-tls-ecdhe-kyber
+            ArbitraryExplicitPrimeCurves = "arbitrary_explicit_prime_curves";
+            ArbitraryExplicitChar2Curves = "arbitrary_explicit_char2_curves";
+        }
+    };
+}
+
 /// The constants, each with its number and its name.
-static NAMES: &[(u16, &str)] = names!(
-    NamedGroup: Sect163k1, Sect163r1, Sect163r2, Sect193r1, Sect193r2, Sect233k1, Sect233r1,
-    Sect239k1, Sect283k1, Sect283r1, Sect409k1, Sect409r1, Sect571k1, Sect571r1, Secp160k1,
-    Secp160r1, Secp160r2, Secp192k1, Secp192r1, Secp224k1, Secp224r1, Secp256k1, Secp256r1,
-    Secp384r1, Secp521r1, BrainpoolP256r1, BrainpoolP384r1, BrainpoolP512r1, EcdhX25519, EcdhX448,
-    BrainpoolP256r1tls13, BrainpoolP384r1tls13, BrainpoolP512r1tls13, Sm2, Ffdhe2048, Ffdhe3072,
-    Ffdhe4096, Ffdhe6144, Ffdhe8192, ArbitraryExplicitPrimeCurves, ArbitraryExplicitChar2Curves
-);
+static NAMES: &[(u16, &str)] = rows!(names);
+
+/// The names of the registry, each behind its number.
+static REGISTERED: &[(u16, &str)] = rows!(registered);
 
 impl fmt::Display for NamedGroup {
     ghost output = { λ v. Some (name (codes "NamedGroup") named_groups v.0) };

@@ -1,8 +1,8 @@
 //! How a pre-shared key may be used.
-ghost use Rattle.tls_fields.specs.Layout.{number};
-ghost use Rattle.tls_fields.specs.Answers.{Gives};
+ghost use Rattle.layouts.specs.Layout.{number};
+ghost use Rattle.layouts.specs.Answers.{Gives};
 
-use tls_fields::{IResult, number1};
+use layouts::{IResult, number1};
 
 /// How a pre-shared key may be used: the PskKeyExchangeMode of RFC 8446, section 4.2.9.
 #[derive(Clone, Copy, Debug, PartialEq, Eq)]

@@ -1,13 +1,13 @@
 //! Types of records.
 ghost use Rattle.std.specs.Prelude.{Some, codes, ◌≡◌};
-ghost use Rattle.tls_fields.specs.Layout.{number};
-ghost use Rattle.tls_fields.specs.Answers.{Gives};
+ghost use Rattle.layouts.specs.Layout.{number};
+ghost use Rattle.layouts.specs.Answers.{Gives};
 ghost use Rattle.tls_base.specs.Names.{name};
 ghost use Rattle.tls_base.specs.Constants.{content_types};
 
 use crate::name::{names, write_name};
+use layouts::{IResult, number1};
 use std::fmt;
-use tls_fields::{IResult, number1};
 
 /// What a record carries: the ContentType of RFC 5246, section 6.2.1, with Heartbeat (RFC 6520, section 6).
 #[derive(Clone, Copy, Debug, PartialEq, Eq)]

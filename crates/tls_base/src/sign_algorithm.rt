@@ -1,13 +1,13 @@
 //! Algorithms that sign.
 ghost use Rattle.std.specs.Prelude.{Some, codes};
-ghost use Rattle.tls_fields.specs.Layout.{number};
-ghost use Rattle.tls_fields.specs.Answers.{Gives};
+ghost use Rattle.layouts.specs.Layout.{number};
+ghost use Rattle.layouts.specs.Answers.{Gives};
 ghost use Rattle.tls_base.specs.Names.{name};
 ghost use Rattle.tls_base.specs.Constants.{signature_algorithms};
 
 use crate::name::{names, write_name};
+use layouts::{IResult, number1};
 use std::fmt;
-use tls_fields::{IResult, number1};
 
 /// An algorithm that signs: the SignatureAlgorithm of RFC 5246, section 7.4.1.4.1, with those of RFC 8422, section
 /// 5.1.3.

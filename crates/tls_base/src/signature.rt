@@ -1,14 +1,14 @@
 //! Signatures, and the algorithms that make them.
-#![tactic(auto, using(tls_fields::proofs::OneAnswerLemmas::read_allowed), unfolding(crate::specs::Signature::algorithm, crate::specs::Signature::digitally_signed, crate::specs::Signature::digitally_signed_old, crate::specs::Signature::signature))]
+#![tactic(auto, using(layouts::proofs::OneAnswerLemmas::read_allowed), unfolding(crate::specs::Signature::algorithm, crate::specs::Signature::digitally_signed, crate::specs::Signature::digitally_signed_old, crate::specs::Signature::signature))]
 
 ghost use Rattle.std.specs.Prelude.{Some};
-ghost use Rattle.tls_fields.specs.Answers.{Gives};
+ghost use Rattle.layouts.specs.Answers.{Gives};
 ghost use Rattle.tls_base.specs.Signature.{view_algorithm, algorithm, algorithm_text, view_signed, digitally_signed, digitally_signed_old, signature, GivesSignature};
 
 use crate::hash_algorithm::HashAlgorithm;
 use crate::sign_algorithm::SignAlgorithm;
+use layouts::{IResult, counted2};
 use std::fmt;
-use tls_fields::{IResult, counted2};
 
 /// How a signature is made: the pair of TLS 1.2 (RFC 5246, section 7.4.1.4.1).
 #[derive(Clone, Debug, PartialEq, Drop)]

@@ -1,13 +1,14 @@
 //! Signature schemes.
 ghost use Rattle.std.specs.Prelude.{Some, codes, ◌≡◌, ◌≤◌, ◌↔◌, ◌/◌, ◌%◌, IsTrue};
-ghost use Rattle.tls_fields.specs.Layout.{number};
-ghost use Rattle.tls_fields.specs.Answers.{Gives};
-ghost use Rattle.tls_base.specs.Names.{name};
+ghost use Rattle.layouts.specs.Layout.{number};
+ghost use Rattle.layouts.specs.Answers.{Gives};
+ghost use Rattle.std.specs.Option.{option_map};
+ghost use Rattle.tls_base.specs.Names.{look_up, name};
 ghost use Rattle.tls_base.specs.Constants.{signature_schemes};
 
-use crate::name::{names, write_name};
+use crate::name::{find_name, names, write_name};
+use layouts::{IResult, number2};
 use std::fmt;
-use tls_fields::{IResult, number2};
 
 /// How a signature is made: the SignatureScheme of RFC 8446, section 4.2.3, its two bytes as one number, big-endian,
 /// with those of RFC 8734 and RFC 8998.
@@ -95,6 +96,13 @@ impl SignatureScheme {
         ensures { result ≡ self.now.0 % 256 }
     {
         (self.0 & 0xff) as u8
+    }
+
+    /// The name that IANA's registry of signature schemes has for the number, which is that of its constant; `None` where it has none.
+    pub fn registered_name(&self) -> Option<&'static str>
+        ensures { option_map (λ t. t.now) result ≡ look_up signature_schemes self.now.0 }
+    {
+        find_name(NAMES, self.0)
     }
 
     /// Reads 2 bytes, big-endian. `Incomplete` of the bytes that are missing, 2 or 1.

@@ -1,13 +1,13 @@
 //! Types of server names.
 ghost use Rattle.std.specs.Prelude.{Some, codes};
-ghost use Rattle.tls_fields.specs.Layout.{number};
-ghost use Rattle.tls_fields.specs.Answers.{Gives};
+ghost use Rattle.layouts.specs.Layout.{number};
+ghost use Rattle.layouts.specs.Answers.{Gives};
 ghost use Rattle.tls_base.specs.Names.{name};
 ghost use Rattle.tls_base.specs.Constants.{name_types};
 
 use crate::name::{names, write_name};
+use layouts::{IResult, number1};
 use std::fmt;
-use tls_fields::{IResult, number1};
 
 /// What a server name is: the NameType of RFC 6066, section 3.
 #[derive(Clone, Copy, Debug, PartialEq, Eq)]

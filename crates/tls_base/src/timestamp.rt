@@ -1,12 +1,12 @@
 //! Signed certificate timestamps, by which a log says that it knows a certificate (RFC 6962).
 ghost use Rattle.std.specs.Prelude.{map};
-ghost use Rattle.tls_fields.specs.Answers.{Gives, GivesOrMemory};
+ghost use Rattle.layouts.specs.Answers.{Gives, GivesOrMemory};
 ghost use Rattle.tls_base.specs.Timestamp.{SignedCertificateTimestamp as Timestamp, view_log_id, log_id as log_id_layout, view_timestamp, timestamp as timestamp_layout, serialized_timestamp, timestamp_list};
 
 use crate::ct_version::CtVersion;
 use crate::signature::{DigitallySigned, parse_digitally_signed};
+use layouts::{Err, IResult, InPlace, Needed, Room, block, counted2, items, number2, number8};
 use std::alloc::Global;
-use tls_fields::{Err, IResult, InPlace, Needed, Room, block, counted2, items, number2, number8};
 
 /// Which log signed: the hash of its key (RFC 6962, section 3.2).
 #[derive(Clone, Debug, PartialEq, Drop)]
@@ -35,7 +35,7 @@ pub struct SignedCertificateTimestamp<'a> {
 }
 
 /// 32 bytes.
-#[tactic(auto, using(tls_fields::proofs::OneAnswerLemmas::read_allowed), unfolding(tls_fields::specs::Reading::split_at))]
+#[tactic(auto, using(layouts::proofs::OneAnswerLemmas::read_allowed), unfolding(layouts::specs::Reading::split_at))]
 fn log_id(i: &[u8]) -> IResult<&[u8], CtLogID>
     ensures { Gives view_log_id log_id_layout i.now result }
 {
@@ -46,7 +46,7 @@ fn log_id(i: &[u8]) -> IResult<&[u8], CtLogID>
 }
 
 /// A timestamp, without the length before it.
-#[tactic(auto, using(tls_fields::proofs::OneAnswerLemmas::read_allowed), unfolding(crate::specs::Timestamp::timestamp))]
+#[tactic(auto, using(layouts::proofs::OneAnswerLemmas::read_allowed), unfolding(crate::specs::Timestamp::timestamp))]
 fn timestamp(i: &[u8]) -> IResult<&[u8], SignedCertificateTimestamp>
     ensures { Gives view_timestamp timestamp_layout i.now result }
 {

@@ -1,10 +1,10 @@
 //! Timestamps of certificates in place (RFC 6962, section 3.3).
-ghost use Rattle.tls_fields.specs.Answers.{Gives};
-ghost use Rattle.tls_fields.specs.Items.{items_in};
+ghost use Rattle.layouts.specs.Answers.{Gives};
+ghost use Rattle.layouts.specs.Items.{items_in};
 ghost use Rattle.tls_base.specs.Timestamp.{serialized_timestamp, timestamp_list};
 
 use crate::timestamp::SignedCertificateTimestamp;
-use tls_fields::{IResult, Items, counted2};
+use layouts::{IResult, Items, counted2};
 
 /// Reads timestamps in place (RFC 6962, section 3.3): as [`crate::parse_ct_signed_certificate_timestamp_list`], memory aside.
 ///

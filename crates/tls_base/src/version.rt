@@ -1,15 +1,15 @@
 //! Versions of TLS and DTLS.
 ghost use Rattle.std.specs.Prelude.{Some, codes, ◌≡◌, IfOk, string_bytes};
-ghost use Rattle.tls_fields.specs.Layout.{number};
-ghost use Rattle.tls_fields.specs.Answers.{Gives};
+ghost use Rattle.layouts.specs.Layout.{number};
+ghost use Rattle.layouts.specs.Answers.{Gives};
 ghost use Rattle.tls_base.specs.Names.{name, hexadecimal};
 ghost use Rattle.tls_base.specs.Constants.{protocol_versions};
-ghost use Rattle.tls_fields.specs.Bytes.{bytes_of};
+ghost use Rattle.layouts.specs.Bytes.{bytes_of};
 
 use crate::name::{names, write_name};
+use layouts::{IResult, Number, OutOfMemory, number2};
 use std::alloc::Global;
 use std::fmt;
-use tls_fields::{IResult, Number, OutOfMemory, number2};
 
 /// A version of TLS or DTLS: the ProtocolVersion of RFC 5246, section 6.2.1, its two bytes as one number, big-endian.
 ///

@@ -22,13 +22,13 @@ use Rattle.std.proofs.Common.{
   append-nil,
 }
 use Rattle.std.specs.Prelude.{IsSome, option_map}
-use Rattle.tls_fields.specs.Bytes.{Bytes}
-use Rattle.tls_events.specs.Item.{Event as Said, Failed}
-use Rattle.tls_events.specs.Stream.{FirstTaken}
-use Rattle.tls_events.specs.Events.{IsReady as IsMadeReady, SaysOnly, SaysTheSame, events, fed, first, told_tls13}
-use Rattle.tls_events.specs.declared.direction.Direction.{Direction}
-use Rattle.tls_events.specs.declared.fault.Fault.{Fault}
-use Rattle.tls_events.proofs.DirectionLemmas.{fed_nothing, fed_twice, first_event}
+use Rattle.layouts.specs.Bytes.{Bytes}
+use Rattle.tls_stream.specs.Item.{Event as Said, Failed}
+use Rattle.tls_stream.specs.Stream.{FirstTaken}
+use Rattle.tls_stream.specs.Events.{IsReady as IsMadeReady, SaysOnly, SaysTheSame, events, fed, first, told_tls13}
+use Rattle.tls_stream.specs.declared.direction.Direction.{Direction}
+use Rattle.tls_stream.specs.declared.fault.Fault.{Fault}
+use Rattle.tls_stream.proofs.DirectionLemmas.{fed_nothing, fed_twice, first_event}
 use Rattle.tls_conversations.specs.Ears.{IsFed, IsFirst, IsReady, IsTaken, SaysAs, first_in, front_of, says}
 use Rattle.tls_conversations.specs.declared.ear.Ear.{Ear}
 use Rattle.tls_conversations.specs.declared.ear.Standing.{Standing}

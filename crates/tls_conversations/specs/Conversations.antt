@@ -1,8 +1,8 @@
 -- What a conversation says, by the pieces of both sides in their order.
 use Rattle.std.specs.Prelude.{◌≡◌, ℕ, Bool, true, false, not, ◌&&◌, ◌||◌, Option, Some, None, List, [], ◌∷◌, ◌++◌, map}
 use Rattle.std.specs.Borrow.{Bor}
-use Rattle.tls_fields.specs.Bytes.{Bytes}
-use Rattle.tls_events.specs.Item.{Event as Said}
+use Rattle.layouts.specs.Bytes.{Bytes}
+use Rattle.tls_stream.specs.Item.{Event as Said}
 use Rattle.tls_flow.specs.Letters.{letters_of}
 use Rattle.tls_flow.specs.Conversations.{IsOutcome}
 use Rattle.tls_flow.specs.Steps.{follow, silence}

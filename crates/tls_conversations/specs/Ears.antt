@@ -1,9 +1,9 @@
 -- What one side of a conversation still says.
 use Rattle.std.specs.Prelude.{◌≡◌, Bool, true, false, Option, Some, None, option_map, ℕ, List, [], ◌∷◌, ◌++◌}
-use Rattle.tls_fields.specs.Bytes.{Bytes}
-use Rattle.tls_events.specs.Item.{Event as Said, Failed}
-use Rattle.tls_events.specs.Events.{events, fed, first, silent, told_tls13}
-use Rattle.tls_events.specs.declared.direction.Direction.{Direction}
+use Rattle.layouts.specs.Bytes.{Bytes}
+use Rattle.tls_stream.specs.Item.{Event as Said, Failed}
+use Rattle.tls_stream.specs.Events.{events, fed, first, silent, told_tls13}
+use Rattle.tls_stream.specs.declared.direction.Direction.{Direction}
 use Rattle.tls_conversations.specs.declared.ear.Ear.{Ear}
 use Rattle.tls_conversations.specs.declared.ear.Standing.{Standing}
 use Rattle.tls_conversations.specs.declared.ear.Standing.TheVariants.{Speaks, AtFault, Over}

@@ -1,7 +1,7 @@
 -- What a side says, as an event of a conversation.
 use Rattle.std.specs.Prelude.{Bool, true, false, Option, Some, None}
-use Rattle.tls_events.specs.Item.{Event as Said, Handshake, ChangeCipherSpec, Alert, Heartbeat, ApplicationData, Encrypted, Failed, view_event}
-use Rattle.dtls_messages.specs.Messages as datagrams
+use Rattle.tls_stream.specs.Item.{Event as Said, Handshake, ChangeCipherSpec, Alert, Heartbeat, ApplicationData, Encrypted, Failed, view_event}
+use Rattle.dtls_stream.specs.Messages as datagrams
 use Rattle.tls_base.specs.Alert as alerts
 use Rattle.tls_flow.specs.Letters.{letter}
 use Rattle.tls_flow.specs.Bytes.{HandshakeMessage, datagram_message, kind_of_datagrams, kind_of_message, message_of}

@@ -1,7 +1,7 @@
 //! Both sides of a conversation, joined.
 ghost use Rattle.std.specs.Prelude.{◌≡◌, List, IfOk, IsErr, OnOk};
 ghost use Rattle.std.specs.Option.{option_map};
-ghost use Rattle.tls_events.specs.Item.{Event as Saying};
+ghost use Rattle.tls_stream.specs.Item.{Event as Saying};
 ghost use Rattle.tls_flow.specs.Table.{outcome_at};
 ghost use Rattle.tls_conversations.specs.Conversations.{IsBegun, IsEventOf, IsFedBy, IsFollowed, IsHeard, IsOutcomeOf, IsTakenBy, Says, ear as ear_of, views};
 ghost use Rattle.tls_conversations.specs.Ears.{IsReady, front_of};
@@ -10,10 +10,10 @@ ghost use Rattle.tls_conversations.specs.Events.{view_said};
 use crate::ear::Ear;
 use crate::event::{chooses_tls13, said_event};
 use crate::said::Said;
+use layouts::OutOfMemory;
 use std::alloc::Global;
-use tls_events::DEFAULT_LIMIT;
 use tls_flow::{Direction, Event, Flow, Outcome};
-use tls_parser::OutOfMemory;
+use tls_stream::DEFAULT_LIMIT;
 
 /// A conversation of TLS, from the pieces of both sides' streams in the order in which they come.
 #[derive(Drop)]

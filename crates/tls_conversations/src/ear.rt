@@ -5,9 +5,9 @@ ghost use Rattle.tls_conversations.specs.Ears.{IsFed, IsReady, IsSilent, IsTaken
 ghost use Rattle.tls_conversations.specs.Events.{view_said};
 
 use crate::said::Said;
+use layouts::OutOfMemory;
 use std::alloc::Global;
-use tls_events::{Direction, Fault};
-use tls_parser::OutOfMemory;
+use tls_stream::{Direction, Fault};
 
 /// How a side stands.
 #[derive(Clone, Copy)]

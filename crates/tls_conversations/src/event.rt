@@ -1,8 +1,8 @@
 //! What is said, as an event of a conversation.
 ghost use Rattle.std.specs.Prelude.{◌≡◌};
 ghost use Rattle.std.specs.Option.{option_map};
-ghost use Rattle.dtls_messages.specs.Messages.{view_event as view_in_datagram};
-ghost use Rattle.tls_events.specs.Item.{view_event};
+ghost use Rattle.dtls_stream.specs.Messages.{view_event as view_in_datagram};
+ghost use Rattle.tls_stream.specs.Item.{view_event};
 ghost use Rattle.tls_flow.specs.Bytes.{view_heard};
 ghost use Rattle.tls_conversations.specs.Events.{chooses_tls13 as chooses, event_in_datagram, event_in_datagram_with, event_of, event_with, message_in, message_in_datagram, view_said};
 
@@ -10,16 +10,16 @@ use crate::said::Said;
 use tls_flow::{Direction, Event, HandshakeMessage, Kind};
 
 /// The event that a side of TLS says. Application data counts as encrypted: a handshake has none in the clear.
-pub fn tls_event(event: &tls_events::Event<'_>, side: Direction) -> Event
+pub fn tls_event(event: &tls_stream::Event<'_>, side: Direction) -> Event
     ensures { result ≡ event_of side (view_event event.now) }
 {
     match event {
-        tls_events::Event::Handshake(message) => Event::of_handshake(message, side),
-        tls_events::Event::ChangeCipherSpec => Event::new(Kind::ChangeCipherSpec, side),
-        tls_events::Event::Alert(alert) => Event::of_alert(alert, side),
-        tls_events::Event::Heartbeat(_) => Event::new(Kind::Heartbeat, side),
-        tls_events::Event::ApplicationData(_) => Event::new(Kind::Encrypted, side),
-        tls_events::Event::Encrypted(_) => Event::new(Kind::Encrypted, side),
+        tls_stream::Event::Handshake(message) => Event::of_handshake(message, side),
+        tls_stream::Event::ChangeCipherSpec => Event::new(Kind::ChangeCipherSpec, side),
+        tls_stream::Event::Alert(alert) => Event::of_alert(alert, side),
+        tls_stream::Event::Heartbeat(_) => Event::new(Kind::Heartbeat, side),
+        tls_stream::Event::ApplicationData(_) => Event::new(Kind::Encrypted, side),
+        tls_stream::Event::Encrypted(_) => Event::new(Kind::Encrypted, side),
     }
 }
 
@@ -28,7 +28,7 @@ pub fn said_message<'a>(said: &Said<'a>) -> Option<HandshakeMessage<'a>>
     ensures { option_map view_heard result ≡ message_in (view_said said.now) }
 {
     match said {
-        Said::Event(tls_events::Event::Handshake(message)) => HandshakeMessage::read(message),
+        Said::Event(tls_stream::Event::Handshake(message)) => HandshakeMessage::read(message),
         Said::Event(_) | Said::Fault(_) => None,
     }
 }
@@ -38,7 +38,7 @@ pub fn said_event_with(said: &Said<'_>, kind: Kind, side: Direction) -> Event
     ensures { result ≡ event_with side (view_said said.now) kind }
 {
     match said {
-        Said::Event(tls_events::Event::Handshake(_)) => Event::new(kind, side),
+        Said::Event(tls_stream::Event::Handshake(_)) => Event::new(kind, side),
         Said::Event(event) => tls_event(event, side),
         Said::Fault(_) => Event::new(Kind::Unknown, side),
     }

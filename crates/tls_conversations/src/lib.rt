@@ -16,5 +16,5 @@ pub use event::{
     tls_event,
 };
 pub use said::Said;
-pub use tls_events::{DEFAULT_LIMIT, Event, Fault};
 pub use tls_flow::{Direction, Flow, Kind, Outcome, Stop};
+pub use tls_stream::{DEFAULT_LIMIT, Event, Fault};

@@ -1,5 +1,5 @@
 //! What a side says next.
-use tls_events::{Event, Fault};
+use tls_stream::{Event, Fault};
 
 /// What a side of a conversation says next.
 #[derive(Clone, Debug, PartialEq, Drop)]

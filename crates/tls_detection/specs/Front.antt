@@ -1,11 +1,11 @@
 -- How TLS and DTLS begin.
 use Rattle.std.specs.Prelude.{ℕ, Bool, false, ◌&&◌, ◌||◌, ◌==◌, nat_le, nat_lt, if◌then◌else◌, Option, Some, None, is_some, Ok, Err, [], ◌∷◌, length, drop, slice_index}
-use Rattle.tls_fields.specs.Bytes.{Bytes}
-use Rattle.tls_fields.specs.Meaning.{Answer}
-use Rattle.tls_fields.specs.Reading.{reading}
-use Rattle.tls_parser.specs.Framing.{max_fragment_length}
-use Rattle.tls_parser.specs.Record as stream
-use Rattle.tls_parser.specs.DtlsRecord as datagram
+use Rattle.layouts.specs.Bytes.{Bytes}
+use Rattle.layouts.specs.Meaning.{Answer}
+use Rattle.layouts.specs.Reading.{reading}
+use Rattle.tls_records.specs.Framing.{max_fragment_length}
+use Rattle.tls_records.specs.Record as stream
+use Rattle.tls_records.specs.DtlsRecord as datagram
 
 abbrev pub is_within : ℕ → ℕ → ℕ → Bool
 is_within least most n = nat_le least n && nat_le n most

@@ -1,7 +1,7 @@
 -- Where TLS begins behind other bytes.
 use Rattle.std.specs.Prelude.{ℕ, ◌+◌, ◌*◌, suc, Bool, false, ◌&&◌, ◌||◌, ◌==◌, nat_le, if◌then◌else◌, Option, Some, None, List, [], ◌∷◌, length, take, slice_index}
 use Rattle.std.specs.Option.{option_map}
-use Rattle.tls_fields.specs.Bytes.{Bytes}
+use Rattle.layouts.specs.Bytes.{Bytes}
 
 -- The first bytes of a record with a hello of that type: type 22, the major version 3, a length of 4 to 2^14 (RFC 8446, section 5.1); the
 -- message's type and its length of 3 bytes (section 4), and its version, 03 00 to 03 03 (section 4.1.2).

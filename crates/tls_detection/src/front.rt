@@ -1,11 +1,11 @@
 //! Whether bytes begin as TLS or DTLS does.
 ghost use Rattle.std.specs.Prelude.{◌≡◌};
-ghost use Rattle.tls_fields.specs.Reading.{reading};
-ghost use Rattle.tls_parser.specs.DtlsRecord as datagram;
-ghost use Rattle.tls_parser.specs.Record as stream;
+ghost use Rattle.layouts.specs.Reading.{reading};
+ghost use Rattle.tls_records.specs.DtlsRecord as datagram;
+ghost use Rattle.tls_records.specs.Record as stream;
 ghost use Rattle.tls_detection.specs.Front.{begins_tls as begins, epoch_in, has_capwap_header as has_capwap_header_in, held_datagram as held_datagram_of, is_front, is_datagram_version as is_version_of_datagrams, is_front_of_datagram, first_message as first, looks_like_tls as looks};
 
-use tls_parser::{
+use tls_records::{
     DTLSRecordHeader, MAX_RECORD_LEN, TlsRecordHeader, parse_dtls_record_header,
     parse_tls_record_header,
 };

@@ -30,8 +30,8 @@ use Rattle.std.proofs.Common.{
 use Rattle.std.proofs.lemmas.List.{length-append}
 use Rattle.std.specs.List.{All, flat_map}
 use Rattle.std.proofs.lemmas.List.Elements.{All-nil, All-cons, All-head, All-tail}
-use Rattle.tls_fields.specs.Bytes.{Bytes, bytes_of}
-use Rattle.tls_fields.specs.Layout.{
+use Rattle.layouts.specs.Bytes.{Bytes, bytes_of}
+use Rattle.layouts.specs.Layout.{
   Layout,
   done,
   number,
@@ -46,12 +46,12 @@ use Rattle.tls_fields.specs.Layout.{
   times,
   pairs,
 }
-use Rattle.tls_fields.specs.Meaning.{Spells, Allows}
-use Rattle.tls_fields.specs.declared.result.ErrorKind.TheVariants.{LengthValue}
-use Rattle.tls_fields.specs.Text.{counted_text, numbers_text}
-use Rattle.tls_fields.proofs.NumberLemmas.{length-bytes_of}
-use Rattle.tls_fields.proofs.OneAnswerLemmas.{eqb_other}
-use Rattle.tls_fields.proofs.TextLemmas.{
+use Rattle.layouts.specs.Meaning.{Spells, Allows}
+use Rattle.layouts.specs.declared.result.ErrorKind.TheVariants.{LengthValue}
+use Rattle.layouts.specs.Text.{counted_text, numbers_text}
+use Rattle.layouts.proofs.NumberLemmas.{length-bytes_of}
+use Rattle.layouts.proofs.OneAnswerLemmas.{eqb_other}
+use Rattle.layouts.proofs.TextLemmas.{
   joined,
   chain_spelled,
   counted_spelled,

@@ -30,8 +30,8 @@ use Rattle.std.proofs.Common.{
 }
 use Rattle.std.proofs.lemmas.Bool.Decides.{eqb_tells}
 use Rattle.std.proofs.lemmas.Option.{slice_get_within, slice_get-get_or}
-use Rattle.tls_fields.specs.Layout.{Layout, choose}
-use Rattle.tls_fields.specs.Reading.{reading}
+use Rattle.layouts.specs.Layout.{Layout, choose}
+use Rattle.layouts.specs.Reading.{reading}
 use Rattle.tls_ext.specs.Extension.{Extension}
 use Rattle.tls_ext.specs.Dispatch.{Contents, row, registered, unknown_content}
 use Rattle.tls_ext.specs.Kinds.{sides_of, kind_content, IsFound}

@@ -23,7 +23,7 @@ use Rattle.std.proofs.Common.{
 }
 use Rattle.std.proofs.lemmas.Bool.{ltb-true, ltb-false}
 use Rattle.std.specs.Option.{option_map}
-use Rattle.tls_fields.proofs.OneAnswerLemmas.{ltb_yes, ltb_no}
+use Rattle.layouts.proofs.OneAnswerLemmas.{ltb_yes, ltb_no}
 use Rattle.tls_ext.specs.Dispatch.{is_grease}
 use Rattle.tls_ext.specs.InPlace.{lateness, later, latest}
 

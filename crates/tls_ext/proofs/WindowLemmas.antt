@@ -1,9 +1,9 @@
 -- A tagged extension is read as its bytes are, and then its content in these bytes alone.
 use Rattle.std.proofs.Common.{◌≡◌, ℕ, Ok, Err, refl}
-use Rattle.tls_fields.specs.Bytes.{Bytes, bytes_of}
-use Rattle.tls_fields.specs.Layout.{Layout, counted, counted_window}
-use Rattle.tls_fields.specs.Meaning.{Answer}
-use Rattle.tls_fields.specs.Reading.{reading, ◌and_then◌, split_at, number_at, tag_at}
+use Rattle.layouts.specs.Bytes.{Bytes, bytes_of}
+use Rattle.layouts.specs.Layout.{Layout, counted, counted_window}
+use Rattle.layouts.specs.Meaning.{Answer}
+use Rattle.layouts.specs.Reading.{reading, ◌and_then◌, split_at, number_at, tag_at}
 use Rattle.tls_ext.specs.Extension.{Extension}
 use Rattle.tls_ext.specs.Tagged.{tagged, tagged_bytes}
 

@@ -3,10 +3,10 @@
 -- The lower bounds of the RFCs' types, as the 1 of `opaque HostName<1..2^16-1>`, aren't tested, here or anywhere: a block
 -- or a list may be empty.
 use Rattle.std.specs.Prelude.{Some, None, ◌==◌, [], ◌∷◌}
-use Rattle.tls_fields.specs.Bytes.{Bytes}
-use Rattle.tls_fields.specs.Layout.{Layout, ◌>>=◌, ◌>>◌, done, mapped, test, choose, number, ignored, left, rest, maybe}
-use Rattle.tls_fields.specs.Layout.{counted, counted_window, list, pairs}
-use Rattle.tls_fields.specs.declared.result.ErrorKind.TheVariants.{Verify}
+use Rattle.layouts.specs.Bytes.{Bytes}
+use Rattle.layouts.specs.Layout.{Layout, ◌>>=◌, ◌>>◌, done, mapped, test, choose, number, ignored, left, rest, maybe}
+use Rattle.layouts.specs.Layout.{counted, counted_window, list, pairs}
+use Rattle.layouts.specs.declared.result.ErrorKind.TheVariants.{Verify}
 use Rattle.tls_ext.specs.Extension as ext
 use Rattle.tls_ext.specs.Extension.{Extension, ServerName, StatusRequest, OidFilter}
 

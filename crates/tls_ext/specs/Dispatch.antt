@@ -2,7 +2,7 @@
 -- apart from that of the code: the two are proved to say the same.
 use Rattle.std.specs.Prelude.{ℕ, List, Bool, true, false, bit_and, ◌==◌, ◌&&◌}
 use Rattle.tls_base.specs.ExtensionNumbers as extension_number
-use Rattle.tls_fields.specs.Layout.{Layout, number, list, ◌>>=◌, choose, counted_window}
+use Rattle.layouts.specs.Layout.{Layout, number, list, ◌>>=◌, choose, counted_window}
 use Rattle.tls_ext.specs.Extension as ext
 use Rattle.tls_ext.specs.Extension.{Extension}
 use Rattle.tls_ext.specs.Content as content

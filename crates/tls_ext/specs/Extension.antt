@@ -2,7 +2,7 @@
 use Rattle.std.specs.Prelude.{ℕ, List, map, Option}
 use Rattle.std.specs.Option.{option_map}
 use Rattle.std.specs.Borrow.{Bor}
-use Rattle.tls_fields.specs.Bytes.{Bytes}
+use Rattle.layouts.specs.Bytes.{Bytes}
 use Rattle.tls_base.specs.ExtensionNumbers as extension_number
 use Rattle.tls_base.specs.declared.sni_type.SNIType.{SNIType}
 use Rattle.tls_base.specs.declared.status_type.CertificateStatusType.{CertificateStatusType}

@@ -2,12 +2,12 @@
 -- statement of the order of fields, apart from the layouts; that it is read back holds the two together.
 use Rattle.std.specs.Prelude.{◌≡◌, ℕ, ◌≤◌, ◌<◌, ◌^◌, min, List, [], ◌++◌, length, drop, Option, Result, Ok, Err, ⊤}
 use Rattle.std.specs.List.{All, flat_map}
-use Rattle.tls_fields.specs.Bytes.{Bytes, bytes_of}
-use Rattle.tls_fields.specs.Text.{counted_text, numbers_text}
-use Rattle.tls_fields.specs.Meaning.{Allows, Spells}
-use Rattle.tls_fields.specs.Writer.{Judges, RefusesFirst, Writes}
-use Rattle.tls_fields.specs.declared.writer.GenError.{GenError}
-use Rattle.tls_fields.specs.declared.writer.GenError.TheVariants.{NotYetImplemented, BadLength}
+use Rattle.layouts.specs.Bytes.{Bytes, bytes_of}
+use Rattle.layouts.specs.Text.{counted_text, numbers_text}
+use Rattle.layouts.specs.Meaning.{Allows, Spells}
+use Rattle.layouts.specs.Writer.{Judges, RefusesFirst, Writes}
+use Rattle.layouts.specs.declared.writer.GenError.{GenError}
+use Rattle.layouts.specs.declared.writer.GenError.TheVariants.{NotYetImplemented, BadLength}
 use Rattle.tls_ext.specs.Dispatch.{general_extension, general_extensions}
 use Rattle.tls_ext.specs.Extension.{Extension, ServerName, extension_type}
 use Rattle.tls_ext.specs.Extension.{server_name, max_fragment_length, supported_groups}

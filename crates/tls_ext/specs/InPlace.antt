@@ -1,12 +1,12 @@
 -- Extensions in place.
 use Rattle.std.specs.Prelude.{ℕ, List, [], ◌∷◌, Option, Some, None, Result, Ok, Err, ◌==◌, ◌+◌, ◌-◌, ◌&&◌, nat_le, nat_lt, if◌then◌else◌}
 use Rattle.tls_base.specs.ExtensionNumbers as extension_number
-use Rattle.tls_fields.specs.Bytes.{Bytes}
-use Rattle.tls_fields.specs.Layout.{Layout, list, mapped, counted_window}
-use Rattle.tls_fields.specs.Meaning.{Refusal, Answer}
-use Rattle.tls_fields.specs.Reading.{reading}
-use Rattle.tls_fields.specs.Items.{items_in, refusal_in, value_of}
-use Rattle.tls_fields.specs.Framed.{Framed, framed}
+use Rattle.layouts.specs.Bytes.{Bytes}
+use Rattle.layouts.specs.Layout.{Layout, list, mapped, counted_window}
+use Rattle.layouts.specs.Meaning.{Refusal, Answer}
+use Rattle.layouts.specs.Reading.{reading}
+use Rattle.layouts.specs.Items.{items_in, refusal_in, value_of}
+use Rattle.layouts.specs.Framed.{Framed, framed}
 use Rattle.tls_ext.specs.Content as content
 use Rattle.tls_ext.specs.Dispatch.{is_grease}
 use Rattle.tls_ext.specs.Extension as ext

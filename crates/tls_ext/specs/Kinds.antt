@@ -1,8 +1,8 @@
 -- The kinds that the table of numbers names, and what each reads.
 use Rattle.std.specs.Prelude.{◌≡◌, ℕ, Bool, Option, Some, None}
-use Rattle.tls_fields.specs.Bytes.{Bytes}
-use Rattle.tls_fields.specs.Layout.{Layout}
-use Rattle.tls_fields.specs.Reading.{reading}
+use Rattle.layouts.specs.Bytes.{Bytes}
+use Rattle.layouts.specs.Layout.{Layout}
+use Rattle.layouts.specs.Reading.{reading}
 use Rattle.tls_ext.specs.Extension.{Extension}
 use Rattle.tls_ext.specs.Content as content
 use Rattle.tls_ext.specs.Dispatch.{registered, unknown_content}

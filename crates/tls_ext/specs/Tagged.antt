@@ -1,8 +1,8 @@
 -- Whole extensions: a type, a length, and a content of that length (RFC 8446, section 4.2).
 use Rattle.std.specs.Prelude.{ℕ, ◌==◌}
-use Rattle.tls_fields.specs.Bytes.{Bytes, bytes_of}
-use Rattle.tls_fields.specs.Layout.{Layout, done, number, tag, window, ◌>>=◌, ◌>>◌, test, counted, counted_window}
-use Rattle.tls_fields.specs.declared.result.ErrorKind.TheVariants.{Verify}
+use Rattle.layouts.specs.Bytes.{Bytes, bytes_of}
+use Rattle.layouts.specs.Layout.{Layout, done, number, tag, window, ◌>>=◌, ◌>>◌, test, counted, counted_window}
+use Rattle.layouts.specs.declared.result.ErrorKind.TheVariants.{Verify}
 use Rattle.tls_base.specs.ExtensionNumbers as extension_number
 use Rattle.tls_ext.specs.Extension as ext
 use Rattle.tls_ext.specs.Extension.{Extension}

@@ -1,7 +1,7 @@
 -- What a call returned, with another rest.
 use Rattle.std.specs.Prelude.{ℕ, List, Ok, Err}
 use Rattle.std.specs.Borrow.{Bor}
-use Rattle.tls_fields.specs.Answers.{Returned}
+use Rattle.layouts.specs.Answers.{Returned}
 
 abbrev pub with_rest : {X : Type 0} → Bor (List ℕ) → Returned X → Returned X
 with_rest rest (Ok x) = Ok (rest, x.1)

@@ -2,26 +2,26 @@
 //!
 //! Each call reads the front of its input and leaves the rest. All numbers are big-endian. A list or a block may be empty,
 //! also where the RFC has a lower bound on its length.
-#![tactic(auto, using(tls_fields::proofs::OneAnswerLemmas::read_allowed))]
+#![tactic(auto, using(layouts::proofs::OneAnswerLemmas::read_allowed))]
 
 ghost use Rattle.std.specs.Prelude.{◌≤◌, length, Ok};
-ghost use Rattle.tls_fields.specs.Answers.{Gives, GivesOrMemory};
-ghost use Rattle.tls_fields.specs.Layout.{rest};
+ghost use Rattle.layouts.specs.Answers.{Gives, GivesOrMemory};
+ghost use Rattle.layouts.specs.Layout.{rest};
 ghost use Rattle.tls_ext.specs.Extension.{OidFilter as OIDFilter, ServerName as ServerNameEntry};
 ghost use Rattle.tls_ext.specs.Extension.{view_oid_filter, view_server_name, view};
 ghost use Rattle.tls_ext.specs.Content as content;
 ghost use Rattle.tls_ext.specs.Content.{server_name, oid_filter};
 
 use crate::extension::{OidFilter, TlsExtension};
-use std::alloc::Global;
-use tls_base::{CertificateStatusType, NamedGroup, SNIType, TlsCipherSuiteID, TlsVersion};
-use tls_fields::{
+use layouts::{
     Counted1, ErrorKind, IResult, InPlace, Number2, Room, block, counted1, counted2, hops2, items,
     maybe2, number1, number2, number4, pairs, refused,
 };
+use std::alloc::Global;
+use tls_base::{CertificateStatusType, NamedGroup, SNIType, TlsCipherSuiteID, TlsVersion};
 
 /// All bytes of a content, behind what is left of them: nothing. It never refuses.
-#[tactic(auto, using(tls_fields::proofs::OneAnswerLemmas::read_allowed), unfolding(tls_fields::specs::Reading::split_at))]
+#[tactic(auto, using(layouts::proofs::OneAnswerLemmas::read_allowed), unfolding(layouts::specs::Reading::split_at))]
 #[inline(always)]
 pub(crate) fn whole(i: &[u8]) -> (&[u8], &[u8])
     ensures { Gives (λ v. v.now) rest i.now (Ok result) }
@@ -49,7 +49,7 @@ macro_rules! empty {
 }
 
 /// Padding (RFC 7685, section 3), which is all bytes of `i`. It never refuses.
-#[tactic(auto, using(tls_fields::proofs::OneAnswerLemmas::read_allowed), unfolding(crate::specs::Content::padding))]
+#[tactic(auto, using(layouts::proofs::OneAnswerLemmas::read_allowed), unfolding(crate::specs::Content::padding))]
 pub(crate) fn padding_content(i: &[u8]) -> IResult<&[u8], TlsExtension>
     ensures { Gives view content.padding i.now result }
 {
@@ -57,7 +57,7 @@ pub(crate) fn padding_content(i: &[u8]) -> IResult<&[u8], TlsExtension>
 }
 
 /// A session ticket (RFC 5077, section 3.2), which is all bytes of `i`. It never refuses.
-#[tactic(auto, using(tls_fields::proofs::OneAnswerLemmas::read_allowed), unfolding(crate::specs::Content::session_ticket))]
+#[tactic(auto, using(layouts::proofs::OneAnswerLemmas::read_allowed), unfolding(crate::specs::Content::session_ticket))]
 pub(crate) fn session_ticket_content(i: &[u8]) -> IResult<&[u8], TlsExtension>
     ensures { Gives view content.session_ticket i.now result }
 {
@@ -65,7 +65,7 @@ pub(crate) fn session_ticket_content(i: &[u8]) -> IResult<&[u8], TlsExtension>
 }
 
 /// Key shares under their older number, which are all bytes of `i`. It never refuses.
-#[tactic(auto, using(tls_fields::proofs::OneAnswerLemmas::read_allowed), unfolding(crate::specs::Content::key_share_old))]
+#[tactic(auto, using(layouts::proofs::OneAnswerLemmas::read_allowed), unfolding(crate::specs::Content::key_share_old))]
 pub(crate) fn key_share_old_content(i: &[u8]) -> IResult<&[u8], TlsExtension>
     ensures { Gives view content.key_share_old i.now result }
 {
@@ -73,7 +73,7 @@ pub(crate) fn key_share_old_content(i: &[u8]) -> IResult<&[u8], TlsExtension>
 }
 
 /// Pre-shared keys (RFC 8446, section 4.2.11), which are all bytes of `i`. It never refuses.
-#[tactic(auto, using(tls_fields::proofs::OneAnswerLemmas::read_allowed), unfolding(crate::specs::Content::pre_shared_key))]
+#[tactic(auto, using(layouts::proofs::OneAnswerLemmas::read_allowed), unfolding(crate::specs::Content::pre_shared_key))]
 pub(crate) fn pre_shared_key_content(i: &[u8]) -> IResult<&[u8], TlsExtension>
     ensures { Gives view content.pre_shared_key i.now result }
 {
@@ -81,7 +81,7 @@ pub(crate) fn pre_shared_key_content(i: &[u8]) -> IResult<&[u8], TlsExtension>
 }
 
 /// A cookie (RFC 8446, section 4.2.2), which is all bytes of `i`. It never refuses.
-#[tactic(auto, using(tls_fields::proofs::OneAnswerLemmas::read_allowed), unfolding(crate::specs::Content::cookie))]
+#[tactic(auto, using(layouts::proofs::OneAnswerLemmas::read_allowed), unfolding(crate::specs::Content::cookie))]
 pub(crate) fn cookie_content(i: &[u8]) -> IResult<&[u8], TlsExtension>
     ensures { Gives view content.cookie i.now result }
 {
@@ -89,7 +89,7 @@ pub(crate) fn cookie_content(i: &[u8]) -> IResult<&[u8], TlsExtension>
 }
 
 /// Key shares (RFC 8446, section 4.2.8), which are all bytes of `i`. It never refuses.
-#[tactic(auto, using(tls_fields::proofs::OneAnswerLemmas::read_allowed), unfolding(crate::specs::Content::key_share))]
+#[tactic(auto, using(layouts::proofs::OneAnswerLemmas::read_allowed), unfolding(crate::specs::Content::key_share))]
 pub(crate) fn key_share_content(i: &[u8]) -> IResult<&[u8], TlsExtension>
     ensures { Gives view content.key_share i.now result }
 {
@@ -97,7 +97,7 @@ pub(crate) fn key_share_content(i: &[u8]) -> IResult<&[u8], TlsExtension>
 }
 
 /// The wish to encrypt before the MAC (RFC 7366, section 2). `Error` of kind `Verify` where `i` isn't empty.
-#[tactic(auto, using(tls_fields::proofs::OneAnswerLemmas::read_allowed), unfolding(crate::specs::Content::encrypt_then_mac))]
+#[tactic(auto, using(layouts::proofs::OneAnswerLemmas::read_allowed), unfolding(crate::specs::Content::encrypt_then_mac))]
 pub(crate) fn encrypt_then_mac_content(i: &[u8]) -> IResult<&[u8], TlsExtension>
     ensures { Gives view content.encrypt_then_mac i.now result }
 {
@@ -105,7 +105,7 @@ pub(crate) fn encrypt_then_mac_content(i: &[u8]) -> IResult<&[u8], TlsExtension>
 }
 
 /// The wish for an extended master secret (RFC 7627, section 5.1). `Error` of kind `Verify` where `i` isn't empty.
-#[tactic(auto, using(tls_fields::proofs::OneAnswerLemmas::read_allowed), unfolding(crate::specs::Content::extended_master_secret))]
+#[tactic(auto, using(layouts::proofs::OneAnswerLemmas::read_allowed), unfolding(crate::specs::Content::extended_master_secret))]
 pub(crate) fn extended_master_secret_content(i: &[u8]) -> IResult<&[u8], TlsExtension>
     ensures { Gives view content.extended_master_secret i.now result }
 {
@@ -114,7 +114,7 @@ pub(crate) fn extended_master_secret_content(i: &[u8]) -> IResult<&[u8], TlsExte
 
 /// The leave to ask for authentication after the handshake (RFC 8446, section 4.2.6). `Error` of kind `Verify` where `i`
 /// isn't empty.
-#[tactic(auto, using(tls_fields::proofs::OneAnswerLemmas::read_allowed), unfolding(crate::specs::Content::post_handshake_auth))]
+#[tactic(auto, using(layouts::proofs::OneAnswerLemmas::read_allowed), unfolding(crate::specs::Content::post_handshake_auth))]
 pub(crate) fn post_handshake_auth_content(i: &[u8]) -> IResult<&[u8], TlsExtension>
     ensures { Gives view content.post_handshake_auth i.now result }
 {
@@ -122,7 +122,7 @@ pub(crate) fn post_handshake_auth_content(i: &[u8]) -> IResult<&[u8], TlsExtensi
 }
 
 /// Next protocol negotiation (draft-agl-tls-nextprotoneg-04, section 3). `Error` of kind `Verify` where `i` isn't empty.
-#[tactic(auto, using(tls_fields::proofs::OneAnswerLemmas::read_allowed), unfolding(crate::specs::Content::next_protocol_negotiation))]
+#[tactic(auto, using(layouts::proofs::OneAnswerLemmas::read_allowed), unfolding(crate::specs::Content::next_protocol_negotiation))]
 pub(crate) fn next_protocol_negotiation_content(i: &[u8]) -> IResult<&[u8], TlsExtension>
     ensures { Gives view content.next_protocol_negotiation i.now result }
 {
@@ -133,7 +133,7 @@ pub(crate) fn next_protocol_negotiation_content(i: &[u8]) -> IResult<&[u8], TlsE
 /// bytes.
 ///
 /// `Incomplete` of the missing bytes.
-#[tactic(auto, using(tls_fields::proofs::OneAnswerLemmas::read_allowed), unfolding(crate::specs::Content::server_name))]
+#[tactic(auto, using(layouts::proofs::OneAnswerLemmas::read_allowed), unfolding(crate::specs::Content::server_name))]
 pub fn parse_tls_extension_sni_hostname(i: &[u8]) -> IResult<&[u8], (SNIType, &[u8])>
     ensures { Gives view_server_name server_name i.now result }
 {
@@ -175,7 +175,7 @@ impl Room for ServerName {
 ///
 /// - `Incomplete` of the missing bytes of the length, or else of the list.
 /// - `OutOfMemory` where memory for the list runs out.
-#[tactic(auto, using(tls_fields::proofs::OneAnswerLemmas::read_allowed), unfolding(crate::specs::Content::server_names))]
+#[tactic(auto, using(layouts::proofs::OneAnswerLemmas::read_allowed), unfolding(crate::specs::Content::server_names))]
 pub fn parse_tls_extension_sni_content(alloc: Global, i: &[u8]) -> IResult<&[u8], TlsExtension>
     ensures { GivesOrMemory view content.server_names i.now result }
 {
@@ -190,7 +190,7 @@ pub fn parse_tls_extension_sni_content(alloc: Global, i: &[u8]) -> IResult<&[u8]
 /// Reads a maximum fragment length (RFC 6066, section 4), 1 byte of code.
 ///
 /// `Incomplete(1)` where `i` is empty.
-#[tactic(auto, using(tls_fields::proofs::OneAnswerLemmas::read_allowed), unfolding(crate::specs::Content::max_fragment_length))]
+#[tactic(auto, using(layouts::proofs::OneAnswerLemmas::read_allowed), unfolding(crate::specs::Content::max_fragment_length))]
 pub fn parse_tls_extension_max_fragment_length_content(i: &[u8]) -> IResult<&[u8], TlsExtension>
     ensures { Gives view content.max_fragment_length i.now result }
 {
@@ -202,7 +202,7 @@ pub fn parse_tls_extension_max_fragment_length_content(i: &[u8]) -> IResult<&[u8
 /// after it.
 ///
 /// It never refuses.
-#[tactic(auto, using(tls_fields::proofs::OneAnswerLemmas::read_allowed), unfolding(crate::specs::Content::status_request))]
+#[tactic(auto, using(layouts::proofs::OneAnswerLemmas::read_allowed), unfolding(crate::specs::Content::status_request))]
 pub(crate) fn status_request_content(i: &[u8]) -> IResult<&[u8], TlsExtension>
     ensures { Gives view content.status_request i.now result }
 {
@@ -220,7 +220,7 @@ pub(crate) fn status_request_content(i: &[u8]) -> IResult<&[u8], TlsExtension>
 /// - `Incomplete` of the missing bytes of the length, or else of the groups.
 /// - `Error` of kind `LengthValue` where the length is odd.
 /// - `OutOfMemory` where memory for the list runs out.
-#[tactic(auto, using(tls_fields::proofs::OneAnswerLemmas::read_allowed), unfolding(crate::specs::Content::supported_groups))]
+#[tactic(auto, using(layouts::proofs::OneAnswerLemmas::read_allowed), unfolding(crate::specs::Content::supported_groups))]
 pub fn parse_tls_extension_elliptic_curves_content(
     alloc: Global,
     i: &[u8],
@@ -235,7 +235,7 @@ pub fn parse_tls_extension_elliptic_curves_content(
 /// Reads the supported point formats (RFC 8422, section 5.1.2): 1 byte of length, and that many bytes, one each.
 ///
 /// `Incomplete` of the missing bytes of the length, or else of the formats.
-#[tactic(auto, using(tls_fields::proofs::OneAnswerLemmas::read_allowed), unfolding(crate::specs::Content::ec_point_formats))]
+#[tactic(auto, using(layouts::proofs::OneAnswerLemmas::read_allowed), unfolding(crate::specs::Content::ec_point_formats))]
 pub fn parse_tls_extension_ec_point_formats_content(i: &[u8]) -> IResult<&[u8], TlsExtension>
     ensures { Gives view content.ec_point_formats i.now result }
 {
@@ -248,7 +248,7 @@ pub fn parse_tls_extension_ec_point_formats_content(i: &[u8]) -> IResult<&[u8], 
 ///
 /// - `Incomplete` of the missing bytes of the length, or else of the list.
 /// - `OutOfMemory` where memory for the list runs out.
-#[tactic(auto, using(tls_fields::proofs::ListLemmas::map_same, tls_fields::proofs::OneAnswerLemmas::read_allowed), unfolding(crate::specs::Content::signature_algorithms))]
+#[tactic(auto, using(layouts::proofs::ListLemmas::map_same, layouts::proofs::OneAnswerLemmas::read_allowed), unfolding(crate::specs::Content::signature_algorithms))]
 pub fn parse_tls_extension_signature_algorithms_content(
     alloc: Global,
     i: &[u8],
@@ -263,7 +263,7 @@ pub fn parse_tls_extension_signature_algorithms_content(
 /// Reads who may send heartbeats (RFC 6520, section 2), 1 byte.
 ///
 /// `Incomplete(1)` where `i` is empty.
-#[tactic(auto, using(tls_fields::proofs::OneAnswerLemmas::read_allowed), unfolding(crate::specs::Content::heartbeat))]
+#[tactic(auto, using(layouts::proofs::OneAnswerLemmas::read_allowed), unfolding(crate::specs::Content::heartbeat))]
 pub fn parse_tls_extension_heartbeat_content(i: &[u8]) -> IResult<&[u8], TlsExtension>
     ensures { Gives view content.heartbeat i.now result }
 {
@@ -277,7 +277,7 @@ pub fn parse_tls_extension_heartbeat_content(i: &[u8]) -> IResult<&[u8], TlsExte
 ///
 /// - `Incomplete` of the missing bytes of the length, or else of the list.
 /// - `OutOfMemory` where memory for the list runs out.
-#[tactic(auto, using(tls_fields::proofs::OneAnswerLemmas::read_allowed), unfolding(crate::specs::Content::application_layer_protocol_negotiation))]
+#[tactic(auto, using(layouts::proofs::OneAnswerLemmas::read_allowed), unfolding(crate::specs::Content::application_layer_protocol_negotiation))]
 pub fn parse_tls_extension_alpn_content(alloc: Global, i: &[u8]) -> IResult<&[u8], TlsExtension>
     ensures { GivesOrMemory view content.application_layer_protocol_negotiation i.now result }
 {
@@ -290,7 +290,7 @@ pub fn parse_tls_extension_alpn_content(alloc: Global, i: &[u8]) -> IResult<&[u8
 /// or `None`, with nothing read, where they aren't all there.
 ///
 /// It never refuses.
-#[tactic(auto, using(tls_fields::proofs::OneAnswerLemmas::read_allowed), unfolding(crate::specs::Content::signed_certificate_timestamp))]
+#[tactic(auto, using(layouts::proofs::OneAnswerLemmas::read_allowed), unfolding(crate::specs::Content::signed_certificate_timestamp))]
 pub fn parse_tls_extension_signed_certificate_timestamp_content(
     i: &[u8],
 ) -> IResult<&[u8], TlsExtension>
@@ -303,7 +303,7 @@ pub fn parse_tls_extension_signed_certificate_timestamp_content(
 /// The maximum length of a record's content (RFC 8449, section 4), 2 bytes.
 ///
 /// `Incomplete` of the missing bytes.
-#[tactic(auto, using(tls_fields::proofs::OneAnswerLemmas::read_allowed), unfolding(crate::specs::Content::record_size_limit))]
+#[tactic(auto, using(layouts::proofs::OneAnswerLemmas::read_allowed), unfolding(crate::specs::Content::record_size_limit))]
 pub(crate) fn record_size_limit_content(i: &[u8]) -> IResult<&[u8], TlsExtension>
     ensures { Gives view content.record_size_limit i.now result }
 {
@@ -314,7 +314,7 @@ pub(crate) fn record_size_limit_content(i: &[u8]) -> IResult<&[u8], TlsExtension
 /// The most bytes of early data (RFC 8446, section 4.2.10): `None` where `i` is empty; else 4 bytes.
 ///
 /// `Incomplete` of the missing bytes.
-#[tactic(auto, using(tls_fields::proofs::OneAnswerLemmas::read_allowed), unfolding(crate::specs::Content::early_data))]
+#[tactic(auto, using(layouts::proofs::OneAnswerLemmas::read_allowed), unfolding(crate::specs::Content::early_data))]
 pub(crate) fn early_data_content(i: &[u8]) -> IResult<&[u8], TlsExtension>
     ensures { Gives view content.early_data i.now result }
 {
@@ -331,7 +331,7 @@ pub(crate) fn early_data_content(i: &[u8]) -> IResult<&[u8], TlsExtension>
 /// - `Incomplete(1)` where `i` is empty.
 /// - `Error` of kind `LengthValue` where an odd number of bytes follows the length.
 /// - `OutOfMemory` where memory for the list runs out.
-#[tactic(auto, using(tls_fields::proofs::OneAnswerLemmas::read_allowed), unfolding(crate::specs::Content::supported_versions, tls_fields::specs::Reading::ignored_at))]
+#[tactic(auto, using(layouts::proofs::OneAnswerLemmas::read_allowed), unfolding(crate::specs::Content::supported_versions, layouts::specs::Reading::ignored_at))]
 pub(crate) fn supported_versions_content(alloc: Global, i: &[u8]) -> IResult<&[u8], TlsExtension>
     ensures { GivesOrMemory view content.supported_versions i.now result }
 {
@@ -350,7 +350,7 @@ pub(crate) fn supported_versions_content(alloc: Global, i: &[u8]) -> IResult<&[u
 ///
 /// - `Incomplete` of the missing bytes of the length, or else of the modes.
 /// - `OutOfMemory` where memory for the list runs out.
-#[tactic(auto, using(tls_fields::proofs::OneAnswerLemmas::read_allowed), unfolding(crate::specs::Content::psk_key_exchange_modes))]
+#[tactic(auto, using(layouts::proofs::OneAnswerLemmas::read_allowed), unfolding(crate::specs::Content::psk_key_exchange_modes))]
 pub fn parse_tls_extension_psk_key_exchange_modes_content(
     alloc: Global,
     i: &[u8],
@@ -371,7 +371,7 @@ impl<'a> InPlace<'a> for OidFilter<'a> {
 
     ghost layout = { oid_filter };
 
-    #[tactic(auto, using(tls_fields::proofs::OneAnswerLemmas::read_allowed), unfolding(crate::specs::Content::oid_filter))]
+    #[tactic(auto, using(layouts::proofs::OneAnswerLemmas::read_allowed), unfolding(crate::specs::Content::oid_filter))]
     #[inline(always)]
     fn read(i: &'a [u8]) -> IResult<&'a [u8], Self> {
         let (i, cert_ext_oid) = counted1(i)?;
@@ -398,7 +398,7 @@ impl Room for OidFilter<'_> {
 ///
 /// - `Incomplete` of the missing bytes of the length, or else of the list.
 /// - `OutOfMemory` where memory for the list runs out.
-#[tactic(auto, using(tls_fields::proofs::OneAnswerLemmas::read_allowed), unfolding(crate::specs::Content::oid_filters))]
+#[tactic(auto, using(layouts::proofs::OneAnswerLemmas::read_allowed), unfolding(crate::specs::Content::oid_filters))]
 pub(crate) fn oid_filters_content(alloc: Global, i: &[u8]) -> IResult<&[u8], TlsExtension>
     ensures { GivesOrMemory view content.oid_filters i.now result }
 {
@@ -410,7 +410,7 @@ pub(crate) fn oid_filters_content(alloc: Global, i: &[u8]) -> IResult<&[u8], Tls
 /// Reads what a renegotiation is bound to (RFC 5746, section 3.2): 1 byte of length, and that many bytes.
 ///
 /// `Incomplete` of the missing bytes of the length, or else of these.
-#[tactic(auto, using(tls_fields::proofs::OneAnswerLemmas::read_allowed), unfolding(crate::specs::Content::renegotiation_info))]
+#[tactic(auto, using(layouts::proofs::OneAnswerLemmas::read_allowed), unfolding(crate::specs::Content::renegotiation_info))]
 pub fn parse_tls_extension_renegotiation_info_content(i: &[u8]) -> IResult<&[u8], TlsExtension>
     ensures { Gives view content.renegotiation_info i.now result }
 {
@@ -423,7 +423,7 @@ pub fn parse_tls_extension_renegotiation_info_content(i: &[u8]) -> IResult<&[u8]
 ///
 /// `Incomplete` of the missing bytes of the first part that isn't whole.
 // The one content of a few fields that the compiler would leave a call: then all of them went through its answer's memory.
-#[tactic(auto, using(tls_fields::proofs::OneAnswerLemmas::read_allowed), unfolding(crate::specs::Content::encrypted_server_name))]
+#[tactic(auto, using(layouts::proofs::OneAnswerLemmas::read_allowed), unfolding(crate::specs::Content::encrypted_server_name))]
 #[inline(always)]
 pub fn parse_tls_extension_encrypted_server_name(i: &[u8]) -> IResult<&[u8], TlsExtension>
     ensures { Gives view content.encrypted_server_name i.now result }

@@ -2,25 +2,25 @@
 //!
 //! Each call answers what the one that makes a list does, memory aside. The length of a list is judged; what stands in it is
 //! read as the walk comes to it, and where that call ends its list, the walk ends too.
-#![tactic(auto, using(tls_fields::proofs::OneAnswerLemmas::read_allowed))]
+#![tactic(auto, using(layouts::proofs::OneAnswerLemmas::read_allowed))]
 
-ghost use Rattle.tls_fields.specs.Answers.{Gives};
-ghost use Rattle.tls_fields.specs.Items.{items_in};
-ghost use Rattle.tls_fields.specs.Framed.{Framed};
-ghost use Rattle.tls_fields.specs.Layout.{counted, number};
+ghost use Rattle.layouts.specs.Answers.{Gives};
+ghost use Rattle.layouts.specs.Items.{items_in};
+ghost use Rattle.layouts.specs.Framed.{Framed};
+ghost use Rattle.layouts.specs.Layout.{counted, number};
 ghost use Rattle.tls_ext.specs.Content as content;
 ghost use Rattle.tls_ext.specs.Extension as extension;
 ghost use Rattle.tls_ext.specs.InPlace.{client_shares, key_share_entry, view_key_share_entry};
 
 use crate::content::ServerName;
 use crate::extension::{KeyShareEntry, OidFilter};
-use tls_base::{NamedGroup, TlsVersion};
-use tls_fields::{
+use layouts::{
     Counted1, IResult, InPlace, Items, block, counted1, counted2, number2, pairs_in_place,
 };
+use tls_base::{NamedGroup, TlsVersion};
 
 /// The names of a server: as [`crate::parse_tls_extension_sni_content`] reads them.
-#[tactic(auto, using(tls_fields::proofs::OneAnswerLemmas::read_allowed, tls_fields::proofs::ItemsLemmas::none_in), unfolding(crate::specs::Content::server_names))]
+#[tactic(auto, using(layouts::proofs::OneAnswerLemmas::read_allowed, layouts::proofs::ItemsLemmas::none_in), unfolding(crate::specs::Content::server_names))]
 #[inline(always)]
 pub fn server_names(i: &[u8]) -> IResult<&[u8], Items<ServerName>>
     ensures { Gives (λ v. extension.server_name (items_in content.server_name v.bytes.now)) content.server_names i.now result }
@@ -33,7 +33,7 @@ pub fn server_names(i: &[u8]) -> IResult<&[u8], Items<ServerName>>
 }
 
 /// The names of application protocols: as [`crate::parse_tls_extension_alpn_content`] reads them.
-#[tactic(auto, using(tls_fields::proofs::OneAnswerLemmas::read_allowed), unfolding(crate::specs::Content::application_layer_protocol_negotiation))]
+#[tactic(auto, using(layouts::proofs::OneAnswerLemmas::read_allowed), unfolding(crate::specs::Content::application_layer_protocol_negotiation))]
 #[inline(always)]
 pub fn protocol_names(i: &[u8]) -> IResult<&[u8], Items<Counted1>>
     ensures { Gives (λ v. extension.application_layer_protocol_negotiation (items_in (counted 1) v.bytes.now))
@@ -44,7 +44,7 @@ pub fn protocol_names(i: &[u8]) -> IResult<&[u8], Items<Counted1>>
 }
 
 /// The supported signature algorithms: as [`crate::parse_tls_extension_signature_algorithms_content`] reads them.
-#[tactic(auto, using(tls_fields::proofs::OneAnswerLemmas::read_allowed), unfolding(crate::specs::Content::signature_algorithms))]
+#[tactic(auto, using(layouts::proofs::OneAnswerLemmas::read_allowed), unfolding(crate::specs::Content::signature_algorithms))]
 #[inline(always)]
 pub fn signature_algorithms(i: &[u8]) -> IResult<&[u8], Items<u16>>
     ensures { Gives (λ v. extension.signature_algorithms (items_in (number 2) v.bytes.now)) content.signature_algorithms i.now result }
@@ -54,7 +54,7 @@ pub fn signature_algorithms(i: &[u8]) -> IResult<&[u8], Items<u16>>
 }
 
 /// The supported groups: as [`crate::parse_tls_extension_elliptic_curves_content`] reads them.
-#[tactic(auto, using(tls_fields::proofs::OneAnswerLemmas::read_allowed), unfolding(crate::specs::Content::supported_groups))]
+#[tactic(auto, using(layouts::proofs::OneAnswerLemmas::read_allowed), unfolding(crate::specs::Content::supported_groups))]
 #[inline(always)]
 pub fn supported_groups(i: &[u8]) -> IResult<&[u8], Items<NamedGroup>>
     ensures { Gives (λ v. extension.supported_groups (items_in (number 2) v.bytes.now)) content.supported_groups i.now result }
@@ -65,7 +65,7 @@ pub fn supported_groups(i: &[u8]) -> IResult<&[u8], Items<NamedGroup>>
 }
 
 /// The supported point formats, one a byte: as [`crate::parse_tls_extension_ec_point_formats_content`] reads them.
-#[tactic(auto, using(tls_fields::proofs::OneAnswerLemmas::read_allowed), unfolding(crate::specs::Content::ec_point_formats))]
+#[tactic(auto, using(layouts::proofs::OneAnswerLemmas::read_allowed), unfolding(crate::specs::Content::ec_point_formats))]
 #[inline(always)]
 pub fn ec_point_formats(i: &[u8]) -> IResult<&[u8], &[u8]>
     ensures { Gives (λ v. extension.ec_point_formats v.now) content.ec_point_formats i.now result }
@@ -74,7 +74,7 @@ pub fn ec_point_formats(i: &[u8]) -> IResult<&[u8], &[u8]>
 }
 
 /// How pre-shared keys may be used, one a byte: as [`crate::parse_tls_extension_psk_key_exchange_modes_content`] reads it.
-#[tactic(auto, using(tls_fields::proofs::OneAnswerLemmas::read_allowed), unfolding(crate::specs::Content::psk_key_exchange_modes))]
+#[tactic(auto, using(layouts::proofs::OneAnswerLemmas::read_allowed), unfolding(crate::specs::Content::psk_key_exchange_modes))]
 #[inline(always)]
 pub fn psk_key_exchange_modes(i: &[u8]) -> IResult<&[u8], &[u8]>
     ensures { Gives (λ v. extension.psk_key_exchange_modes v.now) content.psk_key_exchange_modes i.now result }
@@ -86,7 +86,7 @@ pub fn psk_key_exchange_modes(i: &[u8]) -> IResult<&[u8], &[u8]>
 /// OID after 1 byte of length and values after 2.
 ///
 /// `Incomplete` of the missing bytes of the length, or else of the list.
-#[tactic(auto, using(tls_fields::proofs::OneAnswerLemmas::read_allowed), unfolding(crate::specs::Content::oid_filters))]
+#[tactic(auto, using(layouts::proofs::OneAnswerLemmas::read_allowed), unfolding(crate::specs::Content::oid_filters))]
 #[inline(always)]
 pub fn oid_filters<'a>(i: &'a [u8]) -> IResult<&'a [u8], Items<'a, OidFilter<'a>>>
     ensures { Gives (λ v. extension.oid_filters (items_in content.oid_filter v.bytes.now)) content.oid_filters i.now result }
@@ -100,7 +100,7 @@ pub fn oid_filters<'a>(i: &'a [u8]) -> IResult<&'a [u8], Items<'a, OidFilter<'a>
 ///
 /// - `Incomplete(1)` where `i` is empty.
 /// - `Error` of kind `LengthValue` where an odd number of bytes follows the length.
-#[tactic(auto, using(tls_fields::proofs::OneAnswerLemmas::read_allowed, tls_fields::proofs::NumbersLemmas::one_in), unfolding(crate::specs::Content::supported_versions, tls_fields::specs::Reading::ignored_at))]
+#[tactic(auto, using(layouts::proofs::OneAnswerLemmas::read_allowed, layouts::proofs::NumbersLemmas::one_in), unfolding(crate::specs::Content::supported_versions, layouts::specs::Reading::ignored_at))]
 #[inline(always)]
 pub fn supported_versions(i: &[u8]) -> IResult<&[u8], Items<TlsVersion>>
     ensures { Gives (λ v. extension.supported_versions (items_in (number 2) v.bytes.now)) content.supported_versions i.now result }
@@ -122,7 +122,7 @@ impl<'a> InPlace<'a> for KeyShareEntry<'a> {
 
     ghost layout = { key_share_entry };
 
-    #[tactic(auto, using(tls_fields::proofs::OneAnswerLemmas::read_allowed), unfolding(tls_fields::specs::Framed::framed))]
+    #[tactic(auto, using(layouts::proofs::OneAnswerLemmas::read_allowed), unfolding(layouts::specs::Framed::framed))]
     #[inline(always)]
     fn read(i: &'a [u8]) -> IResult<&'a [u8], Self> {
         let (i, n) = number2(i)?;

@@ -1,6 +1,6 @@
 //! Extensions of any kind (RFC 8446, section 4.2), each read as the content that its type has.
 ghost use Rattle.std.specs.Prelude.{◌≡◌, ◌≤◌, length, map};
-ghost use Rattle.tls_fields.specs.Answers.{GivesOrMemory};
+ghost use Rattle.layouts.specs.Answers.{GivesOrMemory};
 ghost use Rattle.tls_ext.specs.Extension.{Extension, view};
 ghost use Rattle.tls_ext.specs.Dispatch.{extension as extension_layout, extension_content as content_layout};
 ghost use Rattle.tls_ext.specs.Dispatch.{extensions};
@@ -11,10 +11,10 @@ ghost use Rattle.tls_ext.specs.declared.kind.Side.TheVariants.{General as genera
 use crate::content;
 use crate::extension::TlsExtension;
 use crate::kind::{Kind, ListKind, Side, kind_of, rows};
+use layouts::{IResult, Item, Room, counted2, hops2, items};
 use std::alloc::Global;
 use std::marker::PhantomData;
 use tls_base::TlsExtensionType;
-use tls_fields::{IResult, Item, Room, counted2, hops2, items};
 
 /// For each row of the table whose content is a list the arm that reads it.
 macro_rules! read_list {
@@ -59,7 +59,7 @@ fn kind_content(alloc: Global, i: &[u8], kind: Kind) -> IResult<&[u8], TlsExtens
 /// The content of an extension of the type `kind`, as `side` reads it.
 ///
 /// It refuses as the content of that kind does. A type that is kept free, or that `side` doesn't read, has any content.
-#[tactic(auto, using(tls_fields::proofs::OneAnswerLemmas::read_allowed), unfolding(crate::specs::Dispatch::extension_content))]
+#[tactic(auto, using(layouts::proofs::OneAnswerLemmas::read_allowed), unfolding(crate::specs::Dispatch::extension_content))]
 #[inline(always)]
 fn extension_content(
     alloc: Global,
@@ -83,7 +83,7 @@ fn extension_content(
 }
 
 /// A whole extension, as `side` reads it.
-#[tactic(auto, using(tls_fields::proofs::OneAnswerLemmas::read_allowed), unfolding(crate::specs::Dispatch::extension))]
+#[tactic(auto, using(layouts::proofs::OneAnswerLemmas::read_allowed), unfolding(crate::specs::Dispatch::extension))]
 #[inline(always)]
 fn extension(alloc: Global, i: &[u8], side: Side) -> IResult<&[u8], TlsExtension>
     ensures { GivesOrMemory view (extension_layout side) i.now result }

@@ -4,13 +4,13 @@
 //! as the calls that make lists don't; the calls of `content_view` judge one content.
 ghost use Rattle.std.specs.Prelude.{◌≡◌, ℕ};
 ghost use Rattle.std.specs.Option.{option_map};
-ghost use Rattle.tls_fields.specs.Items.{Tells, items_in};
-ghost use Rattle.tls_fields.specs.Framed.{Framed};
-ghost use Rattle.tls_fields.specs.Text.{held};
+ghost use Rattle.layouts.specs.Items.{Tells, items_in};
+ghost use Rattle.layouts.specs.Framed.{Framed};
+ghost use Rattle.layouts.specs.Text.{held};
 ghost use Rattle.tls_ext.specs.InPlace.{content_of, extension_type, raw_extension, view_raw_extension};
 
+use layouts::{Err, Error, IResult, InPlace, Items, counted2};
 use tls_base::TlsExtensionType;
-use tls_fields::{Err, Error, IResult, InPlace, Items, counted2};
 
 /// An extension whose content isn't read.
 #[derive(Clone, Copy, Debug, PartialEq)]
@@ -30,7 +30,7 @@ impl<'a> InPlace<'a> for RawExtension<'a> {
 
     ghost layout = { raw_extension };
 
-    #[tactic(auto, using(tls_fields::proofs::OneAnswerLemmas::read_allowed), unfolding(tls_fields::specs::Framed::framed))]
+    #[tactic(auto, using(layouts::proofs::OneAnswerLemmas::read_allowed), unfolding(layouts::specs::Framed::framed))]
     #[inline(always)]
     fn read(i: &'a [u8]) -> IResult<&'a [u8], Self> {
         let (i, extension_type) = TlsExtensionType::parse(i)?;

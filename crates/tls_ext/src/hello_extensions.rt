@@ -3,20 +3,20 @@
 //! Each call takes the first extension of the type that it asks for, wherever it stands, and judges its content and no other.
 //! Where it finds none, it answers what refuses the extension that the walk ended in front of, if the walk didn't come to the end
 //! of the bytes: so `None` says that all extensions were seen.
-#![tactic(auto, using(tls_fields::proofs::OneAnswerLemmas::read_allowed))]
+#![tactic(auto, using(layouts::proofs::OneAnswerLemmas::read_allowed))]
 
 ghost use Rattle.std.specs.Prelude.{◌≡◌, IsTrue, ◌↔◌};
 ghost use Rattle.std.specs.Option.{option_map};
-ghost use Rattle.tls_fields.specs.Items.{Tells, items_in};
-ghost use Rattle.tls_fields.specs.Layout.{counted, number};
-ghost use Rattle.tls_fields.specs.Text.{held};
+ghost use Rattle.layouts.specs.Items.{Tells, items_in};
+ghost use Rattle.layouts.specs.Layout.{counted, number};
+ghost use Rattle.layouts.specs.Text.{held};
 ghost use Rattle.tls_ext.specs.Dispatch.{is_grease as is_grease_number};
 ghost use Rattle.tls_ext.specs.InPlace.{best_version as best_version_in, host_name, lateness as lateness_in, latest, protocol_names as protocol_names_in};
 
 use crate::content_view::{protocol_names, server_names, supported_versions};
 use crate::extension_view::{extensions, first_content};
+use layouts::{Counted1, Err, Error, Items};
 use tls_base::{TlsExtensionType, TlsVersion};
-use tls_fields::{Counted1, Err, Error, Items};
 
 /// The name of the host that a client asks for (RFC 6066, section 3): the first name in the first server_name extension.
 ///

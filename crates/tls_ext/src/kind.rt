@@ -3,8 +3,8 @@ ghost use Rattle.std.specs.Prelude.{◌≡◌};
 ghost use Rattle.std.specs.List.Sorted.{IsStrictlyIncreasing};
 ghost use Rattle.tls_ext.specs.Kinds.{IsFound, sides_of};
 
+use layouts::place;
 use tls_base::TlsExtensionType;
-use tls_fields::place;
 
 /// Who sent the extensions that are read, as far as the caller says.
 #[derive(Clone, Copy)]

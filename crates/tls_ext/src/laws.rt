@@ -3,8 +3,8 @@
 
 ghost use Rattle.std.specs.Prelude.{◌≡◌, List};
 ghost use Rattle.std.specs.List.{All};
-ghost use Rattle.tls_fields.specs.Bytes.{Bytes};
-ghost use Rattle.tls_fields.specs.Items.{decode_while, items_in};
+ghost use Rattle.layouts.specs.Bytes.{Bytes};
+ghost use Rattle.layouts.specs.Items.{decode_while, items_in};
 ghost use Rattle.tls_ext.specs.Dispatch.{extension, extension_content};
 ghost use Rattle.tls_ext.specs.Extension.{Extension};
 ghost use Rattle.tls_ext.specs.ExtensionText.{FitsExtension, FitsExtensions, InRangeExtension};
@@ -26,7 +26,7 @@ pub fn extensions_are_read_back()
 
 /// The extensions that are read of a message, of any side, are those that a walk in place comes to, each decoded, up to the
 /// first whose content is refused.
-#[tactic(auto, using(tls_fields::proofs::FramedLemmas::items_of_windows), unfolding(crate::specs::Dispatch::extension))]
+#[tactic(auto, using(layouts::proofs::FramedLemmas::items_of_windows), unfolding(crate::specs::Dispatch::extension))]
 pub fn extensions_are_walked_and_decoded()
     ensures { (side : _) (b : Bytes) → items_in (extension side) b ≡ decode_while (extension_of (extension_content side)) (items_in raw_extension b) }
 {}

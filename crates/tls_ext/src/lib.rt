@@ -2,7 +2,7 @@
 //!
 //! Each call answers what a layout of `specs/` allows on the bytes: the value and the exact rest, or the refusal of the
 //! leftmost part that can't be read. Slices in a value are parts of the input.
-#![tactic(auto, using(tls_fields::proofs::OneAnswerLemmas::read_allowed))]
+#![tactic(auto, using(layouts::proofs::OneAnswerLemmas::read_allowed))]
 
 mod content;
 mod content_view;
@@ -12,6 +12,7 @@ mod extension_view;
 mod hello_extensions;
 mod kind;
 pub mod laws;
+pub mod offered;
 mod tagged;
 mod writer;
 

@@ -3,9 +3,9 @@
 //!
 //! Each call refuses another type by `Error` of kind `Tag`, and an extension that isn't whole by `Incomplete` of the
 //! missing bytes: of the type, of the length, or of the content.
-#![tactic(auto, using(crate::proofs::WindowLemmas::tagged_opened, tls_fields::proofs::OneAnswerLemmas::read_allowed))]
+#![tactic(auto, using(crate::proofs::WindowLemmas::tagged_opened, layouts::proofs::OneAnswerLemmas::read_allowed))]
 
-ghost use Rattle.tls_fields.specs.Answers.{Gives, GivesOrMemory};
+ghost use Rattle.layouts.specs.Answers.{Gives, GivesOrMemory};
 ghost use Rattle.tls_base.specs.ExtensionNumbers as extension_number;
 ghost use Rattle.tls_ext.specs.Extension.{view};
 ghost use Rattle.tls_ext.specs.Content as content;
@@ -24,12 +24,12 @@ use crate::content::{
     supported_versions_content,
 };
 use crate::extension::TlsExtension;
+use layouts::{Err, Error, ErrorKind, IResult, block, counted2, number2, tag};
 use std::alloc::Global;
 use tls_base::TlsExtensionType;
-use tls_fields::{Err, Error, ErrorKind, IResult, block, counted2, number2, tag};
 
 /// The content of an extension of that type, not yet read.
-#[tactic(auto, using(tls_fields::proofs::OneAnswerLemmas::read_allowed), unfolding(crate::specs::Tagged::tagged_bytes))]
+#[tactic(auto, using(layouts::proofs::OneAnswerLemmas::read_allowed), unfolding(crate::specs::Tagged::tagged_bytes))]
 fn tagged_bytes(i: &[u8], kind: TlsExtensionType) -> IResult<&[u8], &[u8]>
     ensures { Gives (λ v. v.now) (tagged_bytes_layout kind.0) i.now result }
 {
@@ -242,7 +242,7 @@ pub fn parse_tls_extension_psk_key_exchange_modes(
 /// - `Error` of kind `Tag` where the type is another.
 /// - `Error` of kind `Verify` where the length isn't 1, before the content is looked at.
 /// - `Incomplete` of the missing bytes where the extension isn't whole.
-#[tactic(auto, using(tls_fields::proofs::OneAnswerLemmas::read_allowed), unfolding(crate::specs::Tagged::tagged_heartbeat))]
+#[tactic(auto, using(layouts::proofs::OneAnswerLemmas::read_allowed), unfolding(crate::specs::Tagged::tagged_heartbeat))]
 pub fn parse_tls_extension_heartbeat(i: &[u8]) -> IResult<&[u8], TlsExtension>
     ensures { Gives view tagged_heartbeat i.now result }
 {
@@ -262,7 +262,7 @@ pub fn parse_tls_extension_heartbeat(i: &[u8]) -> IResult<&[u8], TlsExtension>
 /// bytes.
 ///
 /// `Incomplete` of the missing bytes.
-#[tactic(auto, using(tls_fields::proofs::OneAnswerLemmas::read_allowed), unfolding(crate::specs::Tagged::unknown))]
+#[tactic(auto, using(layouts::proofs::OneAnswerLemmas::read_allowed), unfolding(crate::specs::Tagged::unknown))]
 pub fn parse_tls_extension_unknown(i: &[u8]) -> IResult<&[u8], TlsExtension>
     ensures { Gives view unknown i.now result }
 {

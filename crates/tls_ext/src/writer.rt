@@ -8,10 +8,10 @@ ghost use Rattle.tls_ext.specs.Extension.{view};
 ghost use Rattle.tls_ext.specs.ExtensionText.{IsReadBack, WritesExtension, WritesExtensions};
 
 use crate::extension::TlsExtension;
+use layouts::writer::builder::append2;
+use layouts::{GenError, write_whole};
 use std::alloc::Global;
 use std::io::Write;
-use tls_fields::writer::builder::append2;
-use tls_fields::{GenError, write_whole};
 
 mod builder;
 mod judge;

@@ -1,22 +1,21 @@
 -- What a message leaves as it is of both sides' hellos.
 use Rattle.std.proofs.Common.{◌≡◌, ℕ, ◌==◌, ◌&&◌, ◌||◌, not, List, Bool, true, false, Option, Some, None, Ok, Err, refl, sym, ◌∙◌, ap}
 use Rattle.std.specs.Prelude.{if◌then◌else◌, is_some}
-use Rattle.std.specs.Str.{bytes_eq}
-use Rattle.tls_fields.specs.Bytes.{Bytes}
-use Rattle.tls_fields.specs.Meaning.{Answer}
-use Rattle.tls_fields.specs.Reading.{reading}
+use Rattle.layouts.specs.Bytes.{Bytes}
+use Rattle.layouts.specs.Meaning.{Answer}
+use Rattle.layouts.specs.Reading.{reading}
 use Rattle.tls_hs.specs.Certificate.{certificate}
 use Rattle.tls_hs.specs.Handshake as handshakes
 use Rattle.tls_hs.specs.Hello as client
 use Rattle.tls_hs.specs.ServerHello as server
 use Rattle.ssl2_hello.specs.ClientHello as ssl2
-use Rattle.tls_parser.specs.DtlsHello as datagram
+use Rattle.tls_records.specs.DtlsHello as datagram
 use Rattle.tls_flow.specs.Bytes.{HandshakeMessage, datagram_message, message_of}
 use Rattle.tls_flow.specs.declared.letter.Direction.{Direction as Side}
 use Rattle.tls_flow.specs.declared.letter.Direction.TheVariants.{ToServer, FromServer}
 use Rattle.tls_facts.specs.Exchange.{curve_by}
 use Rattle.tls_facts.specs.Hellos.{share_group_in}
-use Rattle.tls_fields.specs.Text.{held}
+use Rattle.layouts.specs.Text.{held}
 use Rattle.tls_facts.specs.Facts.{
   Facts,
   KeepsHellos,
@@ -41,7 +40,6 @@ use Rattle.tls_facts.specs.Facts.{
   of_server_hello,
   of_ssl2,
   retried,
-  retry_random,
   verified,
 }
 
@@ -105,7 +103,7 @@ verified_keeps FromServer f =
 
 chosen_keeps : (s : Side) (h : server.ServerHello) (f : Facts) → KeepsHellos s f (chosen s h f)
 chosen_keeps ToServer h f = stays ToServer f
-chosen_keeps FromServer h f = go (bytes_eq h.random retry_random) (chosen_by (is_some f.server) refl)
+chosen_keeps FromServer h f = go (server.is_retry_request h) (chosen_by (is_some f.server) refl)
   where
     next : Facts
     next = record f { server = Some h; curve = share_group_in (held h.extensions) }

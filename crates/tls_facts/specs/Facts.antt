@@ -1,18 +1,17 @@
 -- What both sides' messages and alerts say of a connection.
 use Rattle.std.specs.Prelude.{◌≡◌, ℕ, Bool, true, false, not, ◌&&◌, ◌||◌, ◌==◌, if◌then◌else◌, List, [], ◌∷◌, Option, Some, None, is_some, option_map, Ok, Err, length}
-use Rattle.std.specs.Str.{bytes_eq}
-use Rattle.tls_fields.specs.Bytes.{Bytes}
-use Rattle.tls_fields.specs.Items.{items_in}
-use Rattle.tls_fields.specs.Layout.{number}
-use Rattle.tls_fields.specs.Meaning.{Answer}
-use Rattle.tls_fields.specs.Reading.{reading}
-use Rattle.tls_fields.specs.Text.{held}
+use Rattle.layouts.specs.Bytes.{Bytes}
+use Rattle.layouts.specs.Items.{items_in}
+use Rattle.layouts.specs.Layout.{number}
+use Rattle.layouts.specs.Meaning.{Answer}
+use Rattle.layouts.specs.Reading.{reading}
+use Rattle.layouts.specs.Text.{held}
 use Rattle.ssl2_hello.specs.ClientHello as ssl2
 use Rattle.tls_hs.specs.Certificate.{certificate}
 use Rattle.tls_hs.specs.Handshake as handshakes
 use Rattle.tls_hs.specs.Hello as client
 use Rattle.tls_hs.specs.ServerHello as server
-use Rattle.tls_parser.specs.DtlsHello as datagram
+use Rattle.tls_records.specs.DtlsHello as datagram
 use Rattle.tls_flow.specs.Bytes.{HandshakeMessage, datagram_message, message_of}
 use Rattle.tls_flow.specs.declared.letter.Direction.{Direction as Side}
 use Rattle.tls_flow.specs.declared.letter.Direction.TheVariants.{ToServer, FromServer}
@@ -84,12 +83,6 @@ nothing = record {
   ssl2_cipher_specs = None;
 }
 
--- The random of a ServerHello that is a HelloRetryRequest (RFC 8446, section 4.1.3).
-abbrev pub retry_random : Bytes
-retry_random =
-    0xcf ∷ 0x21 ∷ 0xad ∷ 0x74 ∷ 0xe5 ∷ 0x9a ∷ 0x61 ∷ 0x11 ∷ 0xbe ∷ 0x1d ∷ 0x8c ∷ 0x02 ∷ 0x1e ∷ 0x65 ∷ 0xb8 ∷ 0x91 ∷
-    0xc2 ∷ 0xa2 ∷ 0x11 ∷ 0x16 ∷ 0x7a ∷ 0xbb ∷ 0x8c ∷ 0x5e ∷ 0x07 ∷ 0x9e ∷ 0x09 ∷ 0xe2 ∷ 0xc8 ∷ 0xa8 ∷ 0x33 ∷ 0x9c ∷ []
-
 -- The client said its hello, and was not asked for another.
 abbrev pub has_asked : Facts → Bool
 has_asked f = is_some f.client && not f.is_asked_again
@@ -143,7 +136,7 @@ verified FromServer f = if is_some f.server then f else record f { is_asked_agai
 abbrev pub chosen : Side → server.ServerHello → Facts → Facts
 chosen ToServer h f = f
 chosen FromServer h f =
-    if bytes_eq h.random retry_random then retried FromServer f
+    if server.is_retry_request h then retried FromServer f
     else if is_some f.server then f
     else record f { server = Some h; curve = share_group_in (held h.extensions) }
 

@@ -1,22 +1,18 @@
 -- What a hello says by its extensions; nothing where the extension is missing, or refused.
-use Rattle.std.specs.Prelude.{ℕ, Bool, true, false, List, [], ◌∷◌, Option, Some, None, Result, Ok, Err, ◌==◌, if◌then◌else◌}
+use Rattle.std.specs.Prelude.{ℕ, Bool, true, false, List, [], ◌∷◌, Option, Some, None, Ok, Err, ◌==◌, if◌then◌else◌}
 use Rattle.tls_base.specs.ExtensionNumbers as extension_number
 use Rattle.tls_base.specs.Timestamp.{SignedCertificateTimestamp, timestamp_list}
-use Rattle.tls_fields.specs.Bytes.{Bytes}
-use Rattle.tls_fields.specs.Framed.{Framed}
-use Rattle.tls_fields.specs.Items.{list_read}
-use Rattle.tls_fields.specs.Layout.{Layout, number}
-use Rattle.tls_fields.specs.Meaning.{Answer, Refusal}
-use Rattle.tls_fields.specs.Reading.{reading}
+use Rattle.layouts.specs.Bytes.{Bytes}
+use Rattle.layouts.specs.Framed.{Framed}
+use Rattle.layouts.specs.Items.{list_read}
+use Rattle.layouts.specs.Layout.{Layout, number}
+use Rattle.layouts.specs.Meaning.{Answer}
+use Rattle.layouts.specs.Reading.{reading}
 use Rattle.tls_ext.specs.Content as content
 use Rattle.tls_ext.specs.Extension as ext
 use Rattle.tls_ext.specs.Extension.{Extension, ServerName}
 use Rattle.tls_ext.specs.InPlace.{client_shares, content_of, in_content, listed_versions, protocol_names}
-
--- What is told, and nothing where it is refused.
-abbrev pub known : {A : Type 0} → Result (Option A) Refusal → Option A
-known (Ok x) = x
-known (Err e) = None
+use Rattle.tls_ext.specs.Offered.{content_in, listed}
 
 abbrev pub value_in : {A : Type 0} → Answer A → Option A
 value_in (Ok x) = Some x.0
@@ -30,17 +26,8 @@ abbrev pub first_of : List Bytes → Option Bytes
 first_of [] = None
 first_of (x ∷ xs) = Some x
 
--- The content of the first extension of that type (RFC 8446, section 4.2).
-abbrev pub content_in : ℕ → Bytes → Option Bytes
-content_in kind b = known (content_of kind b)
-
 abbrev pub has : ℕ → Bytes → Bool
 has kind b = is_there (content_in kind b)
-
--- What an extension lists.
-abbrev pub listed : {A : Type 0} → Result (Option (List A)) Refusal → List A
-listed (Ok (Some xs)) = xs
-listed _ = []
 
 -- What a content of that layout lists.
 abbrev pub list_in : {A : Type 0} → Layout (List A) → Option Bytes → List A
@@ -69,31 +56,6 @@ others_among (n ∷ ns) = if n.name_type == 0 then others_among ns else n ∷ ot
 abbrev pub versions_in : Bytes → List ℕ
 versions_in b =
     listed (in_content content.supported_versions listed_versions (content_of extension_number.supported_versions b))
-
-abbrev pub listed_groups : Extension → Option (List ℕ)
-listed_groups (ext.supported_groups groups) = Some groups
-listed_groups _ = None
-
--- The groups in supported_groups (RFC 8446, section 4.2.7).
-abbrev pub groups_in : Bytes → List ℕ
-groups_in b = listed (in_content content.supported_groups listed_groups (content_of extension_number.supported_groups b))
-
-abbrev pub listed_formats : Extension → Option (List ℕ)
-listed_formats (ext.ec_point_formats formats) = Some formats
-listed_formats _ = None
-
--- The formats in ec_point_formats (RFC 8422, section 5.1.2).
-abbrev pub formats_in : Bytes → List ℕ
-formats_in b = listed (in_content content.ec_point_formats listed_formats (content_of extension_number.ec_point_formats b))
-
-abbrev pub listed_algorithms : Extension → Option (List ℕ)
-listed_algorithms (ext.signature_algorithms algorithms) = Some algorithms
-listed_algorithms _ = None
-
--- The algorithms in signature_algorithms (RFC 8446, section 4.2.3).
-abbrev pub algorithms_in : Bytes → List ℕ
-algorithms_in b =
-    listed (in_content content.signature_algorithms listed_algorithms (content_of extension_number.signature_algorithms b))
 
 abbrev pub listed_modes : Extension → Option (List ℕ)
 listed_modes (ext.psk_key_exchange_modes modes) = Some modes

@@ -2,11 +2,11 @@
 use Rattle.std.specs.Prelude.{List, [], ◌∷◌, map, length, Option, Some, None, Ok, Err}
 use Rattle.std.specs.Option.{option_map}
 use Rattle.sha2.specs.Sha256.{sha256}
-use Rattle.tls_fields.specs.Bytes.{Bytes}
-use Rattle.tls_fields.specs.Layout.{number}
-use Rattle.tls_fields.specs.Items.{items_in}
-use Rattle.tls_fields.specs.Meaning.{Answer, Broken, Lacks}
-use Rattle.tls_fields.specs.Reading.{reading}
+use Rattle.layouts.specs.Bytes.{Bytes}
+use Rattle.layouts.specs.Layout.{number}
+use Rattle.layouts.specs.Items.{items_in}
+use Rattle.layouts.specs.Meaning.{Answer, Broken, Lacks}
+use Rattle.layouts.specs.Reading.{reading}
 use Rattle.tls_hs.specs.Hello as hello
 use Rattle.tls_hs.specs.ServerHello as server
 use Rattle.x509.specs.Certificate.{Certificate, certificate}

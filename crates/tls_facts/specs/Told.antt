@@ -3,10 +3,10 @@ use Rattle.std.specs.Prelude.{ℕ, Bool, List, [], ◌∷◌, Option, Some, None
 use Rattle.std.specs.Option.{option_map}
 use Rattle.tls_base.specs.ExtensionNumbers as extension_number
 use Rattle.tls_base.specs.Timestamp.{SignedCertificateTimestamp}
-use Rattle.tls_fields.specs.Bytes.{Bytes}
-use Rattle.tls_fields.specs.Framed.{Framed}
-use Rattle.tls_fields.specs.Items.{items_in}
-use Rattle.tls_fields.specs.Text.{held}
+use Rattle.layouts.specs.Bytes.{Bytes}
+use Rattle.layouts.specs.Framed.{Framed}
+use Rattle.layouts.specs.Items.{items_in}
+use Rattle.layouts.specs.Text.{held}
 use Rattle.tls_ext.specs.Extension.{ServerName}
 use Rattle.tls_ext.specs.InPlace as ext
 use Rattle.tls_hs.specs.Hello as client
@@ -14,7 +14,8 @@ use Rattle.tls_hs.specs.ServerHello as server
 use Rattle.tls_flow.specs.declared.letter.Direction.{Direction as Side}
 use Rattle.tls_flow.specs.declared.letter.Direction.TheVariants.{ToServer, FromServer}
 use Rattle.tls_facts.specs.Facts.{Facts}
-use Rattle.tls_facts.specs.Hellos.{algorithms_in, content_in, first_of, formats_in, groups_in, has, has_ticket_in, host_among, known, modes_in, names_in, others_among, protocols_in, share_group_in, shares_in, timestamps_in, versions_in}
+use Rattle.tls_ext.specs.Offered.{algorithms_in, content_in, formats_in, groups_in, known}
+use Rattle.tls_facts.specs.Hellos.{first_of, has, has_ticket_in, host_among, modes_in, names_in, others_among, protocols_in, share_group_in, shares_in, timestamps_in, versions_in}
 
 abbrev pub extensions_of_client : Option client.ClientHello → Bytes
 extensions_of_client None = []

@@ -6,32 +6,27 @@ ghost use Rattle.tls_hs.specs.Handshake.{view_handshake};
 ghost use Rattle.tls_hs.specs.ServerHello.{view_server_hello, view_server_hello_draft18};
 ghost use Rattle.tls_facts.specs.Facts.{asked, asked_in_ssl2, certified, chosen, exchanged, has_asked as has_asked_in, is_stray as is_stray_in, nothing, of_alert, of_bytes, of_datagram_client_hello, of_datagram_message, of_datagrams, of_draft, of_message, of_other, of_server_hello, retried, verified, view_facts, with_chain};
 ghost use Rattle.ssl2_hello.specs.ClientHello.{view_client_hello as view_ssl2_hello};
-ghost use Rattle.tls_fields.specs.Reading.{reading};
+ghost use Rattle.layouts.specs.Reading.{reading};
 ghost use Rattle.tls_hs.specs.Certificate.{certificate};
 ghost use Rattle.tls_flow.specs.Bytes.{view_heard};
-ghost use Rattle.tls_parser.specs.DtlsHello.{client_hello as datagram_client_hello};
+ghost use Rattle.tls_records.specs.DtlsHello.{client_hello as datagram_client_hello};
 
-use crate::exchange::{has_hint, hinted_parameters, named_group, names_curve};
-use crate::hellos::{content, group_of_share, none};
+use crate::exchange::curve_of;
+use crate::hellos::group_of_share;
 use crate::parts::{CertificateFacts, Chain, ClientParts, ServerParts, chain_of, copied};
 use ssl2_hello::Ssl2ClientHello;
 use std::alloc::{AllocError, Global};
 use tls_base::{
     NamedGroup, TlsAlertDescription, TlsCipherSuiteID, TlsCompressionID, TlsExtensionType,
-    TlsHandshakeType, parse_ec_parameters,
+    TlsHandshakeType,
 };
+use tls_ext::offered::{content, none};
 use tls_flow::{Direction, HandshakeMessage, Kind, ReadServerHello};
 use tls_hs::{
     ClientHelloView, TlsMessageHandshake, TlsServerHelloContents, TlsServerHelloV13Draft18Contents,
     certificates,
 };
-use tls_parser::DTLSClientHelloView;
-
-/// The random of a ServerHello that is a HelloRetryRequest (RFC 8446, section 4.1.3).
-static RETRY_RANDOM: [u8; 32] = [
-    0xcf, 0x21, 0xad, 0x74, 0xe5, 0x9a, 0x61, 0x11, 0xbe, 0x1d, 0x8c, 0x02, 0x1e, 0x65, 0xb8, 0x91,
-    0xc2, 0xa2, 0x11, 0x16, 0x7a, 0xbb, 0x8c, 0x5e, 0x07, 0x9e, 0x09, 0xe2, 0xc8, 0xa8, 0x33, 0x9c,
-];
+use tls_records::DTLSClientHelloView;
 
 /// What is known of a connection by what both sides said in the clear.
 #[derive(Debug, PartialEq, Drop)]
@@ -212,7 +207,7 @@ impl Facts {
     ) -> Result<(), AllocError>
         ensures { OnOk result (view_facts self.new ≡ chosen side (view_server_hello hello.now) (view_facts self.old)) }
     {
-        if hello.random == RETRY_RANDOM.as_slice() {
+        if hello.is_retry_request() {
             self.retry(side);
             return Ok(());
         }
@@ -252,12 +247,7 @@ impl Facts {
         let Some(hello) = &self.server else {
             return;
         };
-        let suite = hello.cipher.0;
-        if names_curve(suite) {
-            self.curve = named_group(parse_ec_parameters(body));
-        } else if has_hint(suite) {
-            self.curve = named_group(hinted_parameters(body));
-        }
+        self.curve = curve_of(hello.cipher, body, self.curve);
     }
 
     /// Keeps a side's chain in place of an earlier one.

@@ -1,26 +1,27 @@
 //! What a hello says by its extensions; nothing where the extension is missing, or refused.
-ghost use Rattle.std.specs.Prelude.{◌≡◌, [], IfOk, map};
+ghost use Rattle.std.specs.Prelude.{◌≡◌, IfOk, map};
 ghost use Rattle.std.specs.Option.{option_map};
-ghost use Rattle.tls_fields.specs.Items.{items_in, told as told_by};
-ghost use Rattle.tls_fields.specs.Layout.{counted, number};
-ghost use Rattle.tls_fields.specs.Text.{held};
+ghost use Rattle.layouts.specs.Items.{items_in, told as told_by};
+ghost use Rattle.layouts.specs.Layout.{counted, number};
+ghost use Rattle.layouts.specs.Text.{held};
 ghost use Rattle.tls_base.specs.Timestamp.{serialized_timestamp};
 ghost use Rattle.tls_ext.specs.Content.{server_name};
 ghost use Rattle.tls_ext.specs.Extension.{view_server_name};
 ghost use Rattle.tls_ext.specs.InPlace.{key_share_entry};
-ghost use Rattle.tls_facts.specs.Hellos.{algorithms_in, content_in, formats_in, group_of, groups_in, has_bytes, host_among, known as known_by, modes_in, names_in, others_among, protocols_in, shares_in, timestamps_in, versions_in};
+ghost use Rattle.tls_ext.specs.Offered.{known as known_by};
+ghost use Rattle.tls_facts.specs.Hellos.{group_of, has_bytes, host_among, modes_in, names_in, others_among, protocols_in, shares_in, timestamps_in, versions_in};
 
+use layouts::{Counted1, Err, Error, Items};
 use std::alloc::{AllocError, Global};
 use tls_base::{
     NamedGroup, SNIType, SignedCertificateTimestamp, TlsExtensionType, TlsVersion,
     certificate_timestamps,
 };
+use tls_ext::offered::{content, none};
 use tls_ext::{
-    KeyShareEntry, ServerName, application_protocols, ec_point_formats, extensions, first_content,
-    key_shares, psk_key_exchange_modes, server_names, signature_algorithms, supported_groups,
-    supported_versions,
+    KeyShareEntry, ServerName, application_protocols, extensions, first_content, key_shares,
+    psk_key_exchange_modes, server_names, supported_versions,
 };
-use tls_fields::{Counted1, Err, Error, InPlace, Items};
 
 /// What a call tells, and nothing where it refuses.
 pub(crate) fn known<T: Drop>(answer: Result<Option<T>, Err<Error<&[u8]>>>) -> Option<T>
@@ -28,23 +29,6 @@ pub(crate) fn known<T: Drop>(answer: Result<Option<T>, Err<Error<&[u8]>>>) -> Op
 {
     match answer {
         Ok(value) => value,
-        Err(_) => None,
-    }
-}
-
-/// No items.
-pub(crate) fn none<'a, T: InPlace<'a>>() -> Items<'a, T>
-    ensures { items_in T.layout result.bytes.now ≡ [] }
-{
-    Items::new(&[])
-}
-
-/// The content of the first extension of that type; `None` where none was found.
-pub(crate) fn content<'a>(ext: Option<&'a [u8]>, kind: TlsExtensionType) -> Option<&'a [u8]>
-    ensures { option_map (λ x. x.now) result ≡ content_in kind.0 (held (option_map (λ x. x.now) ext.entry)) }
-{
-    match first_content(extensions(ext), kind) {
-        Ok(content) => content,
         Err(_) => None,
     }
 }
@@ -111,46 +95,6 @@ pub(crate) fn versions<'a>(ext: Option<&'a [u8]>) -> Items<'a, TlsVersion>
     match supported_versions(content) {
         Ok((_, versions)) => versions,
         Err(_) => none::<TlsVersion>(),
-    }
-}
-
-/// The groups of the first supported_groups.
-pub(crate) fn groups<'a>(ext: Option<&'a [u8]>) -> Items<'a, NamedGroup>
-    ensures { items_in (number 2) result.bytes.now ≡ groups_in (held (option_map (λ x. x.now) ext.entry)) }
-{
-    let Ok(Some(content)) = first_content(extensions(ext), TlsExtensionType::SupportedGroups) else {
-        return none::<NamedGroup>();
-    };
-    match supported_groups(content) {
-        Ok((_, groups)) => groups,
-        Err(_) => none::<NamedGroup>(),
-    }
-}
-
-/// The formats of the first ec_point_formats, one a byte.
-pub(crate) fn formats<'a>(ext: Option<&'a [u8]>) -> &'a [u8]
-    ensures { result.now ≡ formats_in (held (option_map (λ x. x.now) ext.entry)) }
-{
-    let Ok(Some(content)) = first_content(extensions(ext), TlsExtensionType::EcPointFormats) else {
-        return &[];
-    };
-    match ec_point_formats(content) {
-        Ok((_, formats)) => formats,
-        Err(_) => &[],
-    }
-}
-
-/// The algorithms of the first signature_algorithms.
-pub(crate) fn algorithms<'a>(ext: Option<&'a [u8]>) -> Items<'a, u16>
-    ensures { items_in (number 2) result.bytes.now ≡ algorithms_in (held (option_map (λ x. x.now) ext.entry)) }
-{
-    let Ok(Some(content)) = first_content(extensions(ext), TlsExtensionType::SignatureAlgorithms)
-    else {
-        return none::<u16>();
-    };
-    match signature_algorithms(content) {
-        Ok((_, algorithms)) => algorithms,
-        Err(_) => none::<u16>(),
     }
 }
 

@@ -1,6 +1,6 @@
 //! What stands of hellos, whatever comes. The function's contract has the laws; its body is empty.
 ghost use Rattle.std.specs.Prelude.{ℕ};
-ghost use Rattle.tls_fields.specs.Bytes.{Bytes};
+ghost use Rattle.layouts.specs.Bytes.{Bytes};
 ghost use Rattle.ssl2_hello.specs.ClientHello.{ClientHello as Ssl2ClientHello};
 ghost use Rattle.tls_flow.specs.declared.letter.Direction.{Direction as Side};
 ghost use Rattle.tls_facts.specs.Facts.{Facts as Known, KeepsHellos, asked_in_ssl2, of_bytes, of_datagram_message};

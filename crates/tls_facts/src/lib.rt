@@ -1,8 +1,8 @@
 //! What the messages of a connection of TLS or DTLS say of it in the clear: its hellos, its certificates and its alerts.
 //!
 //! [`Facts`] is what is known so far. Each handshake message and each alert, of whichever side, adds to it; its calls tell what is known,
-//! field by field. [`names_curve`] and [`has_hint`] tell which suites have a key exchange over a curve.
-#![tactic(auto, using(tls_fields::proofs::OneAnswerLemmas::read_allowed))]
+//! field by field.
+#![tactic(auto, using(layouts::proofs::OneAnswerLemmas::read_allowed))]
 
 mod exchange;
 mod facts;
@@ -11,7 +11,6 @@ pub mod laws;
 mod parts;
 mod told;
 
-pub use exchange::{has_hint, names_curve};
 pub use facts::Facts;
 pub use parts::{CertificateFacts, CertificateFault, ClientParts, ServerParts, certificate_fault};
 pub use told::{DELEGATED_CREDENTIAL, ENCRYPTED_CLIENT_HELLO};

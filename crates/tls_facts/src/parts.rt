@@ -1,18 +1,18 @@
 //! What is kept of the hellos and the certificates of a connection.
 ghost use Rattle.std.specs.Prelude.{◌≡◌, IfOk};
 ghost use Rattle.std.specs.Option.{option_map};
-ghost use Rattle.tls_fields.specs.Items.{items_in};
-ghost use Rattle.tls_fields.specs.Layout.{counted};
+ghost use Rattle.layouts.specs.Items.{items_in};
+ghost use Rattle.layouts.specs.Layout.{counted};
 ghost use Rattle.tls_hs.specs.InPlace.{view_client_hello_in_place};
 ghost use Rattle.tls_hs.specs.ServerHello.{view_server_hello};
-ghost use Rattle.tls_fields.specs.Reading.{reading};
+ghost use Rattle.layouts.specs.Reading.{reading};
 ghost use Rattle.x509.specs.Certificate.{certificate};
 ghost use Rattle.tls_facts.specs.Parts.{facts_of as facts_by, facts_of_all, fault_by, first_of, view_client, view_server};
 
+use layouts::{Err, ErrorKind, Items};
 use sha2::{Digest, Sha256};
 use std::alloc::{AllocError, Global};
 use tls_base::{TlsCipherSuiteID, TlsCompressionID, TlsVersion};
-use tls_fields::{Err, ErrorKind, Items};
 use tls_hs::{ClientHelloView, RawCertificate, TlsServerHelloContents};
 use x509::parse_certificate;
 

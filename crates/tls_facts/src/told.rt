@@ -2,9 +2,9 @@
 ghost use Rattle.std.specs.Prelude.{◌≡◌, IfOk, map};
 ghost use Rattle.std.specs.Option.{option_map};
 ghost use Rattle.tls_base.specs.Timestamp.{serialized_timestamp};
-ghost use Rattle.tls_fields.specs.Items.{items_in};
-ghost use Rattle.tls_fields.specs.Layout.{counted, number};
-ghost use Rattle.tls_fields.specs.Text.{held};
+ghost use Rattle.layouts.specs.Items.{items_in};
+ghost use Rattle.layouts.specs.Layout.{counted, number};
+ghost use Rattle.layouts.specs.Text.{held};
 ghost use Rattle.tls_ext.specs.Extension.{view_server_name};
 ghost use Rattle.tls_ext.specs.InPlace.{extension_type, key_share_entry};
 ghost use Rattle.tls_facts.specs.Facts.{view_facts};
@@ -12,17 +12,18 @@ ghost use Rattle.tls_facts.specs.Told as told;
 
 use crate::facts::Facts;
 use crate::hellos::{
-    algorithms, content, formats, group_of_share, groups, host_name, is_filled, known, modes,
-    names, none, other_names, protocols, shares, timestamps, versions,
+    group_of_share, host_name, is_filled, known, modes, names, other_names, protocols, shares,
+    timestamps, versions,
 };
+use layouts::{Counted1, Items};
 use ssl2_hello::CipherSpec;
 use std::alloc::{AllocError, Global};
 use tls_base::{
     NamedGroup, SNIType, SignedCertificateTimestamp, TlsCipherSuiteID, TlsCompressionID,
     TlsExtensionType, TlsVersion,
 };
+use tls_ext::offered::{algorithms, content, formats, groups, none};
 use tls_ext::{ExtensionType, KeyShareEntry, best_version, extension_types};
-use tls_fields::{Counted1, Items};
 use tls_flow::Direction;
 
 /// The encrypted_client_hello of RFC 9849, section 5, which the library has no name for.

@@ -3,7 +3,6 @@ pub mod EndLemmas
 pub mod OneAnswerLemmas
 pub mod LackingLemmas
 pub mod StableLemmas
-pub mod GivesLemmas
 pub mod TableLemmas
 pub mod TimesLemmas
 pub mod ItemsLemmas

@@ -3,9 +3,10 @@ use Rattle.std.specs.Prelude.{[], ◌∷◌, decimal}
 use Rattle.std.specs.List.{join_with_byte}
 use Rattle.md5.specs.Md5.{md5}
 use Rattle.hex.specs.Hex.{encode_lower}
-use Rattle.tls_fields.specs.Bytes.{Bytes}
+use Rattle.layouts.specs.Bytes.{Bytes}
 use Rattle.tls_fingerprints.specs.Numbers.{dashed, without_grease}
-use Rattle.tls_fingerprints.specs.Hellos.{Client, Server, types_in, groups_in, formats_in}
+use Rattle.tls_ext.specs.Offered.{groups_in, formats_in}
+use Rattle.tls_fingerprints.specs.Hellos.{Client, Server, types_in}
 
 -- Five fields with `,` between each two: the version, the cipher suites, the types of extensions, the groups, the formats of points.
 abbrev pub ja3_text_of : Client → Bytes
@@ -17,9 +18,12 @@ ja3_text_of h = join_with_byte 44 (
     ∷ dashed (formats_in h.extensions)
     ∷ [])
 
--- The MD5 of the text, in hexadecimal.
+-- The MD5 of a text, in hexadecimal.
+abbrev pub digest_of : Bytes → Bytes
+digest_of text = encode_lower (md5 text)
+
 abbrev pub ja3_of : Client → Bytes
-ja3_of h = encode_lower (md5 (ja3_text_of h))
+ja3_of h = digest_of (ja3_text_of h)
 
 -- Three fields: the version, the cipher suite, the types of extensions.
 abbrev pub ja3s_text_of : Server → Bytes
@@ -30,4 +34,4 @@ ja3s_text_of h = join_with_byte 44 (
     ∷ [])
 
 abbrev pub ja3s_of : Server → Bytes
-ja3s_of h = encode_lower (md5 (ja3s_text_of h))
+ja3s_of h = digest_of (ja3s_text_of h)

@@ -4,11 +4,12 @@ use Rattle.std.specs.Char.{is_ascii_alphanumeric}
 use Rattle.std.specs.List.{join_with_byte}
 use Rattle.sha2.specs.Sha256.{sha256}
 use Rattle.hex.specs.Hex.{encode_lower}
-use Rattle.tls_fields.specs.Bytes.{Bytes}
+use Rattle.layouts.specs.Bytes.{Bytes}
 use Rattle.tls_base.specs.ExtensionNumbers as extension_number
 use Rattle.tls_ext.specs.InPlace.{best_version, protocol_names}
 use Rattle.tls_fingerprints.specs.Numbers.{hex_digit, hex_list, rising, without_grease}
-use Rattle.tls_fingerprints.specs.Hellos.{Client, types_in, algorithms_in, content_in, known}
+use Rattle.tls_ext.specs.Offered.{algorithms_in, content_in, known}
+use Rattle.tls_fingerprints.specs.Hellos.{Client, types_in}
 use Rattle.tls_fingerprints.specs.declared.hellos.Transport.{Transport}
 use Rattle.tls_fingerprints.specs.declared.hellos.Transport.TheVariants as over
 

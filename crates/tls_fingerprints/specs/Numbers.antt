@@ -1,7 +1,7 @@
 -- Lists of numbers, as fingerprints have them.
 use Rattle.std.specs.Prelude.{◌≡◌, ◌≤◌, length, take, ℕ, ◌+◌, ◌/◌, ◌%◌, ◌==◌, nat_lt, nat_le, Bool, true, false, not, ◌&&◌, if◌then◌else◌, List, [], ◌∷◌, map, filter, decimal}
 use Rattle.std.specs.List.{join_with_byte}
-use Rattle.tls_fields.specs.Bytes.{Bytes}
+use Rattle.layouts.specs.Bytes.{Bytes}
 
 -- A number that is kept free so that peers ignore what they don't know: two equal bytes that end in the hexadecimal digit a. These are
 -- the sixteen from 0x0a0a to 0xfafa (RFC 8701, section 2).

@@ -5,28 +5,28 @@ ghost use Rattle.std.specs.Option.{option_map};
 ghost use Rattle.hex.specs.Hex.{encode_lower};
 ghost use Rattle.md5.specs.Md5.{Holds, md5};
 ghost use Rattle.sha2.specs.Hashers.{Holds256};
-ghost use Rattle.tls_fields.specs.Text.{held};
+ghost use Rattle.layouts.specs.Text.{held};
 ghost use Rattle.tls_base.specs.ExtensionNumbers.{server_name};
 ghost use Rattle.tls_ext.specs.InPlace.{best_version as best_version_in, protocol_names};
 ghost use Rattle.tls_fingerprints.specs.Numbers.{hex_list, rising, without_grease};
-ghost use Rattle.tls_fingerprints.specs.Hellos.{content_in, known, types_in, view_client, view_server};
+ghost use Rattle.tls_ext.specs.Offered.{content_in, known};
+ghost use Rattle.tls_fingerprints.specs.Hellos.{types_in, view_client, view_server};
 ghost use Rattle.tls_fingerprints.specs.Ja3.{ja3_of, ja3s_of};
 ghost use Rattle.tls_fingerprints.specs.Ja4.{IsPart, IsTooLong, ends_text, ja4_front_with, ja4_of, ja4_suites_of, ja4_types_of, name_letter as name_letter_of, protocol_text, short_digest as short_digest_of, two_digits as two_digits_of};
 
 use crate::feeding::{
     feed_algorithms, feed_dashed, feed_decimal, feed_hex_list, feed_kept, feed_types,
 };
-use crate::hellos::{
-    ClientHelloParts, ServerHelloParts, Transport, algorithms, content, formats, groups,
-};
+use crate::hellos::{ClientHelloParts, ServerHelloParts, Transport};
 use crate::ja4::version_text;
 use crate::numbers::hex_digit;
 use crate::room::{kept_in, other_types_in};
+use layouts::Items;
 use md5::{Digest as Md5Digest, Md5};
 use sha2::{Digest as Sha2Digest, Sha256};
 use tls_base::{TlsExtensionType, TlsVersion};
+use tls_ext::offered::{algorithms, content, formats, groups};
 use tls_ext::{application_protocols, best_version, extension_types};
-use tls_fields::Items;
 
 /// How many cipher suites, and how many extensions, JA4 is made of at most. A hello has no more: their block has at most 65,535 bytes.
 pub const MOST: usize = 32767;
@@ -151,7 +151,7 @@ impl ClientHelloParts<'_> {
         text.update(b",");
         feed_types(&mut text, extension_types(self.ext));
         text.update(b",");
-        feed_kept(&mut text, groups(self.ext));
+        feed_kept(&mut text, Items::new(groups(self.ext).bytes()));
         text.update(b",");
         feed_dashed(&mut text, formats(self.ext));
         digits_of(text)

@@ -3,18 +3,18 @@ ghost use Rattle.std.specs.Prelude.{◌≡◌, ◌++◌, ◌∷◌, List, ℕ, m
 ghost use Rattle.std.specs.List.{join_with_byte};
 ghost use Rattle.md5.specs.Md5.{Holds};
 ghost use Rattle.sha2.specs.Hashers.{Holds256};
-ghost use Rattle.tls_fields.specs.Items.{items_in};
-ghost use Rattle.tls_fields.specs.Layout.{number};
+ghost use Rattle.layouts.specs.Items.{items_in};
+ghost use Rattle.layouts.specs.Layout.{number};
 ghost use Rattle.tls_ext.specs.InPlace.{extension_type};
 ghost use Rattle.tls_fingerprints.specs.Ja4.{with_algorithms};
 ghost use Rattle.tls_fingerprints.specs.Numbers.{behind_others, dashed, has_any, lead_byte, four_digits as four_digits_of, hex_list, without_grease};
 
 use crate::numbers::{hex_digit, is_grease};
 use itoa::{Buffer, Integer};
+use layouts::Items;
 use md5::{Digest as Md5Digest, Md5};
 use sha2::{Digest as Sha2Digest, Sha256};
 use tls_ext::ExtensionType;
-use tls_fields::Items;
 
 /// Adds a number in decimal.
 pub(crate) fn feed_decimal<N: Integer>(text: &mut Md5, n: N)

@@ -2,19 +2,26 @@
 ghost use Rattle.std.specs.Prelude.{◌≡◌, ◌++◌, ◌∷◌, [], IfOk, OnOk};
 ghost use Rattle.std.specs.String.{string_bytes};
 ghost use Rattle.std.specs.Option.{option_map};
-ghost use Rattle.tls_fields.specs.Items.{items_in};
-ghost use Rattle.tls_fields.specs.Layout.{number};
-ghost use Rattle.tls_fields.specs.Text.{held};
+ghost use Rattle.layouts.specs.Items.{items_in};
+ghost use Rattle.layouts.specs.Layout.{number};
+ghost use Rattle.layouts.specs.Text.{held};
 ghost use Rattle.tls_fingerprints.specs.Numbers.{dashed, without_grease};
-ghost use Rattle.tls_fingerprints.specs.Hellos.{groups_in, types_in, view_client, view_server};
-ghost use Rattle.tls_fingerprints.specs.Ja3.{ja3_of, ja3_text_of, ja3s_of, ja3s_text_of};
+ghost use Rattle.tls_ext.specs.Offered.{groups_in};
+ghost use Rattle.tls_fingerprints.specs.Hellos.{types_in, view_client, view_server};
+ghost use Rattle.tls_fingerprints.specs.Ja3.{digest_of, ja3_of, ja3_text_of, ja3s_of, ja3s_text_of};
 
-use crate::hellos::{ClientHelloParts, ServerHelloParts, formats, groups};
+use crate::hellos::{ClientHelloParts, ServerHelloParts};
 use crate::numbers::{add_dashed, add_decimal, kept, kept_types};
+use layouts::Items;
 use md5::{Digest, Md5};
 use std::alloc::{AllocError, Global};
 use tls_ext::extension_types;
-use tls_fields::Items;
+use tls_ext::offered::{formats, groups};
+
+/// So many bytes have room in a text at first: most texts are no longer.
+const TEXT_LEN: usize = 512;
+
+const SERVERS_TEXT_LEN: usize = 64;
 
 /// Adds `,` and the numbers that aren't of GREASE.
 fn add_kept(alloc: Global, text: &mut String, numbers: Items<u16>) -> Result<(), AllocError>
@@ -36,6 +43,15 @@ fn add_types(alloc: Global, text: &mut String, ext: Option<&[u8]>) -> Result<(),
     add_dashed(text, kept.as_slice())
 }
 
+/// The digest of a text of JA3 or JA3S: its MD5, in 32 hexadecimal digits.
+///
+/// `AllocError` where it could not be held.
+pub fn ja3_digest(alloc: Global, text: &str) -> Result<String, AllocError>
+    ensures { IfOk result (λ digits. string_bytes digits ≡ digest_of text.now) }
+{
+    hex::encode(alloc, Md5::digest(text.as_bytes()))
+}
+
 impl ClientHelloParts<'_> {
     /// The text that JA3 is the digest of: version, cipher suites, types of extensions, groups and formats of points, in decimal, with `-`
     /// within a list and `,` between the lists.
@@ -44,11 +60,11 @@ impl ClientHelloParts<'_> {
     pub fn ja3_text(&self, alloc: Global) -> Result<String, AllocError>
         ensures { IfOk result (λ text. string_bytes text ≡ ja3_text_of (view_client self.now)) }
     {
-        let mut text = String::new(alloc);
+        let mut text = String::with_capacity(alloc, TEXT_LEN)?;
         add_decimal(&mut text, self.version.0)?;
         add_kept(alloc, &mut text, Items::new(self.ciphers.bytes()))?;
         add_types(alloc, &mut text, self.ext)?;
-        add_kept(alloc, &mut text, groups(self.ext))?;
+        add_kept(alloc, &mut text, Items::new(groups(self.ext).bytes()))?;
         text.push(',')?;
         add_dashed(&mut text, formats(self.ext))?;
         Ok(text)
@@ -60,8 +76,7 @@ impl ClientHelloParts<'_> {
     pub fn ja3(&self, alloc: Global) -> Result<String, AllocError>
         ensures { IfOk result (λ digits. string_bytes digits ≡ ja3_of (view_client self.now)) }
     {
-        let text = self.ja3_text(alloc)?;
-        hex::encode(alloc, Md5::digest(text.as_bytes()))
+        ja3_digest(alloc, self.ja3_text(alloc)?.as_str())
     }
 }
 
@@ -72,7 +87,7 @@ impl ServerHelloParts<'_> {
     pub fn ja3s_text(&self, alloc: Global) -> Result<String, AllocError>
         ensures { IfOk result (λ text. string_bytes text ≡ ja3s_text_of (view_server self.now)) }
     {
-        let mut text = String::new(alloc);
+        let mut text = String::with_capacity(alloc, SERVERS_TEXT_LEN)?;
         add_decimal(&mut text, self.version.0)?;
         text.push(',')?;
         add_decimal(&mut text, self.cipher.0)?;
@@ -86,7 +101,6 @@ impl ServerHelloParts<'_> {
     pub fn ja3s(&self, alloc: Global) -> Result<String, AllocError>
         ensures { IfOk result (λ digits. string_bytes digits ≡ ja3s_of (view_server self.now)) }
     {
-        let text = self.ja3s_text(alloc)?;
-        hex::encode(alloc, Md5::digest(text.as_bytes()))
+        ja3_digest(alloc, self.ja3s_text(alloc)?.as_str())
     }
 }

@@ -3,18 +3,26 @@ ghost use Rattle.std.specs.Prelude.{◌≡◌, ◌++◌, ◌-◌, ◌∷◌, [],
 ghost use Rattle.std.specs.List.{join_with_byte};
 ghost use Rattle.std.specs.String.{string_bytes};
 ghost use Rattle.std.specs.Option.{option_map};
-ghost use Rattle.tls_fields.specs.Text.{held};
+ghost use Rattle.layouts.specs.Text.{held};
 ghost use Rattle.tls_ext.specs.InPlace.{protocol_names};
-ghost use Rattle.tls_fingerprints.specs.Hellos.{known, view_client};
+ghost use Rattle.tls_ext.specs.Offered.{known};
+ghost use Rattle.tls_fingerprints.specs.Hellos.{view_client};
 ghost use Rattle.tls_fingerprints.specs.Ja4.{ends_text, ja4_front_of, ja4_of, ja4_suites_of, ja4_text_of, ja4_types_of, letter_of, other_types, protocol_text, short_digest as short_digest_of, two_digits, version_text as version_text_of};
 
-use crate::hellos::{ClientHelloParts, Transport, algorithms, content};
+use crate::hellos::{ClientHelloParts, Transport};
 use crate::numbers::{add_hex_list, hex_digit, kept, kept_types, rise};
+use layouts::Items;
 use sha2::{Digest, Sha256};
 use std::alloc::{AllocError, Global};
 use tls_base::{TlsExtensionType, TlsVersion};
+use tls_ext::offered::{algorithms, content};
 use tls_ext::{application_protocols, best_version, extension_types};
-use tls_fields::Items;
+
+/// So many bytes have room at first in what a part is made of: most have no more.
+const TEXT_LEN: usize = 512;
+
+/// How long JA4 is.
+const JA4_LEN: usize = 36;
 
 impl Transport {
     /// The letter of the first part.
@@ -132,7 +140,8 @@ impl ClientHelloParts<'_> {
         };
         let suites = kept(alloc, Items::new(self.ciphers.bytes()))?;
         let types = kept_types(alloc, extension_types(self.ext))?;
-        let mut text = String::from_str(alloc, transport.letter())?;
+        let mut text = String::with_capacity(alloc, JA4_LEN)?;
+        text.push_str(transport.letter())?;
         text.push_str(version_text(version))?;
         text.push(match content(self.ext, TlsExtensionType::ServerName) {
             Some(_) => 'd',
@@ -150,7 +159,7 @@ impl ClientHelloParts<'_> {
     {
         let mut suites = kept(alloc, Items::new(self.ciphers.bytes()))?;
         rise(&mut suites);
-        let mut text = String::new(alloc);
+        let mut text = String::with_capacity(alloc, TEXT_LEN)?;
         add_hex_list(&mut text, suites.as_slice())?;
         Ok(text)
     }
@@ -163,7 +172,7 @@ impl ClientHelloParts<'_> {
         leave_told(&mut types);
         rise(&mut types);
         let algorithms = kept(alloc, algorithms(self.ext))?;
-        let mut text = String::new(alloc);
+        let mut text = String::with_capacity(alloc, TEXT_LEN)?;
         add_hex_list(&mut text, types.as_slice())?;
         if !algorithms.is_empty() {
             text.push('_')?;

@@ -1,7 +1,8 @@
 //! What stands of the definitions alone. Each function's contract is one law; its body is empty.
 ghost use Rattle.std.specs.Prelude.{◌≡◌, ℕ, List};
 ghost use Rattle.std.specs.List.Sorted.{IsNonDecreasing, IsPermutation};
-ghost use Rattle.tls_fingerprints.specs.Hellos.{Client, SendSameTypes, algorithms_in};
+ghost use Rattle.tls_ext.specs.Offered.{algorithms_in};
+ghost use Rattle.tls_fingerprints.specs.Hellos.{Client, SendSameTypes};
 ghost use Rattle.tls_fingerprints.specs.Numbers.{rising};
 ghost use Rattle.tls_fingerprints.specs.Ja4.{ja4_suites_of, ja4_types_of};
 

@@ -5,7 +5,7 @@
 //! tools print: JA3 and JA3S as Wireshark does, JA4 as FoxIO's definition says.
 //!
 //! A hello is given by its parts ([`ClientHelloParts`], [`ServerHelloParts`]), which any view of a hello has, and bytes that were kept of one.
-#![tactic(auto, using(tls_fields::proofs::OneAnswerLemmas::read_allowed))]
+#![tactic(auto, using(layouts::proofs::OneAnswerLemmas::read_allowed))]
 
 mod digits;
 mod feeding;
@@ -18,3 +18,4 @@ mod room;
 
 pub use digits::MOST;
 pub use hellos::{ClientHelloParts, ServerHelloParts, Transport};
+pub use ja3::ja3_digest;

@@ -2,15 +2,15 @@
 ghost use Rattle.std.specs.Prelude.{◌≡◌, ◌++◌, ◌∷◌, [], ◌<◌, ◌+◌, map, IfOk, OnOk};
 ghost use Rattle.std.specs.List.{join_with_byte};
 ghost use Rattle.std.specs.String.{string_bytes};
-ghost use Rattle.tls_fields.specs.Items.{items_in};
-ghost use Rattle.tls_fields.specs.Layout.{number};
+ghost use Rattle.layouts.specs.Items.{items_in};
+ghost use Rattle.layouts.specs.Layout.{number};
 ghost use Rattle.tls_ext.specs.InPlace.{extension_type};
 ghost use Rattle.tls_fingerprints.specs.Numbers.{four_digits, hex_digit as hex_digit_of, hex_list, is_grease as is_grease_number, rising, without_grease};
 
 use itoa::{Buffer, Integer};
+use layouts::Items;
 use std::alloc::{AllocError, Global};
 use tls_ext::ExtensionType;
-use tls_fields::Items;
 
 /// Whether a number is kept free so that peers ignore what they don't know (RFC 8701, section 2): its two bytes are equal, and end in the
 /// hexadecimal digit a.
@@ -34,11 +34,14 @@ pub(crate) fn kept(alloc: Global, numbers: Items<u16>) -> Result<Vec<u16>, Alloc
     Ok(kept)
 }
 
+/// Most hellos have no more extensions.
+const MOST_TYPES: usize = 32;
+
 /// The types that aren't of GREASE, in their order.
 pub(crate) fn kept_types(alloc: Global, types: Items<ExtensionType>) -> Result<Vec<u16>, AllocError>
     ensures { IfOk result (λ v. v.items ≡ without_grease (items_in extension_type types.entry.bytes.now)) }
 {
-    let mut kept = Vec::new(alloc);
+    let mut kept = Vec::with_capacity(alloc, MOST_TYPES)?;
     for kind in types {
         if is_grease(kind.0) {
             continue;

@@ -1,14 +1,14 @@
 //! Numbers held in room of the caller's.
 ghost use Rattle.std.specs.Prelude.{◌≡◌, ◌<◌, length, IfSome, IfNone};
-ghost use Rattle.tls_fields.specs.Items.{items_in};
-ghost use Rattle.tls_fields.specs.Layout.{number};
+ghost use Rattle.layouts.specs.Items.{items_in};
+ghost use Rattle.layouts.specs.Layout.{number};
 ghost use Rattle.tls_ext.specs.InPlace.{extension_type};
 ghost use Rattle.tls_fingerprints.specs.Ja4.{is_told_before as is_told_before_in_front, other_types};
 ghost use Rattle.tls_fingerprints.specs.Numbers.{IsFilled, without_grease};
 
 use crate::numbers::is_grease;
+use layouts::Items;
 use tls_ext::ExtensionType;
-use tls_fields::Items;
 
 #[tactic(auto, using(crate::proofs::RoomLemmas::room_ends, crate::proofs::RoomLemmas::room_full))]
 /// Puts the numbers that aren't of GREASE to the front of `room`, in their order, and answers how many; `None` where there are more than it

@@ -20,11 +20,11 @@ use Rattle.std.proofs.Common.{
 }
 use Rattle.std.specs.Prelude.{Result}
 use Rattle.std.proofs.lemmas.Bool.{eqb-true}
-use Rattle.tls_fields.specs.Bytes.{Bytes}
-use Rattle.tls_fields.specs.Framed.{framed}
-use Rattle.tls_fields.specs.Layout.{Layout, choose, counted, mapped, number, block}
-use Rattle.tls_fields.specs.Meaning.{Refusal}
-use Rattle.tls_fields.specs.Reading.{reading, split_at, number_at, ◌and_then◌}
+use Rattle.layouts.specs.Bytes.{Bytes}
+use Rattle.layouts.specs.Framed.{framed}
+use Rattle.layouts.specs.Layout.{Layout, choose, counted, mapped, number, block}
+use Rattle.layouts.specs.Meaning.{Refusal}
+use Rattle.layouts.specs.Reading.{reading, split_at, number_at, ◌and_then◌}
 use Rattle.tls_hs.specs.Handshake as handshakes
 use Rattle.tls_hs.specs.Hello as hello
 use Rattle.tls_hs.specs.InPlace.{raw_handshake}

@@ -5,6 +5,5 @@ pub mod RowLemmas
 pub mod FollowLemmas
 pub mod ConversationLemmas
 pub mod FlowLemmas
-pub mod MessageLemmas
 pub mod AwaitLemmas
 mod BytesLemmas

@@ -1,34 +1,30 @@
 -- Messages as letters, apart from where they lie in memory.
 use Rattle.std.specs.Prelude.{
   ℕ,
-  zero,
-  suc,
   List,
   [],
   ◌∷◌,
-  length,
   Bool,
   true,
   false,
   Option,
   Some,
   None,
-  Ok,
-  Err,
   if◌then◌else◌,
   ◌==◌,
   ◌&&◌,
   ◌||◌,
   not,
 }
-use Rattle.std.specs.Str.{bytes_eq}
-use Rattle.tls_fields.specs.Bytes.{Bytes}
-use Rattle.tls_fields.specs.Layout.{Layout, done, number, counted, ◌>>=◌}
-use Rattle.tls_fields.specs.Meaning.{Answer}
-use Rattle.tls_fields.specs.Reading.{reading}
+use Rattle.layouts.specs.Bytes.{Bytes}
+use Rattle.layouts.specs.Framed.{Framed}
+use Rattle.layouts.specs.Items.{items_in}
 use Rattle.tls_base.specs.Alert.{Alert}
+use Rattle.tls_base.specs.ExtensionNumbers.{supported_versions}
+use Rattle.tls_ext.specs.InPlace.{raw_extension}
 use Rattle.tls_hs.specs.ServerHello as servers
 use Rattle.tls_hs.specs.Handshake as handshakes
+use Rattle.tls_hs.specs.HandshakeText.{msg_type_of}
 use Rattle.tls_hs.specs.Message as messages
 use Rattle.tls_hs.specs.declared.message.TlsMessage.{TlsMessage}
 use Rattle.tls_flow.specs.Letters.{letter}
@@ -37,14 +33,6 @@ use Rattle.tls_flow.specs.declared.letter.Kind.{Kind}
 use Rattle.tls_flow.specs.declared.letter.Kind.TheVariants as kind
 use Rattle.tls_flow.specs.declared.letter.Direction.{Direction}
 use Rattle.tls_flow.specs.declared.letter.Direction.TheVariants.{ToServer, FromServer}
-use Rattle.tls_flow.specs.declared.message.TheConstants.{HELLO_RETRY_RANDOM}
-
--- An extension (RFC 8446, 4.2): its type and its content.
-unfoldable pub extension : Layout (ℕ × Bytes)
-extension = do
-  extension_type ← number 2
-  content ← counted 2
-  done (extension_type, content)
 
 -- The version that the server picks (RFC 8446, 4.2.1) is TLS 1.3, 0x0304, a draft of it, 0x7f and the draft's number, or DTLS 1.3, 0xfefc
 -- (RFC 9147, 5.4).
@@ -52,55 +40,58 @@ abbrev pub is_tls13_version : Bytes → Bool
 is_tls13_version (major ∷ minor ∷ []) = (major == 3 && minor == 4) || major == 127 || (major == 0xfe && minor == 0xfc)
 is_tls13_version _ = false
 
--- The extension supported_versions, type 43, which names such a version.
-abbrev pub picks_tls13 : ℕ × Bytes → Bool
-picks_tls13 e = e.0 == 43 && is_tls13_version e.1
+-- The extension supported_versions, which names such a version.
+abbrev pub picks_tls13 : Framed → Bool
+picks_tls13 e = e.kind == supported_versions && is_tls13_version e.content
 
--- The extension that was read passes, or one after it does.
-abbrev pub is_or_after : Answer (ℕ × Bytes) → (Bytes → Bool) → Bool
-is_or_after (Ok x) more = if picks_tls13 x.0 then true else more x.1
-is_or_after (Err e) more = false
+abbrev pub any_picks : List Framed → Bool
+any_picks [] = false
+any_picks (e ∷ es) = if picks_tls13 e then true else any_picks es
 
--- Among the first k extensions of b one picks TLS 1.3.
-abbrev pub picks_within : ℕ → Bytes → Bool
-picks_within zero b = false
-picks_within (suc k) b = is_or_after (reading extension b) (picks_within k)
-
--- One of the block b does. Each takes 4 bytes or more, so there are fewer than bytes.
+-- One of the extensions of the block b does (RFC 8446, 4.2). What stands behind bytes that are no extension isn't looked at.
 abbrev pub picks_in : Bytes → Bool
-picks_in b = picks_within (length b) b
+picks_in b = any_picks (items_in raw_extension b)
 
 abbrev pub picks : Option Bytes → Bool
 picks (Some block) = picks_in block
 picks None = false
 
--- A ServerHello of that random is a HelloRetryRequest (RFC 8446, 4.1.3).
+-- A HelloRetryRequest is told by its random (RFC 8446, 4.1.3), a ServerHello of TLS 1.3 by the version that it picks.
 abbrev pub kind_of_server_hello : servers.ServerHello → Kind
 kind_of_server_hello h =
-    if bytes_eq h.random HELLO_RETRY_RANDOM then kind.HelloRetryRequest
+    if servers.is_retry_request h then kind.HelloRetryRequest
     else if picks h.extensions then kind.ServerHello13 else kind.ServerHello
 
--- By the variant alone: of a ServerHello this is the kind of one below TLS 1.3. Drafts of TLS 1.3 have a ServerHello and a HelloRetryRequest of
--- their own (draft-ietf-tls-tls13-18, 4.1.3; draft-ietf-tls-tls13-19, 4.1.4).
-abbrev pub kind_by_variant : handshakes.Handshake → Kind
-kind_by_variant handshakes.HelloRequest = kind.HelloRequest
-kind_by_variant (handshakes.ClientHello hello) = kind.ClientHello
-kind_by_variant (handshakes.ServerHello hello) = kind.ServerHello
-kind_by_variant (handshakes.ServerHelloV13Draft18 hello) = kind.ServerHello13
-kind_by_variant (handshakes.HelloRetryRequest request) = kind.HelloRetryRequest
-kind_by_variant (handshakes.NewSessionTicket ticket) = kind.NewSessionTicket
-kind_by_variant (handshakes.Certificate chain) = kind.Certificate
-kind_by_variant (handshakes.ServerKeyExchange parameters) = kind.ServerKeyExchange
-kind_by_variant (handshakes.CertificateRequest request) = kind.CertificateRequest
-kind_by_variant (handshakes.ServerDone body) = kind.ServerDone
-kind_by_variant (handshakes.CertificateVerify signature) = kind.CertificateVerify
-kind_by_variant (handshakes.ClientKeyExchange parameters) = kind.ClientKeyExchange
-kind_by_variant (handshakes.CertificateStatus status) = kind.CertificateStatus
-kind_by_variant _ = kind.Other
+-- The kind of a HandshakeType (RFC 5246, 7.4; RFC 6347, 4.3.2; RFC 5077, 3.3; RFC 6066, 8), of TLS 1.3 (RFC 8446, 4) and its
+-- drafts, of which none comes in the clear before a handshake's end but the HelloRetryRequest of drafts, 6 (draft-ietf-tls-tls13-19, 4.1.4). Of a
+-- ServerHello this is the kind of one below TLS 1.3.
+abbrev pub kind_of_type : ℕ → Kind
+kind_of_type n =
+    if n == 0 then kind.HelloRequest
+    else if n == 1 then kind.ClientHello
+    else if n == 2 then kind.ServerHello
+    else if n == 3 then kind.HelloVerifyRequest
+    else if n == 4 then kind.NewSessionTicket
+    else if n == 5 then kind.Other
+    else if n == 6 then kind.HelloRetryRequest
+    else if n == 8 then kind.Other
+    else if n == 11 then kind.Certificate
+    else if n == 12 then kind.ServerKeyExchange
+    else if n == 13 then kind.CertificateRequest
+    else if n == 14 then kind.ServerDone
+    else if n == 15 then kind.CertificateVerify
+    else if n == 16 then kind.ClientKeyExchange
+    else if n == 20 then kind.Other
+    else if n == 22 then kind.CertificateStatus
+    else if n == 24 then kind.Other
+    else if n == 67 then kind.Other
+    else kind.Unknown
 
+-- That of its type, but for a ServerHello, of which draft 18 of TLS 1.3 has one of its own (draft-ietf-tls-tls13-18, 4.1.3).
 abbrev pub kind_of_handshake : handshakes.Handshake → Kind
 kind_of_handshake (handshakes.ServerHello hello) = kind_of_server_hello hello
-kind_of_handshake m = kind_by_variant m
+kind_of_handshake (handshakes.ServerHelloV13Draft18 hello) = kind.ServerHello13
+kind_of_handshake m = kind_of_type (msg_type_of m)
 
 -- Level 1 is a warning, unless it is close_notify, 0, behind which its sender says nothing (RFC 5246, 7.2.1), or the
 -- no_certificate of SSL 3.0, 41 (RFC 6101, 5.6.6).

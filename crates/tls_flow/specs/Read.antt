@@ -1,7 +1,7 @@
 -- The letter of a handshake message is the same by its bytes and by what is read of them.
 use Rattle.std.specs.Prelude.{◌≡◌, [], Ok}
-use Rattle.tls_fields.specs.Bytes.{Bytes}
-use Rattle.tls_fields.specs.Reading.{reading}
+use Rattle.layouts.specs.Bytes.{Bytes}
+use Rattle.layouts.specs.Reading.{reading}
 use Rattle.tls_hs.specs.Message as messages
 use Rattle.tls_flow.specs.Bytes.{kind_of_bytes}
 use Rattle.tls_flow.specs.Messages.{kind_of}

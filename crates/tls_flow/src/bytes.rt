@@ -1,6 +1,7 @@
 //! Handshake messages as letters by their bytes, without memory.
 ghost use Rattle.std.specs.Prelude.{◌≡◌};
-ghost use Rattle.tls_flow.specs.Bytes.{kind_of_bytes, kind_of_body, kind_of_datagram_body, kind_of_type};
+ghost use Rattle.tls_flow.specs.Bytes.{kind_of_bytes, kind_of_body, kind_of_datagram_body};
+ghost use Rattle.tls_flow.specs.Messages.{kind_of_type};
 
 use crate::handshake::HandshakeMessage;
 use crate::letter::Kind;
@@ -11,21 +12,25 @@ impl Kind {
     pub fn of_type(msg_type: TlsHandshakeType) -> Kind
         ensures { result ≡ kind_of_type msg_type.0 }
     {
-        match msg_type.0 {
-            0 => Kind::HelloRequest,
-            1 => Kind::ClientHello,
-            2 => Kind::ServerHello,
-            3 => Kind::HelloVerifyRequest,
-            4 => Kind::NewSessionTicket,
-            11 => Kind::Certificate,
-            12 => Kind::ServerKeyExchange,
-            13 => Kind::CertificateRequest,
-            14 => Kind::ServerDone,
-            15 => Kind::CertificateVerify,
-            16 => Kind::ClientKeyExchange,
-            22 => Kind::CertificateStatus,
-            6 => Kind::HelloRetryRequest,
-            5 | 8 | 20 | 24 | 67 => Kind::Other,
+        match msg_type {
+            TlsHandshakeType::HelloRequest => Kind::HelloRequest,
+            TlsHandshakeType::ClientHello => Kind::ClientHello,
+            TlsHandshakeType::ServerHello => Kind::ServerHello,
+            TlsHandshakeType::HelloVerifyRequest => Kind::HelloVerifyRequest,
+            TlsHandshakeType::NewSessionTicket => Kind::NewSessionTicket,
+            TlsHandshakeType::HelloRetryRequest => Kind::HelloRetryRequest,
+            TlsHandshakeType::Certificate => Kind::Certificate,
+            TlsHandshakeType::ServerKeyExchange => Kind::ServerKeyExchange,
+            TlsHandshakeType::CertificateRequest => Kind::CertificateRequest,
+            TlsHandshakeType::ServerDone => Kind::ServerDone,
+            TlsHandshakeType::CertificateVerify => Kind::CertificateVerify,
+            TlsHandshakeType::ClientKeyExchange => Kind::ClientKeyExchange,
+            TlsHandshakeType::CertificateStatus => Kind::CertificateStatus,
+            TlsHandshakeType::EndOfEarlyData
+            | TlsHandshakeType::EncryptedExtensions
+            | TlsHandshakeType::Finished
+            | TlsHandshakeType::KeyUpdate
+            | TlsHandshakeType::NextProtocol => Kind::Other,
             _ => Kind::Unknown,
         }
     }

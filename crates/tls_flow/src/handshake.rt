@@ -3,12 +3,12 @@ ghost use Rattle.std.specs.Prelude.{◌≡◌};
 ghost use Rattle.std.specs.Option.{option_map};
 ghost use Rattle.tls_hs.specs.Handshake.{view_handshake};
 ghost use Rattle.tls_hs.specs.Handshake as handshakes;
-ghost use Rattle.tls_fields.specs.Reading.{reading};
+ghost use Rattle.layouts.specs.Reading.{reading};
 ghost use Rattle.tls_flow.specs.Bytes.{datagram_hello_in, datagram_message, draft_hello, kind_in_datagrams, kind_in_stream, kind_of_datagrams, kind_of_message, message_of, server_hello_in, stream_message, view_heard};
 
 use crate::letter::Kind;
+use layouts::InPlace;
 use tls_base::TlsHandshakeType;
-use tls_fields::InPlace;
 use tls_hs::parts::server_hello_any;
 use tls_hs::{
     RawHandshake, TlsMessageHandshake, parse_tls_handshake_msg_server_hello,

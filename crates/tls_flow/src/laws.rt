@@ -1,5 +1,5 @@
 //! What stands of letters. The function's contract is one law; its body is empty.
-ghost use Rattle.tls_fields.specs.Bytes.{Bytes};
+ghost use Rattle.layouts.specs.Bytes.{Bytes};
 ghost use Rattle.tls_hs.specs.Message.{Message};
 ghost use Rattle.tls_flow.specs.Read.{IsSameKind};
 

@@ -1,35 +1,17 @@
 //! Messages as letters.
-ghost use Rattle.std.specs.Prelude.{◌≡◌, Some, slice_get};
+ghost use Rattle.std.specs.Prelude.{◌≡◌};
 ghost use Rattle.tls_base.specs.Alert.{view_alert};
-ghost use Rattle.tls_fields.specs.Answers.{Gives};
+ghost use Rattle.tls_ext.specs.InPlace.{view_raw_extension};
 ghost use Rattle.tls_hs.specs.ServerHello.{view_server_hello};
 ghost use Rattle.tls_hs.specs.Handshake.{view_handshake};
 ghost use Rattle.tls_hs.specs.Message.{view_message};
-ghost use Rattle.tls_flow.specs.Messages.{extension as extension_layout, is_tls13_version, picks_tls13 as picks, picks_in, kind_by_variant, kind_of_server_hello, kind_of_handshake, kind_of_alert, kind_of, direction, letter_of as letter_is};
+ghost use Rattle.tls_flow.specs.Messages.{is_tls13_version, picks_tls13 as picks, picks_in, kind_of_server_hello, kind_of_handshake, kind_of_alert, kind_of, direction, letter_of as letter_is};
 
 use crate::letter::{Direction, Kind, Letter};
-use tls_base::{TlsAlertDescription, TlsAlertSeverity, TlsMessageAlert};
-use tls_fields::{IResult, counted2, number2};
+use layouts::Items;
+use tls_base::{TlsAlertDescription, TlsAlertSeverity, TlsExtensionType, TlsMessageAlert};
+use tls_ext::RawExtension;
 use tls_hs::{TlsMessage, TlsMessageHandshake, TlsServerHelloContents};
-
-/// The random of a ServerHello that is a HelloRetryRequest (RFC 8446, section 4.1.3).
-static HELLO_RETRY_RANDOM: [u8; 32] = [
-    0xCF, 0x21, 0xAD, 0x74, 0xE5, 0x9A, 0x61, 0x11, 0xBE, 0x1D, 0x8C, 0x02, 0x1E, 0x65, 0xB8, 0x91,
-    0xC2, 0xA2, 0x11, 0x16, 0x7A, 0xBB, 0x8C, 0x5E, 0x07, 0x9E, 0x09, 0xE2, 0xC8, 0xA8, 0x33, 0x9C,
-];
-
-/// The type of the extension supported_versions (RFC 8446, section 4.2.1).
-const SUPPORTED_VERSIONS: u16 = 43;
-
-/// The extension at the front of `i`: its type and its content.
-#[tactic(auto, using(tls_fields::proofs::OneAnswerLemmas::read_allowed), unfolding(crate::specs::Messages::extension))]
-fn extension(i: &[u8]) -> IResult<&[u8], (u16, &[u8])>
-    ensures { Gives (λ v. (v.0, v.1.now)) extension_layout i.now result }
-{
-    let (i, extension_type) = number2(i)?;
-    let (i, content) = counted2(i)?;
-    Ok((i, (extension_type, content)))
-}
 
 /// Whether the content of a ServerHello's supported_versions is TLS 1.3, a draft of it, or DTLS 1.3.
 fn is_tls13(content: &[u8]) -> bool
@@ -44,10 +26,10 @@ fn is_tls13(content: &[u8]) -> bool
 }
 
 /// Whether an extension is supported_versions and names such a version.
-fn is_pick(extension_type: u16, content: &[u8]) -> bool
-    ensures { result ≡ picks (extension_type, content.now) }
+fn is_pick(extension: &RawExtension<'_>) -> bool
+    ensures { result ≡ picks (view_raw_extension extension.now) }
 {
-    extension_type == SUPPORTED_VERSIONS && is_tls13(content)
+    extension.extension_type == TlsExtensionType::SupportedVersions && is_tls13(extension.content)
 }
 
 /// Whether a ServerHello's block of extensions picks TLS 1.3, a draft of it, or DTLS 1.3, by supported_versions. What stands behind
@@ -55,16 +37,10 @@ fn is_pick(extension_type: u16, content: &[u8]) -> bool
 pub fn picks_tls13(block: &[u8]) -> bool
     ensures { result ≡ picks_in block.now }
 {
-    let mut left = block;
-    for _ in 0..block.len() {
-        match extension(left) {
-            Ok((after, (extension_type, content))) => {
-                if is_pick(extension_type, content) {
-                    return true;
-                }
-                left = after;
-            }
-            Err(_) => return false,
+    let walk: Items<RawExtension> = Items::new(block);
+    for extension in walk {
+        if is_pick(&extension) {
+            return true;
         }
     }
     false
@@ -75,7 +51,7 @@ pub fn picks_tls13(block: &[u8]) -> bool
 fn kind_of_hello(hello: &TlsServerHelloContents<'_>) -> Kind
     ensures { result ≡ kind_of_server_hello (view_server_hello hello.now) }
 {
-    if hello.random == HELLO_RETRY_RANDOM.as_slice() {
+    if hello.is_retry_request() {
         return Kind::HelloRetryRequest;
     }
     match hello.ext {
@@ -84,62 +60,16 @@ fn kind_of_hello(hello: &TlsServerHelloContents<'_>) -> Kind
     }
 }
 
-/// The kinds of handshake messages, each at the place of its variant. A look-up here is faster than a jump by the variant.
-static BY_VARIANT: [Kind; 17] = [
-    Kind::HelloRequest,
-    Kind::ClientHello,
-    Kind::ServerHello,
-    Kind::ServerHello13,
-    Kind::NewSessionTicket,
-    Kind::Other,
-    Kind::HelloRetryRequest,
-    Kind::Certificate,
-    Kind::ServerKeyExchange,
-    Kind::CertificateRequest,
-    Kind::ServerDone,
-    Kind::CertificateVerify,
-    Kind::ClientKeyExchange,
-    Kind::Other,
-    Kind::CertificateStatus,
-    Kind::Other,
-    Kind::Other,
-];
-
-/// The place of a message's variant among the variants.
-#[inline]
-fn place_of_variant(message: &TlsMessageHandshake<'_>) -> usize
-    ensures { slice_get BY_VARIANT result ≡ Some (kind_by_variant (view_handshake message.now)) }
-{
-    match message {
-        TlsMessageHandshake::HelloRequest => 0,
-        TlsMessageHandshake::ClientHello(_) => 1,
-        TlsMessageHandshake::ServerHello(_) => 2,
-        TlsMessageHandshake::ServerHelloV13Draft18(_) => 3,
-        TlsMessageHandshake::NewSessionTicket(_) => 4,
-        TlsMessageHandshake::EndOfEarlyData => 5,
-        TlsMessageHandshake::HelloRetryRequest(_) => 6,
-        TlsMessageHandshake::Certificate(_) => 7,
-        TlsMessageHandshake::ServerKeyExchange(_) => 8,
-        TlsMessageHandshake::CertificateRequest(_) => 9,
-        TlsMessageHandshake::ServerDone(_) => 10,
-        TlsMessageHandshake::CertificateVerify(_) => 11,
-        TlsMessageHandshake::ClientKeyExchange(_) => 12,
-        TlsMessageHandshake::Finished(_) => 13,
-        TlsMessageHandshake::CertificateStatus(_) => 14,
-        TlsMessageHandshake::NextProtocol(_) => 15,
-        TlsMessageHandshake::KeyUpdate(_) => 16,
-    }
-}
-
 impl Kind {
-    /// The kind of a handshake message. A ServerHello is looked at apart, so that the rest is a look-up of the variant.
+    /// The kind of a handshake message: that of its type, but a ServerHello is looked at apart.
     #[inline]
     pub fn of_handshake(message: &TlsMessageHandshake<'_>) -> Kind
         ensures { result ≡ kind_of_handshake (view_handshake message.now) }
     {
         match message {
             TlsMessageHandshake::ServerHello(hello) => kind_of_hello(hello),
-            _ => BY_VARIANT[place_of_variant(message)],
+            TlsMessageHandshake::ServerHelloV13Draft18(_) => Kind::ServerHello13,
+            _ => Kind::of_type(message.msg_type()),
         }
     }
 

@@ -6,18 +6,18 @@ use Rattle.std.proofs.lemmas.List.{length-append}
 use Rattle.std.proofs.lemmas.Bool.{leb-true, le-leb, eqb-true}
 use Rattle.std.specs.Option.{IsSome}
 use Rattle.std.specs.List.{All}
-use Rattle.tls_fields.specs.Bytes.{Bytes, bytes_of}
-use Rattle.tls_fields.specs.Layout.{Layout, done, number, block, left, maybe, chain, test, counted, times}
-use Rattle.tls_fields.specs.Meaning.{Spells}
-use Rattle.tls_fields.specs.declared.result.ErrorKind.TheVariants.{LengthValue, Verify}
-use Rattle.tls_fields.proofs.OneAnswerLemmas.{eqb_other}
+use Rattle.layouts.specs.Bytes.{Bytes, bytes_of}
+use Rattle.layouts.specs.Layout.{Layout, done, number, block, left, maybe, chain, test, counted, times}
+use Rattle.layouts.specs.Meaning.{Spells}
+use Rattle.layouts.specs.declared.result.ErrorKind.TheVariants.{LengthValue, Verify}
+use Rattle.layouts.proofs.OneAnswerLemmas.{eqb_other}
 use Rattle.tls_hs.specs.Hello.{ClientHello, session_id, cipher_suites, compression_methods, client_hello}
-use Rattle.tls_fields.specs.Text.{counted_text, numbers_text, held}
+use Rattle.layouts.specs.Text.{counted_text, numbers_text, held}
 use Rattle.tls_hs.specs.HandshakeText.{client_hello_text, FitsClientHello, InRangeClientHello, normal_id}
 use Rattle.tls_hs.specs.HandshakeText.{normal_client_hello}
-use Rattle.tls_fields.proofs.TextLemmas.{parts, joined, test_spelled, test_whole, counted_spelled, counted_whole}
-use Rattle.tls_fields.proofs.TextLemmas.{chain_spelled, then_text, times_spelled, times_whole, number_spelled}
-use Rattle.tls_fields.proofs.TextLemmas.{number_whole, length-numbers}
+use Rattle.layouts.proofs.TextLemmas.{parts, joined, test_spelled, test_whole, counted_spelled, counted_whole}
+use Rattle.layouts.proofs.TextLemmas.{chain_spelled, then_text, times_spelled, times_whole, number_spelled}
+use Rattle.layouts.proofs.TextLemmas.{number_whole, length-numbers}
 
 -- a session id
 abbrev id_of : Bytes → Option Bytes

@@ -2,13 +2,13 @@
 use Rattle.std.proofs.Common.{◌≡◌, ℕ, ◌^◌, ◌<◌, ◌≤◌, [], ◌++◌, length, eqb, ◌==◌, refl, sym, ◌∙◌, ap, subst, arith}
 use Rattle.std.proofs.Common.{append_assoc, append-nil, true, false, Ok, Err, Result, IfOk}
 use Rattle.std.specs.Option.{IsSome}
-use Rattle.tls_fields.specs.Bytes.{Bytes, bytes_of}
-use Rattle.tls_fields.specs.Layout.{Layout, done, number, block, window, look, chain, choose}
+use Rattle.layouts.specs.Bytes.{Bytes, bytes_of}
+use Rattle.layouts.specs.Layout.{Layout, done, number, block, window, look, chain, choose}
 use Rattle.std.specs.Result.{result_map_both}
-use Rattle.tls_fields.specs.Meaning.{Spells, Allows}
-use Rattle.tls_fields.specs.Writer.{Builds}
-use Rattle.tls_fields.specs.declared.writer.GenError.{GenError}
-use Rattle.tls_fields.proofs.OneAnswerLemmas.{eqb_other}
+use Rattle.layouts.specs.Meaning.{Spells, Allows}
+use Rattle.layouts.specs.Writer.{Builds}
+use Rattle.layouts.specs.declared.writer.GenError.{GenError}
+use Rattle.layouts.proofs.OneAnswerLemmas.{eqb_other}
 use Rattle.tls_hs.specs.Hello as hello
 use Rattle.tls_hs.specs.ServerHello as server
 use Rattle.tls_hs.specs.Session as session
@@ -18,15 +18,15 @@ use Rattle.tls_hs.specs.Handshake.{server_hello_body, client_key_exchange_body, 
 use Rattle.tls_hs.specs.Handshake.{body_from_certificate, handshake_body}
 use Rattle.tls_hs.specs.HandshakeWriter.{HasText}
 use Rattle.tls_hs.specs.Message as message
-use Rattle.tls_fields.specs.Text.{counted_text}
+use Rattle.layouts.specs.Text.{counted_text}
 use Rattle.tls_hs.specs.HandshakeText.{client_hello_text, normal_client_hello, FitsClientHello, InRangeClientHello}
 use Rattle.tls_hs.specs.HandshakeText.{server_hello_text, normal_server_hello, FitsServerHello, InRangeServerHello}
 use Rattle.tls_hs.specs.HandshakeText.{server_hello_draft18_text, normal_server_hello_draft18, FitsServerHelloDraft18}
 use Rattle.tls_hs.specs.HandshakeText.{InRangeServerHelloDraft18, client_key_exchange_text, FitsClientKeyExchange}
 use Rattle.tls_hs.specs.HandshakeText.{msg_type_of, body_text, FitsBody, IsReadableHandshake, normal_handshake}
 use Rattle.tls_hs.specs.HandshakeText.{IsWrittenBack, handshake_text, FitsHandshake, InRangeHandshake}
-use Rattle.tls_fields.proofs.TextLemmas.{Reads, reads_chain, reads_window, reads_allowed, parts, joined, filled}
-use Rattle.tls_fields.proofs.TextLemmas.{then_text, number_spelled, First, Second, picked, picks_first, picks_second}
+use Rattle.layouts.proofs.TextLemmas.{Reads, reads_chain, reads_window, reads_allowed, parts, joined, filled}
+use Rattle.layouts.proofs.TextLemmas.{then_text, number_spelled, First, Second, picked, picks_first, picks_second}
 use Rattle.tls_hs.proofs.ClientHelloTextLemmas.{client_hello_spelled, client_hello_whole, Written}
 use Rattle.tls_hs.proofs.ServerHelloTextLemmas.{server_reads, draft_reads, server_looked, draft_looked}
 use Rattle.tls_hs.proofs.ServerHelloTextLemmas.{server_hello_whole, draft18_whole, WrittenServer, WrittenDraft}

@@ -2,10 +2,10 @@
 use Rattle.std.proofs.Common.{◌≡◌, ℕ, ◌≤◌, ◌+◌, ◌*◌, ◌++◌, length, map, ◌∙◌, ap, arith, append_assoc}
 use Rattle.std.proofs.Math.ListN.{length-map}
 use Rattle.std.proofs.lemmas.List.{length-append}
-use Rattle.tls_fields.specs.Bytes.{Bytes, bytes_of}
-use Rattle.tls_fields.specs.Text.{counted_text, numbers_text, held}
-use Rattle.tls_fields.proofs.NumberLemmas.{length-bytes_of}
-use Rattle.tls_fields.proofs.TextLemmas.{length-numbers}
+use Rattle.layouts.specs.Bytes.{Bytes, bytes_of}
+use Rattle.layouts.specs.Text.{counted_text, numbers_text, held}
+use Rattle.layouts.proofs.NumberLemmas.{length-bytes_of}
+use Rattle.layouts.proofs.TextLemmas.{length-numbers}
 use Rattle.tls_hs.specs.Hello.{ClientHello, view_client_hello}
 use Rattle.tls_hs.specs.ServerHello.{ServerHello, ServerHelloDraft18}
 use Rattle.tls_hs.specs.HandshakeText.{FitsClientHello, client_hello_text, server_hello_text, server_hello_draft18_text}

@@ -1,9 +1,9 @@
 -- The type in front of a handshake message is that of its kind.
 use Rattle.std.proofs.Common.{◌≡◌, ℕ, ◌∙◌, sym, ap, refl, ◌==◌, Bool}
 use Rattle.std.proofs.lemmas.Bool.{eqb-true}
-use Rattle.tls_fields.specs.Bytes.{Bytes}
-use Rattle.tls_fields.specs.Layout.{Layout, done, number, block, chain, choose}
-use Rattle.tls_fields.specs.Meaning.{Spells}
+use Rattle.layouts.specs.Bytes.{Bytes}
+use Rattle.layouts.specs.Layout.{Layout, done, number, block, chain, choose}
+use Rattle.layouts.specs.Meaning.{Spells}
 use Rattle.tls_hs.specs.Hello as hello
 use Rattle.tls_hs.specs.ServerHello as server
 use Rattle.tls_hs.specs.Certificate as certificates
@@ -18,7 +18,7 @@ use Rattle.tls_hs.specs.Handshake.{server_done_body, certificate_verify_body, cl
 use Rattle.tls_hs.specs.Handshake.{certificate_status_body, next_protocol_body, key_update_body, body_from_finished}
 use Rattle.tls_hs.specs.Handshake.{body_from_certificate, handshake_body}
 use Rattle.tls_hs.specs.HandshakeText.{msg_type_of}
-use Rattle.tls_fields.proofs.TextLemmas.{First, Second, picked}
+use Rattle.layouts.proofs.TextLemmas.{First, Second, picked}
 
 -- A layout spells messages of the type k alone.
 abbrev Makes : ℕ → Layout Handshake → Type 0

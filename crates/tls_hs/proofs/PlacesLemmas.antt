@@ -28,13 +28,13 @@ use Rattle.std.proofs.Common.{
 use Rattle.std.proofs.lemmas.List.{take-append-drop}
 use Rattle.std.specs.Borrow.{Bor}
 use Rattle.std.specs.Option.{option_map}
-use Rattle.tls_fields.specs.Bytes.{Bytes, bytes_of}
-use Rattle.tls_fields.specs.Layout.{block, counted, maybe, test}
-use Rattle.tls_fields.specs.Meaning.{EndsWith, Spells, Allows}
-use Rattle.tls_fields.specs.declared.result.ErrorKind.{ErrorKind}
+use Rattle.layouts.specs.Bytes.{Bytes, bytes_of}
+use Rattle.layouts.specs.Layout.{block, counted, maybe, test}
+use Rattle.layouts.specs.Meaning.{EndsWith, Spells, Allows}
+use Rattle.layouts.specs.declared.result.ErrorKind.{ErrorKind}
 use Rattle.tls_hs.specs.Hello.{session_id}
 use Rattle.tls_hs.specs.Places.{Stands}
-use Rattle.tls_fields.proofs.EndLemmas.{ends_after}
+use Rattle.layouts.proofs.EndLemmas.{ends_after}
 
 pub block_stands : (n : ℕ) (w b x r : Bytes) → EndsWith w b → Allows (block n) b (Ok (x, r)) → EndsWith w (x ++ r)
 unfolding Allows

@@ -4,19 +4,19 @@ use Rattle.std.proofs.Common.{nat_le, refl, sym, ◌∙◌, ap, subst, arith, ap
 use Rattle.std.proofs.Common.{if◌then◌else◌}
 use Rattle.std.proofs.lemmas.Bool.{le-leb, eqb-false}
 use Rattle.std.specs.Option.{IsSome}
-use Rattle.tls_fields.specs.Bytes.{Bytes, bytes_of}
-use Rattle.tls_fields.specs.Layout.{Layout, done, refuse, number, block, maybe, look, chain, choose, counted}
-use Rattle.tls_fields.specs.Meaning.{Spells}
-use Rattle.tls_fields.specs.declared.result.ErrorKind.TheVariants.{Tag}
+use Rattle.layouts.specs.Bytes.{Bytes, bytes_of}
+use Rattle.layouts.specs.Layout.{Layout, done, refuse, number, block, maybe, look, chain, choose, counted}
+use Rattle.layouts.specs.Meaning.{Spells}
+use Rattle.layouts.specs.declared.result.ErrorKind.TheVariants.{Tag}
 use Rattle.tls_hs.specs.Hello.{session_id}
 use Rattle.tls_hs.specs.ServerHello.{ServerHello, ServerHelloDraft18, server_hello_any, server_hello_ssl30}
 use Rattle.tls_hs.specs.ServerHello.{server_hello, server_hello_draft18}
-use Rattle.tls_fields.specs.Text.{counted_text, held}
+use Rattle.layouts.specs.Text.{counted_text, held}
 use Rattle.tls_hs.specs.HandshakeText.{normal_id, server_hello_text, FitsServerHello, InRangeServerHello}
 use Rattle.tls_hs.specs.HandshakeText.{normal_server_hello, server_hello_draft18_text, FitsServerHelloDraft18}
 use Rattle.tls_hs.specs.HandshakeText.{InRangeServerHelloDraft18, normal_server_hello_draft18}
-use Rattle.tls_fields.proofs.TextLemmas.{First, Second, picked, picks_first, picks_second, parts, joined}
-use Rattle.tls_fields.proofs.TextLemmas.{counted_spelled, number_spelled}
+use Rattle.layouts.proofs.TextLemmas.{First, Second, picked, picks_first, picks_second, parts, joined}
+use Rattle.layouts.proofs.TextLemmas.{counted_spelled, number_spelled}
 use Rattle.tls_hs.proofs.ClientHelloTextLemmas.{session_id_spelled, session_id_whole, extensions_whole, and_true}
 
 -- what follows each field, up to what differs

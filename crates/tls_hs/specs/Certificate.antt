@@ -3,8 +3,8 @@
 -- Lower bounds of the RFCs, as in opaque x<1..2^8-1>, aren't asked for: each list and each block may be empty.
 use Rattle.std.specs.Prelude.{ℕ, List, map, Option, Some, None}
 use Rattle.std.specs.Option.{option_map}
-use Rattle.tls_fields.specs.Bytes.{Bytes}
-use Rattle.tls_fields.specs.Layout.{Layout, done, number, list, either, ◌>>=◌, counted, counted_window}
+use Rattle.layouts.specs.Bytes.{Bytes}
+use Rattle.layouts.specs.Layout.{Layout, done, number, list, either, ◌>>=◌, counted, counted_window}
 use Rattle.tls_hs.specs.declared.certificate.TlsCertificateContents.{TlsCertificateContents}
 use Rattle.tls_hs.specs.declared.certificate.TlsCertificateStatusContents.{TlsCertificateStatusContents}
 use Rattle.tls_hs.specs.declared.certificate_request.TlsCertificateRequestContents.{TlsCertificateRequestContents}

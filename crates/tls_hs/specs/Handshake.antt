@@ -2,9 +2,9 @@
 -- and 24 (RFC 8446, section 4), 6 (draft-ietf-tls-tls13-19, section 4.1.4) and 67 (draft-agl-tls-nextprotoneg-04,
 -- section 3). Types 4, 11 and 13 have a form of their own in TLS 1.3, which isn't read: they are read in that of TLS 1.2.
 use Rattle.std.specs.Prelude.{ℕ, List, ◌==◌, ◌&&◌, nat_le}
-use Rattle.tls_fields.specs.Bytes.{Bytes}
-use Rattle.tls_fields.specs.Layout.{Layout, done, refuse, number, block, look, ◌>>=◌, mapped, choose}
-use Rattle.tls_fields.specs.declared.result.ErrorKind.TheVariants.{Switch, Tag}
+use Rattle.layouts.specs.Bytes.{Bytes}
+use Rattle.layouts.specs.Layout.{Layout, done, refuse, number, block, look, ◌>>=◌, mapped, choose}
+use Rattle.layouts.specs.declared.result.ErrorKind.TheVariants.{Switch, Tag}
 use Rattle.tls_hs.specs.Hello as hello
 use Rattle.tls_hs.specs.ServerHello as server
 use Rattle.tls_hs.specs.Certificate as certificates

@@ -3,10 +3,10 @@
 use Rattle.std.specs.Prelude.{ℕ, ◌<◌, ◌≤◌, ◌^◌, ◌≡◌, [], ◌∷◌, ◌++◌, length, Option, Some, None, ⊤, ◌==◌, if◌then◌else◌}
 use Rattle.std.specs.Option.{IsSome}
 use Rattle.std.specs.List.{All}
-use Rattle.tls_fields.specs.Bytes.{Bytes, bytes_of}
-use Rattle.tls_fields.specs.Text.{counted_text, numbers_text, held}
-use Rattle.tls_fields.specs.declared.writer.GenError.{GenError}
-use Rattle.tls_fields.specs.declared.writer.GenError.TheVariants.{NotYetImplemented, BadLength}
+use Rattle.layouts.specs.Bytes.{Bytes, bytes_of}
+use Rattle.layouts.specs.Text.{counted_text, numbers_text, held}
+use Rattle.layouts.specs.declared.writer.GenError.{GenError}
+use Rattle.layouts.specs.declared.writer.GenError.TheVariants.{NotYetImplemented, BadLength}
 use Rattle.tls_hs.specs.Hello as hello
 use Rattle.tls_hs.specs.ServerHello as server
 use Rattle.tls_hs.specs.Session as session

@@ -1,10 +1,10 @@
 -- What the calls answer that write handshake messages: their text is said in `HandshakeText`.
 use Rattle.std.specs.Prelude.{ℕ, ◌≡◌, ◌++◌, Option, Result, Ok}
-use Rattle.tls_fields.specs.Bytes.{Bytes}
-use Rattle.tls_fields.specs.Meaning.{Allows}
-use Rattle.tls_fields.specs.Writer.{Judges, Builds, Writes}
-use Rattle.tls_fields.specs.declared.writer.GenError.{GenError}
-use Rattle.tls_fields.specs.declared.writer.GenError.TheVariants.{BadLength}
+use Rattle.layouts.specs.Bytes.{Bytes}
+use Rattle.layouts.specs.Meaning.{Allows}
+use Rattle.layouts.specs.Writer.{Judges, Builds, Writes}
+use Rattle.layouts.specs.declared.writer.GenError.{GenError}
+use Rattle.layouts.specs.declared.writer.GenError.TheVariants.{BadLength}
 use Rattle.tls_hs.specs.Handshake.{Handshake}
 use Rattle.tls_hs.specs.HandshakeText.{body_text, FitsBody, handshake_text, FitsHandshake, InRangeHandshake}
 use Rattle.tls_hs.specs.HandshakeText.{refusal_of_handshake, IsReadableHandshake, normal_handshake}

@@ -2,9 +2,9 @@
 use Rattle.std.specs.Prelude.{ℕ, ◌/◌, ◌%◌, List, map, take, drop, length, Option, Some, None, nat_le, nat_lt, ◌==◌}
 use Rattle.std.specs.Prelude.{◌&&◌, if◌then◌else◌}
 use Rattle.std.specs.Option.{option_map}
-use Rattle.tls_fields.specs.Bytes.{Bytes, number_of}
-use Rattle.tls_fields.specs.Layout.{Layout, done, number, block, left, maybe, ◌>>=◌, ◌>>◌, test, counted, times}
-use Rattle.tls_fields.specs.declared.result.ErrorKind.TheVariants.{LengthValue, Verify}
+use Rattle.layouts.specs.Bytes.{Bytes, number_of}
+use Rattle.layouts.specs.Layout.{Layout, done, number, block, left, maybe, ◌>>=◌, ◌>>◌, test, counted, times}
+use Rattle.layouts.specs.declared.result.ErrorKind.TheVariants.{LengthValue, Verify}
 use Rattle.tls_hs.specs.declared.client_hello.TlsClientHelloContents.{TlsClientHelloContents}
 
 -- A ClientHello, apart from where it lies in memory; the extensions are one undivided block. In TLS 1.3 its version is

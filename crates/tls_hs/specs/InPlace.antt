@@ -1,13 +1,13 @@
 -- Handshake messages in place: what they say is what those with lists of their own say.
 use Rattle.std.specs.Prelude.{ℕ, List, Result, Ok, Err, length}
 use Rattle.std.specs.Option.{option_map}
-use Rattle.tls_fields.specs.Bytes.{Bytes}
-use Rattle.tls_fields.specs.Layout.{Layout, number, counted}
-use Rattle.tls_fields.specs.Meaning.{Refusal}
-use Rattle.tls_fields.specs.Reading.{reading, ◌and_then◌}
-use Rattle.tls_fields.specs.Answers.{Returned}
-use Rattle.tls_fields.specs.Items.{items_in, value_of}
-use Rattle.tls_fields.specs.Framed.{Framed, framed}
+use Rattle.layouts.specs.Bytes.{Bytes}
+use Rattle.layouts.specs.Layout.{Layout, number, counted}
+use Rattle.layouts.specs.Meaning.{Refusal}
+use Rattle.layouts.specs.Reading.{reading, ◌and_then◌}
+use Rattle.layouts.specs.Answers.{Returned}
+use Rattle.layouts.specs.Items.{items_in, value_of}
+use Rattle.layouts.specs.Framed.{Framed, framed}
 use Rattle.tls_hs.specs.Hello.{ClientHello}
 use Rattle.tls_hs.specs.Certificate.{CertificateRequest}
 use Rattle.tls_hs.specs.Handshake as handshakes

@@ -10,9 +10,9 @@ pub mod Messages
 pub mod HandshakeText
 pub mod HandshakeWriter
 pub mod Writable
-pub use Rattle.tls_fields.specs.Bytes
-pub use Rattle.tls_fields.specs.Layout
-pub use Rattle.tls_fields.specs.Meaning
-pub use Rattle.tls_fields.specs.Answers
-pub use Rattle.tls_fields.specs.Text
-pub use Rattle.tls_fields.specs.Writer
+pub use Rattle.layouts.specs.Bytes
+pub use Rattle.layouts.specs.Layout
+pub use Rattle.layouts.specs.Meaning
+pub use Rattle.layouts.specs.Answers
+pub use Rattle.layouts.specs.Text
+pub use Rattle.layouts.specs.Writer

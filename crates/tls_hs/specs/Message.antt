@@ -1,8 +1,8 @@
 -- The messages of records.
 use Rattle.std.specs.Prelude.{ℕ, List, [], ◌∷◌, nat_le, ◌==◌}
-use Rattle.tls_fields.specs.Bytes.{Bytes}
-use Rattle.tls_fields.specs.Layout.{Layout, done, number, block, window, ◌>>=◌, ◌>>◌, mapped, test, rest}
-use Rattle.tls_fields.specs.declared.result.ErrorKind.TheVariants.{Verify}
+use Rattle.layouts.specs.Bytes.{Bytes}
+use Rattle.layouts.specs.Layout.{Layout, done, number, block, window, ◌>>=◌, ◌>>◌, mapped, test, rest}
+use Rattle.layouts.specs.declared.result.ErrorKind.TheVariants.{Verify}
 use Rattle.tls_base.specs.Alert as alerts
 use Rattle.tls_hs.specs.Handshake as handshakes
 use Rattle.tls_hs.specs.declared.message.TlsMessage.{TlsMessage}

@@ -1,10 +1,10 @@
 -- The messages of a record in place.
 use Rattle.std.specs.Prelude.{ℕ, List, [], ◌∷◌, map, Result, Ok, ◌==◌, if◌then◌else◌}
-use Rattle.tls_fields.specs.Bytes.{Bytes}
-use Rattle.tls_fields.specs.Meaning.{Refusal}
-use Rattle.tls_fields.specs.Reading.{reading}
-use Rattle.tls_fields.specs.Items.{items_in, list_read}
-use Rattle.tls_fields.specs.Framed.{Framed}
+use Rattle.layouts.specs.Bytes.{Bytes}
+use Rattle.layouts.specs.Meaning.{Refusal}
+use Rattle.layouts.specs.Reading.{reading}
+use Rattle.layouts.specs.Items.{items_in, list_read}
+use Rattle.layouts.specs.Framed.{Framed}
 use Rattle.tls_base.specs.Alert as alerts
 use Rattle.tls_hs.specs.InPlace.{raw_handshake, view_raw_handshake, handshake_of}
 use Rattle.tls_hs.specs.Message as message

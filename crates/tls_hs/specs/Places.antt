@@ -1,10 +1,10 @@
 -- Where the parts of a ClientHello stand in its body.
 use Rattle.std.specs.Prelude.{◌≡◌, ℕ, List, ◌++◌, Option, Some, None, ⊤}
 use Rattle.std.specs.Borrow.{Bor}
-use Rattle.tls_fields.specs.Bytes.{Bytes}
-use Rattle.tls_fields.specs.Meaning.{EndsWith}
-use Rattle.tls_fields.specs.Place.{bytes_at}
-use Rattle.tls_fields.specs.declared.places.Place.{Place}
+use Rattle.layouts.specs.Bytes.{Bytes}
+use Rattle.layouts.specs.Meaning.{EndsWith}
+use Rattle.layouts.specs.Place.{bytes_at}
+use Rattle.layouts.specs.declared.places.Place.{Place}
 use Rattle.tls_hs.specs.declared.client_hello_view.ClientHelloView.{ClientHelloView}
 use Rattle.tls_hs.specs.declared.client_hello_places.ClientHelloPlaces.{ClientHelloPlaces}
 

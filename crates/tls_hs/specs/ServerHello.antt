@@ -1,9 +1,10 @@
 -- What a server answers to a ClientHello.
-use Rattle.std.specs.Prelude.{ℕ, Option, None, nat_le, ◌==◌, ◌&&◌}
+use Rattle.std.specs.Prelude.{ℕ, Bool, [], ◌∷◌, Option, None, nat_le, ◌==◌, ◌&&◌}
+use Rattle.std.specs.Str.{bytes_eq}
 use Rattle.std.specs.Option.{option_map}
-use Rattle.tls_fields.specs.Bytes.{Bytes}
-use Rattle.tls_fields.specs.Layout.{Layout, done, refuse, number, block, maybe, look, ◌>>=◌, choose, counted}
-use Rattle.tls_fields.specs.declared.result.ErrorKind.TheVariants.{Tag}
+use Rattle.layouts.specs.Bytes.{Bytes}
+use Rattle.layouts.specs.Layout.{Layout, done, refuse, number, block, maybe, look, ◌>>=◌, choose, counted}
+use Rattle.layouts.specs.declared.result.ErrorKind.TheVariants.{Tag}
 use Rattle.tls_hs.specs.Hello.{session_id}
 use Rattle.tls_hs.specs.declared.server_hello.TlsServerHelloContents.{TlsServerHelloContents}
 use Rattle.tls_hs.specs.declared.server_hello.TlsServerHelloV13Draft18Contents.{TlsServerHelloV13Draft18Contents}
@@ -28,6 +29,15 @@ view_server_hello h = record {
   compression_method = h.compression.0;
   extensions = option_map (λ x. x.now) h.ext;
 }
+
+-- The random of a ServerHello that is a HelloRetryRequest (RFC 8446, section 4.1.3).
+abbrev pub hello_retry_random : Bytes
+hello_retry_random =
+    0xcf ∷ 0x21 ∷ 0xad ∷ 0x74 ∷ 0xe5 ∷ 0x9a ∷ 0x61 ∷ 0x11 ∷ 0xbe ∷ 0x1d ∷ 0x8c ∷ 0x02 ∷ 0x1e ∷ 0x65 ∷ 0xb8 ∷ 0x91 ∷
+    0xc2 ∷ 0xa2 ∷ 0x11 ∷ 0x16 ∷ 0x7a ∷ 0xbb ∷ 0x8c ∷ 0x5e ∷ 0x07 ∷ 0x9e ∷ 0x09 ∷ 0xe2 ∷ 0xc8 ∷ 0xa8 ∷ 0x33 ∷ 0x9c ∷ []
+
+abbrev pub is_retry_request : ServerHello → Bool
+is_retry_request h = bytes_eq h.random hello_retry_random
 
 -- The body of a ServerHello whose extensions have that layout.
 abbrev pub server_hello_with : Layout (Option Bytes) → Layout ServerHello

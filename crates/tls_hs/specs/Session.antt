@@ -1,8 +1,8 @@
 -- Tickets, key exchanges and the choice of a protocol.
 use Rattle.std.specs.Prelude.{ℕ, ◌-◌, nat_le}
-use Rattle.tls_fields.specs.Bytes.{Bytes}
-use Rattle.tls_fields.specs.Layout.{Layout, done, number, block, ◌>>=◌, ◌>>◌, test, counted}
-use Rattle.tls_fields.specs.declared.result.ErrorKind.TheVariants.{Verify}
+use Rattle.layouts.specs.Bytes.{Bytes}
+use Rattle.layouts.specs.Layout.{Layout, done, number, block, ◌>>=◌, ◌>>◌, test, counted}
+use Rattle.layouts.specs.declared.result.ErrorKind.TheVariants.{Verify}
 use Rattle.tls_hs.specs.declared.session.TlsNewSessionTicketContent.{TlsNewSessionTicketContent}
 use Rattle.tls_hs.specs.declared.session.TlsClientKeyExchangeContents.{TlsClientKeyExchangeContents}
 use Rattle.tls_hs.specs.declared.session.TlsClientKeyExchangeContents.TheVariants as client_key_exchange_contents

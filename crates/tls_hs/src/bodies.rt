@@ -1,6 +1,6 @@
 //! The bodies of handshake messages (RFC 5246, section 7.4), each read as a message. Where a call takes `len`, it is the
 //! length of the body in bytes, whatever `i` holds.
-ghost use Rattle.tls_fields.specs.Answers.{Gives, GivesOrMemory};
+ghost use Rattle.layouts.specs.Answers.{Gives, GivesOrMemory};
 ghost use Rattle.tls_hs.specs.Handshake.{view_handshake, hello_request_body, client_hello_body, server_hello_body, server_hello_of_draft_body};
 ghost use Rattle.tls_hs.specs.Handshake.{new_session_ticket_body, hello_retry_request_body, certificate_body};
 ghost use Rattle.tls_hs.specs.Handshake.{server_key_exchange_body, certificate_request_body, server_done_body};
@@ -18,12 +18,12 @@ use crate::session::{
     TlsClientKeyExchangeContents, TlsServerKeyExchangeContents, new_session_ticket,
     parse_tls_handshake_next_protocol,
 };
+use layouts::{ErrorKind, IResult, block, number1, refused};
 use std::alloc::Global;
 use tls_base::TlsVersion;
-use tls_fields::{ErrorKind, IResult, block, number1, refused};
 
 /// Reads the body of a HelloRequest (RFC 5246, section 7.4.1.1): no bytes. It never refuses.
-#[tactic(auto, using(tls_fields::proofs::OneAnswerLemmas::read_allowed), unfolding(crate::specs::Handshake::hello_request_body))]
+#[tactic(auto, using(layouts::proofs::OneAnswerLemmas::read_allowed), unfolding(crate::specs::Handshake::hello_request_body))]
 pub fn parse_tls_handshake_msg_hello_request(i: &[u8]) -> IResult<&[u8], TlsMessageHandshake>
     ensures { Gives view_handshake hello_request_body i.now result }
 {
@@ -31,7 +31,7 @@ pub fn parse_tls_handshake_msg_hello_request(i: &[u8]) -> IResult<&[u8], TlsMess
 }
 
 /// Reads the body of a ClientHello (RFC 5246, section 7.4.1.2): as [`parse_tls_handshake_client_hello`].
-#[tactic(auto, using(tls_fields::proofs::OneAnswerLemmas::read_allowed), unfolding(crate::specs::Handshake::client_hello_body))]
+#[tactic(auto, using(layouts::proofs::OneAnswerLemmas::read_allowed), unfolding(crate::specs::Handshake::client_hello_body))]
 #[inline(always)]
 pub fn parse_tls_handshake_msg_client_hello(
     alloc: Global,
@@ -49,7 +49,7 @@ pub fn parse_tls_handshake_msg_client_hello(
 ///
 /// `Incomplete` of the count of missing bytes, where they are missing in front of the extensions; else what that call
 /// refuses.
-#[tactic(auto, using(tls_fields::proofs::OneAnswerLemmas::read_allowed), unfolding(crate::specs::Handshake::server_hello_body))]
+#[tactic(auto, using(layouts::proofs::OneAnswerLemmas::read_allowed), unfolding(crate::specs::Handshake::server_hello_body))]
 pub fn parse_tls_handshake_msg_server_hello(i: &[u8]) -> IResult<&[u8], TlsMessageHandshake>
     ensures { Gives view_handshake server_hello_body i.now result }
 {
@@ -71,7 +71,7 @@ pub fn parse_tls_handshake_msg_server_hello(i: &[u8]) -> IResult<&[u8], TlsMessa
 ///
 /// - `Incomplete` of the count of missing bytes, where they are missing in front of the extensions.
 /// - `Error` of kind `Tag` for any other version, whatever follows it.
-#[tactic(auto, using(tls_fields::proofs::OneAnswerLemmas::read_allowed), unfolding(crate::specs::Handshake::server_hello_of_draft_body))]
+#[tactic(auto, using(layouts::proofs::OneAnswerLemmas::read_allowed), unfolding(crate::specs::Handshake::server_hello_of_draft_body))]
 pub fn parse_tls_handshake_msg_server_hello_of_draft(
     i: &[u8],
 ) -> IResult<&[u8], TlsMessageHandshake>
@@ -91,7 +91,7 @@ pub fn parse_tls_handshake_msg_server_hello_of_draft(
 /// big-endian, and the `len - 4` that follow, the 2 bytes of the ticket's own length first.
 ///
 /// `Error` of kind `Verify` where `len` is below 4; else `Incomplete` of the count of missing bytes.
-#[tactic(auto, using(tls_fields::proofs::OneAnswerLemmas::read_allowed), unfolding(crate::specs::Handshake::new_session_ticket_body))]
+#[tactic(auto, using(layouts::proofs::OneAnswerLemmas::read_allowed), unfolding(crate::specs::Handshake::new_session_ticket_body))]
 pub fn parse_tls_handshake_msg_newsessionticket(
     i: &[u8],
     len: usize,
@@ -106,7 +106,7 @@ pub fn parse_tls_handshake_msg_newsessionticket(
 /// 2 of cipher suite, and perhaps extensions after 2 bytes of length.
 ///
 /// `Incomplete` of the count of missing bytes, where they are missing in front of the extensions.
-#[tactic(auto, using(tls_fields::proofs::OneAnswerLemmas::read_allowed), unfolding(crate::specs::Handshake::hello_retry_request_body))]
+#[tactic(auto, using(layouts::proofs::OneAnswerLemmas::read_allowed), unfolding(crate::specs::Handshake::hello_retry_request_body))]
 pub fn parse_tls_handshake_msg_hello_retry_request(i: &[u8]) -> IResult<&[u8], TlsMessageHandshake>
     ensures { Gives view_handshake hello_retry_request_body i.now result }
 {
@@ -115,7 +115,7 @@ pub fn parse_tls_handshake_msg_hello_retry_request(i: &[u8]) -> IResult<&[u8], T
 }
 
 /// Reads the body of a Certificate in its form up to TLS 1.2 (RFC 5246, section 7.4.2): as [`crate::parts::certificate`].
-#[tactic(auto, using(tls_fields::proofs::OneAnswerLemmas::read_allowed), unfolding(crate::specs::Handshake::certificate_body))]
+#[tactic(auto, using(layouts::proofs::OneAnswerLemmas::read_allowed), unfolding(crate::specs::Handshake::certificate_body))]
 pub fn parse_tls_handshake_msg_certificate(
     alloc: Global,
     i: &[u8],
@@ -129,7 +129,7 @@ pub fn parse_tls_handshake_msg_certificate(
 /// Reads the body of a ServerKeyExchange (RFC 5246, section 7.4.3): `len` bytes.
 ///
 /// `Incomplete` of the count of missing bytes.
-#[tactic(auto, using(tls_fields::proofs::OneAnswerLemmas::read_allowed), unfolding(crate::specs::Handshake::server_key_exchange_body))]
+#[tactic(auto, using(layouts::proofs::OneAnswerLemmas::read_allowed), unfolding(crate::specs::Handshake::server_key_exchange_body))]
 pub fn parse_tls_handshake_msg_serverkeyexchange(
     i: &[u8],
     len: usize,
@@ -143,7 +143,7 @@ pub fn parse_tls_handshake_msg_serverkeyexchange(
 
 /// Reads the body of a CertificateRequest in its form up to TLS 1.2 (RFC 5246, section 7.4.4): as
 /// [`parse_tls_handshake_certificaterequest`].
-#[tactic(auto, using(tls_fields::proofs::OneAnswerLemmas::read_allowed), unfolding(crate::specs::Handshake::certificate_request_body))]
+#[tactic(auto, using(layouts::proofs::OneAnswerLemmas::read_allowed), unfolding(crate::specs::Handshake::certificate_request_body))]
 pub fn parse_tls_handshake_msg_certificaterequest(
     alloc: Global,
     i: &[u8],
@@ -157,7 +157,7 @@ pub fn parse_tls_handshake_msg_certificaterequest(
 /// Reads the body of a ServerHelloDone (RFC 5246, section 7.4.5): `len` bytes, which are kept.
 ///
 /// `Incomplete` of the count of missing bytes.
-#[tactic(auto, using(tls_fields::proofs::OneAnswerLemmas::read_allowed), unfolding(crate::specs::Handshake::server_done_body))]
+#[tactic(auto, using(layouts::proofs::OneAnswerLemmas::read_allowed), unfolding(crate::specs::Handshake::server_done_body))]
 pub fn parse_tls_handshake_msg_serverdone(
     i: &[u8],
     len: usize,
@@ -171,7 +171,7 @@ pub fn parse_tls_handshake_msg_serverdone(
 /// Reads the body of a CertificateVerify (RFC 5246, section 7.4.8): `len` bytes.
 ///
 /// `Incomplete` of the count of missing bytes.
-#[tactic(auto, using(tls_fields::proofs::OneAnswerLemmas::read_allowed), unfolding(crate::specs::Handshake::certificate_verify_body))]
+#[tactic(auto, using(layouts::proofs::OneAnswerLemmas::read_allowed), unfolding(crate::specs::Handshake::certificate_verify_body))]
 pub fn parse_tls_handshake_msg_certificateverify(
     i: &[u8],
     len: usize,
@@ -185,7 +185,7 @@ pub fn parse_tls_handshake_msg_certificateverify(
 /// Reads the body of a ClientKeyExchange (RFC 5246, section 7.4.7): `len` bytes, which don't say which form they have.
 ///
 /// `Incomplete` of the count of missing bytes.
-#[tactic(auto, using(tls_fields::proofs::OneAnswerLemmas::read_allowed), unfolding(crate::specs::Handshake::client_key_exchange_body))]
+#[tactic(auto, using(layouts::proofs::OneAnswerLemmas::read_allowed), unfolding(crate::specs::Handshake::client_key_exchange_body))]
 pub fn parse_tls_handshake_msg_clientkeyexchange(
     i: &[u8],
     len: usize,
@@ -200,7 +200,7 @@ pub fn parse_tls_handshake_msg_clientkeyexchange(
 /// Reads the body of a Finished (RFC 5246, section 7.4.9): `len` bytes.
 ///
 /// `Incomplete` of the count of missing bytes.
-#[tactic(auto, using(tls_fields::proofs::OneAnswerLemmas::read_allowed), unfolding(crate::specs::Handshake::finished_body))]
+#[tactic(auto, using(layouts::proofs::OneAnswerLemmas::read_allowed), unfolding(crate::specs::Handshake::finished_body))]
 pub fn parse_tls_handshake_msg_finished(i: &[u8], len: usize) -> IResult<&[u8], TlsMessageHandshake>
     ensures { Gives view_handshake (finished_body len) i.now result }
 {
@@ -209,7 +209,7 @@ pub fn parse_tls_handshake_msg_finished(i: &[u8], len: usize) -> IResult<&[u8], 
 }
 
 /// Reads the body of a CertificateStatus (RFC 6066, section 8): as [`parse_tls_handshake_certificatestatus`].
-#[tactic(auto, using(tls_fields::proofs::OneAnswerLemmas::read_allowed), unfolding(crate::specs::Handshake::certificate_status_body))]
+#[tactic(auto, using(layouts::proofs::OneAnswerLemmas::read_allowed), unfolding(crate::specs::Handshake::certificate_status_body))]
 pub fn parse_tls_handshake_msg_certificatestatus(i: &[u8]) -> IResult<&[u8], TlsMessageHandshake>
     ensures { Gives view_handshake certificate_status_body i.now result }
 {
@@ -219,7 +219,7 @@ pub fn parse_tls_handshake_msg_certificatestatus(i: &[u8]) -> IResult<&[u8], Tls
 
 /// Reads the body of a NextProtocol (draft-agl-tls-nextprotoneg-04, section 3): as
 /// [`parse_tls_handshake_next_protocol`].
-#[tactic(auto, using(tls_fields::proofs::OneAnswerLemmas::read_allowed), unfolding(crate::specs::Handshake::next_protocol_body))]
+#[tactic(auto, using(layouts::proofs::OneAnswerLemmas::read_allowed), unfolding(crate::specs::Handshake::next_protocol_body))]
 pub fn parse_tls_handshake_msg_next_protocol(i: &[u8]) -> IResult<&[u8], TlsMessageHandshake>
     ensures { Gives view_handshake next_protocol_body i.now result }
 {
@@ -230,7 +230,7 @@ pub fn parse_tls_handshake_msg_next_protocol(i: &[u8]) -> IResult<&[u8], TlsMess
 /// Reads the body of a KeyUpdate (RFC 8446, section 4.6.3): 1 byte, of which [`crate::KeyUpdateRequest`] names the values.
 ///
 /// `Incomplete` of 1 where there is no byte.
-#[tactic(auto, using(tls_fields::proofs::OneAnswerLemmas::read_allowed), unfolding(crate::specs::Handshake::key_update_body))]
+#[tactic(auto, using(layouts::proofs::OneAnswerLemmas::read_allowed), unfolding(crate::specs::Handshake::key_update_body))]
 pub fn parse_tls_handshake_msg_key_update(i: &[u8]) -> IResult<&[u8], TlsMessageHandshake>
     ensures { Gives view_handshake key_update_body i.now result }
 {

@@ -1,6 +1,6 @@
 //! Which handshake type has which body (RFC 5246, section 7.4): rows by the number of the type, in three functions of at most
 //! six rows each.
-ghost use Rattle.tls_fields.specs.Answers.{Gives, GivesOrMemory};
+ghost use Rattle.layouts.specs.Answers.{Gives, GivesOrMemory};
 ghost use Rattle.tls_hs.specs.Handshake.{view_handshake, handshake_body as handshake_body_layout};
 ghost use Rattle.tls_hs.specs.Handshake.{body_from_certificate as body_from_certificate_layout, body_from_finished as body_from_finished_layout};
 
@@ -15,9 +15,9 @@ use crate::bodies::{
     parse_tls_handshake_msg_serverkeyexchange,
 };
 use crate::handshake::TlsMessageHandshake;
+use layouts::{ErrorKind, IResult, refused};
 use std::alloc::Global;
 use tls_base::TlsHandshakeType;
-use tls_fields::{ErrorKind, IResult, refused};
 
 /// What the row of the type answers, a type and its body in each; else `$other`.
 macro_rules! by_type {
@@ -32,7 +32,7 @@ macro_rules! by_type {
 /// Reads the body of a message of the type `msg_type`, of `len` bytes, where the type is Finished (20) or above.
 ///
 /// `Error` of kind `Switch` where no body has this type; else what the body's own call refuses.
-#[tactic(auto, using(tls_fields::proofs::OneAnswerLemmas::read_allowed), unfolding(crate::specs::Handshake::body_from_finished))]
+#[tactic(auto, using(layouts::proofs::OneAnswerLemmas::read_allowed), unfolding(crate::specs::Handshake::body_from_finished))]
 #[inline(always)]
 pub(crate) fn body_from_finished(
     i: &[u8],
@@ -51,7 +51,7 @@ pub(crate) fn body_from_finished(
 }
 
 /// Reads the same where the type is Certificate (11) or above.
-#[tactic(auto, using(tls_fields::proofs::OneAnswerLemmas::read_allowed), unfolding(crate::specs::Handshake::body_from_certificate))]
+#[tactic(auto, using(layouts::proofs::OneAnswerLemmas::read_allowed), unfolding(crate::specs::Handshake::body_from_certificate))]
 fn body_from_certificate(
     alloc: Global,
     i: &[u8],
@@ -74,7 +74,7 @@ fn body_from_certificate(
 /// Reads the body of a message of the type `msg_type`, of `len` bytes, from the front of `i`.
 ///
 /// `Error` of kind `Switch` where no body has this type; else what the body's own call refuses.
-#[tactic(auto, using(tls_fields::proofs::OneAnswerLemmas::read_allowed), unfolding(crate::specs::Handshake::handshake_body))]
+#[tactic(auto, using(layouts::proofs::OneAnswerLemmas::read_allowed), unfolding(crate::specs::Handshake::handshake_body))]
 pub(crate) fn handshake_body(
     alloc: Global,
     i: &[u8],

@@ -1,11 +1,11 @@
 //! Certificates and their status.
 ghost use Rattle.std.specs.Prelude.{◌≡◌, IfOk};
-ghost use Rattle.tls_fields.specs.Answers.{Gives, GivesOrMemory};
+ghost use Rattle.layouts.specs.Answers.{Gives, GivesOrMemory};
 ghost use Rattle.tls_hs.specs.Certificate.{view_certificate, certificate as certificate_layout};
 ghost use Rattle.tls_hs.specs.Certificate.{view_certificate_status, certificate_status};
 
+use layouts::{IResult, OutOfMemory, Room, counted3, items, number1};
 use std::alloc::Global;
-use tls_fields::{IResult, OutOfMemory, Room, counted3, items, number1};
 
 /// A certificate, as it stands after its length (RFC 5246, section 7.4.2).
 #[derive(Clone, Debug, PartialEq, Drop)]
@@ -41,7 +41,7 @@ impl<'a> TlsCertificateContents<'a> {
 ///
 /// - `Incomplete` of the count of missing bytes, where the list isn't whole.
 /// - `OutOfMemory` where memory for the list runs out.
-#[tactic(auto, using(tls_fields::proofs::OneAnswerLemmas::read_allowed), unfolding(crate::specs::Certificate::certificate))]
+#[tactic(auto, using(layouts::proofs::OneAnswerLemmas::read_allowed), unfolding(crate::specs::Certificate::certificate))]
 #[inline(always)]
 pub fn certificate(alloc: Global, i: &[u8]) -> IResult<&[u8], TlsCertificateContents>
     ensures { GivesOrMemory view_certificate certificate_layout i.now result }
@@ -64,7 +64,7 @@ pub struct TlsCertificateStatusContents<'a> {
 /// bytes.
 ///
 /// `Incomplete` of the count of missing bytes.
-#[tactic(auto, using(tls_fields::proofs::OneAnswerLemmas::read_allowed), unfolding(crate::specs::Certificate::certificate_status))]
+#[tactic(auto, using(layouts::proofs::OneAnswerLemmas::read_allowed), unfolding(crate::specs::Certificate::certificate_status))]
 pub fn parse_tls_handshake_certificatestatus(
     i: &[u8],
 ) -> IResult<&[u8], TlsCertificateStatusContents>

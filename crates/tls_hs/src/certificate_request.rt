@@ -1,16 +1,16 @@
 //! The CertificateRequest, in its two forms up to TLS 1.2 (RFC 5246, section 7.4.4).
 ghost use Rattle.std.specs.Prelude.{◌≡◌, map, IfOk};
-ghost use Rattle.tls_fields.specs.Answers.{GivesOrMemory};
+ghost use Rattle.layouts.specs.Answers.{GivesOrMemory};
 ghost use Rattle.tls_hs.specs.Certificate.{view_certificate_request, certificate_types as certificate_types_layout};
 ghost use Rattle.tls_hs.specs.Certificate.{signature_algorithms as signature_algorithms_layout};
 ghost use Rattle.tls_hs.specs.Certificate.{certificate_authorities as certificate_authorities_layout};
 ghost use Rattle.tls_hs.specs.Certificate.{certificate_request_with_algorithms, certificate_request_without_algorithms};
 ghost use Rattle.tls_hs.specs.Certificate.{certificate_request};
 
-use std::alloc::Global;
-use tls_fields::{
+use layouts::{
     Counted2, Err, ErrorKind, IResult, Number2, OutOfMemory, counted1, counted2, items, refused,
 };
+use std::alloc::Global;
 
 /// The body of a CertificateRequest up to TLS 1.2 (RFC 5246, section 7.4.4).
 #[derive(Debug, PartialEq, Drop)]
@@ -43,7 +43,7 @@ impl<'a> TlsCertificateRequestContents<'a> {
 }
 
 /// Reads certificate types: 1 byte of count, and so many bytes.
-#[tactic(auto, using(tls_fields::proofs::OneAnswerLemmas::read_allowed), unfolding(crate::specs::Certificate::certificate_types))]
+#[tactic(auto, using(layouts::proofs::OneAnswerLemmas::read_allowed), unfolding(crate::specs::Certificate::certificate_types))]
 fn certificate_types(alloc: Global, i: &[u8]) -> IResult<&[u8], Vec<u8>>
     ensures { GivesOrMemory (λ v. v.items) certificate_types_layout i.now result }
 {
@@ -52,7 +52,7 @@ fn certificate_types(alloc: Global, i: &[u8]) -> IResult<&[u8], Vec<u8>>
 }
 
 /// Reads signature algorithms: 2 bytes of length, and within so many bytes numbers of 2 bytes.
-#[tactic(auto, using(tls_fields::proofs::OneAnswerLemmas::read_allowed, tls_fields::proofs::ListLemmas::map_same), unfolding(crate::specs::Certificate::signature_algorithms))]
+#[tactic(auto, using(layouts::proofs::OneAnswerLemmas::read_allowed, layouts::proofs::ListLemmas::map_same), unfolding(crate::specs::Certificate::signature_algorithms))]
 fn signature_algorithms(alloc: Global, i: &[u8]) -> IResult<&[u8], Vec<u16>>
     ensures { GivesOrMemory (λ v. v.items) signature_algorithms_layout i.now result }
 {
@@ -62,7 +62,7 @@ fn signature_algorithms(alloc: Global, i: &[u8]) -> IResult<&[u8], Vec<u16>>
 }
 
 /// Reads names of authorities: 2 bytes of length, and within so many bytes names, each after 2 bytes of length.
-#[tactic(auto, using(tls_fields::proofs::OneAnswerLemmas::read_allowed), unfolding(crate::specs::Certificate::certificate_authorities))]
+#[tactic(auto, using(layouts::proofs::OneAnswerLemmas::read_allowed), unfolding(crate::specs::Certificate::certificate_authorities))]
 fn certificate_authorities(alloc: Global, i: &[u8]) -> IResult<&[u8], Vec<&[u8]>>
     ensures { GivesOrMemory (λ v. map (λ x. x.now) v.items) certificate_authorities_layout i.now result }
 {
@@ -72,7 +72,7 @@ fn certificate_authorities(alloc: Global, i: &[u8]) -> IResult<&[u8], Vec<&[u8]>
 }
 
 /// Reads a request as in TLS 1.2.
-#[tactic(auto, using(tls_fields::proofs::OneAnswerLemmas::read_allowed), unfolding(crate::specs::Certificate::certificate_request_with_algorithms))]
+#[tactic(auto, using(layouts::proofs::OneAnswerLemmas::read_allowed), unfolding(crate::specs::Certificate::certificate_request_with_algorithms))]
 fn with_algorithms(alloc: Global, i: &[u8]) -> IResult<&[u8], TlsCertificateRequestContents>
     ensures { GivesOrMemory view_certificate_request certificate_request_with_algorithms i.now result }
 {
@@ -88,7 +88,7 @@ fn with_algorithms(alloc: Global, i: &[u8]) -> IResult<&[u8], TlsCertificateRequ
 }
 
 /// Reads a request as up to TLS 1.1.
-#[tactic(auto, using(tls_fields::proofs::OneAnswerLemmas::read_allowed), unfolding(crate::specs::Certificate::certificate_request_without_algorithms))]
+#[tactic(auto, using(layouts::proofs::OneAnswerLemmas::read_allowed), unfolding(crate::specs::Certificate::certificate_request_without_algorithms))]
 fn without_algorithms(alloc: Global, i: &[u8]) -> IResult<&[u8], TlsCertificateRequestContents>
     ensures { GivesOrMemory view_certificate_request certificate_request_without_algorithms i.now result }
 {
@@ -110,7 +110,7 @@ fn without_algorithms(alloc: Global, i: &[u8]) -> IResult<&[u8], TlsCertificateR
 ///
 /// - `Error` of kind `Complete` where neither form is read, even where only bytes are missing.
 /// - `OutOfMemory` where memory for a list of the form that is tried runs out; the other form is not tried then.
-#[tactic(auto, using(tls_fields::proofs::OneAnswerLemmas::read_allowed), unfolding(crate::specs::Certificate::certificate_request))]
+#[tactic(auto, using(layouts::proofs::OneAnswerLemmas::read_allowed), unfolding(crate::specs::Certificate::certificate_request))]
 pub fn parse_tls_handshake_certificaterequest(
     alloc: Global,
     i: &[u8],

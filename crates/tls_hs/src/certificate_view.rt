@@ -1,13 +1,13 @@
 //! Certificates, and requests for them, in place.
-ghost use Rattle.tls_fields.specs.Answers.{Gives};
-ghost use Rattle.tls_fields.specs.Bytes.{Bytes};
-ghost use Rattle.tls_fields.specs.Items.{items_in};
-ghost use Rattle.tls_fields.specs.Layout.{counted, number};
+ghost use Rattle.layouts.specs.Answers.{Gives};
+ghost use Rattle.layouts.specs.Bytes.{Bytes};
+ghost use Rattle.layouts.specs.Items.{items_in};
+ghost use Rattle.layouts.specs.Layout.{counted, number};
 ghost use Rattle.tls_hs.specs.Certificate.{certificate, certificate_types as certificate_types_layout, signature_algorithms as signature_algorithms_layout, certificate_authorities as certificate_authorities_layout, certificate_request_with_algorithms, certificate_request_without_algorithms, certificate_request};
 ghost use Rattle.tls_hs.specs.InPlace.{view_certificate_request_in_place};
 
 use crate::certificate::RawCertificate;
-use tls_fields::{
+use layouts::{
     Counted2, ErrorKind, IResult, InPlace, Items, counted1, counted2, counted3, refused,
 };
 
@@ -31,7 +31,7 @@ impl<'a> InPlace<'a> for RawCertificate<'a> {
 /// [`crate::parse_tls_handshake_msg_certificate`], memory aside.
 ///
 /// The length of the list is judged; each certificate is read as the walk comes to it.
-#[tactic(auto, using(tls_fields::proofs::OneAnswerLemmas::read_allowed), unfolding(crate::specs::Certificate::certificate))]
+#[tactic(auto, using(layouts::proofs::OneAnswerLemmas::read_allowed), unfolding(crate::specs::Certificate::certificate))]
 #[inline(always)]
 pub fn certificates(i: &[u8]) -> IResult<&[u8], Items<RawCertificate>>
     ensures { Gives (λ v. items_in (counted 3) v.bytes.now) certificate i.now result }
@@ -53,7 +53,7 @@ pub struct CertificateRequestView<'a> {
 }
 
 /// Reads signature algorithms in place: 2 bytes of length, and within so many bytes numbers of 2 bytes.
-#[tactic(auto, using(tls_fields::proofs::OneAnswerLemmas::read_allowed), unfolding(crate::specs::Certificate::signature_algorithms))]
+#[tactic(auto, using(layouts::proofs::OneAnswerLemmas::read_allowed), unfolding(crate::specs::Certificate::signature_algorithms))]
 #[inline(always)]
 fn signature_algorithms(i: &[u8]) -> IResult<&[u8], Items<u16>>
     ensures { Gives (λ v. items_in (number 2) v.bytes.now) signature_algorithms_layout i.now result }
@@ -63,7 +63,7 @@ fn signature_algorithms(i: &[u8]) -> IResult<&[u8], Items<u16>>
 }
 
 /// Reads names of authorities in place: 2 bytes of length, and within so many bytes names, each after 2 bytes of length.
-#[tactic(auto, using(tls_fields::proofs::OneAnswerLemmas::read_allowed), unfolding(crate::specs::Certificate::certificate_authorities))]
+#[tactic(auto, using(layouts::proofs::OneAnswerLemmas::read_allowed), unfolding(crate::specs::Certificate::certificate_authorities))]
 #[inline(always)]
 fn certificate_authorities(i: &[u8]) -> IResult<&[u8], Items<Counted2>>
     ensures { Gives (λ v. items_in (counted 2) v.bytes.now) certificate_authorities_layout i.now result }
@@ -73,7 +73,7 @@ fn certificate_authorities(i: &[u8]) -> IResult<&[u8], Items<Counted2>>
 }
 
 /// Reads a request as in TLS 1.2.
-#[tactic(auto, using(tls_fields::proofs::OneAnswerLemmas::read_allowed), unfolding(crate::specs::Certificate::certificate_request_with_algorithms, crate::specs::Certificate::certificate_types))]
+#[tactic(auto, using(layouts::proofs::OneAnswerLemmas::read_allowed), unfolding(crate::specs::Certificate::certificate_request_with_algorithms, crate::specs::Certificate::certificate_types))]
 #[inline(always)]
 fn with_algorithms(i: &[u8]) -> IResult<&[u8], CertificateRequestView>
     ensures { Gives view_certificate_request_in_place certificate_request_with_algorithms i.now result }
@@ -90,7 +90,7 @@ fn with_algorithms(i: &[u8]) -> IResult<&[u8], CertificateRequestView>
 }
 
 /// Reads a request as up to TLS 1.1.
-#[tactic(auto, using(tls_fields::proofs::OneAnswerLemmas::read_allowed), unfolding(crate::specs::Certificate::certificate_request_without_algorithms, crate::specs::Certificate::certificate_types))]
+#[tactic(auto, using(layouts::proofs::OneAnswerLemmas::read_allowed), unfolding(crate::specs::Certificate::certificate_request_without_algorithms, crate::specs::Certificate::certificate_types))]
 #[inline(always)]
 fn without_algorithms(i: &[u8]) -> IResult<&[u8], CertificateRequestView>
     ensures { Gives view_certificate_request_in_place certificate_request_without_algorithms i.now result }
@@ -110,7 +110,7 @@ impl<'a> CertificateRequestView<'a> {
     /// aside.
     ///
     /// The lengths of the lists are judged; what stands in them is read as a walk comes to it.
-    #[tactic(auto, using(tls_fields::proofs::OneAnswerLemmas::read_allowed), unfolding(crate::specs::Certificate::certificate_request))]
+    #[tactic(auto, using(layouts::proofs::OneAnswerLemmas::read_allowed), unfolding(crate::specs::Certificate::certificate_request))]
     pub fn parse(i: &'a [u8]) -> IResult<&'a [u8], Self>
         ensures { Gives view_certificate_request_in_place certificate_request i.now result }
     {

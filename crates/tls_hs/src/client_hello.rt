@@ -1,6 +1,6 @@
 //! The ClientHello of TLS (RFC 5246, section 7.4.1.2): its body, and its reader.
 ghost use Rattle.std.specs.Prelude.{◌≡◌, map, IfOk};
-ghost use Rattle.tls_fields.specs.Answers.{GivesOrMemory};
+ghost use Rattle.layouts.specs.Answers.{GivesOrMemory};
 ghost use Rattle.tls_base.specs.CipherTable.{suite_of_id};
 ghost use Rattle.std.specs.Option.{option_map};
 ghost use Rattle.tls_hs.specs.Hello.{view_client_hello, client_hello};
@@ -9,9 +9,9 @@ use crate::client_hello_trait::ClientHello;
 use crate::hello_fields::{
     cipher_suites, compressions, random_bytes, random_time, session_id, suites,
 };
+use layouts::{IResult, OutOfMemory, block, maybe2};
 use std::alloc::Global;
 use tls_base::{CipherTable, TlsCipherSuite, TlsCipherSuiteID, TlsCompressionID, TlsVersion};
-use tls_fields::{IResult, OutOfMemory, block, maybe2};
 
 /// The body of a ClientHello (RFC 5246, section 7.4.1.2).
 #[derive(Debug, PartialEq, Drop)]
@@ -151,7 +151,7 @@ impl<'a> ClientHello<'a> for TlsClientHelloContents<'a> {
 /// - `OutOfMemory` where memory for a list runs out.
 ///
 /// Extensions that aren't whole are no refusal: `ext` is `None`, and they are the rest. No list has a least length here.
-#[tactic(auto, using(tls_fields::proofs::OneAnswerLemmas::read_allowed), unfolding(crate::specs::Hello::client_hello))]
+#[tactic(auto, using(layouts::proofs::OneAnswerLemmas::read_allowed), unfolding(crate::specs::Hello::client_hello))]
 #[inline(always)]
 pub fn parse_tls_handshake_client_hello(
     alloc: Global,

@@ -1,21 +1,21 @@
 //! Where the parts of a ClientHello stand in the bytes that it was read from.
-#![tactic(auto, using(tls_fields::proofs::OneAnswerLemmas::read_allowed))]
+#![tactic(auto, using(layouts::proofs::OneAnswerLemmas::read_allowed))]
 
 ghost use Rattle.std.specs.Prelude.{◌≡◌, IfOk};
 ghost use Rattle.std.specs.Option.{option_map};
-ghost use Rattle.tls_fields.specs.Answers.{Gives};
-ghost use Rattle.tls_fields.specs.Items.{items_in};
-ghost use Rattle.tls_fields.specs.Layout.{block as block_of, counted, maybe, number};
-ghost use Rattle.tls_fields.specs.Meaning.{EndsWith};
-ghost use Rattle.tls_fields.specs.Place.{bytes_at};
+ghost use Rattle.layouts.specs.Answers.{Gives};
+ghost use Rattle.layouts.specs.Items.{items_in};
+ghost use Rattle.layouts.specs.Layout.{block as block_of, counted, maybe, number};
+ghost use Rattle.layouts.specs.Meaning.{EndsWith};
+ghost use Rattle.layouts.specs.Place.{bytes_at};
 ghost use Rattle.tls_hs.specs.Hello.{cipher_suites, client_hello, compression_methods, session_id as session_id_layout};
 ghost use Rattle.tls_hs.specs.InPlace.{view_client_hello_in_place};
 ghost use Rattle.tls_hs.specs.Places.{HelloStands, Stands, StandsAt};
 
 use crate::client_hello_view::ClientHelloView;
 use crate::hello_fields::{extension_block, session_id};
+use layouts::{ErrorKind, IResult, Items, Place, block, number1, number2, refused};
 use tls_base::{TlsCipherSuiteID, TlsCompressionID, TlsVersion};
-use tls_fields::{ErrorKind, IResult, Items, Place, block, number1, number2, refused};
 
 /// Where the parts of a ClientHello's body stand in it.
 #[derive(Clone, Copy, Debug, PartialEq)]
@@ -44,7 +44,7 @@ fn held_before(whole: &[u8], part: Option<&[u8]>, rest: &[u8]) -> Option<Place>
 }
 
 /// A random, and where it stands in `whole`, whose end is `i`.
-#[tactic(auto, using(tls_fields::proofs::OneAnswerLemmas::read_allowed))]
+#[tactic(auto, using(layouts::proofs::OneAnswerLemmas::read_allowed))]
 #[inline(always)]
 fn random_at<'a>(whole: &[u8], i: &'a [u8]) -> IResult<&'a [u8], (&'a [u8], Place)>
     ensures gives { Gives (λ x. x.0.now) (block_of 32) i.now result }
@@ -56,7 +56,7 @@ fn random_at<'a>(whole: &[u8], i: &'a [u8]) -> IResult<&'a [u8], (&'a [u8], Plac
 }
 
 /// A session id, and where it stands in `whole`, whose end is `i`.
-#[tactic(auto, using(tls_fields::proofs::OneAnswerLemmas::read_allowed, crate::proofs::PlacesLemmas::session_id_stands))]
+#[tactic(auto, using(layouts::proofs::OneAnswerLemmas::read_allowed, crate::proofs::PlacesLemmas::session_id_stands))]
 #[inline(always)]
 fn session_id_at<'a>(
     whole: &[u8],
@@ -71,7 +71,7 @@ fn session_id_at<'a>(
 }
 
 /// Cipher suites, and where they stand in `whole`, whose end is `i`.
-#[tactic(auto, using(tls_fields::proofs::OneAnswerLemmas::read_allowed, tls_fields::proofs::NumbersLemmas::numbers_in), unfolding(crate::specs::Hello::cipher_suites))]
+#[tactic(auto, using(layouts::proofs::OneAnswerLemmas::read_allowed, layouts::proofs::NumbersLemmas::numbers_in), unfolding(crate::specs::Hello::cipher_suites))]
 #[inline(always)]
 fn suites_at<'a>(
     whole: &[u8],
@@ -92,7 +92,7 @@ fn suites_at<'a>(
 }
 
 /// Compression methods, and where they stand in `whole`, whose end is `i`.
-#[tactic(auto, using(tls_fields::proofs::OneAnswerLemmas::read_allowed, tls_fields::proofs::NumbersLemmas::numbers_in), unfolding(crate::specs::Hello::compression_methods))]
+#[tactic(auto, using(layouts::proofs::OneAnswerLemmas::read_allowed, layouts::proofs::NumbersLemmas::numbers_in), unfolding(crate::specs::Hello::compression_methods))]
 #[inline(always)]
 fn methods_at<'a>(
     whole: &[u8],
@@ -113,7 +113,7 @@ fn methods_at<'a>(
 }
 
 /// Extensions, and where they stand in `whole`, whose end is `i`.
-#[tactic(auto, using(tls_fields::proofs::OneAnswerLemmas::read_allowed, crate::proofs::PlacesLemmas::extensions_stand))]
+#[tactic(auto, using(layouts::proofs::OneAnswerLemmas::read_allowed, crate::proofs::PlacesLemmas::extensions_stand))]
 #[inline(always)]
 fn extensions_at<'a>(
     whole: &[u8],
@@ -128,7 +128,7 @@ fn extensions_at<'a>(
 
 impl<'a> ClientHelloView<'a> {
     /// Reads the body of a ClientHello as [`ClientHelloView::parse`], and says where its parts stand in `i`.
-    #[tactic(auto, using(tls_fields::proofs::OneAnswerLemmas::read_allowed), unfolding(crate::specs::Hello::client_hello))]
+    #[tactic(auto, using(layouts::proofs::OneAnswerLemmas::read_allowed), unfolding(crate::specs::Hello::client_hello))]
     pub fn parse_with_places(i: &'a [u8]) -> IResult<&'a [u8], (Self, ClientHelloPlaces)>
         ensures gives { Gives (λ x. view_client_hello_in_place x.0) client_hello i.now result }
         ensures places { IfOk result (λ x. HelloStands i.now x.1.0 x.1.1) }

@@ -4,9 +4,9 @@ ghost use Rattle.std.specs.Option.{option_map};
 ghost use Rattle.tls_base.specs.CipherTable.{suite_of_id};
 ghost use Rattle.tls_hs.specs.Hello.{ClientHello as Hello, random_time as time_of, random_bytes as bytes_of};
 
+use layouts::OutOfMemory;
 use std::alloc::Global;
 use tls_base::{CipherTable, TlsCipherSuite, TlsCipherSuiteID, TlsCompressionID, TlsVersion};
-use tls_fields::OutOfMemory;
 
 /// What the ClientHellos of TLS and of DTLS have in common (RFC 5246, section 7.4.1.2).
 pub trait ClientHello<'a> {

@@ -1,13 +1,13 @@
 //! The ClientHello in place (RFC 5246, section 7.4.1.2).
-ghost use Rattle.tls_fields.specs.Answers.{Gives};
-ghost use Rattle.tls_fields.specs.Items.{items_in};
-ghost use Rattle.tls_fields.specs.Layout.{number};
+ghost use Rattle.layouts.specs.Answers.{Gives};
+ghost use Rattle.layouts.specs.Items.{items_in};
+ghost use Rattle.layouts.specs.Layout.{number};
 ghost use Rattle.tls_hs.specs.Hello.{cipher_suites as cipher_suites_layout, compression_methods, client_hello};
 ghost use Rattle.tls_hs.specs.InPlace.{view_client_hello_in_place};
 
 use crate::hello_fields::{extension_block, session_id};
+use layouts::{ErrorKind, IResult, Items, block, number1, number2, numbers_in_place, refused};
 use tls_base::{TlsCipherSuiteID, TlsCompressionID, TlsVersion};
-use tls_fields::{ErrorKind, IResult, Items, block, number1, number2, numbers_in_place, refused};
 
 /// The body of a ClientHello (RFC 5246, section 7.4.1.2), as [`crate::TlsClientHelloContents`], but with its lists in place.
 #[derive(Clone, Copy, Debug, PartialEq)]
@@ -28,7 +28,7 @@ pub struct ClientHelloView<'a> {
 }
 
 /// Reads cipher suites in place: as [`crate::parts::cipher_suites`], memory aside.
-#[tactic(auto, using(tls_fields::proofs::OneAnswerLemmas::read_allowed), unfolding(crate::specs::Hello::cipher_suites))]
+#[tactic(auto, using(layouts::proofs::OneAnswerLemmas::read_allowed), unfolding(crate::specs::Hello::cipher_suites))]
 #[inline(always)]
 pub fn cipher_suites_in_place(i: &[u8]) -> IResult<&[u8], Items<TlsCipherSuiteID>>
     ensures { Gives (λ v. items_in (number 2) v.bytes.now) cipher_suites_layout i.now result }
@@ -42,7 +42,7 @@ pub fn cipher_suites_in_place(i: &[u8]) -> IResult<&[u8], Items<TlsCipherSuiteID
 }
 
 /// Reads compression methods in place: as [`crate::parts::compressions`], memory aside.
-#[tactic(auto, using(tls_fields::proofs::OneAnswerLemmas::read_allowed), unfolding(crate::specs::Hello::compression_methods))]
+#[tactic(auto, using(layouts::proofs::OneAnswerLemmas::read_allowed), unfolding(crate::specs::Hello::compression_methods))]
 #[inline(always)]
 pub fn compressions_in_place(i: &[u8]) -> IResult<&[u8], Items<TlsCompressionID>>
     ensures { Gives (λ v. items_in (number 1) v.bytes.now) compression_methods i.now result }
@@ -59,7 +59,7 @@ impl<'a> ClientHelloView<'a> {
     /// Reads the body of a ClientHello: it answers what [`crate::parse_tls_handshake_client_hello`] does, memory aside.
     ///
     /// All of the body is judged but what stands in the extensions, which that call doesn't judge either.
-    #[tactic(auto, using(tls_fields::proofs::OneAnswerLemmas::read_allowed), unfolding(crate::specs::Hello::client_hello))]
+    #[tactic(auto, using(layouts::proofs::OneAnswerLemmas::read_allowed), unfolding(crate::specs::Hello::client_hello))]
     #[inline(always)]
     pub fn parse(i: &'a [u8]) -> IResult<&'a [u8], Self>
         ensures { Gives view_client_hello_in_place client_hello i.now result }

@@ -1,6 +1,7 @@
 //! Handshake messages (RFC 5246, section 7.4).
 ghost use Rattle.std.specs.Prelude.{◌≡◌, IfOk};
 ghost use Rattle.tls_hs.specs.Handshake.{view_handshake};
+ghost use Rattle.tls_hs.specs.HandshakeText.{msg_type_of};
 
 use crate::certificate::{TlsCertificateContents, TlsCertificateStatusContents};
 use crate::certificate_request::TlsCertificateRequestContents;
@@ -12,8 +13,9 @@ use crate::session::{
     TlsClientKeyExchangeContents, TlsNewSessionTicketContent, TlsNextProtocolContent,
     TlsServerKeyExchangeContents,
 };
+use layouts::OutOfMemory;
 use std::alloc::Global;
-use tls_fields::OutOfMemory;
+use tls_base::TlsHandshakeType;
 
 /// A handshake message (RFC 5246, section 7.4).
 #[derive(Debug, PartialEq, Drop)]
@@ -55,6 +57,32 @@ pub enum TlsMessageHandshake<'a> {
 }
 
 impl<'a> TlsMessageHandshake<'a> {
+    /// The type that stands in front of its body (RFC 5246, section 7.4). The ServerHello of draft 18 of TLS 1.3 has that of a
+    /// ServerHello.
+    #[inline]
+    pub fn msg_type(&self) -> TlsHandshakeType
+        ensures { result.0 ≡ msg_type_of (view_handshake self.now) }
+    {
+        match self {
+            Self::HelloRequest => TlsHandshakeType::HelloRequest,
+            Self::ClientHello(_) => TlsHandshakeType::ClientHello,
+            Self::ServerHello(_) | Self::ServerHelloV13Draft18(_) => TlsHandshakeType::ServerHello,
+            Self::NewSessionTicket(_) => TlsHandshakeType::NewSessionTicket,
+            Self::EndOfEarlyData => TlsHandshakeType::EndOfEarlyData,
+            Self::HelloRetryRequest(_) => TlsHandshakeType::HelloRetryRequest,
+            Self::Certificate(_) => TlsHandshakeType::Certificate,
+            Self::ServerKeyExchange(_) => TlsHandshakeType::ServerKeyExchange,
+            Self::CertificateRequest(_) => TlsHandshakeType::CertificateRequest,
+            Self::ServerDone(_) => TlsHandshakeType::ServerDone,
+            Self::CertificateVerify(_) => TlsHandshakeType::CertificateVerify,
+            Self::ClientKeyExchange(_) => TlsHandshakeType::ClientKeyExchange,
+            Self::Finished(_) => TlsHandshakeType::Finished,
+            Self::CertificateStatus(_) => TlsHandshakeType::CertificateStatus,
+            Self::NextProtocol(_) => TlsHandshakeType::NextProtocol,
+            Self::KeyUpdate(_) => TlsHandshakeType::KeyUpdate,
+        }
+    }
+
     /// The same message again, with lists of its own.
     ///
     /// `OutOfMemory` where memory for a list runs out.

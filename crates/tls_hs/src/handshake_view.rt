@@ -1,7 +1,7 @@
 //! Handshake messages in place (RFC 5246, section 7.4): raw, with the body as it stands, and with the body read.
 ghost use Rattle.std.specs.Prelude.{◌≡◌, length};
-ghost use Rattle.tls_fields.specs.Answers.{Gives};
-ghost use Rattle.tls_fields.specs.Framed.{Framed};
+ghost use Rattle.layouts.specs.Answers.{Gives};
+ghost use Rattle.layouts.specs.Framed.{Framed};
 ghost use Rattle.tls_hs.specs.Handshake.{handshake_body, body_from_certificate};
 ghost use Rattle.tls_hs.specs.Message as message;
 ghost use Rattle.tls_hs.specs.Message.{Message};
@@ -18,8 +18,8 @@ use crate::certificate::RawCertificate;
 use crate::certificate_view::{CertificateRequestView, certificates};
 use crate::client_hello_view::ClientHelloView;
 use crate::handshake::TlsMessageHandshake;
+use layouts::{IResult, InPlace, Items, block, counted3, number3};
 use tls_base::TlsHandshakeType;
-use tls_fields::{IResult, InPlace, Items, block, counted3, number3};
 
 /// A handshake message (RFC 5246, section 7.4), as [`crate::TlsMessageHandshake`], but with its lists in place.
 #[derive(Debug, PartialEq, Drop)]
@@ -52,7 +52,7 @@ impl<'a> InPlace<'a> for RawHandshake<'a> {
 
     ghost layout = { raw_handshake };
 
-    #[tactic(auto, using(tls_fields::proofs::OneAnswerLemmas::read_allowed), unfolding(tls_fields::specs::Framed::framed))]
+    #[tactic(auto, using(layouts::proofs::OneAnswerLemmas::read_allowed), unfolding(layouts::specs::Framed::framed))]
     #[inline(always)]
     fn read(i: &'a [u8]) -> IResult<&'a [u8], Self> {
         let (i, msg_type) = TlsHandshakeType::parse(i)?;
@@ -71,7 +71,7 @@ impl<'a> InPlace<'a> for HandshakeView<'a> {
 
     ghost layout = { message.handshake };
 
-    #[tactic(auto, using(tls_fields::proofs::OneAnswerLemmas::read_allowed), unfolding(crate::specs::Message::handshake))]
+    #[tactic(auto, using(layouts::proofs::OneAnswerLemmas::read_allowed), unfolding(crate::specs::Message::handshake))]
     #[inline(always)]
     fn read(i: &'a [u8]) -> IResult<&'a [u8], Self> {
         let (i, msg_type) = TlsHandshakeType::parse(i)?;
@@ -109,7 +109,7 @@ fn other<'a>(
 /// Reads the body of a message of the type `msg_type`, of `len` bytes, where the type is Certificate (11) or above.
 ///
 /// `Error` of kind `Switch` where no body has this type; else what the body's own call refuses.
-#[tactic(auto, using(tls_fields::proofs::OneAnswerLemmas::read_allowed), unfolding(crate::specs::Handshake::body_from_certificate, crate::specs::Handshake::certificate_body, crate::specs::Handshake::certificate_request_body))]
+#[tactic(auto, using(layouts::proofs::OneAnswerLemmas::read_allowed), unfolding(crate::specs::Handshake::body_from_certificate, crate::specs::Handshake::certificate_body, crate::specs::Handshake::certificate_request_body))]
 fn from_certificate(
     i: &[u8],
     msg_type: TlsHandshakeType,
@@ -143,7 +143,7 @@ fn from_certificate(
 /// Reads the body of a message of the type `msg_type`, of `len` bytes, from the front of `i`.
 ///
 /// `Error` of kind `Switch` where no body has this type; else what the body's own call refuses.
-#[tactic(auto, using(tls_fields::proofs::OneAnswerLemmas::read_allowed), unfolding(crate::specs::Handshake::handshake_body, crate::specs::Handshake::client_hello_body))]
+#[tactic(auto, using(layouts::proofs::OneAnswerLemmas::read_allowed), unfolding(crate::specs::Handshake::handshake_body, crate::specs::Handshake::client_hello_body))]
 #[inline(always)]
 fn body_in_place(i: &[u8], msg_type: TlsHandshakeType, len: usize) -> IResult<&[u8], HandshakeView>
     ensures { Gives view_handshake_in_place (handshake_body msg_type.0 len) i.now result }

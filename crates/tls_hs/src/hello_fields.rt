@@ -1,22 +1,22 @@
 //! Fields of hellos (RFC 5246, section 7.4.1), each read alone, and what is told of them.
 ghost use Rattle.std.specs.Prelude.{◌≡◌, map, IfOk, Ok};
 ghost use Rattle.std.specs.Option.{option_map};
-ghost use Rattle.tls_fields.specs.Answers.{Gives, GivesOrMemory};
-ghost use Rattle.tls_fields.specs.Layout.{counted, maybe};
+ghost use Rattle.layouts.specs.Answers.{Gives, GivesOrMemory};
+ghost use Rattle.layouts.specs.Layout.{counted, maybe};
 ghost use Rattle.tls_base.specs.CipherTable.{suite_of_id};
 ghost use Rattle.tls_hs.specs.Hello.{session_id as session_id_layout, cipher_suites as cipher_suites_layout};
 ghost use Rattle.tls_hs.specs.Hello.{compression_methods, random_time as time_of, random_bytes as bytes_of};
 
-use std::alloc::Global;
-use tls_base::{CipherTable, TlsCipherSuite, TlsCipherSuiteID, TlsCompressionID};
-use tls_fields::{
+use layouts::{
     ErrorKind, IResult, OutOfMemory, block, counted2, number1, number2, numbers, refused,
 };
+use std::alloc::Global;
+use tls_base::{CipherTable, TlsCipherSuite, TlsCipherSuiteID, TlsCompressionID};
 
 /// Reads a session id (RFC 5246, section 7.4.1.2): 1 byte of length, at most 32, and so many bytes; one of no bytes is `None`.
 ///
 /// `Error` of kind `Verify` where the length is above 32; else `Incomplete` of the count of missing bytes.
-#[tactic(auto, using(tls_fields::proofs::OneAnswerLemmas::read_allowed), unfolding(crate::specs::Hello::session_id))]
+#[tactic(auto, using(layouts::proofs::OneAnswerLemmas::read_allowed), unfolding(crate::specs::Hello::session_id))]
 pub fn session_id(i: &[u8]) -> IResult<&[u8], Option<&[u8]>>
     ensures { Gives (λ v. option_map (λ x. x.now) v) session_id_layout i.now result }
 {
@@ -37,7 +37,7 @@ pub fn session_id(i: &[u8]) -> IResult<&[u8], Option<&[u8]>>
 /// - `Incomplete` of the count of missing bytes, where the length isn't whole.
 /// - `Error` of kind `LengthValue` where the length is odd, or above the bytes that are left.
 /// - `OutOfMemory` where memory for the list runs out.
-#[tactic(auto, using(tls_fields::proofs::OneAnswerLemmas::read_allowed), unfolding(crate::specs::Hello::cipher_suites))]
+#[tactic(auto, using(layouts::proofs::OneAnswerLemmas::read_allowed), unfolding(crate::specs::Hello::cipher_suites))]
 #[inline(always)]
 pub fn cipher_suites(alloc: Global, i: &[u8]) -> IResult<&[u8], Vec<TlsCipherSuiteID>>
     ensures { GivesOrMemory (λ v. map (λ x. x.0) v.items) cipher_suites_layout i.now result }
@@ -55,7 +55,7 @@ pub fn cipher_suites(alloc: Global, i: &[u8]) -> IResult<&[u8], Vec<TlsCipherSui
 /// - `Incomplete` of 1 where there is no length.
 /// - `Error` of kind `LengthValue` where the length is above the bytes that are left.
 /// - `OutOfMemory` where memory for the list runs out.
-#[tactic(auto, using(tls_fields::proofs::OneAnswerLemmas::read_allowed), unfolding(crate::specs::Hello::compression_methods))]
+#[tactic(auto, using(layouts::proofs::OneAnswerLemmas::read_allowed), unfolding(crate::specs::Hello::compression_methods))]
 #[inline(always)]
 pub fn compressions(alloc: Global, i: &[u8]) -> IResult<&[u8], Vec<TlsCompressionID>>
     ensures { GivesOrMemory (λ v. map (λ x. x.0) v.items) compression_methods i.now result }

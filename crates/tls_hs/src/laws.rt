@@ -2,8 +2,8 @@
 //! of them. Each function's contract is one law; its body is empty.
 
 ghost use Rattle.std.specs.Prelude.{[]};
-ghost use Rattle.tls_fields.specs.Bytes.{Bytes};
-ghost use Rattle.tls_fields.specs.Meaning.{Spells};
+ghost use Rattle.layouts.specs.Bytes.{Bytes};
+ghost use Rattle.layouts.specs.Meaning.{Spells};
 ghost use Rattle.tls_hs.specs.Handshake.{Handshake};
 ghost use Rattle.tls_hs.specs.HandshakeText.{IsWrittenBack};
 ghost use Rattle.tls_hs.specs.HandshakeWriter.{IsReadBack, HasText};

@@ -1,15 +1,15 @@
 //! The messages of records.
 ghost use Rattle.std.specs.Prelude.{◌≡◌, map, IfOk};
-ghost use Rattle.tls_fields.specs.Answers.{Gives, GivesOrMemory};
+ghost use Rattle.layouts.specs.Answers.{Gives, GivesOrMemory};
 ghost use Rattle.tls_hs.specs.Message.{view_message, handshake, change_cipher_spec, alert as alert_layout};
 ghost use Rattle.tls_hs.specs.Message.{application_data, heartbeat};
 
 use crate::body_by_type::handshake_body;
 use crate::handshake::TlsMessageHandshake;
 use crate::message_view::heartbeat as heartbeat_in_place;
+use layouts::{ErrorKind, IResult, OutOfMemory, block, number1, number3, refused, rest};
 use std::alloc::Global;
 use tls_base::{TlsHandshakeType, TlsHeartbeatMessageType, TlsMessageAlert};
-use tls_fields::{ErrorKind, IResult, OutOfMemory, block, number1, number3, refused, rest};
 
 /// Application data (RFC 5246, section 10).
 #[derive(Clone, Debug, PartialEq, Drop)]
@@ -69,7 +69,7 @@ impl<'a> TlsMessage<'a> {
 /// - `Error` of kind `Switch` where the message is whole and no body has its type.
 /// - What the body's own call refuses, `Incomplete` too.
 /// - `OutOfMemory` where memory for a list runs out.
-#[tactic(auto, using(tls_fields::proofs::OneAnswerLemmas::read_allowed), unfolding(crate::specs::Message::handshake))]
+#[tactic(auto, using(layouts::proofs::OneAnswerLemmas::read_allowed), unfolding(crate::specs::Message::handshake))]
 pub fn parse_tls_message_handshake(alloc: Global, i: &[u8]) -> IResult<&[u8], TlsMessage>
     ensures { GivesOrMemory view_message handshake i.now result }
 {
@@ -83,7 +83,7 @@ pub fn parse_tls_message_handshake(alloc: Global, i: &[u8]) -> IResult<&[u8], Tl
 /// Reads a ChangeCipherSpec (RFC 5246, section 7.1): 1 byte, which is 1.
 ///
 /// `Incomplete` of 1 where there is no byte; `Error` of kind `Verify` where it isn't 1.
-#[tactic(auto, using(tls_fields::proofs::OneAnswerLemmas::read_allowed), unfolding(crate::specs::Message::change_cipher_spec))]
+#[tactic(auto, using(layouts::proofs::OneAnswerLemmas::read_allowed), unfolding(crate::specs::Message::change_cipher_spec))]
 pub fn parse_tls_message_changecipherspec(i: &[u8]) -> IResult<&[u8], TlsMessage>
     ensures { Gives view_message change_cipher_spec i.now result }
 {
@@ -97,7 +97,7 @@ pub fn parse_tls_message_changecipherspec(i: &[u8]) -> IResult<&[u8], TlsMessage
 /// Reads an alert (RFC 5246, section 7.2): 1 byte of severity and 1 of description.
 ///
 /// `Incomplete` of 1 where either is missing.
-#[tactic(auto, using(tls_fields::proofs::OneAnswerLemmas::read_allowed), unfolding(crate::specs::Message::alert))]
+#[tactic(auto, using(layouts::proofs::OneAnswerLemmas::read_allowed), unfolding(crate::specs::Message::alert))]
 pub fn parse_tls_message_alert(i: &[u8]) -> IResult<&[u8], TlsMessage>
     ensures { Gives view_message alert_layout i.now result }
 {
@@ -106,7 +106,7 @@ pub fn parse_tls_message_alert(i: &[u8]) -> IResult<&[u8], TlsMessage>
 }
 
 /// Reads application data (RFC 5246, section 10): all bytes, perhaps none. It never refuses.
-#[tactic(auto, using(tls_fields::proofs::OneAnswerLemmas::read_allowed), unfolding(crate::specs::Message::application_data))]
+#[tactic(auto, using(layouts::proofs::OneAnswerLemmas::read_allowed), unfolding(crate::specs::Message::application_data))]
 pub fn parse_tls_message_applicationdata(i: &[u8]) -> IResult<&[u8], TlsMessage>
     ensures { Gives view_message application_data i.now result }
 {

@@ -1,6 +1,6 @@
 //! The messages of records in place (RFC 5246, section 6.2.1). Of a handshake message the body is read on demand.
 ghost use Rattle.std.specs.Prelude.{◌≡◌, ◌∷◌, []};
-ghost use Rattle.tls_fields.specs.Answers.{Gives};
+ghost use Rattle.layouts.specs.Answers.{Gives};
 ghost use Rattle.tls_base.specs.Alert as alerts;
 ghost use Rattle.tls_hs.specs.Message as message;
 ghost use Rattle.tls_hs.specs.Message.{Message};
@@ -8,8 +8,8 @@ ghost use Rattle.tls_hs.specs.Messages.{view_raw, raw_messages, messages_of_type
 
 use crate::handshake_view::RawHandshake;
 use crate::message::TlsMessageHeartbeat;
+use layouts::{ErrorKind, IResult, InPlace, Items, block, number1, number2, refused};
 use tls_base::{TlsHeartbeatMessageType, TlsMessageAlert, TlsRecordType};
-use tls_fields::{ErrorKind, IResult, InPlace, Items, block, number1, number2, refused};
 
 /// How a ChangeCipherSpec is read in place (RFC 5246, section 7.1).
 #[derive(Clone, Copy, Debug, PartialEq)]
@@ -24,7 +24,7 @@ impl<'a> InPlace<'a> for ChangeCipherSpec {
 
     ghost layout = { message.change_cipher_spec };
 
-    #[tactic(auto, using(tls_fields::proofs::OneAnswerLemmas::read_allowed), unfolding(crate::specs::Message::change_cipher_spec))]
+    #[tactic(auto, using(layouts::proofs::OneAnswerLemmas::read_allowed), unfolding(crate::specs::Message::change_cipher_spec))]
     #[inline(always)]
     fn read(i: &'a [u8]) -> IResult<&'a [u8], Self> {
         let (after, n) = number1(i)?;
@@ -48,7 +48,7 @@ impl<'a> InPlace<'a> for Alert {
 
     ghost layout = { message.alert };
 
-    #[tactic(auto, using(tls_fields::proofs::OneAnswerLemmas::read_allowed), unfolding(crate::specs::Message::alert))]
+    #[tactic(auto, using(layouts::proofs::OneAnswerLemmas::read_allowed), unfolding(crate::specs::Message::alert))]
     #[inline(always)]
     fn read(i: &'a [u8]) -> IResult<&'a [u8], TlsMessageAlert> {
         let (i, alert) = TlsMessageAlert::parse(i)?;
@@ -158,7 +158,7 @@ impl<'a> Iterator for Messages<'a> {
 }
 
 /// Reads a Heartbeat message in place: as [`crate::parse_tls_message_heartbeat`], memory aside.
-#[tactic(auto, using(tls_fields::proofs::OneAnswerLemmas::read_allowed), unfolding(crate::specs::Message::heartbeat))]
+#[tactic(auto, using(layouts::proofs::OneAnswerLemmas::read_allowed), unfolding(crate::specs::Message::heartbeat))]
 #[inline(always)]
 pub fn heartbeat(i: &[u8], tls_plaintext_len: u16) -> IResult<&[u8], TlsMessageHeartbeat>
     ensures { Gives (λ h. message.Heartbeat (message.view_heartbeat h) ∷ []) (message.heartbeat tls_plaintext_len) i.now result }

@@ -1,10 +1,10 @@
 //! The ServerHello (RFC 5246, section 7.4.1.3), and what drafts of TLS 1.3 made of it.
 ghost use Rattle.std.specs.Option.{option_map};
 ghost use Rattle.std.specs.Prelude.{◌≡◌, None};
-ghost use Rattle.tls_fields.specs.Answers.{Gives};
-ghost use Rattle.tls_fields.specs.Layout.{choose, counted, done, maybe};
+ghost use Rattle.layouts.specs.Answers.{Gives};
+ghost use Rattle.layouts.specs.Layout.{choose, counted, done, maybe};
 ghost use Rattle.tls_base.specs.CipherTable.{suite_of_id};
-ghost use Rattle.tls_hs.specs.ServerHello.{view_server_hello, server_hello as server_hello_layout};
+ghost use Rattle.tls_hs.specs.ServerHello.{is_retry_request, view_server_hello, server_hello as server_hello_layout};
 ghost use Rattle.tls_hs.specs.ServerHello.{server_hello_any as server_hello_any_layout};
 ghost use Rattle.tls_hs.specs.ServerHello.{server_hello_ssl30 as server_hello_ssl30_layout, server_hello_with};
 ghost use Rattle.tls_hs.specs.ServerHello.{view_server_hello_draft18};
@@ -12,8 +12,14 @@ ghost use Rattle.tls_hs.specs.ServerHello.{server_hello_draft18 as server_hello_
 ghost use Rattle.tls_hs.specs.ServerHello.{view_hello_retry_request, hello_retry_request as hello_retry_request_layout};
 
 use crate::hello_fields::{extension_block, session_id};
+use layouts::{ErrorKind, IResult, block, refused};
 use tls_base::{CipherTable, TlsCipherSuite, TlsCipherSuiteID, TlsCompressionID, TlsVersion};
-use tls_fields::{ErrorKind, IResult, block, refused};
+
+/// The random of a ServerHello that is a HelloRetryRequest (RFC 8446, section 4.1.3).
+static HELLO_RETRY_RANDOM: [u8; 32] = [
+    0xcf, 0x21, 0xad, 0x74, 0xe5, 0x9a, 0x61, 0x11, 0xbe, 0x1d, 0x8c, 0x02, 0x1e, 0x65, 0xb8, 0x91,
+    0xc2, 0xa2, 0x11, 0x16, 0x7a, 0xbb, 0x8c, 0x5e, 0x07, 0x9e, 0x09, 0xe2, 0xc8, 0xa8, 0x33, 0x9c,
+];
 
 /// The body of a ServerHello (RFC 5246, section 7.4.1.3).
 #[derive(Clone, Debug, PartialEq, Drop)]
@@ -65,6 +71,13 @@ impl<'a> TlsServerHelloContents<'a> {
         ensures { result ≡ self.now.version }
     {
         self.version
+    }
+
+    /// Whether it is a HelloRetryRequest of TLS 1.3, which its random tells (RFC 8446, section 4.1.3).
+    pub fn is_retry_request(&self) -> bool
+        ensures { result ≡ is_retry_request (view_server_hello self.now) }
+    {
+        self.random == HELLO_RETRY_RANDOM.as_slice()
     }
 
     /// The suite that `table` has for the cipher suite that the server picks, if any.
@@ -133,7 +146,7 @@ fn server_hello_fields(i: &[u8], extensible: bool) -> IResult<&[u8], TlsServerHe
 /// - `Error` of kind `Verify` where the session id is longer than 32 bytes.
 ///
 /// Extensions that aren't whole are no refusal: `ext` is `None`, and they are the rest.
-#[tactic(auto, using(tls_fields::proofs::OneAnswerLemmas::read_allowed), unfolding(crate::specs::ServerHello::server_hello_any))]
+#[tactic(auto, using(layouts::proofs::OneAnswerLemmas::read_allowed), unfolding(crate::specs::ServerHello::server_hello_any))]
 pub fn server_hello_any(i: &[u8]) -> IResult<&[u8], TlsServerHelloContents>
     ensures { Gives view_server_hello server_hello_any_layout i.now result }
 {
@@ -141,7 +154,7 @@ pub fn server_hello_any(i: &[u8]) -> IResult<&[u8], TlsServerHelloContents>
 }
 
 /// Reads the same without extensions, as in SSL 3.0 (RFC 6101, section 5.6.1.3): `ext` is `None`.
-#[tactic(auto, using(tls_fields::proofs::OneAnswerLemmas::read_allowed), unfolding(crate::specs::ServerHello::server_hello_ssl30))]
+#[tactic(auto, using(layouts::proofs::OneAnswerLemmas::read_allowed), unfolding(crate::specs::ServerHello::server_hello_ssl30))]
 fn server_hello_ssl30(i: &[u8]) -> IResult<&[u8], TlsServerHelloContents>
     ensures { Gives view_server_hello server_hello_ssl30_layout i.now result }
 {
@@ -154,7 +167,7 @@ fn server_hello_ssl30(i: &[u8]) -> IResult<&[u8], TlsServerHelloContents>
 /// - `Incomplete` of the count of missing bytes, where they are missing in front of the extensions.
 /// - `Error` of kind `Tag` for any other version, whatever follows it.
 /// - `Error` of kind `Verify` where the session id is longer than 32 bytes.
-#[tactic(auto, using(tls_fields::proofs::OneAnswerLemmas::read_allowed), unfolding(crate::specs::ServerHello::server_hello))]
+#[tactic(auto, using(layouts::proofs::OneAnswerLemmas::read_allowed), unfolding(crate::specs::ServerHello::server_hello))]
 pub fn parse_tls_handshake_server_hello(i: &[u8]) -> IResult<&[u8], TlsServerHelloContents>
     ensures { Gives view_server_hello server_hello_layout i.now result }
 {
@@ -170,7 +183,7 @@ pub fn parse_tls_handshake_server_hello(i: &[u8]) -> IResult<&[u8], TlsServerHel
 /// 32 of random, 2 of cipher suite, and perhaps extensions after 2 bytes of length.
 ///
 /// `Incomplete` of the count of missing bytes, where they are missing in front of the extensions.
-#[tactic(auto, using(tls_fields::proofs::OneAnswerLemmas::read_allowed), unfolding(crate::specs::ServerHello::server_hello_draft18))]
+#[tactic(auto, using(layouts::proofs::OneAnswerLemmas::read_allowed), unfolding(crate::specs::ServerHello::server_hello_draft18))]
 pub(crate) fn server_hello_draft18(i: &[u8]) -> IResult<&[u8], TlsServerHelloV13Draft18Contents>
     ensures { Gives view_server_hello_draft18 server_hello_draft18_layout i.now result }
 {
@@ -191,7 +204,7 @@ pub(crate) fn server_hello_draft18(i: &[u8]) -> IResult<&[u8], TlsServerHelloV13
 /// and perhaps extensions after 2 bytes of length.
 ///
 /// `Incomplete` of the count of missing bytes, where they are missing in front of the extensions.
-#[tactic(auto, using(tls_fields::proofs::OneAnswerLemmas::read_allowed), unfolding(crate::specs::ServerHello::hello_retry_request))]
+#[tactic(auto, using(layouts::proofs::OneAnswerLemmas::read_allowed), unfolding(crate::specs::ServerHello::hello_retry_request))]
 pub(crate) fn hello_retry_request(i: &[u8]) -> IResult<&[u8], TlsHelloRetryRequestContents>
     ensures { Gives view_hello_retry_request hello_retry_request_layout i.now result }
 {

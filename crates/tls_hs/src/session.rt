@@ -1,12 +1,12 @@
 //! Tickets, key exchanges and the choice of a protocol.
-#![tactic(auto, using(tls_fields::proofs::OneAnswerLemmas::read_allowed), unfolding(crate::specs::Session::new_session_ticket, crate::specs::Session::next_protocol))]
+#![tactic(auto, using(layouts::proofs::OneAnswerLemmas::read_allowed), unfolding(crate::specs::Session::new_session_ticket, crate::specs::Session::next_protocol))]
 
-ghost use Rattle.tls_fields.specs.Answers.{Gives};
+ghost use Rattle.layouts.specs.Answers.{Gives};
 ghost use Rattle.tls_hs.specs.Session.{view_new_session_ticket, new_session_ticket as new_session_ticket_layout};
 ghost use Rattle.tls_hs.specs.Session.{view_next_protocol, next_protocol};
 
+use layouts::{ErrorKind, IResult, block, counted1, number4, refused};
 use tls_base::ECPoint;
-use tls_fields::{ErrorKind, IResult, block, counted1, number4, refused};
 
 /// The body of a NewSessionTicket up to TLS 1.2 (RFC 5077, section 3.3).
 #[derive(Clone, Debug, PartialEq, Drop)]

@@ -23,9 +23,9 @@ use crate::client_hello::TlsClientHelloContents;
 use crate::handshake::TlsMessageHandshake;
 use crate::server_hello::{TlsServerHelloContents, TlsServerHelloV13Draft18Contents};
 use crate::session::TlsClientKeyExchangeContents;
+use layouts::{GenError, write_whole};
 use std::alloc::Global;
 use std::io::Write;
-use tls_fields::{GenError, write_whole};
 
 pub mod builder;
 pub mod judge;
@@ -53,17 +53,7 @@ fn writable_of<'b, 'a>(m: &'b TlsMessageHandshake<'a>) -> Option<Writable<'b, 'a
         TlsMessageHandshake::ServerHelloV13Draft18(h) => Some(Writable::ServerHelloV13Draft18(h)),
         TlsMessageHandshake::ClientKeyExchange(k) => Some(Writable::ClientKeyExchange(k)),
         TlsMessageHandshake::Finished(b) => Some(Writable::Finished(b)),
-        TlsMessageHandshake::NewSessionTicket(_)
-        | TlsMessageHandshake::EndOfEarlyData
-        | TlsMessageHandshake::HelloRetryRequest(_)
-        | TlsMessageHandshake::Certificate(_)
-        | TlsMessageHandshake::ServerKeyExchange(_)
-        | TlsMessageHandshake::CertificateRequest(_)
-        | TlsMessageHandshake::ServerDone(_)
-        | TlsMessageHandshake::CertificateVerify(_)
-        | TlsMessageHandshake::CertificateStatus(_)
-        | TlsMessageHandshake::NextProtocol(_)
-        | TlsMessageHandshake::KeyUpdate(_) => None,
+        _ => None,
     }
 }
 

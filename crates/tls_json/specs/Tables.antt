@@ -2,8 +2,8 @@
 use Rattle.std.specs.Prelude.{◌++◌, ℕ, Bool, true, false, List, [], ◌∷◌, codes, Option, Some, None}
 use Rattle.std.specs.Borrow.{Bor}
 use Rattle.serde_json.specs.Data.{Data}
-use Rattle.tls_fields.specs.Items.{left_in}
-use Rattle.tls_fields.specs.Layout.{counted}
+use Rattle.layouts.specs.Items.{left_in}
+use Rattle.layouts.specs.Layout.{counted}
 use Rattle.tls_ext.specs.InPlace.{raw_extension}
 use Rattle.tls_base.specs.declared.ec.ECParametersContent as content_of
 use Rattle.tls_base.specs.declared.ec.ECParametersContent.TheVariants as content
@@ -18,9 +18,9 @@ use Rattle.tls_hs.specs.declared.server_hello.TlsHelloRetryRequestContents.{TlsH
 use Rattle.tls_hs.specs.declared.certificate_view.CertificateRequestView.{CertificateRequestView}
 use Rattle.tls_hs.specs.declared.certificate.TlsCertificateStatusContents.{TlsCertificateStatusContents}
 use Rattle.tls_hs.specs.declared.message.TlsMessageHeartbeat.{TlsMessageHeartbeat}
-use Rattle.tls_json.specs.declared.exchange.KeyExchange.{KeyExchange}
-use Rattle.tls_json.specs.declared.exchange.Public.{Public}
-use Rattle.tls_json.specs.declared.exchange.Public.TheVariants.{Nothing, Rsa, Dh, Ecdh}
+use Rattle.tls_base.specs.declared.suite_exchange.KeyExchange.{KeyExchange}
+use Rattle.tls_base.specs.declared.suite_exchange.Public.{Public}
+use Rattle.tls_base.specs.declared.suite_exchange.Public.TheVariants.{Nothing, Rsa, Dh, Ecdh}
 use Rattle.tls_json.specs.Outline.{
   Entries,
   object_of,

@@ -4,7 +4,6 @@ ghost use Rattle.serde_json.specs.Events.{SendsValue, SendsMembers, members_len}
 ghost use Rattle.tls_json.specs.Outline.{members, some_name};
 ghost use Rattle.tls_json.specs.Tables.{alert_entries, alert_fields};
 
-use crate::names::alert_name;
 use serde::{Described, Serialize, Serializer};
 use tls_base::{TlsAlertDescription, TlsAlertSeverity};
 
@@ -61,7 +60,7 @@ impl AlertMessage {
         AlertMessage {
             level: level.0,
             description: description.0,
-            name: alert_name(description),
+            name: description.registered_name(),
         }
     }
 }

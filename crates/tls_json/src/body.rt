@@ -1,8 +1,8 @@
 //! The bodies of handshake messages.
 ghost use Rattle.std.specs.Prelude.{IfOk, IfSome, ◌≡◌, ◌++◌, codes};
 ghost use Rattle.serde_json.specs.Data.{array, no_items};
-ghost use Rattle.tls_fields.specs.Items.{left_in};
-ghost use Rattle.tls_fields.specs.Layout.{counted};
+ghost use Rattle.layouts.specs.Items.{left_in};
+ghost use Rattle.layouts.specs.Layout.{counted};
 ghost use Rattle.tls_json.specs.Outline.{Shows, Entries, list, HasNames, HasFields};
 ghost use Rattle.tls_json.specs.Tables.{chain_fields, list_if, request_fields, ticket_fields, status_fields, next_protocol_names, verify_request_fields, finished_fields, key_update_fields};
 
@@ -14,15 +14,15 @@ use crate::json::Value;
 use crate::key_exchange::{client_key_exchange, server_key_exchange, signature};
 use crate::table::{Table, Values, single};
 use crate::text::{blob, blobs, codes, escaped, numbers};
+use layouts::{Items, counted2, number4};
 use std::alloc::{AllocError, Global};
 use tls_base::{TlsHandshakeType, TlsVersion};
-use tls_fields::{Items, counted2, number4};
 use tls_flow::{HandshakeMessage, ReadServerHello};
 use tls_hs::{
     CertificateRequestView, ClientHelloView, HandshakeView, RawCertificate, RawHandshake,
     TlsCertificateStatusContents, TlsMessageHandshake, TlsNextProtocolContent,
 };
-use tls_parser::{DTLSBodyView, DTLSClientHelloView, DTLSMessageHandshakeBody};
+use tls_records::{DTLSBodyView, DTLSClientHelloView, DTLSMessageHandshakeBody};
 
 /// A body by its fields; `None` where they are those of its bytes alone.
 type Answer = Option<Result<Value, AllocError>>;

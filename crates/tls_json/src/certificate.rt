@@ -7,8 +7,8 @@ use crate::json::Value;
 use crate::table::{Table, Values};
 use crate::text::blob;
 use der::ObjectIdentifier;
+use layouts::Items;
 use std::alloc::{AllocError, Global};
-use tls_fields::Items;
 use x509::{
     Certificate, Extension, Extensions, SubjectPublicKeyInfo, Validity, oid,
     parse_basic_constraints, parse_certificate, parse_extended_key_usage, parse_general_names,

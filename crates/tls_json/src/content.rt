@@ -8,6 +8,7 @@ use crate::json::Value;
 use crate::offers;
 use crate::table::{Table, Values, single};
 use crate::text::{blob, blobs, code_text, codes, escaped, numbers};
+use layouts::{Counted1, Counted2, IResult, InPlace, Items, counted1, counted2};
 use std::alloc::{AllocError, Global};
 use tls_base::{NamedGroup, TlsExtensionType, TlsVersion};
 use tls_ext::{
@@ -16,7 +17,6 @@ use tls_ext::{
     server_names, signature_algorithms, supported_groups,
 };
 use tls_facts::{DELEGATED_CREDENTIAL, ENCRYPTED_CLIENT_HELLO};
-use tls_fields::{Counted1, Counted2, IResult, InPlace, Items, counted1, counted2};
 
 /// The compress_certificate of RFC 8879, section 7.1, which the library has no name for.
 const COMPRESS_CERTIFICATE: TlsExtensionType = TlsExtensionType(27);

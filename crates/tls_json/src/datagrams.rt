@@ -1,6 +1,6 @@
 //! Messages of DTLS that were put together.
 use tls_base::TlsHandshakeType;
-use tls_parser::DTLSRawHandshake;
+use tls_records::DTLSRawHandshake;
 
 /// A whole message, as one fragment; `None` where its length is no number of 4 bytes.
 pub fn whole_message<'a>(

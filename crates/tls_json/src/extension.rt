@@ -1,19 +1,18 @@
 //! Extensions.
 ghost use Rattle.std.specs.Prelude.{IfOk, ◌≡◌, ◌++◌};
 ghost use Rattle.serde_json.specs.Data.{Data, array, no_items};
-ghost use Rattle.tls_fields.specs.Items.{left_in};
+ghost use Rattle.layouts.specs.Items.{left_in};
 ghost use Rattle.tls_ext.specs.InPlace.{raw_extension};
 ghost use Rattle.tls_json.specs.Outline.{Shows, Entries, HasFields};
 ghost use Rattle.tls_json.specs.Tables.{extensions_fields, extension_fields};
 
 use crate::content::{Sender, content_of};
 use crate::json::Value;
-use crate::names::extension_name;
 use crate::table::{Table, Values};
+use layouts::Items;
 use std::alloc::{AllocError, Global};
 use tls_base::TlsExtensionType;
 use tls_ext::RawExtension;
-use tls_fields::Items;
 
 /// An extension (RFC 8446, section 4.2): its type, the name of that where it has one, and its content.
 fn fields(
@@ -38,7 +37,7 @@ fn list<'a>(alloc: Global, sender: Sender, block: &'a [u8]) -> Result<Value, All
     let walk: Items<RawExtension> = Items::new(block);
     let mut all = Values::new(alloc);
     for one in walk {
-        let name = extension_name(one.extension_type);
+        let name = one.extension_type.registered_name();
         let data = content_of(alloc, sender, one.extension_type, one.content);
         all = all.add(fields(alloc, one.extension_type, name, data));
     }

@@ -4,17 +4,16 @@ ghost use Rattle.tls_json.specs.Outline.{Shows, HasNames, HasFieldNames, IfRead,
 ghost use Rattle.tls_json.specs.Tables.{coefficients_fields, explicit_prime_fields, named_curve_fields, curve_fields, dh_fields, ecdh_fields, signature_fields, names_if, params_names, server_key_exchange_names, client_value_names, client_key_exchange_names};
 
 use crate::chosen::Chosen;
-use crate::exchange::{KeyExchange, Public};
 use crate::json::Value;
 use crate::table::Table;
 use crate::text::{blob, escaped};
+use layouts::{counted1, counted2};
 use std::alloc::{AllocError, Global};
 use tls_base::{
-    ECParameters, ECParametersContent, ExplicitPrimeContent, ServerDHParams, ServerECDHParams,
-    TlsVersion, parse_dh_params, parse_digitally_signed, parse_digitally_signed_old,
-    parse_ecdh_params,
+    ECParameters, ECParametersContent, ExplicitPrimeContent, KeyExchange, Public, ServerDHParams,
+    ServerECDHParams, TlsVersion, parse_dh_params, parse_digitally_signed,
+    parse_digitally_signed_old, parse_ecdh_params,
 };
-use tls_fields::{counted1, counted2};
 
 /// What was read, behind what is left; `None` where not all of it is there.
 type Read<'a> = Option<(&'a [u8], Result<Value, AllocError>)>;

@@ -9,7 +9,6 @@ ghost use Rattle.tls_json.specs.Tables.{message_fields};
 use crate::body::Content;
 use crate::chosen::Chosen;
 use crate::json::Value;
-use crate::names::message_name;
 use crate::table::Table;
 use serde::{Described, Serialize, Serializer};
 use std::alloc::{AllocError, Global};
@@ -119,7 +118,7 @@ impl Message {
         let value = fields(
             alloc,
             message.msg_type,
-            message_name(message.msg_type),
+            message.msg_type.registered_name(),
             message.body.len(),
             message_seq,
             content,

@@ -8,8 +8,8 @@ use crate::content::Answer;
 use crate::json::Value;
 use crate::table::{Table, Values, single};
 use crate::text::{blob, numbers};
+use layouts::{Counted1, Items, counted1, counted2, number4};
 use std::alloc::{AllocError, Global};
-use tls_fields::{Counted1, Items, counted1, counted2, number4};
 
 /// The form of an encrypted_client_hello that isn't itself encrypted (RFC 9849, section 5).
 const OUTER: u8 = 0;

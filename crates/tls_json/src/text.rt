@@ -6,8 +6,8 @@ ghost use Rattle.tls_json.specs.Outline.{Shows, number_text, bytes};
 
 use crate::json::Value;
 use crate::table::Values;
+use layouts::{Counted2, Items};
 use std::alloc::{AllocError, Global};
-use tls_fields::{Counted2, Items};
 
 /// Bytes, in hexadecimal.
 pub fn blob(alloc: Global, bytes: &[u8]) -> Result<Value, AllocError>

@@ -1,44 +1,27 @@
-//! A reader of TLS and DTLS records and of the messages in them (RFC 5246, RFC 6347 and RFC 8446), and a writer of TLS
-//! records.
+//! The public names of the Rust crate tls-parser, each of the crate that has it, and their definitions. Nothing is defined here.
 //!
-//! Each call that reads answers what a layout of `specs/` allows on the bytes: the value and the exact rest, or the
-//! refusal of the leftmost part that can't be read. Slices in a value are parts of the input. Each call that writes appends
-//! the text of the value, which `specs/` says too; or refuses the value, or runs out of memory, and doesn't call the writer;
-//! or the writer fails, and how much of the text it took is unknown.
-#![tactic(auto, using(tls_fields::proofs::OneAnswerLemmas::read_allowed))]
+//! Records of TLS and DTLS and the writer are `tls_records`, and following a handshake is `tls_states`. A program that wants one of
+//! them alone names that crate.
+#![tactic(auto)]
 
-mod content;
-mod dtls;
-pub mod laws;
-mod plaintext;
-mod plaintext_view;
-mod record;
-mod writer;
-
-pub use dtls::{
+// Records, and the writer.
+pub use tls_records::{
     DTLSBodyView, DTLSClientHello, DTLSClientHelloView, DTLSHandshakeView, DTLSHelloVerifyRequest,
     DTLSMessage, DTLSMessageHandshake, DTLSMessageHandshakeBody, DTLSMessages, DTLSPlaintext,
     DTLSPlaintextView, DTLSRawHandshake, DTLSRawMessage, DTLSRawRecord, DTLSRecordHeader,
-    parse_dtls_message_alert, parse_dtls_message_changecipherspec, parse_dtls_message_handshake,
-    parse_dtls_plaintext_record, parse_dtls_plaintext_record_in_place,
-    parse_dtls_plaintext_records, parse_dtls_record_header, parse_dtls_record_with_header,
-    parse_dtls_record_with_header_in_place,
+    MAX_RECORD_LEN, PlaintextView, Serialize, TlsEncrypted, TlsEncryptedContent, TlsPlaintext,
+    TlsRawRecord, TlsRecordHeader, first_body, gen_tls_changecipherspec, gen_tls_message,
+    gen_tls_plaintext, laws, parse_dtls_message_alert, parse_dtls_message_changecipherspec,
+    parse_dtls_message_handshake, parse_dtls_plaintext_record,
+    parse_dtls_plaintext_record_in_place, parse_dtls_plaintext_records, parse_dtls_record_header,
+    parse_dtls_record_with_header, parse_dtls_record_with_header_in_place, parse_tls_encrypted,
+    parse_tls_plaintext, parse_tls_plaintext_in_place, parse_tls_raw_record,
+    parse_tls_record_header, parse_tls_record_with_header, parse_tls_record_with_header_in_place,
+    server_name_of_record, tls_parser, tls_parser_many,
 };
-pub use plaintext::{
-    TlsPlaintext, parse_tls_plaintext, parse_tls_record_with_header, tls_parser, tls_parser_many,
-};
-pub use plaintext_view::{
-    PlaintextView, first_body, parse_tls_plaintext_in_place, parse_tls_record_with_header_in_place,
-    server_name_of_record,
-};
-pub use record::{
-    MAX_RECORD_LEN, TlsEncrypted, TlsEncryptedContent, TlsRawRecord, TlsRecordHeader,
-    parse_tls_encrypted, parse_tls_raw_record, parse_tls_record_header,
-};
-pub use writer::{Serialize, gen_tls_changecipherspec, gen_tls_message, gen_tls_plaintext};
 
 // Why a value isn't written.
-pub use tls_fields::GenError;
+pub use layouts::GenError;
 
 // Numbers with a name, key exchange, signatures, timestamps, ciphers.
 pub use tls_base::{
@@ -106,6 +89,7 @@ pub use tls_hs::{
 pub use tls_states::{ParseContext, StateChangeError, TlsState, tls_state_transition};
 
 // Reading in place.
+pub use layouts::{Counted1, Counted2, InPlace, Items, Place};
 pub use tls_base::certificate_timestamps;
 pub use tls_ext::{
     ExtensionType, RawExtension, ServerName, application_protocols, best_version, ec_point_formats,
@@ -113,7 +97,6 @@ pub use tls_ext::{
     psk_key_exchange_modes, server_name, server_names, signature_algorithms, supported_groups,
     supported_versions,
 };
-pub use tls_fields::{Counted1, Counted2, InPlace, Items, Place};
 pub use tls_hs::{
     Alert, CertificateRequestView, ChangeCipherSpec, ClientHelloPlaces, ClientHelloView,
     HandshakeView, Messages, RawHandshake, RawMessage, certificates, heartbeat,

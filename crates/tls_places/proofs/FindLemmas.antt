@@ -1,16 +1,16 @@
 -- What is found, told by its place.
 use Rattle.std.proofs.Common.{◌≡◌, List, ◌∷◌, Option, Some, Result, Ok, sym, ◌∙◌, ap, subst}
-use Rattle.tls_fields.specs.Bytes.{Bytes}
-use Rattle.tls_fields.specs.Items.{items_in}
-use Rattle.tls_fields.specs.Place.{bytes_at}
-use Rattle.tls_fields.specs.Reading.{reading}
-use Rattle.tls_fields.specs.declared.places.Place.{Place}
+use Rattle.layouts.specs.Bytes.{Bytes}
+use Rattle.layouts.specs.Items.{items_in}
+use Rattle.layouts.specs.Place.{bytes_at}
+use Rattle.layouts.specs.Reading.{reading}
+use Rattle.layouts.specs.declared.places.Place.{Place}
 use Rattle.tls_ext.specs.Content as content
 use Rattle.tls_ext.specs.Extension as extension
-use Rattle.tls_fields.specs.Meaning.{Refusal}
+use Rattle.layouts.specs.Meaning.{Refusal}
 use Rattle.tls_ext.specs.InPlace.{first_name, picked}
 use Rattle.std.specs.Option.{option_map}
-use Rattle.tls_fields.specs.Items.{Tells}
+use Rattle.layouts.specs.Items.{Tells}
 use Rattle.tls_places.specs.Place.{Found, IsWithin, Lies, Stands}
 use Rattle.tls_places.proofs.OutwardLemmas.{ok_found}
 

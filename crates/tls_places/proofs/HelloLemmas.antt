@@ -24,13 +24,13 @@ use Rattle.std.proofs.Common.{
   ap₂,
 }
 use Rattle.std.proofs.lemmas.List.{append_assoc, length-append}
-use Rattle.tls_fields.specs.Bytes.{Bytes, bytes_of}
-use Rattle.tls_fields.specs.Layout.{Layout, done, number, block, maybe, choose, test, refuse, counted}
-use Rattle.tls_fields.specs.Meaning.{Spells, Allows, EndsWith}
-use Rattle.tls_fields.specs.declared.result.ErrorKind.{ErrorKind}
-use Rattle.tls_fields.specs.declared.result.ErrorKind.TheVariants.{Tag}
-use Rattle.tls_fields.proofs.EndLemmas.{ends}
-use Rattle.tls_fields.proofs.NumberLemmas.{length-bytes_of}
+use Rattle.layouts.specs.Bytes.{Bytes, bytes_of}
+use Rattle.layouts.specs.Layout.{Layout, done, number, block, maybe, choose, test, refuse, counted}
+use Rattle.layouts.specs.Meaning.{Spells, Allows, EndsWith}
+use Rattle.layouts.specs.declared.result.ErrorKind.{ErrorKind}
+use Rattle.layouts.specs.declared.result.ErrorKind.TheVariants.{Tag}
+use Rattle.layouts.proofs.EndLemmas.{ends}
+use Rattle.layouts.proofs.NumberLemmas.{length-bytes_of}
 use Rattle.tls_hs.specs.Hello.{session_id}
 use Rattle.tls_hs.specs.ServerHello.{ServerHello, server_hello, server_hello_any, server_hello_ssl30, server_hello_with}
 use Rattle.tls_places.specs.Place.{Stands, EndsIn}

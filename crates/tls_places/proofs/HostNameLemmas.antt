@@ -19,19 +19,19 @@ use Rattle.std.proofs.Common.{
   subst,
 }
 use Rattle.std.specs.Option.{option_map}
-use Rattle.tls_fields.specs.Bytes.{Bytes}
-use Rattle.tls_fields.specs.Items.{Tells}
-use Rattle.tls_fields.specs.Layout.{number, block, counted}
-use Rattle.tls_fields.specs.Meaning.{Allows, EndsWith}
-use Rattle.tls_fields.specs.Place.{bytes_at}
-use Rattle.tls_fields.specs.Reading.{reading, items_at}
-use Rattle.tls_fields.specs.Text.{held}
-use Rattle.tls_fields.specs.declared.places.Place.{Place}
-use Rattle.tls_fields.proofs.EndLemmas.{ends}
+use Rattle.layouts.specs.Bytes.{Bytes}
+use Rattle.layouts.specs.Items.{Tells}
+use Rattle.layouts.specs.Layout.{number, block, counted}
+use Rattle.layouts.specs.Meaning.{Allows, EndsWith}
+use Rattle.layouts.specs.Place.{bytes_at}
+use Rattle.layouts.specs.Reading.{reading, items_at}
+use Rattle.layouts.specs.Text.{held}
+use Rattle.layouts.specs.declared.places.Place.{Place}
+use Rattle.layouts.proofs.EndLemmas.{ends}
 use Rattle.tls_hs.specs.Hello.{ClientHello, client_hello, session_id, cipher_suites, compression_methods}
 use Rattle.tls_ext.specs.InPlace.{host_name}
-use Rattle.tls_parser.specs.InPlace.{body_of_type, host_name_of_record, name_in_body, name_in_hello, name_in_record}
-use Rattle.tls_parser.specs.Record.{RawRecord, raw_record}
+use Rattle.tls_records.specs.InPlace.{body_of_type, host_name_of_record, name_in_body, name_in_hello, name_in_record}
+use Rattle.tls_records.specs.Record.{RawRecord, raw_record}
 use Rattle.tls_places.specs.Place.{EndsIn, Found, MayStand, Stands}
 use Rattle.tls_places.proofs.LastLemmas.{behind, counted_last, ends_in_after, maybe_last}
 

@@ -1,10 +1,10 @@
 -- What stands last: three ways to put layouts together, and each structure by them.
 use Rattle.std.proofs.Common.{◌≡◌, ℕ, [], Option, Some, None, Bool, true, false, refl, sym, subst, ap, ◌∙◌}
-use Rattle.tls_fields.specs.Bytes.{Bytes}
-use Rattle.tls_fields.specs.Layout.{Layout, done, number, block, maybe, chain, choose, counted}
-use Rattle.tls_fields.specs.Meaning.{EndsWith, Allows, Spells}
-use Rattle.tls_fields.specs.Framed.{Framed, framed}
-use Rattle.tls_fields.proofs.EndLemmas.{ends, ends_after}
+use Rattle.layouts.specs.Bytes.{Bytes}
+use Rattle.layouts.specs.Layout.{Layout, done, number, block, maybe, chain, choose, counted}
+use Rattle.layouts.specs.Meaning.{EndsWith, Allows, Spells}
+use Rattle.layouts.specs.Framed.{Framed, framed}
+use Rattle.layouts.proofs.EndLemmas.{ends, ends_after}
 use Rattle.tls_ext.specs.Content.{server_name, oid_filter}
 use Rattle.tls_ext.specs.Extension.{ServerName, OidFilter}
 use Rattle.tls_places.specs.Place.{EndsIn}

@@ -1,11 +1,11 @@
 -- What is found in a part is found in the whole.
 use Rattle.std.proofs.Common.{◌≡◌, Option, Some, Result, Ok, ◌∙◌, ap, subst}
 use Rattle.std.specs.Option.{option_map}
-use Rattle.tls_fields.specs.Bytes.{Bytes}
-use Rattle.tls_fields.specs.Items.{Tells}
-use Rattle.tls_fields.specs.Meaning.{Refusal}
-use Rattle.tls_fields.specs.Place.{bytes_at}
-use Rattle.tls_fields.specs.declared.places.Place.{Place}
+use Rattle.layouts.specs.Bytes.{Bytes}
+use Rattle.layouts.specs.Items.{Tells}
+use Rattle.layouts.specs.Meaning.{Refusal}
+use Rattle.layouts.specs.Place.{bytes_at}
+use Rattle.layouts.specs.declared.places.Place.{Place}
 use Rattle.tls_places.specs.Place.{Found, IsWithin, Lies, Stands}
 use Rattle.tls_places.proofs.PlaceLemmas.{lies_stands}
 

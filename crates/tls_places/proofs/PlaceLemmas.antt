@@ -31,11 +31,11 @@ use Rattle.std.proofs.lemmas.List.{
   take_min,
   drop_min,
 }
-use Rattle.tls_fields.specs.Bytes.{Bytes}
-use Rattle.tls_fields.specs.Meaning.{EndsWith}
-use Rattle.tls_fields.specs.Place.{bytes_at}
-use Rattle.tls_fields.specs.declared.places.Place.{Place}
-use Rattle.tls_fields.proofs.EndLemmas.{ends_after}
+use Rattle.layouts.specs.Bytes.{Bytes}
+use Rattle.layouts.specs.Meaning.{EndsWith}
+use Rattle.layouts.specs.Place.{bytes_at}
+use Rattle.layouts.specs.declared.places.Place.{Place}
+use Rattle.layouts.proofs.EndLemmas.{ends_after}
 use Rattle.tls_places.specs.Place.{Stands, IsEnd, Lies}
 
 -- what begins behind so many bytes

@@ -1,13 +1,13 @@
 -- What stands last in records, and in messages of DTLS.
 use Rattle.std.proofs.Common.{◌++◌, Some, nat_le, refl, sym, subst, ap}
-use Rattle.tls_fields.specs.Layout.{done, number, block, chain, test}
-use Rattle.tls_fields.specs.Meaning.{EndsWith}
-use Rattle.tls_fields.proofs.EndLemmas.{ends, ends_after}
-use Rattle.tls_fields.specs.declared.result.ErrorKind.TheVariants.{TooLarge}
-use Rattle.tls_parser.specs.Framing.{max_fragment_length}
-use Rattle.tls_parser.specs.Record as tls
-use Rattle.tls_parser.specs.DtlsRecord as dtls
-use Rattle.tls_parser.specs.DtlsInPlace.{RawHandshake, raw_handshake}
+use Rattle.layouts.specs.Layout.{done, number, block, chain, test}
+use Rattle.layouts.specs.Meaning.{EndsWith}
+use Rattle.layouts.proofs.EndLemmas.{ends, ends_after}
+use Rattle.layouts.specs.declared.result.ErrorKind.TheVariants.{TooLarge}
+use Rattle.tls_records.specs.Framing.{max_fragment_length}
+use Rattle.tls_records.specs.Record as tls
+use Rattle.tls_records.specs.DtlsRecord as dtls
+use Rattle.tls_records.specs.DtlsInPlace.{RawHandshake, raw_handshake}
 use Rattle.tls_places.specs.Last.{LastStands, StandsLast}
 use Rattle.tls_places.proofs.LastLemmas.{allowed_last, behind, block_last, chain_last, made_last}
 

@@ -1,7 +1,7 @@
 -- Where the parts of a ClientHello of DTLS stand in its body.
 use Rattle.std.specs.Option.{option_map}
-use Rattle.tls_fields.specs.Bytes.{Bytes}
-use Rattle.tls_parser.specs.declared.dtls.hello_view.DTLSClientHelloView.{DTLSClientHelloView}
+use Rattle.layouts.specs.Bytes.{Bytes}
+use Rattle.tls_records.specs.declared.dtls.hello_view.DTLSClientHelloView.{DTLSClientHelloView}
 use Rattle.tls_places.specs.Place.{Stands, MayStand}
 use Rattle.tls_places.specs.declared.dtls_hello.DtlsClientHelloPlaces.{DtlsClientHelloPlaces}
 

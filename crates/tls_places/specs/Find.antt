@@ -1,7 +1,7 @@
 -- What is found in a hello's extensions.
-use Rattle.tls_fields.specs.Bytes.{Bytes}
-use Rattle.tls_fields.specs.Items.{items_in}
-use Rattle.tls_fields.specs.Layout.{counted}
+use Rattle.layouts.specs.Bytes.{Bytes}
+use Rattle.layouts.specs.Items.{items_in}
+use Rattle.layouts.specs.Layout.{counted}
 use Rattle.tls_ext.specs.Extension as extension
 use Rattle.tls_ext.specs.Extension.{Extension}
 

@@ -1,6 +1,6 @@
 -- Where the parts of hellos stand in their bodies.
 use Rattle.std.specs.Option.{option_map}
-use Rattle.tls_fields.specs.Bytes.{Bytes}
+use Rattle.layouts.specs.Bytes.{Bytes}
 use Rattle.tls_hs.specs.declared.server_hello.TlsServerHelloContents.{TlsServerHelloContents}
 use Rattle.tls_places.specs.Place.{Stands, MayStand, MayBeginAt, EndsIn}
 use Rattle.tls_places.specs.declared.server_hello.ServerHelloPlaces.{ServerHelloPlaces}

@@ -1,8 +1,8 @@
 -- What stands last in a structure: the content of an extension, the body of a message, the name behind its length.
 use Rattle.std.specs.Prelude.{Option, Ok, ◌++◌}
-use Rattle.tls_fields.specs.Bytes.{Bytes}
-use Rattle.tls_fields.specs.Layout.{Layout}
-use Rattle.tls_fields.specs.Meaning.{Spells, Allows, EndsWith}
+use Rattle.layouts.specs.Bytes.{Bytes}
+use Rattle.layouts.specs.Layout.{Layout}
+use Rattle.layouts.specs.Meaning.{Spells, Allows, EndsWith}
 use Rattle.tls_places.specs.Place.{EndsIn}
 
 -- Where b spells v under the layout, the last part of v stands in front of the rest.

@@ -20,13 +20,13 @@ use Rattle.std.specs.Prelude.{
 use Rattle.std.specs.Borrow.{Bor}
 use Rattle.std.specs.Iterator.{YieldsFirstBy}
 use Rattle.std.specs.Option.{option_map}
-use Rattle.tls_fields.specs.Bytes.{Bytes}
-use Rattle.tls_fields.specs.Items.{Tells}
-use Rattle.tls_fields.specs.Meaning.{EndsWith, Refusal}
-use Rattle.tls_fields.specs.Place.{bytes_at}
-use Rattle.tls_fields.specs.declared.places.Place.{Place}
-use Rattle.tls_fields.specs.declared.result.Error.{Error}
-use Rattle.tls_fields.specs.declared.result.Err.{Err as Failed}
+use Rattle.layouts.specs.Bytes.{Bytes}
+use Rattle.layouts.specs.Items.{Tells}
+use Rattle.layouts.specs.Meaning.{EndsWith, Refusal}
+use Rattle.layouts.specs.Place.{bytes_at}
+use Rattle.layouts.specs.declared.places.Place.{Place}
+use Rattle.layouts.specs.declared.result.Error.{Error}
+use Rattle.layouts.specs.declared.result.Err.{Err as Failed}
 
 -- The place lies within b.
 abbrev pub Lies : Bytes → Place → Type 0

@@ -1,25 +1,25 @@
 //! Where the parts of a ClientHello of DTLS stand.
-#![tactic(auto, using(tls_fields::proofs::OneAnswerLemmas::read_allowed))]
+#![tactic(auto, using(layouts::proofs::OneAnswerLemmas::read_allowed))]
 
 ghost use Rattle.std.specs.Prelude.{IfOk};
-ghost use Rattle.tls_fields.specs.Answers.{Gives};
-ghost use Rattle.tls_fields.specs.Items.{items_in};
-ghost use Rattle.tls_fields.specs.Layout.{number};
-ghost use Rattle.tls_fields.specs.Meaning.{EndsWith};
+ghost use Rattle.layouts.specs.Answers.{Gives};
+ghost use Rattle.layouts.specs.Items.{items_in};
+ghost use Rattle.layouts.specs.Layout.{number};
+ghost use Rattle.layouts.specs.Meaning.{EndsWith};
 ghost use Rattle.tls_hs.specs.Hello.{cipher_suites, compression_methods};
-ghost use Rattle.tls_parser.specs.DtlsHello.{client_hello};
-ghost use Rattle.tls_parser.specs.DtlsInPlace.{view_client_hello_in_place};
+ghost use Rattle.tls_records.specs.DtlsHello.{client_hello};
+ghost use Rattle.tls_records.specs.DtlsInPlace.{view_client_hello_in_place};
 ghost use Rattle.tls_places.specs.DtlsHello.{DtlsClientHelloStands};
 ghost use Rattle.tls_places.specs.Place.{Stands};
 
 use crate::frame::frame_at;
 use crate::place::{held_before, place_before};
-use tls_base::{TlsCipherSuiteID, TlsCompressionID, TlsVersion};
-use tls_fields::{
+use layouts::{
     Counted1, ErrorKind, IResult, Items, Place, block, maybe2, number1, number2, refused,
 };
+use tls_base::{TlsCipherSuiteID, TlsCompressionID, TlsVersion};
 use tls_hs::parts::session_id;
-use tls_parser::DTLSClientHelloView;
+use tls_records::DTLSClientHelloView;
 
 /// Where the parts of a ClientHello of DTLS stand in its body.
 #[derive(Clone, Copy, Debug, PartialEq)]
@@ -39,7 +39,7 @@ pub struct DtlsClientHelloPlaces {
 }
 
 /// Cipher suites, and where they stand in `whole`, whose end is `i`.
-#[tactic(auto, using(tls_fields::proofs::OneAnswerLemmas::read_allowed, tls_fields::proofs::NumbersLemmas::numbers_in), unfolding(tls_hs::specs::Hello::cipher_suites))]
+#[tactic(auto, using(layouts::proofs::OneAnswerLemmas::read_allowed, layouts::proofs::NumbersLemmas::numbers_in), unfolding(tls_hs::specs::Hello::cipher_suites))]
 #[inline(always)]
 fn suites_at<'a>(
     whole: &[u8],
@@ -60,7 +60,7 @@ fn suites_at<'a>(
 }
 
 /// Compression methods, and where they stand in `whole`, whose end is `i`.
-#[tactic(auto, using(tls_fields::proofs::OneAnswerLemmas::read_allowed, tls_fields::proofs::NumbersLemmas::numbers_in), unfolding(tls_hs::specs::Hello::compression_methods))]
+#[tactic(auto, using(layouts::proofs::OneAnswerLemmas::read_allowed, layouts::proofs::NumbersLemmas::numbers_in), unfolding(tls_hs::specs::Hello::compression_methods))]
 #[inline(always)]
 fn methods_at<'a>(
     whole: &[u8],
@@ -81,7 +81,7 @@ fn methods_at<'a>(
 }
 
 /// Reads the body of a ClientHello of DTLS as [`DTLSClientHelloView::parse`], and says where its parts stand in `whole`.
-#[tactic(auto, using(tls_fields::proofs::OneAnswerLemmas::read_allowed), unfolding(tls_parser::specs::DtlsHello::client_hello))]
+#[tactic(auto, using(layouts::proofs::OneAnswerLemmas::read_allowed), unfolding(tls_records::specs::DtlsHello::client_hello))]
 pub fn dtls_client_hello_with_places(
     whole: &[u8],
 ) -> IResult<&[u8], (DTLSClientHelloView, DtlsClientHelloPlaces)>

@@ -1,14 +1,14 @@
 //! Where a hello's extensions, and what stands in them, are found.
-#![tactic(auto, using(tls_fields::proofs::OneAnswerLemmas::read_allowed))]
+#![tactic(auto, using(layouts::proofs::OneAnswerLemmas::read_allowed))]
 
 ghost use Rattle.std.specs.Prelude.{◌≡◌, ℕ, IfOk, IfSome};
 ghost use Rattle.std.specs.Option.{option_map};
-ghost use Rattle.tls_fields.specs.Bytes.{Bytes};
-ghost use Rattle.tls_fields.specs.Answers.{Gives};
-ghost use Rattle.tls_fields.specs.Items.{Tells, items_in};
-ghost use Rattle.tls_fields.specs.Place.{bytes_at as bytes_there};
-ghost use Rattle.tls_fields.specs.Layout.{counted};
-ghost use Rattle.tls_fields.specs.Reading.{reading};
+ghost use Rattle.layouts.specs.Bytes.{Bytes};
+ghost use Rattle.layouts.specs.Answers.{Gives};
+ghost use Rattle.layouts.specs.Items.{Tells, items_in};
+ghost use Rattle.layouts.specs.Place.{bytes_at as bytes_there};
+ghost use Rattle.layouts.specs.Layout.{counted};
+ghost use Rattle.layouts.specs.Reading.{reading};
 ghost use Rattle.tls_ext.specs.Content as content;
 ghost use Rattle.tls_ext.specs.Extension as extension;
 ghost use Rattle.tls_ext.specs.InPlace.{content_of, first_name, host_name, picked, protocol_names};
@@ -17,9 +17,9 @@ ghost use Rattle.tls_places.specs.Place.{IsWithin, Stands};
 
 use crate::frame::{Placed, frame_at};
 use crate::place::{bytes_at, outward, place_within};
+use layouts::{Counted1, Counted2, Err, Error, IResult, Items, Place};
 use tls_base::TlsExtensionType;
 use tls_ext::{RawExtension, ServerName};
-use tls_fields::{Counted1, Counted2, Err, Error, IResult, Items, Place};
 
 /// Where the content of the first extension of that type stands in `block`, the extensions of a hello after their length.
 ///
@@ -46,7 +46,7 @@ pub fn content_place(
 }
 
 /// The names in the content of a server_name extension, as [`tls_ext::server_names`] reads them, and where they stand in it.
-#[tactic(auto, using(tls_fields::proofs::OneAnswerLemmas::read_allowed, tls_fields::proofs::ItemsLemmas::none_in, tls_fields::proofs::PlaceLemmas::ends_here, crate::proofs::PlaceLemmas::none_stands), unfolding(tls_ext::specs::Content::server_names))]
+#[tactic(auto, using(layouts::proofs::OneAnswerLemmas::read_allowed, layouts::proofs::ItemsLemmas::none_in, layouts::proofs::PlaceLemmas::ends_here, crate::proofs::PlaceLemmas::none_stands), unfolding(tls_ext::specs::Content::server_names))]
 #[inline(always)]
 fn server_names_placed(i: &[u8]) -> IResult<&[u8], (Items<ServerName>, Place)>
     ensures gives { Gives (λ x. extension.server_name (items_in content.server_name x.0.bytes.now)) content.server_names i.now result }
@@ -92,7 +92,7 @@ pub fn host_name_place(block: &[u8]) -> Result<Option<Place>, Err<Error<&[u8]>>>
 }
 
 /// Where the names of protocols stand in the content of an application_layer_protocol_negotiation extension.
-#[tactic(auto, using(tls_fields::proofs::OneAnswerLemmas::read_allowed, tls_fields::proofs::PlaceLemmas::ends_here), unfolding(tls_ext::specs::Content::application_layer_protocol_negotiation))]
+#[tactic(auto, using(layouts::proofs::OneAnswerLemmas::read_allowed, layouts::proofs::PlaceLemmas::ends_here), unfolding(tls_ext::specs::Content::application_layer_protocol_negotiation))]
 #[inline(always)]
 fn protocol_names_placed(i: &[u8]) -> IResult<&[u8], (Items<Counted1>, Place)>
     ensures gives { Gives (λ x. protocol_names_in x.0.bytes.now) content.application_layer_protocol_negotiation i.now result }

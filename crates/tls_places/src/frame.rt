@@ -1,15 +1,15 @@
 //! Items that end in bytes, and where these stand.
 ghost use Rattle.std.specs.Prelude.{◌≡◌, IfOk};
-ghost use Rattle.tls_fields.specs.Answers.{Gives};
-ghost use Rattle.tls_fields.specs.Bytes.{Bytes};
-ghost use Rattle.tls_fields.specs.Items.{items_in};
-ghost use Rattle.tls_fields.specs.Meaning.{EndsWith};
+ghost use Rattle.layouts.specs.Answers.{Gives};
+ghost use Rattle.layouts.specs.Bytes.{Bytes};
+ghost use Rattle.layouts.specs.Items.{items_in};
+ghost use Rattle.layouts.specs.Meaning.{EndsWith};
 ghost use Rattle.tls_places.specs.Place.{IsEnd, Stands, YieldsPlaced};
 ghost use Rattle.tls_places.specs.Last.{StandsLast};
 
 use crate::place::place_before;
+use layouts::{IResult, InPlace, Items, Place};
 use std::marker::PhantomData;
-use tls_fields::{IResult, InPlace, Items, Place};
 
 /// An item that ends in bytes of its own: the content of an extension, the body of a message, a name behind its length.
 pub trait Frame<'a>: InPlace<'a> {
@@ -24,7 +24,7 @@ pub trait Frame<'a>: InPlace<'a> {
 /// Reads one item from the front of `i`, and says where its content stands in `whole`, if `i` is an end of `whole`.
 ///
 /// Refused as the item's own reader refuses `i`.
-#[tactic(auto, using(tls_fields::proofs::OneAnswerLemmas::read_allowed))]
+#[tactic(auto, using(layouts::proofs::OneAnswerLemmas::read_allowed))]
 #[inline(always)]
 pub fn frame_at<'a, T: Frame<'a>>(whole: &[u8], i: &'a [u8]) -> IResult<&'a [u8], (T::Read, Place)>
     ensures gives { Gives (λ x. T.view x.0) T.layout i.now result }
@@ -80,7 +80,7 @@ impl<'a, T: Frame<'a>> Iterator for Placed<'a, T> {
 
     ghost remaining = { item_count (λ s. items_in T.layout s.rest.now) };
 
-    #[tactic(auto, using(tls_fields::proofs::ItemsLemmas::items_first, tls_fields::proofs::ItemsLemmas::items_none, tls_fields::proofs::ItemsLemmas::items_still, tls_fields::proofs::ItemsLemmas::items_shorter))]
+    #[tactic(auto, using(layouts::proofs::ItemsLemmas::items_first, layouts::proofs::ItemsLemmas::items_none, layouts::proofs::ItemsLemmas::items_still, layouts::proofs::ItemsLemmas::items_shorter))]
     #[inline(always)]
     fn next(&mut self) -> Option<(T::Read, Place)> {
         match frame_at::<T>(self.whole, self.rest) {

@@ -1,9 +1,9 @@
 //! Which bytes stand last in what is walked: the content of an extension, the body of a message, a name, a certificate.
 
 use crate::frame::Frame;
+use layouts::{Counted1, Counted2};
 use tls_base::SNIType;
 use tls_ext::{KeyShareEntry, OidFilter, RawExtension, ServerName};
-use tls_fields::{Counted1, Counted2};
 use tls_hs::{RawCertificate, RawHandshake};
 
 /// A name of an application protocol, without its length.

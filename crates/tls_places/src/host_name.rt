@@ -1,25 +1,25 @@
 //! Where the name of the host that a client asks for stands: in a hello, in a fragment, in a record.
-#![tactic(auto, using(tls_fields::proofs::OneAnswerLemmas::read_allowed))]
+#![tactic(auto, using(layouts::proofs::OneAnswerLemmas::read_allowed))]
 
 ghost use Rattle.std.specs.Option.{option_map};
-ghost use Rattle.tls_fields.specs.Items.{Tells};
-ghost use Rattle.tls_fields.specs.Place.{bytes_at as bytes_there};
-ghost use Rattle.tls_fields.specs.Reading.{reading};
+ghost use Rattle.layouts.specs.Items.{Tells};
+ghost use Rattle.layouts.specs.Place.{bytes_at as bytes_there};
+ghost use Rattle.layouts.specs.Reading.{reading};
 ghost use Rattle.tls_hs.specs.Hello.{client_hello};
-ghost use Rattle.tls_parser.specs.InPlace.{body_of_type, host_name_of_record, name_in_body, name_in_hello};
+ghost use Rattle.tls_records.specs.InPlace.{body_of_type, host_name_of_record, name_in_body, name_in_hello};
 ghost use Rattle.tls_places.specs.Place.{IsWithin};
 
 use crate::find::host_name_place;
 use crate::frame::{Placed, frame_at};
 use crate::place::{bytes_at, held_before, outward};
 use crate::record::Record;
+use layouts::{Err, Error, Place};
 use tls_base::{TlsHandshakeType, TlsRecordType};
-use tls_fields::{Err, Error, Place};
 use tls_hs::{ClientHelloView, RawHandshake};
 
 /// Where the body of the first of the handshake messages in `fragment` that has that type stands in it.
 ///
-/// It answers and refuses as [`tls_parser::first_body`].
+/// It answers and refuses as [`tls_records::first_body`].
 pub fn body_place(
     fragment: &[u8],
     kind: TlsHandshakeType,
@@ -43,7 +43,7 @@ pub fn body_place(
 /// Where the name of the host stands in `body`, that of a ClientHello: the one that [`tls_ext::server_name`] reads.
 ///
 /// Refused as [`ClientHelloView::parse`] refuses the body, and as [`tls_ext::server_name`] the extensions.
-#[tactic(auto, using(tls_fields::proofs::OneAnswerLemmas::read_allowed, crate::proofs::HostNameLemmas::none_told))]
+#[tactic(auto, using(layouts::proofs::OneAnswerLemmas::read_allowed, crate::proofs::HostNameLemmas::none_told))]
 #[inline(always)]
 pub fn host_name_place_of_hello(body: &[u8]) -> Result<Option<Place>, Err<Error<&[u8]>>>
     ensures tells { Tells (option_map (bytes_there body.now)) (name_in_hello (reading client_hello body.now)) result }
@@ -73,7 +73,7 @@ fn host_name_place_of_fragment(fragment: &[u8]) -> Result<Option<Place>, Err<Err
 
 /// Where the name of the host that the first ClientHello of the record in front of `i` asks for stands in `i`.
 ///
-/// It answers and refuses as [`tls_parser::server_name_of_record`].
+/// It answers and refuses as [`tls_records::server_name_of_record`].
 pub fn host_name_place_of_record(i: &[u8]) -> Result<Option<Place>, Err<Error<&[u8]>>>
     ensures tells { Tells (option_map (bytes_there i.now)) (host_name_of_record i.now) result }
     ensures within { IsWithin i.now result }

@@ -1,12 +1,12 @@
 //! Where parts stand in the bytes that they were read from.
 ghost use Rattle.std.specs.Prelude.{◌≡◌, ◌++◌};
-ghost use Rattle.tls_fields.specs.Bytes.{Bytes};
+ghost use Rattle.layouts.specs.Bytes.{Bytes};
 ghost use Rattle.std.specs.Option.{option_map};
-ghost use Rattle.tls_fields.specs.Meaning.{EndsWith};
-ghost use Rattle.tls_fields.specs.Place.{bytes_at as bytes_there};
+ghost use Rattle.layouts.specs.Meaning.{EndsWith};
+ghost use Rattle.layouts.specs.Place.{bytes_at as bytes_there};
 ghost use Rattle.tls_places.specs.Place.{EndsIn, IsWithin, Lies, MayBeginAt, MayStand, Stands, TellsTheSame};
 
-use tls_fields::{Err, Error, Place};
+use layouts::{Err, Error, Place};
 
 /// Where `part` stands in `whole`, at whose end it is followed by `rest`.
 #[tactic(auto, using(crate::proofs::PlaceLemmas::stands_before))]

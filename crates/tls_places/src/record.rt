@@ -1,13 +1,13 @@
 //! Records of TLS and DTLS, and messages of DTLS, as items whose bytes have a place.
-#![tactic(auto, using(tls_fields::proofs::OneAnswerLemmas::read_allowed))]
+#![tactic(auto, using(layouts::proofs::OneAnswerLemmas::read_allowed))]
 
-ghost use Rattle.tls_fields.specs.Answers.{Gives};
-ghost use Rattle.tls_parser.specs.Record as tls;
-ghost use Rattle.tls_parser.specs.DtlsRecord as dtls;
+ghost use Rattle.layouts.specs.Answers.{Gives};
+ghost use Rattle.tls_records.specs.Record as tls;
+ghost use Rattle.tls_records.specs.DtlsRecord as dtls;
 
 use crate::frame::Frame;
-use tls_fields::{ErrorKind, IResult, InPlace, block, refused};
-use tls_parser::{
+use layouts::{ErrorKind, IResult, InPlace, block, refused};
+use tls_records::{
     DTLSRawHandshake, DTLSRawRecord, MAX_RECORD_LEN, TlsRawRecord, parse_dtls_record_header,
     parse_tls_raw_record,
 };
@@ -58,7 +58,7 @@ impl<'a> InPlace<'a> for DtlsRecord {
 
     ghost layout = { dtls.raw_record };
 
-    #[tactic(auto, using(tls_fields::proofs::OneAnswerLemmas::read_allowed), unfolding(tls_parser::specs::DtlsRecord::raw_record))]
+    #[tactic(auto, using(layouts::proofs::OneAnswerLemmas::read_allowed), unfolding(tls_records::specs::DtlsRecord::raw_record))]
     #[inline(always)]
     fn read(i: &'a [u8]) -> IResult<&'a [u8], DTLSRawRecord<'a>> {
         let (i, header) = parse_dtls_record_header(i)?;

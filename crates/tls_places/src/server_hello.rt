@@ -1,14 +1,14 @@
 //! Where the parts of a ServerHello stand.
-#![tactic(auto, using(tls_fields::proofs::OneAnswerLemmas::read_allowed))]
+#![tactic(auto, using(layouts::proofs::OneAnswerLemmas::read_allowed))]
 
 ghost use Rattle.std.specs.Prelude.{IfOk};
-ghost use Rattle.tls_fields.specs.Answers.{Gives};
+ghost use Rattle.layouts.specs.Answers.{Gives};
 ghost use Rattle.tls_hs.specs.ServerHello.{server_hello, view_server_hello};
 ghost use Rattle.tls_hs.specs.ServerHello.{server_hello_any as server_hello_of_any_version};
 ghost use Rattle.tls_places.specs.Hello.{LiesAsServerHello, ServerHelloStands};
 
 use crate::place::{held_before, held_from};
-use tls_fields::{IResult, Place};
+use layouts::{IResult, Place};
 use tls_hs::parts::server_hello_any;
 use tls_hs::{TlsServerHelloContents, parse_tls_handshake_server_hello};
 

@@ -1,7 +1,8 @@
 -- Messages as letters, conversations as words.
-use Rattle.std.specs.Prelude.{List, map, Bool, true, false, is_some, if◌then◌else◌, ◌==◌}
+use Rattle.std.specs.Prelude.{ℕ, List, map, Bool, true, false, is_some, if◌then◌else◌, ◌==◌}
 use Rattle.std.specs.Borrow.{Bor}
 use Rattle.tls_hs.specs.Handshake as handshakes
+use Rattle.tls_hs.specs.HandshakeText.{msg_type_of}
 use Rattle.tls_hs.specs.Message as messages
 use Rattle.tls_hs.specs.declared.message.TlsMessage.{TlsMessage}
 use Rattle.tls_states.specs.declared.letter.Kind.{Kind}
@@ -16,29 +17,32 @@ pub data Letter : Type 0 where
 abbrev pub Word : Type 0
 Word = List Letter
 
--- Of a ClientHello this is the kind of one without a session id.
-abbrev pub kind_by_variant : handshakes.Handshake → Kind
-kind_by_variant handshakes.HelloRequest = kind.HelloRequest
-kind_by_variant (handshakes.ClientHello hello) = kind.ClientHello
-kind_by_variant (handshakes.ServerHello hello) = kind.ServerHello
-kind_by_variant (handshakes.ServerHelloV13Draft18 hello) = kind.ServerHelloV13Draft18
-kind_by_variant (handshakes.NewSessionTicket ticket) = kind.NewSessionTicket
-kind_by_variant (handshakes.Certificate chain) = kind.Certificate
-kind_by_variant (handshakes.ServerKeyExchange parameters) = kind.ServerKeyExchange
-kind_by_variant (handshakes.CertificateRequest request) = kind.CertificateRequest
-kind_by_variant (handshakes.ServerDone body) = kind.ServerDone
-kind_by_variant (handshakes.CertificateVerify signature) = kind.CertificateVerify
-kind_by_variant (handshakes.ClientKeyExchange parameters) = kind.ClientKeyExchange
-kind_by_variant (handshakes.CertificateStatus status) = kind.CertificateStatus
-kind_by_variant _ = kind.Other
+-- The kind of a HandshakeType (RFC 5246, section 7.4; RFC 5077, section 3.3; RFC 6066, section 8): of a ClientHello that of one without a session
+-- id.
+abbrev pub kind_of_type : ℕ → Kind
+kind_of_type n =
+    if n == 0 then kind.HelloRequest
+    else if n == 1 then kind.ClientHello
+    else if n == 2 then kind.ServerHello
+    else if n == 4 then kind.NewSessionTicket
+    else if n == 11 then kind.Certificate
+    else if n == 12 then kind.ServerKeyExchange
+    else if n == 13 then kind.CertificateRequest
+    else if n == 14 then kind.ServerDone
+    else if n == 15 then kind.CertificateVerify
+    else if n == 16 then kind.ClientKeyExchange
+    else if n == 22 then kind.CertificateStatus
+    else kind.Other
 
 -- With a session id or without one.
 abbrev pub kind_of_hello : Bool → Kind
 kind_of_hello has_id = if has_id then kind.ClientHelloWithId else kind.ClientHello
 
+-- That of its type, but for the ServerHello of draft 18 of TLS 1.3 (draft-ietf-tls-tls13-18, section 4.1.3).
 abbrev pub kind_of_handshake : handshakes.Handshake → Kind
 kind_of_handshake (handshakes.ClientHello hello) = kind_of_hello (is_some hello.session_id)
-kind_of_handshake m = kind_by_variant m
+kind_of_handshake (handshakes.ServerHelloV13Draft18 hello) = kind.ServerHelloV13Draft18
+kind_of_handshake m = kind_of_type (msg_type_of m)
 
 -- Severity 1 is a warning.
 abbrev pub kind_of_message : messages.Message → Kind

@@ -24,7 +24,7 @@ use Rattle.std.proofs.Common.{
   append_assoc,
 }
 use Rattle.std.specs.List.{concat}
-use Rattle.tls_fields.specs.Bytes.{Bytes}
+use Rattle.layouts.specs.Bytes.{Bytes}
 use Rattle.tls_stream.specs.Frames.{Shape, IsTooLarge, FrontTaken, cut, frame_of, frames, front, left, with_frame}
 use Rattle.tls_stream.proofs.FrontLemmas.{front_fewer, front_joins, front_stays, large_longer, none_large}
 

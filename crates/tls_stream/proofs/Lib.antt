@@ -3,3 +3,10 @@ pub mod FrameLemmas
 pub mod MessageLemmas
 pub mod PieceLemmas
 pub mod RawRecordLemmas
+pub mod EventLemmas
+pub mod ItemLemmas
+pub mod StreamLemmas
+pub mod SourceLemmas
+pub mod DirectionLemmas
+pub mod HeldLemmas
+pub mod TakenLemmas

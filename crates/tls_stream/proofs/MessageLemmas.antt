@@ -29,11 +29,11 @@ use Rattle.std.proofs.Common.{
 use Rattle.std.proofs.lemmas.Bool.{le-ltb, lt-ltb, ltb-true, ltb-false}
 use Rattle.std.proofs.lemmas.List.{drop-drop, drop-take, take-take, length-drop, length-take-le}
 use Rattle.std.proofs.Math.Seq.{drop-length}
-use Rattle.tls_fields.specs.Bytes.{Bytes, number_of}
-use Rattle.tls_fields.specs.Layout.{Layout, done, number, window, chain}
-use Rattle.tls_fields.specs.Meaning.{Answer, Lacks}
-use Rattle.tls_fields.specs.Reading.{reading, number_at, split_at, ◌and_then◌}
-use Rattle.tls_fields.proofs.OneAnswerLemmas.{number_read}
+use Rattle.layouts.specs.Bytes.{Bytes, number_of}
+use Rattle.layouts.specs.Layout.{Layout, done, number, window, chain}
+use Rattle.layouts.specs.Meaning.{Answer, Lacks}
+use Rattle.layouts.specs.Reading.{reading, number_at, split_at, ◌and_then◌}
+use Rattle.layouts.proofs.OneAnswerLemmas.{number_read}
 use Rattle.tls_hs.specs.Message.{Message, handshake, Handshake}
 use Rattle.tls_hs.specs.Handshake as handshakes
 use Rattle.tls_stream.specs.Frames.{IsWhole, front, size, body_length}

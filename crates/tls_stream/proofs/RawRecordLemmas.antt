@@ -32,24 +32,24 @@ use Rattle.std.proofs.Common.{
 use Rattle.std.specs.Prelude.{IsOk}
 use Rattle.std.proofs.lemmas.Bool.{ltb-true, ltb-false, leb-true, leb-false}
 use Rattle.std.proofs.lemmas.List.{length-drop}
-use Rattle.tls_fields.specs.Bytes.{Bytes}
-use Rattle.tls_fields.specs.Layout.{Layout, done, block, chain, test}
-use Rattle.tls_fields.specs.Meaning.{Answer, Broken, Lacks}
-use Rattle.tls_fields.specs.Reading.{reading, split_at, ◌and_then◌}
-use Rattle.tls_fields.specs.Answers.{Returned, Gives}
-use Rattle.tls_fields.specs.declared.result.ErrorKind.TheVariants.{TooLarge}
-use Rattle.tls_fields.specs.declared.result.Err.TheVariants as failed
-use Rattle.tls_fields.specs.declared.result.Needed.TheVariants as needed
-use Rattle.tls_parser.specs.Record.{RecordHeader, RawRecord, raw_record}
-use Rattle.tls_parser.specs.Framing.{max_fragment_length, fragment_length, IsTooLarge, IsWhole, NeedsMore, IsIncomplete}
-use Rattle.tls_parser.proofs.FurtherLemmas.{raw_of}
-use Rattle.tls_parser.proofs.HeaderLemmas.{short_header, long_header}
+use Rattle.layouts.specs.Bytes.{Bytes}
+use Rattle.layouts.specs.Layout.{Layout, done, block, chain, test}
+use Rattle.layouts.specs.Meaning.{Answer, Broken, Lacks}
+use Rattle.layouts.specs.Reading.{reading, split_at, ◌and_then◌}
+use Rattle.layouts.specs.Answers.{Returned, Gives}
+use Rattle.layouts.specs.declared.result.ErrorKind.TheVariants.{TooLarge}
+use Rattle.layouts.specs.declared.result.Err.TheVariants as failed
+use Rattle.layouts.specs.declared.result.Needed.TheVariants as needed
+use Rattle.tls_records.specs.Record.{RecordHeader, RawRecord, raw_record}
+use Rattle.tls_records.specs.Framing.{max_fragment_length, fragment_length, IsTooLarge, IsWhole, NeedsMore, IsIncomplete}
+use Rattle.tls_records.proofs.FurtherLemmas.{raw_of}
+use Rattle.tls_records.proofs.HeaderLemmas.{short_header, long_header}
 use Rattle.tls_stream.specs.Records.{IsRefusedAsTooLarge, front_of, record_frame}
 use Rattle.tls_stream.specs.Frames as frames
 use Rattle.tls_stream.specs.Frames.{front, size, body_length}
 use Rattle.tls_stream.proofs.FrontLemmas.{front_fewer, large_longer, whole_front, none_large, none_part}
-use Rattle.tls_parser.specs.Record.{IsInFront, record_bytes}
-use Rattle.tls_parser.proofs.RawRecordLemmas.{record_in_front}
+use Rattle.tls_records.specs.Record.{IsInFront, record_bytes}
+use Rattle.tls_records.proofs.RawRecordLemmas.{record_in_front}
 use Rattle.std.proofs.Math.Seq.{drop-append_seam}
 use Rattle.std.proofs.lemmas.List.{length-take-le}
 

@@ -28,7 +28,7 @@ use Rattle.std.specs.Prelude.{
 use Rattle.std.specs.Borrow.{Bor}
 use Rattle.std.specs.Global.{Vec}
 use Rattle.std.specs.List.{flat_map}
-use Rattle.tls_fields.specs.Bytes.{Bytes}
+use Rattle.layouts.specs.Bytes.{Bytes}
 
 -- How the frames of a kind are laid out.
 pub record Kind : Type 0 where

@@ -1,12 +1,12 @@
 -- Two kinds of frames: records and handshake messages.
 use Rattle.std.specs.Prelude.{◌≡◌, ℕ, ◌+◌, ◌*◌, Option, Some, None, Ok, Err, slice_index}
-use Rattle.tls_fields.specs.Answers.{Returned}
-use Rattle.tls_fields.specs.Bytes.{Bytes}
-use Rattle.tls_fields.specs.Meaning.{Answer}
-use Rattle.tls_fields.specs.declared.result.Err.TheVariants as failed
-use Rattle.tls_fields.specs.declared.result.ErrorKind.TheVariants.{TooLarge}
-use Rattle.tls_parser.specs.Record.{RawRecord, record_bytes}
-use Rattle.tls_parser.specs.Framing.{max_fragment_length}
+use Rattle.layouts.specs.Answers.{Returned}
+use Rattle.layouts.specs.Bytes.{Bytes}
+use Rattle.layouts.specs.Meaning.{Answer}
+use Rattle.layouts.specs.declared.result.Err.TheVariants as failed
+use Rattle.layouts.specs.declared.result.ErrorKind.TheVariants.{TooLarge}
+use Rattle.tls_records.specs.Record.{RawRecord, record_bytes}
+use Rattle.tls_records.specs.Framing.{max_fragment_length}
 use Rattle.tls_stream.specs.Frames.{Kind, Shape, up_to}
 
 -- Records of TLS (RFC 5246, section 6.2): 5 bytes, of which the last 2 are the length of the fragment.

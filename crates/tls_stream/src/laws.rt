@@ -1,14 +1,18 @@
-//! What stands of the frames of streams. Each function's contract is one law; its body is empty.
-ghost use Rattle.std.specs.Prelude.{◌≡◌, ◌↔◌, ◌<◌, ◌++◌, ◌∷◌, [], ℕ, Some, None, IsSome, Err};
+//! What stands of the frames of streams, and of the events of directions. Each function's contract is one law; its body is empty.
+ghost use Rattle.std.specs.Prelude.{◌≡◌, ◌↔◌, ◌<◌, ◌++◌, ◌∷◌, [], ℕ, List, Some, None, IsSome, Err};
 ghost use Rattle.std.specs.List.{concat};
-ghost use Rattle.tls_fields.specs.Bytes.{Bytes};
-ghost use Rattle.tls_fields.specs.Meaning.{Lacks};
-ghost use Rattle.tls_fields.specs.Reading.{reading};
-ghost use Rattle.tls_parser.specs.Framing as framing;
-ghost use Rattle.tls_parser.specs.Record.{raw_record};
+ghost use Rattle.layouts.specs.Bytes.{Bytes};
+ghost use Rattle.layouts.specs.Meaning.{Lacks};
+ghost use Rattle.layouts.specs.Reading.{reading};
+ghost use Rattle.tls_records.specs.Framing as framing;
+ghost use Rattle.tls_records.specs.Record.{raw_record};
 ghost use Rattle.tls_hs.specs.Message.{handshake};
 ghost use Rattle.tls_stream.specs.Records.{front_of, message_frame, record_frame, with_rest};
 ghost use Rattle.tls_stream.specs.Frames.{CuttingsHoldTheSame, CuttingsTakeTheSame, IsTooLarge, IsWhole, NeedsMore, Shape, front, frames, left};
+ghost use Rattle.tls_stream.specs.Item.{Event, Item};
+ghost use Rattle.tls_stream.specs.Events.{events, fed, fed_all, first, items_with};
+ghost use Rattle.tls_stream.specs.Stream.{events_of, joined_items};
+ghost use Rattle.tls_stream.specs.declared.direction.Direction.{Direction};
 
 /// The frames are the one that stands in front, and then those of the rest; where none stands there, there are none, and
 /// all is left.
@@ -54,7 +58,7 @@ pub fn two_cuttings_have_the_same_frames()
     ensures held { (f : Shape) → CuttingsHoldTheSame f }
 {}
 
-/// A record as a frame: it stands in front just where [`tls_parser::parse_tls_raw_record`] reads one, and is what that takes.
+/// A record as a frame: it stands in front just where [`tls_records::parse_tls_raw_record`] reads one, and is what that takes.
 #[tactic(auto, using(crate::proofs::RawRecordLemmas::front_is_read, crate::proofs::RawRecordLemmas::large_is, crate::proofs::RawRecordLemmas::whole_is))]
 pub fn records_are_what_is_read()
     ensures front { (b : Bytes) → front record_frame b ≡ front_of (reading raw_record b) b }
@@ -68,8 +72,33 @@ pub fn messages_are_read_alone()
     ensures { (limit : ℕ) (b y r : Bytes) → front (message_frame limit) b ≡ Some (y, r) → reading handshake b ≡ with_rest r (reading handshake y) }
 {}
 
-/// Where a message isn't whole, [`tls_parser::parse_tls_message_handshake`] asks for further bytes.
+/// Where a message isn't whole, [`tls_hs::parse_tls_message_handshake`] asks for further bytes.
 pub fn messages_that_are_not_whole_are_incomplete()
     ensures { (limit : ℕ) (b : Bytes) → (IsWhole (message_frame limit) b → ⊥)
         → (n : ℕ) × (reading handshake b ≡ Err (Lacks n)) }
+{}
+
+/// The event that stands in front is the first of all, whatever is fed, and those of the direction behind it are the
+/// others.
+#[tactic(auto, using(crate::proofs::DirectionLemmas::first_event))]
+pub fn the_event_in_front_is_the_first()
+    ensures { (d e : Direction) (v : Event) (s : Bytes) → first d ≡ Some (v, e)
+        → events (fed d s) ≡ v ∷ events (fed e s) }
+{}
+
+/// However the bytes of a direction are cut into pieces, what is fed counts as it is joined.
+#[tactic(auto, using(crate::proofs::DirectionLemmas::fed_twice, crate::proofs::DirectionLemmas::fed_joined))]
+pub fn pieces_count_as_they_are_joined()
+    ensures two { (d : Direction) (s t : Bytes) → fed (fed d s) t ≡ fed d (s ++ t) }
+    ensures all { (d : Direction) (ps qs : List Bytes) → concat ps ≡ concat qs → fed_all d ps ≡ fed_all d qs }
+{}
+
+/// Records whose fragments of messages, joined between the same other records, are the same have the same events, and so have
+/// two streams of such records.
+#[tactic(auto, using(crate::proofs::EventLemmas::same_joined, crate::proofs::DirectionLemmas::same_streams))]
+pub fn fragments_count_as_they_are_joined()
+    ensures items { (limit kind : ℕ) (part : Bytes) (is js : List Item) → joined_items is ≡ joined_items js
+        → events_of limit kind part is ≡ events_of limit kind part js }
+    ensures streams { (d : Direction) (x y : Bytes) → joined_items (items_with d x) ≡ joined_items (items_with d y)
+        → events (fed d x) ≡ events (fed d y) }
 {}

@@ -1,21 +1,22 @@
 //! What is held of a stream.
 ghost use Rattle.std.specs.Prelude.{◌≡◌, ◌≤◌, ◌↔◌, ◌++◌, ◌-◌, ◌+◌, List, [], ℕ, length, drop, Ok, Err, is_ok, IsOk, OnOk, true, if◌then◌else◌};
 ghost use Rattle.std.specs.Option.{option_map};
-ghost use Rattle.tls_fields.specs.Answers.{Gives};
-ghost use Rattle.tls_fields.specs.Meaning.{AllowsOne};
-ghost use Rattle.tls_parser.specs.Record.{view_raw_record, raw_record};
+ghost use Rattle.layouts.specs.Answers.{Gives};
+ghost use Rattle.layouts.specs.Meaning.{AllowsOne};
+ghost use Rattle.tls_records.specs.Record.{view_raw_record, raw_record};
 ghost use Rattle.tls_stream.specs.Frames.{FrontTaken, IsTooLarge, frame_of, front, frames, left, up_to};
 ghost use Rattle.tls_stream.specs.Records.{IsRefusedAsTooLarge};
-ghost use Rattle.tls_parser.specs.Framing as framing;
-ghost use Rattle.tls_parser.specs.Framing.{IsIncomplete};
+ghost use Rattle.tls_records.specs.Framing as framing;
+ghost use Rattle.tls_records.specs.Framing.{IsIncomplete};
 ghost use Rattle.tls_stream.specs.declared.reassembler.FeedError.TheVariants as feed_error;
 
 use crate::frame::{Frame, Messages, Records, frame_in_front, is_too_large};
+use layouts::IResult;
 use std::alloc::{AllocError, Global};
 use std::error::Error;
 use std::fmt;
 use std::marker::{Model, PhantomData};
-use tls_parser::{IResult, MAX_RECORD_LEN, TlsRawRecord, parse_tls_raw_record};
+use tls_records::{MAX_RECORD_LEN, TlsRawRecord, parse_tls_raw_record};
 
 /// Why a piece isn't taken. Nothing that is held is lost by it.
 #[derive(Debug, PartialEq, Drop)]
@@ -172,7 +173,7 @@ impl Reassembler {
     /// The record that stands next: the answer of [`parse_tls_raw_record`] on what is held.
     ///
     /// - `Error` of kind `TooLarge` exactly where a header of 5 bytes stands next, and its length is above
-    ///   [`tls_parser::MAX_RECORD_LEN`].
+    ///   [`tls_records::MAX_RECORD_LEN`].
     /// - `Incomplete` of the count that is missing exactly while the next record isn't whole, and no such length stands
     ///   there.
     #[tactic(auto, using(crate::proofs::RawRecordLemmas::front_rules))]

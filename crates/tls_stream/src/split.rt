@@ -5,8 +5,8 @@ ghost use Rattle.tls_stream.specs.Records.{message_frame, record_frame};
 
 use crate::frame::{Frame, Messages, Records};
 use crate::reassembler::{FeedError, Frames, Joiner, RECORD_LIMIT, Reassembler};
+use layouts::OutOfMemory;
 use std::alloc::Global;
-use tls_parser::OutOfMemory;
 
 /// Takes each whole frame off the front, and puts its bytes behind those that were taken before.
 fn take_frames<F: Frame, const LIMIT: usize>(

@@ -39,12 +39,12 @@ use Rattle.std.proofs.Common.{
 use Rattle.std.specs.Borrow.{Bor}
 use Rattle.std.proofs.Math.Seq.{take-suc}
 use Rattle.std.proofs.lemmas.List.{map-append, take_all}
-use Rattle.tls_fields.specs.Bytes.{Bytes}
-use Rattle.tls_events.specs.Item.{Event as Said}
-use Rattle.tls_events.specs.Events.{events, fed, with_more}
-use Rattle.tls_events.specs.Stream as stream
-use Rattle.tls_events.specs.declared.fault.Fault.{Fault}
-use Rattle.tls_events.proofs.DirectionLemmas.{fed_twice}
+use Rattle.layouts.specs.Bytes.{Bytes}
+use Rattle.tls_stream.specs.Item.{Event as Said}
+use Rattle.tls_stream.specs.Events.{events, fed, with_more}
+use Rattle.tls_stream.specs.Stream as stream
+use Rattle.tls_stream.specs.declared.fault.Fault.{Fault}
+use Rattle.tls_stream.proofs.DirectionLemmas.{fed_twice}
 use Rattle.tls_flow.specs.Steps.{follow}
 use Rattle.tls_flow.specs.declared.event.Event.{Event}
 use Rattle.tls_flow.specs.declared.letter.Direction.{Direction as Side}

@@ -1,9 +1,9 @@
 -- What a talk over datagrams comes to, by a record.
 use Rattle.std.proofs.Common.{◌≡◌, ℕ, List, Bool, Result, Ok, Err, sym, ◌∙◌, ap, subst}
 use Rattle.std.specs.Prelude.{OnOk}
-use Rattle.tls_parser.specs.DtlsRecord.{RawRecord}
-use Rattle.dtls_messages.specs.Fragments.{Fragment}
-use Rattle.dtls_messages.specs.Messages.{Heard, Stands}
+use Rattle.tls_records.specs.DtlsRecord.{RawRecord}
+use Rattle.dtls_stream.specs.Fragments.{Fragment}
+use Rattle.dtls_stream.specs.Messages.{Heard, Stands}
 use Rattle.dtls_stream.specs.Datagrams.{record_step}
 use Rattle.tls_flow.specs.declared.flow.Flow.{Flow}
 use Rattle.tls_flow.specs.declared.letter.Direction.{Direction as Side}

@@ -1,9 +1,9 @@
 -- What a talk over datagrams comes to, record by record of a datagram.
 use Rattle.std.proofs.Common.{◌≡◌, ℕ, zero, suc, Bool, true, false, Ok, Err, length, refl, sym, ◌∙◌, ap, subst}
-use Rattle.tls_fields.specs.Bytes.{Bytes}
-use Rattle.tls_fields.specs.Meaning.{Refusal}
-use Rattle.tls_fields.specs.Reading.{reading}
-use Rattle.tls_parser.specs.DtlsRecord.{RawRecord}
+use Rattle.layouts.specs.Bytes.{Bytes}
+use Rattle.layouts.specs.Meaning.{Refusal}
+use Rattle.layouts.specs.Reading.{reading}
+use Rattle.tls_records.specs.DtlsRecord.{RawRecord}
 use Rattle.dtls_stream.specs.Datagrams.{datagram_record}
 use Rattle.tls_flow.specs.declared.letter.Direction.{Direction as Side}
 use Rattle.tls_talks.specs.DatagramRecords.{is_known}

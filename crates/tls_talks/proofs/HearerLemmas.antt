@@ -27,15 +27,15 @@ use Rattle.std.proofs.Common.{
 use Rattle.std.specs.Borrow.{Bor}
 use Rattle.std.specs.Global.{Vec}
 use Rattle.std.specs.Option.{option_copied, option_map}
-use Rattle.tls_fields.specs.Bytes.{Bytes}
-use Rattle.tls_events.specs.Item.{Event as Said}
+use Rattle.layouts.specs.Bytes.{Bytes}
+use Rattle.tls_stream.specs.Item.{Event as Said}
 use Rattle.tls_facts.specs.Facts.{Facts}
 use Rattle.tls_flow.specs.declared.event.Event.{Event}
 use Rattle.tls_flow.specs.declared.flow.Flow.{Flow}
 use Rattle.tls_flow.specs.declared.letter.Direction.{Direction as Side}
 use Rattle.tls_conversations.specs.Conversations.{IsPast, IsFedBy, ear}
 use Rattle.tls_conversations.specs.Events.{event_of, event_with, message_in, message_in_datagram}
-use Rattle.dtls_messages.specs.Messages as datagrams
+use Rattle.dtls_stream.specs.Messages as datagrams
 use Rattle.tls_talks.specs.Datagrams as in_datagrams
 use Rattle.tls_flow.specs.Bytes.{HandshakeMessage, kind_of_datagrams, kind_of_message}
 use Rattle.tls_flow.specs.declared.letter.Kind.{Kind}

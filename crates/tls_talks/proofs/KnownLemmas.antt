@@ -1,6 +1,6 @@
 -- What is known behind events.
 use Rattle.std.proofs.Common.{◌≡◌, List, [], ◌∷◌, ◌++◌, refl, ◌∙◌, ap}
-use Rattle.tls_events.specs.Item.{Event as Said}
+use Rattle.tls_stream.specs.Item.{Event as Said}
 use Rattle.tls_flow.specs.declared.flow.Flow.{Flow}
 use Rattle.tls_flow.specs.declared.letter.Direction.{Direction as Side}
 use Rattle.tls_facts.specs.Facts.{Facts, view_facts}

@@ -1,13 +1,13 @@
 -- When a datagram begins another association between the same ports (RFC 6347, section 4.2.8).
 use Rattle.std.specs.Prelude.{Bool, true, false, not, ◌&&◌, ◌||◌, ◌==◌, if◌then◌else◌, Option, Some, None, Ok, Err, length}
 use Rattle.std.specs.Str.{bytes_eq}
-use Rattle.tls_fields.specs.Bytes.{Bytes}
-use Rattle.tls_fields.specs.Meaning.{Answer}
-use Rattle.tls_fields.specs.Reading.{reading}
+use Rattle.layouts.specs.Bytes.{Bytes}
+use Rattle.layouts.specs.Meaning.{Answer}
+use Rattle.layouts.specs.Reading.{reading}
 use Rattle.tls_hs.specs.Hello as hello
-use Rattle.tls_parser.specs.DtlsHello.{ClientHello, client_hello}
-use Rattle.tls_parser.specs.DtlsRecord.{RawRecord}
-use Rattle.dtls_messages.specs.Fragments.{Fragment}
+use Rattle.tls_records.specs.DtlsHello.{ClientHello, client_hello}
+use Rattle.tls_records.specs.DtlsRecord.{RawRecord}
+use Rattle.dtls_stream.specs.Fragments.{Fragment}
 use Rattle.dtls_stream.specs.Datagrams.{datagram_record}
 use Rattle.tls_flow.specs.Table.{outcome_at}
 use Rattle.tls_flow.specs.declared.state.Outcome.{Outcome}

@@ -1,11 +1,10 @@
 -- How many records datagrams have (RFC 6347, section 4.1).
 use Rattle.std.specs.Prelude.{ℕ, Bool, ◌+◌, ◌-◌, ◌^◌, ◌==◌, ◌&&◌, ◌||◌, min, if◌then◌else◌, List, [], ◌∷◌}
-use Rattle.tls_fields.specs.Bytes.{Bytes}
-use Rattle.tls_fields.specs.Items.{items_in}
-use Rattle.tls_parser.specs.DtlsRecord.{RecordHeader}
+use Rattle.layouts.specs.Bytes.{Bytes}
+use Rattle.layouts.specs.Items.{items_in}
+use Rattle.tls_records.specs.DtlsRecord.{RecordHeader}
 use Rattle.dtls13_records.specs.Datagram.{ConnectionId, DatagramRecord, Encrypted, Plaintext, datagram_record13}
-use Rattle.tls_detection.specs.Front.{is_datagram_version}
-use Rattle.tls_facts.specs.Exchange.{is_within}
+use Rattle.tls_detection.specs.Front.{is_datagram_version, is_within}
 use Rattle.tls_talks.specs.declared.datagram_records.DatagramRecords.{DatagramRecords}
 
 -- A type of records that there is, 26 that of acknowledgments of DTLS 1.3 (RFC 9147, section 7), and a version of DTLS.

@@ -1,12 +1,12 @@
 -- What a talk over datagrams comes to, record by record (RFC 6347, RFC 9147): what its peers take. What an association drops changes nothing.
 use Rattle.std.specs.Prelude.{◌≡◌, ℕ, zero, suc, Bool, true, false, not, ◌&&◌, ◌||◌, ◌==◌, nat_lt, is_some, if◌then◌else◌, Option, Some, None, Ok, Err, List, [], ◌∷◌, length}
 use Rattle.std.specs.Str.{bytes_eq}
-use Rattle.tls_fields.specs.Bytes.{Bytes}
-use Rattle.tls_fields.specs.Meaning.{Answer}
-use Rattle.tls_fields.specs.Reading.{reading}
-use Rattle.tls_parser.specs.DtlsRecord.{RawRecord}
-use Rattle.dtls_messages.specs.Fragments.{Fragment, fragment}
-use Rattle.dtls_messages.specs.Messages.{Alert, ChangeCipherSpec, Encrypted, Event, Handshake, Heard, Kept, Limits, Stands, nothing as none_heard, nothing_from}
+use Rattle.layouts.specs.Bytes.{Bytes}
+use Rattle.layouts.specs.Meaning.{Answer}
+use Rattle.layouts.specs.Reading.{reading}
+use Rattle.tls_records.specs.DtlsRecord.{RawRecord}
+use Rattle.dtls_stream.specs.Fragments.{Fragment, fragment}
+use Rattle.dtls_stream.specs.Messages.{Alert, ChangeCipherSpec, Encrypted, Event, Handshake, Heard, Kept, Limits, Stands, nothing as none_heard, nothing_from}
 use Rattle.dtls_stream.specs.Datagrams.{Step, datagram_record, record_step}
 use Rattle.tls_flow.specs.Steps.{follow, silence}
 use Rattle.tls_flow.specs.Table.{is_failed, is_waiting, outcome_at}
@@ -20,7 +20,7 @@ use Rattle.tls_flow.specs.declared.letter.Kind.{Kind}
 use Rattle.tls_flow.specs.declared.state.Outcome.{Outcome}
 use Rattle.tls_facts.specs.Facts.{Facts, nothing, of_alert, of_datagrams, view_facts}
 use Rattle.dtls13_records.specs.Ciphertext.{Ciphertext, ciphertext}
-use Rattle.tls_talks.specs.Ends.{is_13}
+use Rattle.tls_talks.specs.Ends.{is_13, message_limit}
 use Rattle.tls_facts.specs.Told.{client_session_id, connection_id_length, offers_ticket, server_session_id}
 use Rattle.tls_talks.specs.DatagramRecords.{is_known}
 use Rattle.tls_talks.specs.History.{letter_in_datagram, with_letter}
@@ -126,9 +126,9 @@ abbrev pub said_all : Side → Told → List Event → Told
 said_all s t [] = t
 said_all s t (e ∷ es) = said_all s (said s t e) es
 
--- What is allowed of a side: messages of 131,072 bytes, and fragments of 16 of them at a time.
+-- What is allowed of a side: messages of so many bytes, and fragments of 16 of them at a time.
 abbrev pub allowed : Limits
-allowed = record { message = 131072; ahead = 16 }
+allowed = record { message = message_limit; ahead = 16 }
 
 -- What one side said so far: what was heard of its messages, and how far it has come.
 pub record Spoken : Type 0 where

@@ -1,9 +1,13 @@
 -- How a handshake ended.
-use Rattle.std.specs.Prelude.{Bool, true, false}
+use Rattle.std.specs.Prelude.{ℕ, Bool, true, false}
 use Rattle.tls_flow.specs.declared.state.Outcome.{Outcome}
 use Rattle.tls_flow.specs.declared.state.Outcome.TheVariants as outcome
 use Rattle.tls_facts.specs.Facts.{Facts}
 use Rattle.tls_facts.specs.Told.{has_session}
+
+-- A handshake message of more bytes is refused.
+abbrev pub message_limit : ℕ
+message_limit = 131072
 
 -- The part of the handshake that can be read came to its end: in TLS 1.3 that is the ServerHello.
 abbrev pub is_established : Outcome → Bool

@@ -1,9 +1,9 @@
 -- What both sides said, as a text with a letter for each event, as Zeek's ssl_history has it.
 use Rattle.std.specs.Prelude.{ℕ, ◌-◌, ◌==◌, Bool, true, false, nat_lt, if◌then◌else◌, Option, Some, None, List, [], ◌∷◌, ◌++◌, length}
 use Rattle.std.specs.Str.{byte}
-use Rattle.tls_fields.specs.Bytes.{Bytes}
-use Rattle.tls_events.specs.Item as stream
-use Rattle.dtls_messages.specs.Messages as datagrams
+use Rattle.layouts.specs.Bytes.{Bytes}
+use Rattle.tls_stream.specs.Item as stream
+use Rattle.dtls_stream.specs.Messages as datagrams
 use Rattle.tls_conversations.specs.Events.{kind_in_datagram, kind_said}
 use Rattle.tls_flow.specs.declared.letter.Direction.{Direction as Side}
 use Rattle.tls_flow.specs.declared.letter.Direction.TheVariants.{ToServer, FromServer}

@@ -1,6 +1,6 @@
 -- What a connection's events say of it, in all.
 use Rattle.std.specs.Prelude.{Bool, true, false, ◌||◌, if◌then◌else◌, List, [], ◌∷◌, Option}
-use Rattle.tls_events.specs.Item.{Event as Said, Handshake, Alert, ApplicationData, Encrypted}
+use Rattle.tls_stream.specs.Item.{Event as Said, Handshake, Alert, ApplicationData, Encrypted}
 use Rattle.tls_flow.specs.declared.letter.Direction.{Direction as Side}
 use Rattle.tls_flow.specs.Steps.{follow}
 use Rattle.tls_flow.specs.declared.event.Event.{Event}

@@ -1,8 +1,8 @@
 -- What is heard of a connection, and of which side (RFC 8446, section 5.1).
 use Rattle.std.specs.Prelude.{◌≡◌, ◌^◌, ◌-◌, ◌⊎◌, ◌≤◌, ⊤, ℕ, Bool, true, false, not, nat_lt, Option, Some, None, List, [], ◌∷◌, ◌++◌, length, take}
 use Rattle.std.specs.Global.{Vec}
-use Rattle.tls_fields.specs.Bytes.{Bytes}
-use Rattle.tls_events.specs.Item.{Event as Said}
+use Rattle.layouts.specs.Bytes.{Bytes}
+use Rattle.tls_stream.specs.Item.{Event as Said}
 use Rattle.tls_flow.specs.Steps.{silence}
 use Rattle.tls_flow.specs.Table.{is_waiting, outcome_at}
 use Rattle.tls_flow.specs.declared.letter.Direction.{Direction as Side}
@@ -13,6 +13,7 @@ use Rattle.tls_conversations.specs.Ears.{says}
 use Rattle.tls_conversations.specs.declared.conversation.Conversation.{Conversation}
 use Rattle.tls_facts.specs.Facts.{nothing, view_facts}
 use Rattle.tls_detection.specs.Front.{begins_tls}
+use Rattle.tls_talks.specs.Ends.{message_limit}
 use Rattle.tls_talks.specs.Hearing.{IsHelloNoted, IsNoted, known_of, turns}
 use Rattle.ssl2_hello.specs.ClientHello as ssl2
 use Rattle.tls_talks.specs.History.{history}
@@ -45,7 +46,7 @@ Waits t s w u = (v : Vec ℕ) × (v.items ≡ w) × (u ≡ with_waiting t s v)
 
 -- Nothing came.
 pub record IsNew (t : Talk) : Type 0 where
-  pub begun : IsBegun 131072 t.hearer.conversation
+  pub begun : IsBegun message_limit t.hearer.conversation
   pub flow : t.hearer.flow ≡ silence
   pub facts : view_facts t.hearer.facts ≡ nothing
   pub history : t.hearer.history.items ≡ []

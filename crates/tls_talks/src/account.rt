@@ -2,7 +2,7 @@
 ghost use Rattle.std.specs.Prelude.{◌≡◌, OnOk};
 ghost use Rattle.std.specs.Option.{option_map};
 ghost use Rattle.tls_flow.specs.Bytes.{view_heard};
-ghost use Rattle.dtls_messages.specs.Messages.{view_event, view_events};
+ghost use Rattle.dtls_stream.specs.Messages.{view_event, view_events};
 ghost use Rattle.tls_facts.specs.Facts.{view_facts};
 ghost use Rattle.tls_talks.specs.History.{letter_in_datagram, with_letter};
 ghost use Rattle.tls_flow.specs.Table.{is_failed as is_failure, is_waiting as is_still};

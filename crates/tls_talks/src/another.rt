@@ -1,10 +1,10 @@
 //! Whether a datagram begins another association.
 ghost use Rattle.std.specs.Prelude.{◌≡◌};
 ghost use Rattle.std.specs.Option.{option_map};
-ghost use Rattle.tls_fields.specs.Reading.{reading};
-ghost use Rattle.tls_parser.specs.DtlsHello.{client_hello};
-ghost use Rattle.tls_parser.specs.DtlsRecord.{view_raw_record};
-ghost use Rattle.dtls_messages.specs.Fragments.{view_fragment};
+ghost use Rattle.layouts.specs.Reading.{reading};
+ghost use Rattle.tls_records.specs.DtlsHello.{client_hello};
+ghost use Rattle.tls_records.specs.DtlsRecord.{view_raw_record};
+ghost use Rattle.dtls_stream.specs.Fragments.{view_fragment};
 ghost use Rattle.tls_facts.specs.Facts.{view_facts};
 ghost use Rattle.tls_talks.specs.Datagrams.{first_fragment as first_in};
 ghost use Rattle.tls_talks.specs.Another.{first_random as first, has_other_hello as other_hello, has_ended as ended, is_first_hello as is_first, is_other as is_other_than, random_by, random_in};
@@ -13,10 +13,11 @@ use crate::datagram_records::is_known;
 use crate::ends::is_established;
 use crate::speaker::first_fragment;
 use dtls_stream::{Fragment, read_record};
+use layouts::InPlace;
+use tls_base::TlsHandshakeType;
 use tls_conversations::Outcome;
 use tls_facts::Facts;
-use tls_fields::InPlace;
-use tls_parser::{DTLSClientHelloView, DTLSRawRecord, TlsHandshakeType};
+use tls_records::{DTLSClientHelloView, DTLSRawRecord};
 
 /// Whether it is the first message of its sender, whole, and a ClientHello.
 fn is_first_hello(fragment: &Fragment<'_>) -> bool

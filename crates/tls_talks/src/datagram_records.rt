@@ -1,12 +1,12 @@
 //! The records of datagrams, counted.
 ghost use Rattle.std.specs.Prelude.{◌≡◌};
-ghost use Rattle.tls_parser.specs.DtlsRecord.{view_header};
+ghost use Rattle.tls_records.specs.DtlsRecord.{view_header};
 ghost use Rattle.dtls13_records.specs.Datagram.{view_datagram_record};
 ghost use Rattle.tls_talks.specs.DatagramRecords.{is_known as is_known_header, is_record as is_record_of, no_datagrams, with_datagram};
 
 use dtls13_records::DatagramRecord;
 use tls_detection::is_datagram_version;
-use tls_parser::DTLSRecordHeader;
+use tls_records::DTLSRecordHeader;
 
 /// The type of a record that acknowledges others (RFC 9147, section 7).
 const ACK: u8 = 26;

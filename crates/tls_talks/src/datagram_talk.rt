@@ -1,7 +1,7 @@
 //! What both sides of a conversation in DTLS say, datagram by datagram.
 ghost use Rattle.std.specs.Prelude.{◌≡◌, IfOk, OnOk};
-ghost use Rattle.tls_parser.specs.DtlsRecord.{view_raw_record};
-ghost use Rattle.dtls_messages.specs.Fragments.{view_fragment};
+ghost use Rattle.tls_records.specs.DtlsRecord.{view_raw_record};
+ghost use Rattle.dtls_stream.specs.Fragments.{view_fragment};
 ghost use Rattle.tls_conversations.specs.Conversations.{views};
 ghost use Rattle.tls_facts.specs.Facts.{view_facts};
 ghost use Rattle.tls_flow.specs.Table.{outcome_at};
@@ -11,6 +11,7 @@ ghost use Rattle.tls_talks.specs.Ends.{is_13 as is_13_by, is_established as esta
 
 use crate::account::Account;
 use crate::another::{has_ended, has_other_hello};
+use crate::capacity::of_facts;
 use crate::datagram_records::is_known;
 use crate::ends;
 use crate::speaker::{Speaker, first_fragment, is_hello};
@@ -20,7 +21,7 @@ use dtls13_records::parse_dtls13_ciphertext;
 use std::alloc::{AllocError, Global};
 use tls_conversations::{Direction, Flow, Outcome, Stop};
 use tls_facts::Facts;
-use tls_parser::DTLSRawRecord;
+use tls_records::DTLSRawRecord;
 
 /// What both sides of a conversation in DTLS say (RFC 6347, RFC 9147), and whether they speak DTLS: what their peers take. What an
 /// association drops changes nothing.
@@ -47,6 +48,14 @@ impl DatagramTalk {
             },
             is_dtls: false,
         }
+    }
+
+    /// How many bytes of memory it takes, at most, besides itself.
+    pub fn capacity(&self) -> usize {
+        of_facts(&self.account.facts)
+            .saturating_add(self.account.history.capacity())
+            .saturating_add(self.client.messages.capacity())
+            .saturating_add(self.server.messages.capacity())
     }
 
     /// Whether a datagram began with a record of DTLS of epoch 0.

@@ -19,9 +19,9 @@ use std::alloc::{AllocError, Global};
 use tls_conversations::{
     Conversation, Direction, Event, Flow, Kind, Said, said_event_with, said_message,
 };
-use tls_events::DEFAULT_LIMIT;
 use tls_facts::Facts;
 use tls_flow::HandshakeMessage;
+use tls_stream::DEFAULT_LIMIT;
 
 /// A conversation, and what its events say of it.
 #[derive(Drop)]
@@ -122,13 +122,6 @@ impl Hearer {
             facts: Facts::new(),
             history: Vec::new(alloc),
         }
-    }
-
-    /// The handshake: what both sides said, but for hellos that are [none of it](Facts::is_stray).
-    pub fn flow(&self) -> &Flow
-        ensures { result.now ≡ self.now.flow }
-    {
-        &self.flow
     }
 
     /// Puts a piece behind what came of that side's stream.

@@ -1,8 +1,8 @@
 //! What both sides said, as a text of letters.
 ghost use Rattle.std.specs.Prelude.{◌≡◌, [], OnOk};
-ghost use Rattle.tls_events.specs.Item.{view_event};
+ghost use Rattle.tls_stream.specs.Item.{view_event};
 ghost use Rattle.tls_conversations.specs.Events.{view_said};
-ghost use Rattle.dtls_messages.specs.Messages.{view_event as view_in_datagram};
+ghost use Rattle.dtls_stream.specs.Messages.{view_event as view_in_datagram};
 ghost use Rattle.tls_talks.specs.History.{cased as cased_of, letter_in_datagram_with, letter_of_datagram_message, letter_of_message, letter_of_type as letter_by_type, letter_with, with_letter};
 
 use std::alloc::AllocError;

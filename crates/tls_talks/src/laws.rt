@@ -1,5 +1,5 @@
 //! What stands of a talk, whatever it hears. The function's contract is one law; its body is empty.
-ghost use Rattle.tls_fields.specs.Bytes.{Bytes};
+ghost use Rattle.layouts.specs.Bytes.{Bytes};
 ghost use Rattle.tls_flow.specs.declared.letter.Direction.{Direction as Side};
 ghost use Rattle.tls_facts.specs.Facts.{KeepsHellos, view_facts};
 ghost use Rattle.tls_talks.specs.Talks.{IsHeardOn};

@@ -16,6 +16,7 @@
 
 mod account;
 mod another;
+mod capacity;
 mod datagram_records;
 mod datagram_talk;
 mod ends;

@@ -2,8 +2,7 @@
 ghost use Rattle.std.specs.Prelude.{◌≡◌, ◌≤◌, ◌<◌};
 ghost use Rattle.tls_talks.specs.Records.{no_records, with_byte, with_bytes};
 
-/// How many bytes the header of a record has (RFC 8446, section 5.1).
-const HEADER_LEN: u8 = 5;
+use tls_detection::HEADER_LEN;
 
 /// How many records a stream has, of which no byte is kept.
 #[derive(Clone, Copy, Debug, PartialEq, Eq)]
@@ -41,7 +40,7 @@ impl Records {
         requires { self.old.left ≡ 0 }
         ensures { self.new ≡ with_byte byte self.old }
     {
-        if self.came < HEADER_LEN - 1 {
+        if usize::from(self.came) + 1 < HEADER_LEN {
             self.came += 1;
             self.last = byte;
             return;

@@ -1,17 +1,18 @@
 //! One side of an association of DTLS.
 ghost use Rattle.std.specs.Prelude.{◌≡◌, OnOk, nat_lt, not};
 ghost use Rattle.std.specs.Option.{option_map};
-ghost use Rattle.tls_parser.specs.DtlsRecord.{view_raw_record};
-ghost use Rattle.dtls_messages.specs.Fragments.{view_fragment};
-ghost use Rattle.dtls_messages.specs.Messages.{Heard, Stands};
+ghost use Rattle.tls_records.specs.DtlsRecord.{view_raw_record};
+ghost use Rattle.dtls_stream.specs.Fragments.{view_fragment};
+ghost use Rattle.dtls_stream.specs.Messages.{Heard, Stands};
 ghost use Rattle.tls_talks.specs.Datagrams.{IsSameSide, IsSpoken, SpeakerHears, Spoken, allowed, begun, epoch_of, first_fragment as first, is_behind_front as is_behind, is_hello as hello, none_spoken};
 
 use crate::account::{Account, Progress};
 use crate::witness::Witness;
 use dtls_stream::{DEFAULT_LIMITS, Fragment, Messages, hear_record, parse_dtls_fragment};
 use std::alloc::{AllocError, Global};
+use tls_base::{TlsHandshakeType, TlsRecordType};
 use tls_conversations::Direction;
-use tls_parser::{DTLSRawRecord, TlsHandshakeType, TlsRecordType};
+use tls_records::DTLSRawRecord;
 
 /// One side.
 #[derive(Drop)]

@@ -8,6 +8,7 @@ ghost use Rattle.tls_flow.specs.Table.{outcome_at};
 ghost use Rattle.tls_talks.specs.Ends.{is_established as established_by, is_resumed as resumed_by};
 ghost use Rattle.tls_talks.specs.Talks.{IsFirstHeard, IsHeardAsNone, IsHeardInSsl2, IsHeardOn, IsNew, IsNext, IsTaken, IsTalkOf, Waits, hearing as hearing_of, is_over as is_over_in, waiting as waiting_of, with_hearing};
 
+use crate::capacity::of_facts;
 use crate::ends;
 use crate::hearer::Hearer;
 use crate::witness::{Nobody, Witness};
@@ -56,6 +57,15 @@ impl Talk {
             client_first: Vec::new(alloc),
             server_first: Vec::new(alloc),
         }
+    }
+
+    /// How many bytes of memory is taken by what was said, at most, besides the talk itself and the buffers of its conversation, whose room is at most
+    /// twice as many bytes as were heard.
+    pub fn capacity(&self) -> usize {
+        of_facts(&self.hearer.facts)
+            .saturating_add(self.hearer.history.capacity())
+            .saturating_add(self.client_first.capacity())
+            .saturating_add(self.server_first.capacity())
     }
 
     /// Whether a side's first bytes are those of TLS.

@@ -26,10 +26,10 @@ use Rattle.std.proofs.lemmas.List.{take_all, take_more}
 use Rattle.std.proofs.lemmas.Grind.{flat_map-append}
 use Rattle.tls_parser.specs.Bytes.{Bytes}
 use Rattle.tls_stream.specs.Frames.{elements}
-use Rattle.tls_events.specs.Events.{events, fed, silent}
-use Rattle.tls_events.specs.Taken.{AreTaken, handshakes}
-use Rattle.tls_events.specs.declared.direction.Direction.{Direction}
-use Rattle.tls_events.proofs.TakenLemmas.{IsSaid, begun, none_over, said_all, said_more}
+use Rattle.tls_stream.specs.Events.{events, fed, silent}
+use Rattle.tls_stream.specs.Taken.{AreTaken, handshakes}
+use Rattle.tls_stream.specs.declared.direction.Direction.{Direction}
+use Rattle.tls_stream.proofs.TakenLemmas.{IsSaid, begun, none_over, said_all, said_more}
 use Rattle.tls_uses.specs.Conversation.{messages_in}
 
 -- The messages of these bytes are taken, and no other is there yet.

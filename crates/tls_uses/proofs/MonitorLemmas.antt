@@ -1,8 +1,8 @@
 -- What a monitor is told, event by event.
 use Rattle.std.proofs.Common.{◌≡◌, ℕ, ◌+◌, ◌≤◌, ◌-◌, ◌^◌, inl, inr, List, [], ◌∷◌, length, Bool, true, false, Option}
 use Rattle.std.proofs.Common.{Some, None, IsSome, refl, sym, ◌∙◌, ap, subst, arith}
-use Rattle.tls_fields.specs.Bytes.{Bytes}
-use Rattle.tls_events.specs.Item.{Event as Said}
+use Rattle.layouts.specs.Bytes.{Bytes}
+use Rattle.tls_stream.specs.Item.{Event as Said}
 use Rattle.tls_flow.specs.declared.letter.Direction.{Direction as Side}
 use Rattle.tls_conversations.specs.Conversations.{IsPast, IsFedBy, IsTakenBy, ear}
 use Rattle.tls_conversations.specs.Ears.{IsReady, first_in, front_of, says}

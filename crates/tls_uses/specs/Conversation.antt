@@ -3,8 +3,8 @@ use Rattle.std.specs.Prelude.{◌≡◌, List, []}
 use Rattle.std.specs.List.{flat_map}
 use Rattle.tls_parser.specs.Bytes.{Bytes}
 use Rattle.tls_stream.specs.Frames.{elements}
-use Rattle.tls_events.specs.Events.{events, fed, silent}
-use Rattle.tls_events.specs.Taken.{handshakes}
+use Rattle.tls_stream.specs.Events.{events, fed, silent}
+use Rattle.tls_stream.specs.Taken.{handshakes}
 use Rattle.tls_uses.specs.declared.conversation.Messages.{Messages}
 use Rattle.tls_uses.specs.declared.conversation.Piece.{Piece}
 use Rattle.tls_uses.specs.declared.conversation.Piece.TheVariants.{Client, Server}

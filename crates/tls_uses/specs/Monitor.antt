@@ -1,7 +1,7 @@
 -- What a monitor makes of a piece of one side's stream.
 use Rattle.std.specs.Prelude.{◌≡◌, ℕ, ◌^◌, ◌-◌, ◌⊎◌, List, [], length}
-use Rattle.tls_fields.specs.Bytes.{Bytes}
-use Rattle.tls_events.specs.Item.{Event as Said}
+use Rattle.layouts.specs.Bytes.{Bytes}
+use Rattle.tls_stream.specs.Item.{Event as Said}
 use Rattle.tls_flow.specs.declared.letter.Direction.{Direction as Side}
 use Rattle.tls_conversations.specs.Conversations.{IsPast, IsFedBy, ear}
 use Rattle.tls_conversations.specs.Ears.{says}

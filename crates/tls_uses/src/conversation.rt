@@ -1,13 +1,13 @@
 //! The handshake messages of a conversation.
 ghost use Rattle.std.specs.Prelude.{◌≡◌, IfOk};
 ghost use Rattle.tls_stream.specs.Frames.{elements};
-ghost use Rattle.tls_events.specs.Events.{fed};
-ghost use Rattle.tls_events.specs.Taken.{AreTaken};
+ghost use Rattle.tls_stream.specs.Events.{fed};
+ghost use Rattle.tls_stream.specs.Taken.{AreTaken};
 ghost use Rattle.tls_uses.specs.Conversation.{AreMessagesOf, of_client, of_server};
 
 use std::alloc::Global;
-use tls_events::{Direction, take_messages};
 use tls_parser::OutOfMemory;
+use tls_stream::{Direction, take_messages};
 
 /// Bytes that came next of one side of a conversation.
 #[derive(Clone, Copy)]

@@ -1,8 +1,8 @@
 //! Callers of the library, as a program has them, each with what it promises.
 //!
-//! [`watch`] names `wispuddera`. The others name one crate below it: `tls_parser`, or where bytes come in pieces `tls_events`. A
+//! [`watch`] names `wispuddera`. The others name one crate below it: `tls_parser`, or where bytes come in pieces `tls_stream`. A
 //! clause says what the bytes mean: `reading` of a layout of `tls_parser` is the value that stands in front of the bytes, and
-//! what is left of them, or the refusal; `events` of `tls_events` is what one side's bytes say. The definitions in `specs/` say
+//! what is left of them, or the refusal; `events` of `tls_stream` is what one side's bytes say. The definitions in `specs/` say
 //! what this crate takes from such a value.
 //!
 //! - [`watch`]: a monitor, over both sides of a connection in pieces.

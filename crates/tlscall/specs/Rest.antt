@@ -1,6 +1,6 @@
 -- What is left of an input.
 use Rattle.std.specs.Prelude.{ℕ, ◌≡◌, ◌-◌, drop, length}
-use Rattle.tls_fields.specs.Bytes.{Bytes}
+use Rattle.layouts.specs.Bytes.{Bytes}
 
 -- The rest has so many bytes, and is the end of the input.
 abbrev pub IsRest : Bytes → Bytes → ℕ → Type 0

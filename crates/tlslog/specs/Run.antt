@@ -1,7 +1,7 @@
 -- How the run over a capture ends.
 use Rattle.std.specs.Prelude.{◌≡◌, ⊤, Bool, false, Result, Ok, Err, Option, IfSome}
 use Rattle.std.specs.Io.KnownBytes.{IsAtEnd}
-use Rattle.tls_fields.specs.Bytes.{Bytes}
+use Rattle.layouts.specs.Bytes.{Bytes}
 use Rattle.packets.specs.Packets.{Whole, packets_of}
 use Rattle.packets.specs.declared.reader.CaptureError.TheVariants as capture
 use Rattle.packets.specs.declared.visit.VisitError.{VisitError}

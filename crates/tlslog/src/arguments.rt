@@ -21,6 +21,8 @@ pub enum Refusal<'a> {
     NoList(&'a str),
     /// That is no part of several.
     NoPart(&'a str),
+    /// That is no size of memory, or too small a one.
+    NoSize(&'a str),
     /// The file of that name can't be read.
     Reading(&'a str, io::Error),
 }
@@ -46,6 +48,10 @@ impl Display for Refusal<'_> {
                 f,
                 "--part {text}: write K/N, a number from 1 to N, and how many parts there are"
             ),
+            Refusal::NoSize(text) => write!(
+                f,
+                "--memory {text}: write a size of at least 64M, as 512M or 2G, or none"
+            ),
             Refusal::Reading(path, e) => write!(f, "{path}: cannot read: {}", Reason(e)),
         }
     }
@@ -56,7 +62,9 @@ impl Refusal<'_> {
     pub fn status(&self) -> u8 {
         match self {
             Refusal::Style(StyleError::OutOfMemory) | Refusal::Reading(_, _) => 3,
-            Refusal::Style(_) | Refusal::NoList(_) | Refusal::NoPart(_) => 2,
+            Refusal::Style(_) | Refusal::NoList(_) | Refusal::NoPart(_) | Refusal::NoSize(_) => {
+                2
+            }
         }
     }
 }
@@ -150,6 +158,13 @@ fn by_network<'a>(alloc: Global) -> Arg<'a> {
         .action(ArgAction::SetTrue)
 }
 
+/// How much memory is taken.
+fn memory<'a>(alloc: Global) -> Arg<'a> {
+    let help =
+        "How much memory is taken at most, as 512M or 2G, or none: beyond it the connection that was longest without a packet ends early";
+    option(alloc, "memory", "SIZE", help).default_value("1G")
+}
+
 /// The matches of the command line.
 pub fn matches<'a>(alloc: Global, words: &'a [String]) -> Result<ArgMatches<'a>, clap::Error> {
     Command::new(alloc, "tlslog")
@@ -167,6 +182,7 @@ pub fn matches<'a>(alloc: Global, words: &'a [String]) -> Result<ArgMatches<'a>,
         .arg(join(alloc))?
         .arg(part(alloc))?
         .arg(by_network(alloc))?
+        .arg(memory(alloc))?
         .try_get_matches_from(words)
 }
 

@@ -101,6 +101,7 @@ pub fn summary(connection: &Connection<Listener>) -> Summary<'_> {
         stop: heard.stop(),
         is_established: heard.is_established(),
         is_resumed: heard.is_resumed(),
+        is_ended_early: heard.is_ended_early,
         tunnels: heard.tunnels(),
     }
 }

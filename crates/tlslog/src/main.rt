@@ -8,6 +8,7 @@
 mod arguments;
 mod failure;
 mod listener;
+mod memory;
 mod output;
 mod program;
 mod progress;
@@ -18,6 +19,7 @@ ghost use Rattle.tlslog.specs.Run.{HasWritten};
 
 use crate::arguments::{Refusal, checksums_of, matches, part_of, style_of};
 use crate::failure::{Exit, Failure};
+use crate::memory::memory_of;
 use crate::output::{LineError, Output};
 use crate::program::{
     Asked, DASH, Files, STANDARD_OUTPUT, log_file, log_joined, log_standard_input, tell,
@@ -185,6 +187,7 @@ fn asked_of<'a, R: Runtime + AllocGlobal>(
         style: style_of(rt, matches)?,
         checksums: checksums_of(matches),
         is_by_network: matches.get_flag("by-network"),
+        memory: memory_of(matches)?,
     })
 }
 

@@ -259,8 +259,22 @@ fn log_arrival<W: Write>(
             None => break,
         }
     }
-    match log.accept(arrival)? {
-        Some(connection) => print_last(
+    hear_arrival(alloc, style, log, arrival, out)?;
+    end_crowded(alloc, style, log, arrival.time(), out)
+}
+
+/// Lets the connection of what arrived hear it. Where memory is refused, connections end before their time.
+fn hear_arrival<W: Write>(
+    alloc: Global,
+    style: &Style,
+    log: &mut Log<Kept>,
+    arrival: &Arrival<'_>,
+    out: &mut Output<W>,
+) -> Result<(), LineError>
+    ensures { Tells out.old.has_failed out.new.has_failed result }
+{
+    match log.accept(arrival) {
+        Ok(Some(connection)) => print_last(
             alloc,
             style,
             &mut log.counts,
@@ -268,8 +282,92 @@ fn log_arrival<W: Write>(
             arrival.time(),
             out,
         ),
-        None => print_spoken(alloc, style, log, arrival, out),
+        Ok(None) => print_spoken(alloc, style, log, arrival, out),
+        Err(_) => end_refused(alloc, style, log, arrival, out),
     }
+}
+
+/// Ends connections before their time, the one that was longest without a packet first, until all fit the limit of memory.
+fn end_crowded<W: Write>(
+    alloc: Global,
+    style: &Style,
+    log: &mut Log<Kept>,
+    time: u64,
+    out: &mut Output<W>,
+) -> Result<(), LineError>
+    ensures { Tells out.old.has_failed out.new.has_failed result }
+{
+    'crowded: for _ in 0..u64::MAX {
+        match log.take_crowded()? {
+            Some(connection) => print_last(alloc, style, &mut log.counts, connection, time, out)?,
+            None => break,
+        }
+    }
+    Ok(())
+}
+
+/// Ends the connection of what arrived and could not be held, and says whether there was one.
+fn end_own<W: Write>(
+    alloc: Global,
+    style: &Style,
+    log: &mut Log<Kept>,
+    arrival: &Arrival<'_>,
+    out: &mut Output<W>,
+) -> Result<bool, LineError>
+    ensures { Tells out.old.has_failed out.new.has_failed result }
+{
+    match log.take_refused(arrival)? {
+        Some(connection) => {
+            print_last(
+                alloc,
+                style,
+                &mut log.counts,
+                connection,
+                arrival.time(),
+                out,
+            )?;
+            Ok(true)
+        }
+        None => Ok(false),
+    }
+}
+
+/// Ends the connection that was longest without a packet, and says whether there was one.
+fn end_oldest<W: Write>(
+    alloc: Global,
+    style: &Style,
+    log: &mut Log<Kept>,
+    time: u64,
+    out: &mut Output<W>,
+) -> Result<bool, LineError>
+    ensures { Tells out.old.has_failed out.new.has_failed result }
+{
+    match log.take_oldest()? {
+        Some(connection) => {
+            print_last(alloc, style, &mut log.counts, connection, time, out)?;
+            Ok(true)
+        }
+        None => Ok(false),
+    }
+}
+
+/// Ends both. Where there is none to end, memory ran out.
+fn end_refused<W: Write>(
+    alloc: Global,
+    style: &Style,
+    log: &mut Log<Kept>,
+    arrival: &Arrival<'_>,
+    out: &mut Output<W>,
+) -> Result<(), LineError>
+    ensures { Tells out.old.has_failed out.new.has_failed result }
+{
+    let has_own = end_own(alloc, style, log, arrival, out)?;
+    let has_other = end_oldest(alloc, style, log, arrival.time(), out)?;
+    if !has_own && !has_other {
+        return Err(LineError::OutOfMemory);
+    }
+    log.spare();
+    Ok(())
 }
 
 /// Logs what arrived in a datagram that was put together from fragments, and says whether something did.
@@ -475,6 +573,8 @@ pub struct Asked {
     pub part: Option<Part>,
     /// Whether connections in several networks are told apart.
     pub is_by_network: bool,
+    /// How many bytes of memory connections may take.
+    pub memory: usize,
 }
 
 /// The log of what is asked for, of which nothing was read.
@@ -496,6 +596,7 @@ fn begin_log<R: Runtime + AllocGlobal + RandomSource>(
         Err(_) => return Err(tell(rt, name, Failure::OutOfMemory, 0)),
     };
     log.set_checksums(asked.checksums);
+    log.set_memory(asked.memory);
     if let Some(part) = asked.part {
         log.set_part(part);
     }

@@ -2,9 +2,9 @@
 use Rattle.std.proofs.Common.{◌≡◌, ℕ, ◌++◌, Ok, Bool, false, List, [], ◌∷◌, map, refl, sym, ◌∙◌, ap, subst}
 use Rattle.std.specs.List.{list_any}
 use Rattle.std.specs.Prelude.{◌||◌, flat_map}
-use Rattle.tls_fields.specs.Bytes.{Bytes}
-use Rattle.tls_fields.specs.Reading.{reading}
-use Rattle.tls_parser.specs.Record.{RawRecord, record_content}
+use Rattle.layouts.specs.Bytes.{Bytes}
+use Rattle.layouts.specs.Reading.{reading}
+use Rattle.tls_records.specs.Record.{RawRecord, record_content}
 use Rattle.tls_hs.specs.Message.{view_message}
 use Rattle.tls_hs.specs.declared.message.TlsMessage.{TlsMessage}
 use Rattle.tls_states.specs.Letters as letters

@@ -1,12 +1,12 @@
 -- A record that isn't encrypted, as one with its messages.
 use Rattle.std.proofs.Common.{◌≡◌, false, List, [], Ok, Err, refl, sym, ◌∙◌, ap}
-use Rattle.tls_fields.specs.Bytes.{Bytes}
-use Rattle.tls_fields.specs.Meaning.{Answer, Broken, Lacks}
-use Rattle.tls_fields.specs.Reading.{reading, ◌and_then◌}
-use Rattle.tls_fields.specs.declared.result.ErrorKind.{ErrorKind}
+use Rattle.layouts.specs.Bytes.{Bytes}
+use Rattle.layouts.specs.Meaning.{Answer, Broken, Lacks}
+use Rattle.layouts.specs.Reading.{reading, ◌and_then◌}
+use Rattle.layouts.specs.declared.result.ErrorKind.{ErrorKind}
 use Rattle.tls_hs.specs.Message.{Message}
-use Rattle.tls_parser.specs.Record.{Plaintext, RawRecord, plaintext, raw_record, record_content, read_content}
-use Rattle.tls_parser.proofs.ContentLemmas.{plaintext_is_raw_then_content}
+use Rattle.tls_records.specs.Record.{Plaintext, RawRecord, plaintext, raw_record, record_content, read_content}
+use Rattle.tls_records.proofs.ContentLemmas.{plaintext_is_raw_then_content}
 use Rattle.tlsview.specs.Fault.{Refused}
 use Rattle.tlsview.specs.Out.{Half, Part, Messages, messages_of, content_of, content_part, record_part}
 use Rattle.tlsview.specs.declared.direction.Direction.{Direction}

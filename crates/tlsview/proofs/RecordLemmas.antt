@@ -23,11 +23,11 @@ use Rattle.std.proofs.Common.{
   append_assoc,
   append-nil,
 }
-use Rattle.tls_fields.specs.Bytes.{Bytes}
-use Rattle.tls_fields.specs.Meaning.{Answer, Refusal, Broken, Lacks}
-use Rattle.tls_fields.specs.Reading.{reading}
-use Rattle.tls_fields.specs.declared.result.ErrorKind.TheVariants.{TooLarge}
-use Rattle.tls_parser.specs.Record.{RawRecord, raw_record}
+use Rattle.layouts.specs.Bytes.{Bytes}
+use Rattle.layouts.specs.Meaning.{Answer, Refusal, Broken, Lacks}
+use Rattle.layouts.specs.Reading.{reading}
+use Rattle.layouts.specs.declared.result.ErrorKind.TheVariants.{TooLarge}
+use Rattle.tls_records.specs.Record.{RawRecord, raw_record}
 use Rattle.tls_states.specs.declared.state.TlsState.{TlsState}
 use Rattle.tls_stream.specs.Frames.{FrontTaken, IsTooLarge, front}
 use Rattle.tls_stream.specs.Records.{front_of, record_frame}

@@ -1,9 +1,9 @@
 -- The faults that end a run.
 use Rattle.std.specs.Prelude.{ℕ, List, ◌++◌, codes}
 use Rattle.std.specs.Fmt.{decimal}
-use Rattle.tls_fields.specs.Meaning.{Refusal, Broken, Lacks}
-use Rattle.tls_fields.specs.declared.result.ErrorKind.{ErrorKind}
-use Rattle.tls_fields.specs.declared.result.ErrorKind.TheVariants.{TooLarge, LengthValue, Verify, Switch, Tag, Complete}
+use Rattle.layouts.specs.Meaning.{Refusal, Broken, Lacks}
+use Rattle.layouts.specs.declared.result.ErrorKind.{ErrorKind}
+use Rattle.layouts.specs.declared.result.ErrorKind.TheVariants.{TooLarge, LengthValue, Verify, Switch, Tag, Complete}
 use Rattle.tlsview.specs.declared.fault.Fault as rust
 use Rattle.tlsview.specs.declared.fault.Fault.TheVariants as rust_fault
 

@@ -24,18 +24,19 @@ use Rattle.std.specs.Prelude.{
 }
 use Rattle.std.specs.Io.BufRead.{strip_last}
 use Rattle.std.specs.List.{list_any}
-use Rattle.tls_fields.specs.Bytes.{Bytes}
-use Rattle.tls_fields.specs.Meaning.{Answer, Refusal, Broken, Lacks}
-use Rattle.tls_fields.specs.Reading.{reading}
+use Rattle.layouts.specs.Bytes.{Bytes}
+use Rattle.layouts.specs.Meaning.{Answer, Refusal, Broken, Lacks}
+use Rattle.layouts.specs.Reading.{reading}
 use Rattle.tls_hs.specs.Message.{Message}
-use Rattle.tls_parser.specs.Record.{RawRecord, raw_record, record_content}
+use Rattle.tls_records.specs.Record.{RawRecord, raw_record, record_content}
+use Rattle.tls_states.specs.States.{state_name}
 use Rattle.tls_states.specs.declared.state.TlsState.{TlsState}
 use Rattle.tls_states.specs.declared.state.TlsState.TheVariants as states
 use Rattle.tlsview.specs.Lines.{lines_of}
 use Rattle.tlsview.specs.Direction.{sign_of}
 use Rattle.tlsview.specs.Statement.{Said, said_by}
 use Rattle.tlsview.specs.Fault.{Fault, Refused, BadLine, fault_line, fault_text, fault_status}
-use Rattle.tlsview.specs.Names.{message_name, state_name}
+use Rattle.tlsview.specs.Names.{message_name}
 use Rattle.tlsview.specs.Transition.{state_after, changes_cipher}
 use Rattle.tlsview.specs.declared.conversation.Side.{Side}
 use Rattle.tlsview.specs.declared.conversation.Conversation.{Conversation}

@@ -1,10 +1,10 @@
 -- A record that isn't encrypted, as one that is read with its messages.
 use Rattle.std.specs.Prelude.{◌≡◌, false, [], Ok, Err}
-use Rattle.tls_fields.specs.Bytes.{Bytes}
-use Rattle.tls_fields.specs.Meaning.{Broken}
-use Rattle.tls_fields.specs.Reading.{reading}
-use Rattle.tls_fields.specs.declared.result.ErrorKind.{ErrorKind}
-use Rattle.tls_parser.specs.Record.{Plaintext, plaintext, raw_record}
+use Rattle.layouts.specs.Bytes.{Bytes}
+use Rattle.layouts.specs.Meaning.{Broken}
+use Rattle.layouts.specs.Reading.{reading}
+use Rattle.layouts.specs.declared.result.ErrorKind.{ErrorKind}
+use Rattle.tls_records.specs.Record.{Plaintext, plaintext, raw_record}
 use Rattle.tlsview.specs.Fault.{Refused}
 use Rattle.tlsview.specs.Out.{Half, Part, Messages, content_part, record_part}
 use Rattle.tlsview.specs.declared.direction.Direction.{Direction}

@@ -1,8 +1,8 @@
 -- What was printed and followed by a step of the run.
 use Rattle.std.specs.Prelude.{◌≡◌, ◌≢◌, ◌++◌, ◌||◌, ℕ, Bool, List, Option, Some, None, option_map, Result, Ok, Err}
-use Rattle.tls_fields.specs.Meaning.{Answer, Refusal, Broken, Lacks}
-use Rattle.tls_fields.specs.Reading.{reading}
-use Rattle.tls_parser.specs.Record.{RawRecord, raw_record}
+use Rattle.layouts.specs.Meaning.{Answer, Refusal, Broken, Lacks}
+use Rattle.layouts.specs.Reading.{reading}
+use Rattle.tls_records.specs.Record.{RawRecord, raw_record}
 use Rattle.tls_states.specs.declared.state.TlsState.{TlsState}
 use Rattle.tlsview.specs.Fault.{Fault, Refused, view_fault}
 use Rattle.tlsview.specs.Out.{Content, Half, content_of, content_text, state_behind, cipher_behind, end_of, half_part, line_part}

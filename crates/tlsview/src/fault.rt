@@ -1,13 +1,13 @@
 //! What ends a run before its last line.
 ghost use Rattle.std.specs.Prelude.{◌≡◌, IfOk, OnErr, Some};
-ghost use Rattle.tls_fields.specs.Answers.{IsNotOutOfMemory, IsRefusal, refusal_of};
+ghost use Rattle.layouts.specs.Answers.{IsNotOutOfMemory, IsRefusal, refusal_of};
 ghost use Rattle.tlsview.specs.Fault.{kind_name as name_of_kind, Refused, fault_status, fault_text, view_fault};
 ghost use Rattle.tlsview.specs.Exit.{status_of};
 
 use crate::exit::Exit;
+use layouts::{Err, Error, ErrorKind, Needed};
 use std::alloc::AllocError;
 use std::fmt;
-use tls_parser::{Err, Error, ErrorKind, Needed};
 
 /// What ends a run before its last line.
 #[derive(Clone, Copy, Debug, PartialEq, Eq)]

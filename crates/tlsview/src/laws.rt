@@ -1,7 +1,7 @@
 //! What the definitions say.
 ghost use Rattle.std.specs.Prelude.{◌≡◌, ◌≢◌, ℕ, ◌↔◌, List, IsSome};
-ghost use Rattle.tls_fields.specs.Reading.{reading};
-ghost use Rattle.tls_parser.specs.Record.{raw_record};
+ghost use Rattle.layouts.specs.Reading.{reading};
+ghost use Rattle.tls_records.specs.Record.{raw_record};
 ghost use Rattle.tlsview.specs.Out.{Half, half_part, out, record_part};
 ghost use Rattle.tlsview.specs.Plain.{PlaintextIsPrinted, PlaintextIsRefused};
 ghost use Rattle.tlsview.specs.Exit.{status_of};

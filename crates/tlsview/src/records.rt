@@ -3,7 +3,7 @@ ghost use Rattle.std.specs.Prelude.{◌≡◌, ◌∷◌, ◌++◌, Ok, codes, f
 ghost use Rattle.std.specs.List.{list_any};
 ghost use Rattle.std.specs.String.{string_bytes};
 ghost use Rattle.tls_hs.specs.Message.{view_message};
-ghost use Rattle.tls_parser.specs.Record.{view_raw_record};
+ghost use Rattle.tls_records.specs.Record.{view_raw_record};
 ghost use Rattle.tls_states.specs.Letters as letters;
 ghost use Rattle.tls_states.specs.Steps.{run};
 ghost use Rattle.tlsview.specs.Direction.{sign_of};
@@ -14,9 +14,11 @@ ghost use Rattle.tlsview.specs.Transition.{changes_cipher};
 use crate::conversation::Side;
 use crate::direction::Direction;
 use crate::fault::Fault;
-use crate::names::message_name;
+use crate::names::add_message_name;
+use layouts::{Err, ErrorKind};
 use std::alloc::{AllocError, Global};
-use tls_parser::{Err, ErrorKind, TlsMessage, TlsRawRecord, parse_tls_record_with_header};
+use tls_hs::TlsMessage;
+use tls_records::{TlsRawRecord, parse_tls_record_with_header};
 use tls_states::ParseContext;
 use tls_stream::FeedError;
 
@@ -40,6 +42,19 @@ fn add_line(text: &mut String, direction: Direction, name: &str) -> Result<(), A
     text.push('\n')
 }
 
+/// Prints the line of a message.
+fn show_message(
+    text: &mut String,
+    direction: Direction,
+    message: &TlsMessage,
+) -> Result<(), AllocError>
+    ensures { OnOk result (string_bytes text.new ≡ string_bytes text.old ++ message_line direction (view_message message.now)) }
+{
+    text.push_str(direction.mark())?;
+    add_message_name(text, message)?;
+    text.push('\n')
+}
+
 /// Prints a line for each message.
 fn show_messages(
     text: &mut String,
@@ -50,7 +65,7 @@ fn show_messages(
         ≡ string_bytes text.old ++ flat_map (message_line direction) (map view_message messages.now)) }
 {
     for message in messages {
-        add_line(text, direction, message_name(message))?;
+        show_message(text, direction, message)?;
     }
     Ok(())
 }

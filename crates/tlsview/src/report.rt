@@ -10,11 +10,10 @@ use crate::direction::Direction;
 use crate::exit::Exit;
 use crate::fault::Fault;
 use crate::lines::{first_line, without_return};
-use crate::names::state_name;
 use crate::records::show_bytes;
 use crate::statement::said;
+use layouts::{Err, Needed};
 use std::alloc::{AllocError, Global};
-use tls_parser::{Err, Needed};
 
 /// What is printed for an input, and how the run ends.
 #[derive(Drop)]
@@ -89,7 +88,7 @@ fn show_end(text: &mut String, conversation: &Conversation) -> Result<Exit, Allo
             Ok(Exit::Fault)
         }
         None => {
-            let name = state_name(conversation.context.state());
+            let name = conversation.context.state().name();
             writeln!(text, "state {name}")?;
             Ok(Exit::Clean)
         }

@@ -4,10 +4,10 @@ use Rattle.std.specs.Prelude.{◌==◌, ◌||◌}
 use Rattle.std.proofs.Math.Nat.{le_refl}
 use Rattle.std.proofs.lemmas.Bool.{false≢true}
 use Rattle.std.proofs.lemmas.List.{length-append}
-use Rattle.tls_fields.specs.Bytes.{Bytes}
-use Rattle.tls_fields.specs.Layout.{done, choose, mapped}
-use Rattle.tls_fields.specs.Meaning.{Answer}
-use Rattle.tls_fields.specs.Reading.{reading, ◌and_then◌}
+use Rattle.layouts.specs.Bytes.{Bytes}
+use Rattle.layouts.specs.Layout.{done, choose, mapped}
+use Rattle.layouts.specs.Meaning.{Answer}
+use Rattle.layouts.specs.Reading.{reading, ◌and_then◌}
 use Rattle.capture.specs.Transport.{Content, Tcp, Udp, Fragment, Other as OtherContent}
 use Rattle.capture.specs.Ip.{Datagram, ipv4, ipv6}
 use Rattle.capture.specs.Link.{IPV4, IPV6, carried, datagram, packet}

@@ -1,8 +1,8 @@
 -- The tags of what is read in front, by how many tunnels may still come.
 use Rattle.std.proofs.Common.{◌≡◌, ℕ, zero, suc, ◌-◌, ◌<◌, ◌≤◌, List, [], ◌++◌, Ok, Err, length, take, refl, sym, ap, ◌∙◌, arith, append-nil, length-take, take_all}
-use Rattle.tls_fields.specs.Bytes.{Bytes}
-use Rattle.tls_fields.specs.Meaning.{Refusal}
-use Rattle.tls_fields.specs.Reading.{reading}
+use Rattle.layouts.specs.Bytes.{Bytes}
+use Rattle.layouts.specs.Meaning.{Refusal}
+use Rattle.layouts.specs.Reading.{reading}
 use Rattle.capture.specs.Ip.{Datagram}
 use Rattle.capture.proofs.VlanLemmas.{joined}
 use Rattle.tunnels.specs.Tunnel.{Header}

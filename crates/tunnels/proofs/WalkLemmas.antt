@@ -1,13 +1,13 @@
 -- What is read in front, by how many tunnels may still come.
 use Rattle.std.proofs.Common.{◌≡◌, ◌≢◌, ℕ, zero, suc, ◌-◌, List, [], ◌∷◌, ◌++◌, Option, Some, None, Ok, Err, refl, ap, arith}
-use Rattle.tls_fields.specs.Bytes.{Bytes}
-use Rattle.tls_fields.specs.Meaning.{Refusal}
-use Rattle.tls_fields.specs.Reading.{reading}
+use Rattle.layouts.specs.Bytes.{Bytes}
+use Rattle.layouts.specs.Meaning.{Refusal}
+use Rattle.layouts.specs.Reading.{reading}
 use Rattle.capture.specs.Fragment.{Fragment}
 use Rattle.capture.specs.Ip.{Datagram}
 use Rattle.tunnels.specs.Tunnel.{Header}
 use Rattle.tunnels.specs.Fragments.{found, inner_fragment}
-use Rattle.tls_fields.specs.Meaning.{Answer}
+use Rattle.layouts.specs.Meaning.{Answer}
 use Rattle.tunnels.specs.Walk.{Layer, followed, inner_layer, Wraps, Holds, Unknown, Held, Other, Unread, Deeper}
 use Rattle.tunnels.specs.declared.tunnel.Tunnel.{Tunnel}
 

@@ -1,7 +1,7 @@
 -- Which headers stand behind which numbers.
 use Rattle.std.specs.Prelude.{ℕ, ◌==◌, ◌||◌, None}
-use Rattle.tls_fields.specs.Layout.{Layout, refuse, choose}
-use Rattle.tls_fields.specs.declared.result.ErrorKind.TheVariants.{Switch}
+use Rattle.layouts.specs.Layout.{Layout, refuse, choose}
+use Rattle.layouts.specs.declared.result.ErrorKind.TheVariants.{Switch}
 use Rattle.capture.specs.Link.{IPV4, IPV6}
 use Rattle.tunnels.specs.Tunnel.{Header, carrying}
 use Rattle.tunnels.specs.Gre.{gre}

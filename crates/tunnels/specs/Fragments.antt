@@ -1,10 +1,10 @@
 -- Fragments of datagrams, behind the tunnels that they come in; and what datagrams hold that were put together from such.
 use Rattle.std.specs.Prelude.{ℕ, zero, suc, ◌-◌, ◌==◌, Option, Some, None, [], Ok, Err}
-use Rattle.tls_fields.specs.Bytes.{Bytes}
-use Rattle.tls_fields.specs.Layout.{Layout, refuse, choose, ◌>>=◌}
-use Rattle.tls_fields.specs.Meaning.{Answer}
-use Rattle.tls_fields.specs.Reading.{reading}
-use Rattle.tls_fields.specs.declared.result.ErrorKind.TheVariants.{Switch}
+use Rattle.layouts.specs.Bytes.{Bytes}
+use Rattle.layouts.specs.Layout.{Layout, refuse, choose, ◌>>=◌}
+use Rattle.layouts.specs.Meaning.{Answer}
+use Rattle.layouts.specs.Reading.{reading}
+use Rattle.layouts.specs.declared.result.ErrorKind.TheVariants.{Switch}
 use Rattle.capture.specs.Fragment.{Fragment, fragment_v4, fragment_v6}
 use Rattle.capture.specs.Ip.{Datagram}
 use Rattle.capture.specs.Link.{IPV4, IPV6, carried}

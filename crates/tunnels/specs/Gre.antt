@@ -1,7 +1,7 @@
 -- Generic Routing Encapsulation (RFC 2784; RFC 2890), and the copies of frames that switches send in it (draft-foschiano-erspan).
 use Rattle.std.specs.Prelude.{ℕ, ◌/◌, ◌%◌, ◌==◌, ◌&&◌, Bool, Option, Some, None, if◌then◌else◌}
-use Rattle.tls_fields.specs.Layout.{Layout, done, number, block, test, choose, mapped, ◌>>=◌, ◌>>◌}
-use Rattle.tls_fields.specs.declared.result.ErrorKind.TheVariants.{Verify}
+use Rattle.layouts.specs.Layout.{Layout, done, number, block, test, choose, mapped, ◌>>=◌, ◌>>◌}
+use Rattle.layouts.specs.declared.result.ErrorKind.TheVariants.{Verify}
 use Rattle.tunnels.specs.Tunnel.{Header, ETHERNET, carrying, skipped_if, version_type}
 use Rattle.tunnels.specs.declared.tunnel.Tunnel.{Tunnel}
 use Rattle.tunnels.specs.declared.tunnel.TunnelKind.TheVariants.{Gre, Erspan}

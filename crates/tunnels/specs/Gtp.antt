@@ -1,7 +1,7 @@
 -- Tunnels of mobile networks: GTP-U (3GPP TS 29.281).
 use Rattle.std.specs.Prelude.{ℕ, ◌-◌, ◌*◌, ◌/◌, ◌%◌, ◌==◌, ◌&&◌, not, nat_le, Bool, Some}
-use Rattle.tls_fields.specs.Layout.{Layout, done, number, block, window, list, complete, test, choose, ◌>>=◌, ◌>>◌}
-use Rattle.tls_fields.specs.declared.result.ErrorKind.TheVariants.{Tag, Verify, LengthValue}
+use Rattle.layouts.specs.Layout.{Layout, done, number, block, window, list, complete, test, choose, ◌>>=◌, ◌>>◌}
+use Rattle.layouts.specs.declared.result.ErrorKind.TheVariants.{Tag, Verify, LengthValue}
 use Rattle.tunnels.specs.Tunnel.{Header, carrying, version_type}
 use Rattle.tunnels.specs.declared.tunnel.TunnelKind.TheVariants.{GtpU}
 

@@ -1,7 +1,7 @@
 -- Labels and tags in front of a datagram or a frame: MPLS (RFC 3032), and provider backbones (IEEE 802.1Q, section 9.7).
 use Rattle.std.specs.Prelude.{ℕ, ◌/◌, ◌%◌, ◌^◌, ◌==◌, Some, if◌then◌else◌}
-use Rattle.tls_fields.specs.Layout.{Layout, number, list, look, test, ◌>>=◌, ◌>>◌}
-use Rattle.tls_fields.specs.declared.result.ErrorKind.TheVariants.{Tag}
+use Rattle.layouts.specs.Layout.{Layout, number, list, look, test, ◌>>=◌, ◌>>◌}
+use Rattle.layouts.specs.declared.result.ErrorKind.TheVariants.{Tag}
 use Rattle.tunnels.specs.Tunnel.{Header, ETHERNET, carrying, skipped_if, type_of_version}
 use Rattle.tunnels.specs.declared.tunnel.TunnelKind.TheVariants.{Mpls, Backbone}
 

@@ -8,8 +8,8 @@ pub mod Carriers
 pub mod Walk
 pub mod Tags
 pub mod Fragments
-pub use Rattle.tls_fields.specs.Bytes
-pub use Rattle.tls_fields.specs.Layout
-pub use Rattle.tls_fields.specs.Meaning
-pub use Rattle.tls_fields.specs.Reading
-pub use Rattle.tls_fields.specs.Answers
+pub use Rattle.layouts.specs.Bytes
+pub use Rattle.layouts.specs.Layout
+pub use Rattle.layouts.specs.Meaning
+pub use Rattle.layouts.specs.Reading
+pub use Rattle.layouts.specs.Answers

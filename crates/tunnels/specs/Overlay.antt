@@ -1,7 +1,7 @@
 -- Networks laid over UDP: VXLAN (RFC 7348), GENEVE (RFC 8926).
 use Rattle.std.specs.Prelude.{ℕ, ◌+◌, ◌*◌, ◌%◌, ◌==◌, ◌||◌, nat_le, Bool, Some}
-use Rattle.tls_fields.specs.Layout.{Layout, done, number, block, test, ◌>>=◌, ◌>>◌}
-use Rattle.tls_fields.specs.declared.result.ErrorKind.TheVariants.{Verify}
+use Rattle.layouts.specs.Layout.{Layout, done, number, block, test, ◌>>=◌, ◌>>◌}
+use Rattle.layouts.specs.declared.result.ErrorKind.TheVariants.{Verify}
 use Rattle.capture.specs.Link.{IPV4, IPV6}
 use Rattle.tunnels.specs.Tunnel.{Header, ETHERNET, carrying}
 use Rattle.tunnels.specs.declared.tunnel.TunnelKind.TheVariants.{Vxlan, Geneve}

@@ -1,8 +1,8 @@
 -- The VLAN tags of a packet, in tunnels too.
 use Rattle.std.specs.Prelude.{ℕ, zero, suc, ◌==◌, List, [], ◌++◌, take, if◌then◌else◌, Ok, Err}
-use Rattle.tls_fields.specs.Bytes.{Bytes}
-use Rattle.tls_fields.specs.Meaning.{Answer}
-use Rattle.tls_fields.specs.Reading.{reading}
+use Rattle.layouts.specs.Bytes.{Bytes}
+use Rattle.layouts.specs.Meaning.{Answer}
+use Rattle.layouts.specs.Reading.{reading}
 use Rattle.capture.specs.Vlan.{link_vlans}
 use Rattle.tunnels.specs.Tunnel.{Header, ETHERNET}
 use Rattle.tunnels.specs.Walk.{Layer, Wraps, Holds, Unknown, inner_layer, packet_layer}

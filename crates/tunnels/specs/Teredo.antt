@@ -1,7 +1,7 @@
 -- IPv6 through NATs, over UDP (RFC 4380).
 use Rattle.std.specs.Prelude.{ℕ, ◌+◌, ◌/◌, ◌==◌, None}
-use Rattle.tls_fields.specs.Layout.{Layout, done, number, block, look, test, choose, mapped, ◌>>=◌, ◌>>◌}
-use Rattle.tls_fields.specs.declared.result.ErrorKind.TheVariants.{Verify}
+use Rattle.layouts.specs.Layout.{Layout, done, number, block, look, test, choose, mapped, ◌>>=◌, ◌>>◌}
+use Rattle.layouts.specs.declared.result.ErrorKind.TheVariants.{Verify}
 use Rattle.capture.specs.Link.{IPV6}
 use Rattle.tunnels.specs.Tunnel.{Header, carrying, skipped_if}
 use Rattle.tunnels.specs.declared.tunnel.TunnelKind.TheVariants.{Teredo}

@@ -1,7 +1,7 @@
 -- Tunnels, and the headers that begin them.
 use Rattle.std.specs.Prelude.{ℕ, ◌/◌, ◌==◌, List, take, Bool, if◌then◌else◌}
-use Rattle.tls_fields.specs.Bytes.{Bytes}
-use Rattle.tls_fields.specs.Layout.{Layout, done, number, block, rest, look, choose, mapped, ◌>>=◌}
+use Rattle.layouts.specs.Bytes.{Bytes}
+use Rattle.layouts.specs.Layout.{Layout, done, number, block, rest, look, choose, mapped, ◌>>=◌}
 use Rattle.capture.specs.Link.{IPV4, IPV6}
 use Rattle.tunnels.specs.declared.tunnel.Tunnel.{Tunnel}
 use Rattle.tunnels.specs.declared.tunnel.Tunnels.{Tunnels}

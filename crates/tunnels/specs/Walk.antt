@@ -1,9 +1,9 @@
 -- From a packet's link down to the innermost datagram.
 use Rattle.std.specs.Prelude.{◌≡◌, ℕ, zero, suc, ◌==◌, ◌||◌, List, [], ◌∷◌, ◌++◌, Some, Ok, Err}
-use Rattle.tls_fields.specs.Bytes.{Bytes}
-use Rattle.tls_fields.specs.Layout.{Layout, done, choose, mapped, ◌>>=◌}
-use Rattle.tls_fields.specs.Meaning.{Answer}
-use Rattle.tls_fields.specs.Reading.{reading}
+use Rattle.layouts.specs.Bytes.{Bytes}
+use Rattle.layouts.specs.Layout.{Layout, done, choose, mapped, ◌>>=◌}
+use Rattle.layouts.specs.Meaning.{Answer}
+use Rattle.layouts.specs.Reading.{reading}
 use Rattle.capture.specs.Transport.{Content, Tcp, Udp, Fragment, Other as OtherContent}
 use Rattle.capture.specs.Ip.{Datagram, ipv4, ipv6, view_datagram}
 use Rattle.capture.specs.Link.{IPV4, IPV6, carried, packet}

@@ -1,8 +1,8 @@
 //! Which headers stand behind which numbers.
-#![tactic(auto, using(tls_fields::proofs::OneAnswerLemmas::read_allowed), unfolding(crate::specs::Carriers::by_protocol, crate::specs::Carriers::by_ports))]
+#![tactic(auto, using(layouts::proofs::OneAnswerLemmas::read_allowed), unfolding(crate::specs::Carriers::by_protocol, crate::specs::Carriers::by_ports))]
 
 ghost use Rattle.std.specs.Prelude.{◌≡◌, None};
-ghost use Rattle.tls_fields.specs.Answers.{Gives};
+ghost use Rattle.layouts.specs.Answers.{Gives};
 ghost use Rattle.tunnels.specs.Tunnel.{view_header};
 ghost use Rattle.tunnels.specs.Carriers.{by_protocol as by_protocol_layout, by_ports as by_ports_layout};
 
@@ -12,7 +12,7 @@ use crate::labels::parse_mpls;
 use crate::overlay::{parse_geneve, parse_vxlan};
 use crate::teredo::parse_teredo;
 use crate::tunnel::{Header, IPV4, IPV6, Tunnel, TunnelKind, carrying};
-use tls_fields::{ErrorKind, IResult, refused};
+use layouts::{ErrorKind, IResult, refused};
 
 /// The port of Teredo.
 const TEREDO: u16 = 3544;

@@ -1,9 +1,9 @@
 //! Fragments of datagrams, behind the tunnels that they come in; and what datagrams hold that were put together from such.
-#![tactic(auto, using(tls_fields::proofs::OneAnswerLemmas::read_allowed), unfolding(crate::specs::Fragments::fragment_of_type, crate::specs::Fragments::packet_fragment, crate::specs::Fragments::inner_fragment))]
+#![tactic(auto, using(layouts::proofs::OneAnswerLemmas::read_allowed), unfolding(crate::specs::Fragments::fragment_of_type, crate::specs::Fragments::packet_fragment, crate::specs::Fragments::inner_fragment))]
 
 ghost use Rattle.std.specs.Prelude.{◌≡◌, ◌≤◌, [], Ok};
 ghost use Rattle.std.specs.Option.{option_map};
-ghost use Rattle.tls_fields.specs.Answers.{Gives, IsAnswer, answer_of};
+ghost use Rattle.layouts.specs.Answers.{Gives, IsAnswer, answer_of};
 ghost use Rattle.capture.specs.Fragment.{view_fragment};
 ghost use Rattle.capture.specs.Ip.{view_datagram};
 ghost use Rattle.tunnels.specs.Walk.{view_layer, view_unwrapped};
@@ -14,7 +14,7 @@ use crate::walk::{
     Inside, LINK_ETHERNET, Layer, Unwrapped, datagram_layer, follow, inner_layer, packet_layer,
 };
 use capture::{Datagram, Fragment, parse_fragment_v4, parse_fragment_v6, parse_link};
-use tls_fields::{ErrorKind, IResult, refused};
+use layouts::{ErrorKind, IResult, refused};
 
 /// A fragment, by its type of Ethernet.
 fn fragment_of_type(i: &[u8], kind: u16) -> IResult<&[u8], Fragment>

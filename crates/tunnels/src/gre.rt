@@ -1,13 +1,13 @@
 //! Generic Routing Encapsulation (RFC 2784; RFC 2890), and the copies of frames that switches send in it (draft-foschiano-erspan).
-#![tactic(auto, using(tls_fields::proofs::OneAnswerLemmas::read_allowed), unfolding(crate::specs::Gre::key_if, crate::specs::Gre::erspan2, crate::specs::Gre::erspan, crate::specs::Gre::copied, crate::specs::Gre::gre_payload))]
+#![tactic(auto, using(layouts::proofs::OneAnswerLemmas::read_allowed), unfolding(crate::specs::Gre::key_if, crate::specs::Gre::erspan2, crate::specs::Gre::erspan, crate::specs::Gre::copied, crate::specs::Gre::gre_payload))]
 
 ghost use Rattle.std.specs.Prelude.{◌≡◌};
-ghost use Rattle.tls_fields.specs.Answers.{Gives};
+ghost use Rattle.layouts.specs.Answers.{Gives};
 ghost use Rattle.tunnels.specs.Tunnel.{view_header};
 ghost use Rattle.tunnels.specs.Gre.{gre, gre_payload as gre_payload_layout, erspan as erspan_layout, erspan2 as erspan2_layout, erspan3 as erspan3_layout, copied as copied_layout, key_if as key_if_layout, is_plain as is_plain_flags, erspan_tunnel as erspan_tunnel_of};
 
 use crate::tunnel::{ETHERNET, Header, Tunnel, TunnelKind, carrying, skipped_if, version_type};
-use tls_fields::{ErrorKind, IResult, block, number2, number4, refused};
+use layouts::{ErrorKind, IResult, block, number2, number4, refused};
 
 /// The protocol of frames in ERSPAN of types I and II.
 const ERSPAN: u16 = 0x88be;
@@ -78,7 +78,7 @@ fn copied(i: &[u8], frame_type: u16) -> IResult<&[u8], u16>
 }
 
 /// Behind a header of type III.
-#[tactic(auto, using(tls_fields::proofs::OneAnswerLemmas::read_allowed), unfolding(crate::specs::Gre::erspan3))]
+#[tactic(auto, using(layouts::proofs::OneAnswerLemmas::read_allowed), unfolding(crate::specs::Gre::erspan3))]
 fn erspan3(i: &[u8]) -> IResult<&[u8], Header>
     ensures { Gives view_header erspan3_layout i.now result }
 {
@@ -123,7 +123,7 @@ fn gre_payload(
 /// - `Incomplete` of what is missing of the headers.
 /// - `Error` of kind `Verify` where the version isn't 0, or one of the bits 1, 4 and 5 is set (RFC 2784, section 2.3); or where the
 ///   version of ERSPAN is another than the protocol says.
-#[tactic(auto, using(tls_fields::proofs::OneAnswerLemmas::read_allowed), unfolding(crate::specs::Gre::gre))]
+#[tactic(auto, using(layouts::proofs::OneAnswerLemmas::read_allowed), unfolding(crate::specs::Gre::gre))]
 pub fn parse_gre(i: &[u8]) -> IResult<&[u8], Header>
     ensures { Gives view_header gre i.now result }
 {

@@ -1,15 +1,13 @@
 //! Tunnels of mobile networks: GTP-U (3GPP TS 29.281).
-#![tactic(auto, using(tls_fields::proofs::OneAnswerLemmas::read_allowed), unfolding(crate::specs::Gtp::extension, crate::specs::Gtp::further_extension, crate::specs::Gtp::extensions_if, crate::specs::Gtp::optional_fields, crate::specs::Gtp::gtp_payload))]
+#![tactic(auto, using(layouts::proofs::OneAnswerLemmas::read_allowed), unfolding(crate::specs::Gtp::extension, crate::specs::Gtp::further_extension, crate::specs::Gtp::extensions_if, crate::specs::Gtp::optional_fields, crate::specs::Gtp::gtp_payload))]
 
-ghost use Rattle.tls_fields.specs.Layout.{complete};
-ghost use Rattle.tls_fields.specs.Answers.{Gives};
+ghost use Rattle.layouts.specs.Layout.{complete};
+ghost use Rattle.layouts.specs.Answers.{Gives};
 ghost use Rattle.tunnels.specs.Tunnel.{view_header};
 ghost use Rattle.tunnels.specs.Gtp.{extension as extension_layout, extensions as extensions_layout, extensions_if as extensions_if_layout, further_extension, gtp, gtp_payload as gtp_payload_layout, optional_fields as optional_fields_layout};
 
 use crate::tunnel::{Header, Tunnel, TunnelKind, carrying, version_type};
-use tls_fields::{
-    Err, ErrorKind, IResult, InPlace, Items, block, number1, number2, number4, refused,
-};
+use layouts::{Err, ErrorKind, IResult, InPlace, Items, block, number1, number2, number4, refused};
 
 /// The message type of what users send.
 const USER_DATA: u8 = 255;
@@ -48,7 +46,7 @@ impl<'a> InPlace<'a> for FurtherExtension {
 }
 
 /// Extension headers, to the last.
-#[tactic(auto, using(tls_fields::proofs::OneAnswerLemmas::read_allowed), unfolding(crate::specs::Gtp::extensions))]
+#[tactic(auto, using(layouts::proofs::OneAnswerLemmas::read_allowed), unfolding(crate::specs::Gtp::extensions))]
 fn extensions(i: &[u8]) -> IResult<&[u8], u8>
     ensures { Gives (λ v. v) extensions_layout i.now result }
 {
@@ -107,7 +105,7 @@ fn whole_payload(i: &[u8], flags: u8, id: u32) -> IResult<&[u8], Header>
 /// - `Error` of kind `Verify` where the version isn't 1, or that of GTP', or the message type isn't 255.
 /// - `Error` of kind `LengthValue` where an extension header says the length 0.
 /// - `Error` of kind `Complete` where the fields and a first byte don't fit in the length.
-#[tactic(auto, using(tls_fields::proofs::OneAnswerLemmas::read_allowed), unfolding(crate::specs::Gtp::gtp))]
+#[tactic(auto, using(layouts::proofs::OneAnswerLemmas::read_allowed), unfolding(crate::specs::Gtp::gtp))]
 pub fn parse_gtp(i: &[u8]) -> IResult<&[u8], Header>
     ensures { Gives view_header gtp i.now result }
 {

@@ -1,13 +1,13 @@
 //! Labels and tags in front of a datagram or a frame: MPLS (RFC 3032), and provider backbones (IEEE 802.1Q, section 9.7).
-#![tactic(auto, using(tls_fields::proofs::OneAnswerLemmas::read_allowed), unfolding(crate::specs::Labels::upper_label))]
+#![tactic(auto, using(layouts::proofs::OneAnswerLemmas::read_allowed), unfolding(crate::specs::Labels::upper_label))]
 
 ghost use Rattle.std.specs.Prelude.{◌≡◌};
-ghost use Rattle.tls_fields.specs.Answers.{Gives};
+ghost use Rattle.layouts.specs.Answers.{Gives};
 ghost use Rattle.tunnels.specs.Tunnel.{view_header};
 ghost use Rattle.tunnels.specs.Labels.{backbone, mpls, type_behind_labels as type_behind, upper_label};
 
 use crate::tunnel::{ETHERNET, Header, Tunnel, TunnelKind, carrying, skipped_if, type_of_version};
-use tls_fields::{ErrorKind, IResult, InPlace, Items, number1, number4, refused};
+use layouts::{ErrorKind, IResult, InPlace, Items, number1, number4, refused};
 
 /// A label that others follow.
 struct UpperLabel;
@@ -44,7 +44,7 @@ fn type_behind_labels(half: u8) -> u16
 /// of Ethernet behind a control word, which begins with 0 (RFC 4448, section 4.6).
 ///
 /// `Incomplete` of what is missing of a label, of the byte behind the last, or of the control word.
-#[tactic(auto, using(tls_fields::proofs::OneAnswerLemmas::read_allowed), unfolding(crate::specs::Labels::mpls))]
+#[tactic(auto, using(layouts::proofs::OneAnswerLemmas::read_allowed), unfolding(crate::specs::Labels::mpls))]
 pub fn parse_mpls(i: &[u8]) -> IResult<&[u8], Header>
     ensures { Gives view_header mpls i.now result }
 {
@@ -62,7 +62,7 @@ pub fn parse_mpls(i: &[u8]) -> IResult<&[u8], Header>
 /// frame of Ethernet.
 ///
 /// `Incomplete` of what is missing of the 4 bytes.
-#[tactic(auto, using(tls_fields::proofs::OneAnswerLemmas::read_allowed), unfolding(crate::specs::Labels::backbone))]
+#[tactic(auto, using(layouts::proofs::OneAnswerLemmas::read_allowed), unfolding(crate::specs::Labels::backbone))]
 pub fn parse_backbone(i: &[u8]) -> IResult<&[u8], Header>
     ensures { Gives view_header backbone i.now result }
 {

@@ -1,7 +1,7 @@
 //! What holds of the definitions alone. Each function's contract is one law; its body is empty.
 
 ghost use Rattle.std.specs.Prelude.{ℕ};
-ghost use Rattle.tls_fields.specs.Bytes.{Bytes};
+ghost use Rattle.layouts.specs.Bytes.{Bytes};
 ghost use Rattle.capture.specs.Ip.{Datagram};
 ghost use Rattle.tunnels.specs.Walk.{IsReadAlone};
 

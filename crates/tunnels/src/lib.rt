@@ -3,7 +3,7 @@
 //! [`innermost`] goes from a packet's link down to its innermost datagram, through at most [`MAX_TUNNELS`] tunnels, and tells which these
 //! were. Each header also has a call of its own. None takes memory. What isn't such a header, behind a port or a protocol that tells of one,
 //! is a datagram like any other.
-#![tactic(auto, using(tls_fields::proofs::OneAnswerLemmas::read_allowed))]
+#![tactic(auto, using(layouts::proofs::OneAnswerLemmas::read_allowed))]
 
 mod carriers;
 mod fragments;
@@ -25,4 +25,4 @@ pub use overlay::{parse_geneve, parse_vxlan};
 pub use tags::vlan_tags;
 pub use teredo::parse_teredo;
 pub use tunnel::{ETHERNET, Header, MAX_TUNNELS, Tunnel, TunnelKind, Tunnels};
-pub use walk::{Inside, Unwrapped, innermost};
+pub use walk::{Inside, Unwrapped, innermost, innermost_into};

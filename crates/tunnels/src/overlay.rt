@@ -1,13 +1,13 @@
 //! Networks laid over UDP: VXLAN (RFC 7348), GENEVE (RFC 8926).
-#![tactic(auto, using(tls_fields::proofs::OneAnswerLemmas::read_allowed), unfolding(crate::specs::Overlay::vxlan, crate::specs::Overlay::geneve_front))]
+#![tactic(auto, using(layouts::proofs::OneAnswerLemmas::read_allowed), unfolding(crate::specs::Overlay::vxlan, crate::specs::Overlay::geneve_front))]
 
 ghost use Rattle.std.specs.Prelude.{◌≡◌, ◌<◌, IfOk};
-ghost use Rattle.tls_fields.specs.Answers.{Gives};
+ghost use Rattle.layouts.specs.Answers.{Gives};
 ghost use Rattle.tunnels.specs.Tunnel.{view_header};
 ghost use Rattle.tunnels.specs.Overlay.{geneve, geneve_front as geneve_front_layout, is_overlaid as is_overlaid_type, vxlan};
 
 use crate::tunnel::{ETHERNET, Header, IPV4, IPV6, Tunnel, TunnelKind, carrying};
-use tls_fields::{ErrorKind, IResult, block, number1, number2, number3, refused};
+use layouts::{ErrorKind, IResult, block, number1, number2, number3, refused};
 
 /// Reads a header of VXLAN (RFC 7348, section 5), of 8 bytes, and the frame of Ethernet behind it.
 ///
@@ -62,7 +62,7 @@ fn geneve_front(i: &[u8]) -> IResult<&[u8], (u8, u16)>
 /// - `Incomplete` of what is missing of the header or the options.
 /// - `Error` of kind `Verify` where the version isn't 0, a reserved flag is set, or what is carried is neither a frame of Ethernet nor
 ///   IPv4 nor IPv6.
-#[tactic(auto, using(tls_fields::proofs::OneAnswerLemmas::read_allowed), unfolding(crate::specs::Overlay::geneve))]
+#[tactic(auto, using(layouts::proofs::OneAnswerLemmas::read_allowed), unfolding(crate::specs::Overlay::geneve))]
 pub fn parse_geneve(i: &[u8]) -> IResult<&[u8], Header>
     ensures { Gives view_header geneve i.now result }
 {

@@ -1,8 +1,8 @@
 //! The VLAN tags of a packet, in tunnels too.
-#![tactic(auto, using(tls_fields::proofs::OneAnswerLemmas::read_allowed))]
+#![tactic(auto, using(layouts::proofs::OneAnswerLemmas::read_allowed))]
 
 ghost use Rattle.std.specs.Prelude.{◌≡◌, ◌≤◌, ◌++◌, length, take};
-ghost use Rattle.tls_fields.specs.Answers.{IsAnswer, answer_of};
+ghost use Rattle.layouts.specs.Answers.{IsAnswer, answer_of};
 ghost use Rattle.capture.specs.Vlan.{found_in};
 ghost use Rattle.tunnels.specs.Tags.{frame_vlans, inner_vlans, vlans_of};
 ghost use Rattle.tunnels.specs.Tunnel.{view_header};
@@ -11,7 +11,7 @@ ghost use Rattle.tunnels.specs.Walk.{view_layer};
 use crate::tunnel::{ETHERNET, Header, MAX_TUNNELS};
 use crate::walk::{LINK_ETHERNET, Layer, inner_layer, packet_layer};
 use capture::VlanTags;
-use tls_fields::IResult;
+use layouts::IResult;
 
 /// Adds those of a frame in a tunnel.
 #[tactic(auto, using(crate::proofs::TagLemmas::none))]

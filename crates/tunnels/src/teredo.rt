@@ -1,12 +1,12 @@
 //! IPv6 through NATs, over UDP (RFC 4380).
-#![tactic(auto, using(tls_fields::proofs::OneAnswerLemmas::read_allowed), unfolding(crate::specs::Teredo::authentication, crate::specs::Teredo::authentication_if))]
+#![tactic(auto, using(layouts::proofs::OneAnswerLemmas::read_allowed), unfolding(crate::specs::Teredo::authentication, crate::specs::Teredo::authentication_if))]
 
-ghost use Rattle.tls_fields.specs.Answers.{Gives};
+ghost use Rattle.layouts.specs.Answers.{Gives};
 ghost use Rattle.tunnels.specs.Tunnel.{view_header};
 ghost use Rattle.tunnels.specs.Teredo.{authentication as authentication_layout, authentication_if as authentication_if_layout, teredo};
 
 use crate::tunnel::{Header, IPV6, Tunnel, TunnelKind, carrying, skipped_if};
-use tls_fields::{ErrorKind, IResult, block, number1, number2, refused};
+use layouts::{ErrorKind, IResult, block, number1, number2, refused};
 
 /// What shows who the client is.
 fn authentication(i: &[u8]) -> IResult<&[u8], ()>
@@ -34,7 +34,7 @@ fn authentication_if(i: &[u8], front: u16) -> IResult<&[u8], ()>
 ///
 /// - `Incomplete` of what is missing of the first part that isn't whole.
 /// - `Error` of kind `Verify` where what follows isn't of version 6.
-#[tactic(auto, using(tls_fields::proofs::OneAnswerLemmas::read_allowed), unfolding(crate::specs::Teredo::teredo))]
+#[tactic(auto, using(layouts::proofs::OneAnswerLemmas::read_allowed), unfolding(crate::specs::Teredo::teredo))]
 pub fn parse_teredo(i: &[u8]) -> IResult<&[u8], Header>
     ensures { Gives view_header teredo i.now result }
 {

@@ -1,11 +1,11 @@
 //! Tunnels, and the headers that begin them.
-#![tactic(auto, using(tls_fields::proofs::OneAnswerLemmas::read_allowed), unfolding(crate::specs::Tunnel::carrying, crate::specs::Tunnel::skipped_if, crate::specs::Tunnel::version_type))]
+#![tactic(auto, using(layouts::proofs::OneAnswerLemmas::read_allowed), unfolding(crate::specs::Tunnel::carrying, crate::specs::Tunnel::skipped_if, crate::specs::Tunnel::version_type))]
 
 ghost use Rattle.std.specs.Prelude.{◌≡◌, ◌≤◌, ◌<◌, ◌+◌, ◌++◌, ◌∷◌, ◌==◌, [], length};
-ghost use Rattle.tls_fields.specs.Answers.{Gives};
+ghost use Rattle.layouts.specs.Answers.{Gives};
 ghost use Rattle.tunnels.specs.Tunnel.{carrying as carrying_layout, listed, skipped_if as skipped_if_layout, version_type as version_type_layout, type_of_version as type_of_version_number, view_header};
 
-use tls_fields::{IResult, block, number1, rest};
+use layouts::{IResult, block, number1, rest};
 
 /// The most tunnels, one in another, that are followed.
 pub const MAX_TUNNELS: usize = 8;
@@ -84,6 +84,16 @@ impl Tunnels {
         Tunnels {
             slots: [none; MAX_TUNNELS],
             count: 0,
+        }
+    }
+
+    /// Lets all go.
+    pub(crate) fn clear(&mut self)
+        ensures listed { listed self.new ≡ [] }
+        ensures count { self.new.count ≡ 0 }
+    {
+        if self.count != 0 {
+            *self = Tunnels::new();
         }
     }
 

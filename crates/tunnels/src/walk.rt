@@ -1,8 +1,9 @@
 //! From a packet's link down to the innermost datagram.
-#![tactic(auto, using(tls_fields::proofs::OneAnswerLemmas::read_allowed), unfolding(crate::specs::Walk::layer_of_type, crate::specs::Walk::packet_layer, crate::specs::Walk::inner_layer))]
+#![tactic(auto, using(layouts::proofs::OneAnswerLemmas::read_allowed), unfolding(crate::specs::Walk::layer_of_type, crate::specs::Walk::packet_layer, crate::specs::Walk::inner_layer))]
 
 ghost use Rattle.std.specs.Prelude.{◌≡◌, ◌≤◌, ◌+◌};
-ghost use Rattle.tls_fields.specs.Answers.{Gives, IsAnswer, answer_of};
+ghost use Rattle.layouts.specs.Answers.{Gives, IsAnswer, answer_of};
+ghost use Rattle.layouts.specs.Reading.{reading};
 ghost use Rattle.capture.specs.Ip.{view_datagram};
 ghost use Rattle.tunnels.specs.Tunnel.{listed, view_header};
 ghost use Rattle.tunnels.specs.Walk.{datagram_layer as datagram_layer_of, followed, inner_layer as inner_layer_layout, layer_of_type as layer_of_type_layout, packet_layer as packet_layer_layout, unwrapped, view_inside, view_layer, view_unwrapped, wrapped_or as wrapped_or_by};
@@ -11,7 +12,7 @@ use crate::carriers::{by_ports, by_protocol};
 use crate::labels::{parse_backbone, parse_mpls};
 use crate::tunnel::{ETHERNET, Header, IPV4, IPV6, MAX_TUNNELS, Tunnels};
 use capture::{Content, Datagram, parse_ipv4, parse_ipv6, parse_link};
-use tls_fields::IResult;
+use layouts::IResult;
 
 /// The types of Ethernet of MPLS: to one receiver, and to many.
 const MPLS: u16 = 0x8847;
@@ -162,15 +163,53 @@ pub(crate) fn follow<'a>(
 /// A tunnel is IPv4 or IPv6 in a datagram (protocols 4 and 41), GRE (47) with or without ERSPAN, MPLS (types of Ethernet 0x8847 and
 /// 0x8848, protocol 137), a provider's backbone (0x88e7), VXLAN (to UDP's ports 4789 and 8472), GENEVE (6081), GTP-U (2152), Teredo (3544). Where
 /// what a datagram holds isn't such a header, the datagram is the innermost.
-#[tactic(auto, using(crate::proofs::WalkLemmas::holds))]
 pub fn innermost(i: &[u8], link_type: u16) -> Unwrapped
     ensures { view_unwrapped result ≡ unwrapped link_type i.now }
 {
     let mut tunnels = Tunnels::new();
-    let inside = match packet_layer(i, link_type) {
-        // (most packets come in no tunnel)
-        Ok((_, Layer::Holds(datagram))) => Inside::Datagram(datagram),
-        read => follow(read, &mut tunnels, MAX_TUNNELS as u8),
-    };
+    let inside = innermost_into(i, link_type, &mut tunnels);
     Unwrapped { tunnels, inside }
+}
+
+/// What a packet holds whose datagram of IPv4 stands in front, through no tunnel yet. Most packets hold a segment of TCP.
+#[tactic(auto, using(crate::proofs::WalkLemmas::refused, crate::proofs::WalkLemmas::holds), unfolding(crate::specs::Walk::layer_of_type))]
+fn inside_ipv4<'a>(i: &'a [u8], tunnels: &mut Tunnels) -> Inside<'a>
+    requires { tunnels.old.count ≡ 0 }
+    ensures { followed 8 (listed tunnels.old) (reading (layer_of_type_layout 0x0800) i.now) ≡ record { tunnels = listed tunnels.new; inside = view_inside result } }
+{
+    let Ok((i, datagram)) = parse_ipv4(i) else {
+        return Inside::Unread;
+    };
+    if matches!(datagram.content, Content::Tcp(_)) {
+        return Inside::Datagram(datagram);
+    }
+    follow(
+        Ok((i, datagram_layer(datagram))),
+        tunnels,
+        MAX_TUNNELS as u8,
+    )
+}
+
+/// The same of another type of Ethernet.
+fn inside_other<'a>(i: &'a [u8], kind: u16, tunnels: &mut Tunnels) -> Inside<'a>
+    requires { tunnels.old.count ≡ 0 }
+    ensures { followed 8 (listed tunnels.old) (reading (layer_of_type_layout kind) i.now) ≡ record { tunnels = listed tunnels.new; inside = view_inside result } }
+{
+    follow(layer_of_type(i, kind), tunnels, MAX_TUNNELS as u8)
+}
+
+/// The same as [`innermost`], with the tunnels put in the place of others: for packet after packet.
+#[tactic(auto, using(crate::proofs::WalkLemmas::refused), unfolding(crate::specs::Walk::packet_layer))]
+#[inline]
+pub fn innermost_into<'a>(i: &'a [u8], link_type: u16, tunnels: &mut Tunnels) -> Inside<'a>
+    ensures { unwrapped link_type i.now ≡ record { tunnels = listed tunnels.new; inside = view_inside result } }
+{
+    tunnels.clear();
+    let Ok((i, kind)) = parse_link(i, link_type) else {
+        return Inside::Unread;
+    };
+    match kind {
+        IPV4 => inside_ipv4(i, tunnels),
+        _ => inside_other(i, kind, tunnels),
+    }
 }

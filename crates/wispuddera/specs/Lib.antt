@@ -1,14 +1,14 @@
-pub use Rattle.tls_fields.specs.Bytes
-pub use Rattle.tls_fields.specs.Layout
-pub use Rattle.tls_fields.specs.Meaning
-pub use Rattle.tls_fields.specs.Reading
-pub use Rattle.tls_fields.specs.Stable
-pub use Rattle.tls_fields.specs.Answers
-pub use Rattle.tls_fields.specs.Items
-pub use Rattle.tls_fields.specs.Framed
-pub use Rattle.tls_fields.specs.Place
-pub use Rattle.tls_fields.specs.Text
-pub use Rattle.tls_fields.specs.Writer
+pub use Rattle.layouts.specs.Bytes
+pub use Rattle.layouts.specs.Layout
+pub use Rattle.layouts.specs.Meaning
+pub use Rattle.layouts.specs.Reading
+pub use Rattle.layouts.specs.Stable
+pub use Rattle.layouts.specs.Answers
+pub use Rattle.layouts.specs.Items
+pub use Rattle.layouts.specs.Framed
+pub use Rattle.layouts.specs.Place
+pub use Rattle.layouts.specs.Text
+pub use Rattle.layouts.specs.Writer
 pub use Rattle.tls_base.specs.Names
 pub use Rattle.tls_base.specs.ExtensionNumbers
 pub use Rattle.tls_base.specs.Constants
@@ -44,15 +44,15 @@ pub use Rattle.tls_states.specs.Conversations
 pub use Rattle.tls_states.specs.Steps
 pub use Rattle.tls_states.specs.Table
 pub use Rattle.tls_states.specs.States
-pub use Rattle.tls_parser.specs.Framing
-pub use Rattle.tls_parser.specs.Record
-pub use Rattle.tls_parser.specs.InPlace
-pub use Rattle.tls_parser.specs.RecordText
-pub use Rattle.tls_parser.specs.RecordWriter
-pub use Rattle.tls_parser.specs.DtlsHello
-pub use Rattle.tls_parser.specs.DtlsHandshake
-pub use Rattle.tls_parser.specs.DtlsRecord
-pub use Rattle.tls_parser.specs.DtlsInPlace
+pub use Rattle.tls_records.specs.Framing
+pub use Rattle.tls_records.specs.Record
+pub use Rattle.tls_records.specs.InPlace
+pub use Rattle.tls_records.specs.RecordText
+pub use Rattle.tls_records.specs.RecordWriter
+pub use Rattle.tls_records.specs.DtlsHello
+pub use Rattle.tls_records.specs.DtlsHandshake
+pub use Rattle.tls_records.specs.DtlsRecord
+pub use Rattle.tls_records.specs.DtlsInPlace
 pub use Rattle.tls_places.specs.Place as PlacePlace
 pub use Rattle.tls_places.specs.Last
 pub use Rattle.tls_places.specs.Hello as PlaceHello
@@ -60,12 +60,12 @@ pub use Rattle.tls_places.specs.DtlsHello as PlaceDtlsHello
 pub use Rattle.tls_detection.specs.Front as Detection
 pub use Rattle.tls_stream.specs.Frames
 pub use Rattle.tls_stream.specs.Records
-pub use Rattle.tls_events.specs.Held
-pub use Rattle.tls_events.specs.Item
-pub use Rattle.tls_events.specs.Messages as EventMessages
-pub use Rattle.tls_events.specs.Stream
-pub use Rattle.tls_events.specs.Events
-pub use Rattle.tls_events.specs.Taken
+pub use Rattle.tls_stream.specs.Held
+pub use Rattle.tls_stream.specs.Item
+pub use Rattle.tls_stream.specs.Messages as EventMessages
+pub use Rattle.tls_stream.specs.Stream
+pub use Rattle.tls_stream.specs.Events
+pub use Rattle.tls_stream.specs.Taken
 pub use Rattle.tls_flow.specs.Letters as FlowLetters
 pub use Rattle.tls_flow.specs.Grammar as FlowGrammar
 pub use Rattle.tls_flow.specs.Conversations as FlowConversations
@@ -74,9 +74,9 @@ pub use Rattle.tls_flow.specs.Steps as FlowSteps
 pub use Rattle.tls_flow.specs.Messages as FlowMessages
 pub use Rattle.tls_flow.specs.Bytes as FlowBytes
 pub use Rattle.tls_flow.specs.Read
-pub use Rattle.dtls_messages.specs.Fragments
-pub use Rattle.dtls_messages.specs.Messages as DtlsMessages
-pub use Rattle.dtls_messages.specs.Sent
+pub use Rattle.dtls_stream.specs.Fragments
+pub use Rattle.dtls_stream.specs.Messages as DtlsMessages
+pub use Rattle.dtls_stream.specs.Sent
 pub use Rattle.dtls_stream.specs.Datagrams
 pub use Rattle.tls_conversations.specs.Events as BothEvents
 pub use Rattle.tls_conversations.specs.Ears

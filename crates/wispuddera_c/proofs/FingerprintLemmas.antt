@@ -4,18 +4,18 @@ use Rattle.std.specs.Bool.{⊤}
 use Rattle.std.proofs.lemmas.Bool.{ltb-false}
 use Rattle.std.proofs.lemmas.List.{length-drop}
 use Rattle.tls_ext.specs.InPlace.{extension_type}
-use Rattle.tls_fields.specs.Bytes.{Bytes, number_of}
-use Rattle.tls_fields.specs.Framed.{framed}
-use Rattle.tls_fields.specs.Layout.{Layout, done, number, chain, counted, maybe, times}
-use Rattle.tls_fields.specs.Meaning.{Allows, Answer, Lacks, Spells}
-use Rattle.tls_fields.specs.Reading.{reading, items_at, number_at, split_at, with_items, ◌and_then◌}
-use Rattle.tls_fields.specs.Text.{held}
-use Rattle.tls_fields.proofs.LeavesLemmas.{Leaves, leaves}
+use Rattle.layouts.specs.Bytes.{Bytes, number_of}
+use Rattle.layouts.specs.Framed.{framed}
+use Rattle.layouts.specs.Layout.{Layout, done, number, chain, counted, maybe, times}
+use Rattle.layouts.specs.Meaning.{Allows, Answer, Lacks, Spells}
+use Rattle.layouts.specs.Reading.{reading, items_at, number_at, split_at, with_items, ◌and_then◌}
+use Rattle.layouts.specs.Text.{held}
+use Rattle.layouts.proofs.LeavesLemmas.{Leaves, leaves}
 use Rattle.tls_fingerprints.specs.Hellos.{types_in}
 use Rattle.tls_fingerprints.specs.Ja4.{IsTooLong}
 use Rattle.tls_fingerprints.specs.Numbers.{is_grease, without_grease}
 use Rattle.tls_hs.specs.Hello.{ClientHello, cipher_suites, client_hello}
-use Rattle.tls_parser.specs.DtlsHello as dtls
+use Rattle.tls_records.specs.DtlsHello as dtls
 use Rattle.wispuddera_c.specs.Fingerprint.{client_of}
 
 times_count : {A : Type 0} (n : ℕ) (l : Layout A) (b : Bytes) (xs : List A) (r d : Bytes) → Spells (times n l) b xs r d

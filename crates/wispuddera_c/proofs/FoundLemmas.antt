@@ -1,10 +1,10 @@
 -- A list behind its length is found where its bytes stand.
 use Rattle.std.proofs.Common.{◌≡◌, ℕ, Result, Ok, Err, refl, sym, subst, ◌∙◌, ap}
-use Rattle.tls_fields.specs.Bytes.{Bytes}
-use Rattle.tls_fields.specs.Items.{items_in}
-use Rattle.tls_fields.specs.Layout.{Layout, list, number, counted, counted_window}
-use Rattle.tls_fields.specs.Meaning.{Refusal}
-use Rattle.tls_fields.specs.Reading.{reading, split_at, ◌and_then◌}
+use Rattle.layouts.specs.Bytes.{Bytes}
+use Rattle.layouts.specs.Items.{items_in}
+use Rattle.layouts.specs.Layout.{Layout, list, number, counted, counted_window}
+use Rattle.layouts.specs.Meaning.{Refusal}
+use Rattle.layouts.specs.Reading.{reading, split_at, ◌and_then◌}
 use Rattle.wispuddera_c.specs.declared.place.Place.{Place}
 use Rattle.wispuddera_c.specs.Place.{StandsAt, ItemsStandAt}
 use Rattle.wispuddera_c.specs.Status.{IsAnswered}

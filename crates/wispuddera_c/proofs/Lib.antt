@@ -6,3 +6,8 @@ pub mod StreamLemmas
 pub mod OutcomeLemmas
 pub mod FlowLemmas
 pub mod CertificateLemmas
+pub mod BufferLemmas
+pub mod MovedLemmas
+pub mod SideLemmas
+pub mod CourseLemmas
+pub mod ConversationLemmas

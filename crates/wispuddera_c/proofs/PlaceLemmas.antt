@@ -22,13 +22,13 @@ use Rattle.std.proofs.Common.{
 use Rattle.std.specs.Borrow.{Bor}
 use Rattle.std.specs.Option.{is_some, option_map}
 use Rattle.std.proofs.lemmas.List.{take-append-drop, length-drop}
-use Rattle.tls_fields.specs.Bytes.{Bytes}
-use Rattle.tls_fields.specs.Items.{items_in}
-use Rattle.tls_fields.specs.Layout.{Layout}
-use Rattle.tls_fields.specs.Meaning.{EndsWith}
-use Rattle.tls_fields.specs.Place.{bytes_at}
-use Rattle.tls_fields.specs.Text.{held}
-use Rattle.tls_fields.specs.declared.places.Place.{Place}
+use Rattle.layouts.specs.Bytes.{Bytes}
+use Rattle.layouts.specs.Items.{items_in}
+use Rattle.layouts.specs.Layout.{Layout}
+use Rattle.layouts.specs.Meaning.{EndsWith}
+use Rattle.layouts.specs.Place.{bytes_at}
+use Rattle.layouts.specs.Text.{held}
+use Rattle.layouts.specs.declared.places.Place.{Place}
 use Rattle.tls_hs.specs.Places.{StandsAt as MayStandAt}
 use Rattle.tls_places.specs.Place.{Stands, Lies, MayStand, IsEnd}
 use Rattle.tls_places.proofs.PlaceLemmas.{is_end, cut_there}

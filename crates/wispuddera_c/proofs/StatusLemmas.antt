@@ -1,9 +1,9 @@
 -- What is answered of the bytes from an offset on.
 use Rattle.std.proofs.Common.{◌≡◌, ℕ, ◌≤◌, ◌<◌, length, drop, Ok, Err, refl, sym, subst, ◌∙◌, ap, arith}
-use Rattle.tls_fields.specs.Bytes.{Bytes}
-use Rattle.tls_fields.specs.Layout.{Layout}
-use Rattle.tls_fields.specs.Meaning.{Refusal}
-use Rattle.tls_fields.specs.Reading.{reading}
+use Rattle.layouts.specs.Bytes.{Bytes}
+use Rattle.layouts.specs.Layout.{Layout}
+use Rattle.layouts.specs.Meaning.{Refusal}
+use Rattle.layouts.specs.Reading.{reading}
 use Rattle.wispuddera_c.specs.Status.{IsRefused, IsAnswered, IsAnsweredAt}
 
 pub answered : {A : Type 0} (l : Layout A) (Shows : A → Bytes → Type 0) (b i r : Bytes) (v : A) → i ≡ b

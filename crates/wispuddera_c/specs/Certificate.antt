@@ -2,12 +2,12 @@
 use Rattle.std.specs.Prelude.{◌≡◌, ℕ, List, Result, Ok, Err}
 use Rattle.std.specs.Borrow.{Bor}
 use Rattle.std.specs.Option.{option_map}
-use Rattle.tls_fields.specs.Bytes.{Bytes}
-use Rattle.tls_fields.specs.Items.{Tells}
-use Rattle.tls_fields.specs.Meaning.{Refusal}
-use Rattle.tls_fields.specs.Text.{held}
-use Rattle.tls_fields.specs.declared.result.Err.{Err as Failed}
-use Rattle.tls_fields.specs.declared.result.Error.{Error}
+use Rattle.layouts.specs.Bytes.{Bytes}
+use Rattle.layouts.specs.Items.{Tells}
+use Rattle.layouts.specs.Meaning.{Refusal}
+use Rattle.layouts.specs.Text.{held}
+use Rattle.layouts.specs.declared.result.Err.{Err as Failed}
+use Rattle.layouts.specs.declared.result.Error.{Error}
 use Rattle.x509.specs.Certificate.{Certificate, Extension, extension}
 use Rattle.x509.specs.GeneralName as general
 use Rattle.x509.specs.GeneralName.{GeneralName}

@@ -1,13 +1,13 @@
 -- Records and handshake messages of DTLS in C's numbers.
 use Rattle.std.specs.Prelude.{◌≡◌}
 use Rattle.std.specs.Option.{is_some}
-use Rattle.tls_fields.specs.Bytes.{Bytes}
-use Rattle.tls_fields.specs.Layout.{number}
-use Rattle.tls_fields.specs.Text.{held}
-use Rattle.tls_parser.specs.DtlsHello as hello
-use Rattle.tls_parser.specs.DtlsRecord as dtls
-use Rattle.tls_parser.specs.DtlsInPlace as in_place
-use Rattle.tls_parser.specs.DtlsInPlace.{is_part}
+use Rattle.layouts.specs.Bytes.{Bytes}
+use Rattle.layouts.specs.Layout.{number}
+use Rattle.layouts.specs.Text.{held}
+use Rattle.tls_records.specs.DtlsHello as hello
+use Rattle.tls_records.specs.DtlsRecord as dtls
+use Rattle.tls_records.specs.DtlsInPlace as in_place
+use Rattle.tls_records.specs.DtlsInPlace.{is_part}
 use Rattle.wispuddera_c.specs.declared.dtls.DtlsRecord.{DtlsRecord}
 use Rattle.wispuddera_c.specs.declared.dtls.DtlsClientHello.{DtlsClientHello}
 use Rattle.wispuddera_c.specs.declared.dtls.DtlsMessage.{DtlsMessage}

@@ -1,8 +1,8 @@
 -- Fingerprints in a buffer of the caller's.
 use Rattle.std.specs.Prelude.{◌≡◌, ℕ, ◌≤◌, ◌<◌, ◌++◌, length, drop, Ok, Err}
-use Rattle.tls_fields.specs.Bytes.{Bytes}
-use Rattle.tls_fields.specs.Meaning.{Answer}
-use Rattle.tls_fields.specs.Text.{held}
+use Rattle.layouts.specs.Bytes.{Bytes}
+use Rattle.layouts.specs.Meaning.{Answer}
+use Rattle.layouts.specs.Text.{held}
 use Rattle.tls_fingerprints.specs.Hellos.{Client, Server}
 use Rattle.tls_hs.specs.Hello.{ClientHello}
 use Rattle.tls_hs.specs.ServerHello.{ServerHello}

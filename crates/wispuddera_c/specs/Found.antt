@@ -2,14 +2,14 @@
 use Rattle.std.specs.Prelude.{◌≡◌, ℕ, List, Option, Some, None, Result, Ok, Err}
 use Rattle.std.specs.Borrow.{Bor}
 use Rattle.std.specs.Option.{option_map}
-use Rattle.tls_fields.specs.Bytes.{Bytes}
-use Rattle.tls_fields.specs.Items.{Tells, items_in}
-use Rattle.tls_fields.specs.Layout.{Layout}
-use Rattle.tls_fields.specs.Meaning.{Refusal}
-use Rattle.tls_fields.specs.Place.{bytes_at}
-use Rattle.tls_fields.specs.declared.places.Place.{Place}
-use Rattle.tls_fields.specs.declared.result.Err.{Err as Failed}
-use Rattle.tls_fields.specs.declared.result.Error.{Error}
+use Rattle.layouts.specs.Bytes.{Bytes}
+use Rattle.layouts.specs.Items.{Tells, items_in}
+use Rattle.layouts.specs.Layout.{Layout}
+use Rattle.layouts.specs.Meaning.{Refusal}
+use Rattle.layouts.specs.Place.{bytes_at}
+use Rattle.layouts.specs.declared.places.Place.{Place}
+use Rattle.layouts.specs.declared.result.Err.{Err as Failed}
+use Rattle.layouts.specs.declared.result.Error.{Error}
 use Rattle.tls_places.specs.Place.{IsWithin}
 use Rattle.wispuddera_c.specs.declared.found.Found.{Found}
 use Rattle.wispuddera_c.specs.Place.{StandsAt, ItemsStandAt}

@@ -1,9 +1,9 @@
 -- Hellos in C's numbers.
 use Rattle.std.specs.Prelude.{◌≡◌}
 use Rattle.std.specs.Option.{is_some}
-use Rattle.tls_fields.specs.Bytes.{Bytes}
-use Rattle.tls_fields.specs.Layout.{number}
-use Rattle.tls_fields.specs.Text.{held}
+use Rattle.layouts.specs.Bytes.{Bytes}
+use Rattle.layouts.specs.Layout.{number}
+use Rattle.layouts.specs.Text.{held}
 use Rattle.tls_hs.specs.Hello as hello
 use Rattle.tls_hs.specs.ServerHello as server
 use Rattle.wispuddera_c.specs.declared.client_hello.ClientHello.{ClientHello}

@@ -3,9 +3,9 @@ use Rattle.std.specs.Prelude.{ℕ, List, [], ◌∷◌, slice_get}
 use Rattle.std.specs.Option.{unwrap_or}
 
 -- Place, Record, Part, ClientHello, ServerHello, Found, Number, DtlsRecord, DtlsMessage, DtlsClientHello, Event, Flow, X509,
--- X509Extension.
+-- X509Extension, Said, Stop, Side, Course, Conversation.
 abbrev pub struct_sizes : List ℕ
-struct_sizes = 16 ∷ 40 ∷ 40 ∷ 104 ∷ 72 ∷ 24 ∷ 24 ∷ 48 ∷ 48 ∷ 120 ∷ 2 ∷ 4 ∷ 200 ∷ 56 ∷ []
+struct_sizes = 16 ∷ 40 ∷ 40 ∷ 104 ∷ 72 ∷ 24 ∷ 24 ∷ 48 ∷ 48 ∷ 120 ∷ 2 ∷ 4 ∷ 200 ∷ 56 ∷ 24 ∷ 16 ∷ 40 ∷ 32 ∷ 128 ∷ []
 
 abbrev pub size_of_struct : ℕ → ℕ
 size_of_struct index = unwrap_or (slice_get struct_sizes index) 0
@@ -27,6 +27,11 @@ field_offsets =
     ∷ (0 ∷ [])
     ∷ (0 ∷ 8 ∷ 24 ∷ 40 ∷ 56 ∷ 72 ∷ 88 ∷ 104 ∷ 120 ∷ 136 ∷ 152 ∷ 168 ∷ 176 ∷ 184 ∷ 192 ∷ 196 ∷ 197 ∷ [])
     ∷ (0 ∷ 8 ∷ 24 ∷ 40 ∷ 48 ∷ [])
+    ∷ (0 ∷ 16 ∷ 20 ∷ 21 ∷ [])
+    ∷ (0 ∷ 8 ∷ 10 ∷ 11 ∷ [])
+    ∷ (0 ∷ 8 ∷ 16 ∷ 24 ∷ 32 ∷ 33 ∷ 34 ∷ [])
+    ∷ (0 ∷ 8 ∷ 24 ∷ [])
+    ∷ (0 ∷ 40 ∷ 80 ∷ 88 ∷ 120 ∷ 121 ∷ [])
     ∷ []
 
 -- Behind a struct's last field it is the struct's size.

@@ -13,3 +13,7 @@ pub mod Outcome
 pub mod Flow
 pub mod Detection
 pub mod Certificate
+pub mod Course
+pub mod Said
+pub mod Side
+pub mod Conversation

@@ -1,6 +1,6 @@
 -- One of the numbers of a list, in C's numbers.
 use Rattle.std.specs.Prelude.{◌≡◌, ℕ, List, length, Option, Some, None, Result, Ok, Err, slice_get}
-use Rattle.tls_fields.specs.Meaning.{Answer, Refusal}
+use Rattle.layouts.specs.Meaning.{Answer, Refusal}
 use Rattle.tls_ext.specs.Extension as ext
 use Rattle.tls_ext.specs.Extension.{Extension}
 use Rattle.wispuddera_c.specs.declared.number.Number.{Number}

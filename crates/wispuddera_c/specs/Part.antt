@@ -1,7 +1,7 @@
 -- Handshake messages, extensions and key shares in C's numbers.
 use Rattle.std.specs.Prelude.{◌≡◌}
-use Rattle.tls_fields.specs.Bytes.{Bytes}
-use Rattle.tls_fields.specs.Framed.{Framed}
+use Rattle.layouts.specs.Bytes.{Bytes}
+use Rattle.layouts.specs.Framed.{Framed}
 use Rattle.wispuddera_c.specs.declared.part.Part.{Part}
 use Rattle.wispuddera_c.specs.Place.{StandsAt, Follows}
 

@@ -1,10 +1,10 @@
 -- Places in C's numbers.
 use Rattle.std.specs.Prelude.{◌≡◌, ℕ, List, ◌≤◌, length, drop}
-use Rattle.tls_fields.specs.Bytes.{Bytes}
-use Rattle.tls_fields.specs.Items.{items_in}
-use Rattle.tls_fields.specs.Layout.{Layout}
-use Rattle.tls_fields.specs.Place.{bytes_at}
-use Rattle.tls_fields.specs.declared.places.Place.{Place}
+use Rattle.layouts.specs.Bytes.{Bytes}
+use Rattle.layouts.specs.Items.{items_in}
+use Rattle.layouts.specs.Layout.{Layout}
+use Rattle.layouts.specs.Place.{bytes_at}
+use Rattle.layouts.specs.declared.places.Place.{Place}
 use Rattle.tls_places.specs.Place.{Stands, Lies}
 use Rattle.wispuddera_c.specs.declared.place.Place.{Place as CPlace}
 

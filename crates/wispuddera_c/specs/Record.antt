@@ -1,7 +1,7 @@
 -- Records of TLS in C's numbers.
 use Rattle.std.specs.Prelude.{◌≡◌}
-use Rattle.tls_fields.specs.Bytes.{Bytes}
-use Rattle.tls_parser.specs.Record.{RawRecord}
+use Rattle.layouts.specs.Bytes.{Bytes}
+use Rattle.tls_records.specs.Record.{RawRecord}
 use Rattle.wispuddera_c.specs.declared.record.Record.{Record}
 use Rattle.wispuddera_c.specs.Place.{StandsAt, Follows}
 

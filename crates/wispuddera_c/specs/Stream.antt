@@ -1,11 +1,11 @@
 -- A stream that comes in pieces, of which a buffer of the caller's holds what isn't read yet.
 use Rattle.std.specs.Prelude.{◌≡◌, ℕ, ◌<◌, ◌+◌, ◌-◌, ◌++◌, length, take, min}
-use Rattle.tls_fields.specs.Bytes.{Bytes}
-use Rattle.tls_fields.specs.Framed.{Framed}
-use Rattle.tls_fields.specs.Layout.{Layout}
-use Rattle.tls_fields.specs.Place.{bytes_at}
-use Rattle.tls_fields.specs.Reading.{reading}
-use Rattle.tls_parser.specs.Record.{RawRecord}
+use Rattle.layouts.specs.Bytes.{Bytes}
+use Rattle.layouts.specs.Framed.{Framed}
+use Rattle.layouts.specs.Layout.{Layout}
+use Rattle.layouts.specs.Place.{bytes_at}
+use Rattle.layouts.specs.Reading.{reading}
+use Rattle.tls_records.specs.Record.{RawRecord}
 use Rattle.wispuddera_c.specs.declared.place.Place.{Place}
 use Rattle.wispuddera_c.specs.declared.record.Record.{Record}
 use Rattle.wispuddera_c.specs.declared.part.Part.{Part}

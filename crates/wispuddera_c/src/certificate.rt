@@ -1,7 +1,7 @@
 //! Certificates of X.509: where their fields stand, their extensions, and the names of their subjects.
 ghost use Rattle.std.specs.Prelude.{◌≡◌};
-ghost use Rattle.tls_fields.specs.Meaning.{EndsWith};
-ghost use Rattle.tls_fields.specs.Reading.{reading};
+ghost use Rattle.layouts.specs.Meaning.{EndsWith};
+ghost use Rattle.layouts.specs.Reading.{reading};
 ghost use Rattle.x509.specs.Certificate.{certificate as certificate_layout, extension, view_certificate};
 ghost use Rattle.x509.specs.GeneralName.{general_name, general_names, view_general_name};
 ghost use Rattle.x509_places.specs.Certificate.{CertificateStands};
@@ -13,7 +13,7 @@ use crate::found::Found;
 use crate::part::Part;
 use crate::place::{Place, bytes_from, held_in_c, in_c, offset_of};
 use crate::status::{OUTSIDE, READ, Refusal};
-use tls_fields::{Err, Error};
+use layouts::{Err, Error};
 use x509::{Certificate, GeneralName, PublicKey};
 use x509_places::{
     CertificatePlaces, certificate_with_places, extension_with_places, general_name_with_place,
@@ -123,7 +123,7 @@ fn in_numbers(
 }
 
 /// Reads the certificate in front.
-#[tactic(auto, using(tls_fields::proofs::OneAnswerLemmas::read_allowed, tls_fields::proofs::PlaceLemmas::ends_here, tls_fields::proofs::PlaceLemmas::ends_read))]
+#[tactic(auto, using(layouts::proofs::OneAnswerLemmas::read_allowed, layouts::proofs::PlaceLemmas::ends_here, layouts::proofs::PlaceLemmas::ends_read))]
 #[unsafe(no_mangle)]
 pub extern "C" fn wispuddera_read_x509(bytes: &[u8], out: &mut X509) -> u32
     ensures { IsAnswered (ShowsX509 bytes.now out.new) (reading certificate_layout bytes.now) result out.new.missing }
@@ -158,7 +158,7 @@ pub struct X509Extension {
 }
 
 /// Reads the extension that begins at that offset of those of a certificate.
-#[tactic(auto, using(tls_fields::proofs::OneAnswerLemmas::read_allowed, crate::proofs::StatusLemmas::refused, crate::proofs::StatusLemmas::behind))]
+#[tactic(auto, using(layouts::proofs::OneAnswerLemmas::read_allowed, crate::proofs::StatusLemmas::refused, crate::proofs::StatusLemmas::behind))]
 #[unsafe(no_mangle)]
 pub extern "C" fn wispuddera_read_x509_extension(
     bytes: &[u8],
@@ -207,7 +207,7 @@ fn tag_of(name: &GeneralName) -> u8
 }
 
 /// Finds the names in front, in the value of a subjectAltName or an issuerAltName (RFC 5280, section 4.2.1.6).
-#[tactic(auto, using(tls_fields::proofs::OneAnswerLemmas::read_allowed))]
+#[tactic(auto, using(layouts::proofs::OneAnswerLemmas::read_allowed))]
 #[unsafe(no_mangle)]
 pub extern "C" fn wispuddera_find_x509_names(bytes: &[u8], out: &mut Found) -> u32
     ensures { IsAnswered (λ v _. ItemsStandAt general_name bytes.now out.new.place v) (reading general_names bytes.now) result out.new.missing }
@@ -229,7 +229,7 @@ pub extern "C" fn wispuddera_find_x509_names(bytes: &[u8], out: &mut Found) -> u
 }
 
 /// Reads the name that begins at that offset of a list of them: its kind is the tag of its element.
-#[tactic(auto, using(tls_fields::proofs::OneAnswerLemmas::read_allowed, crate::proofs::StatusLemmas::refused, crate::proofs::StatusLemmas::behind))]
+#[tactic(auto, using(layouts::proofs::OneAnswerLemmas::read_allowed, crate::proofs::StatusLemmas::refused, crate::proofs::StatusLemmas::behind))]
 #[unsafe(no_mangle)]
 pub extern "C" fn wispuddera_read_x509_name(bytes: &[u8], offset: usize, out: &mut Part) -> u32
     ensures { IsAnsweredAt general_name (ShowsName bytes.now out.new) bytes.now offset result out.new.missing }

@@ -1,5 +1,5 @@
 //! ClientHellos.
-ghost use Rattle.tls_fields.specs.Reading.{reading};
+ghost use Rattle.layouts.specs.Reading.{reading};
 ghost use Rattle.tls_hs.specs.Hello.{client_hello};
 ghost use Rattle.wispuddera_c.specs.Hello.{ShowsClientHello};
 ghost use Rattle.wispuddera_c.specs.Status.{IsAnswered};
@@ -33,7 +33,7 @@ pub struct ClientHello {
 }
 
 /// Reads the body of a ClientHello.
-#[tactic(auto, using(tls_fields::proofs::OneAnswerLemmas::read_allowed, tls_fields::proofs::PlaceLemmas::ends_here, tls_fields::proofs::PlaceLemmas::ends_read))]
+#[tactic(auto, using(layouts::proofs::OneAnswerLemmas::read_allowed, layouts::proofs::PlaceLemmas::ends_here, layouts::proofs::PlaceLemmas::ends_read))]
 #[unsafe(no_mangle)]
 pub extern "C" fn wispuddera_read_client_hello(bytes: &[u8], out: &mut ClientHello) -> u32
     ensures { IsAnswered (ShowsClientHello bytes.now out.new) (reading client_hello bytes.now) result out.new.missing }

@@ -1,15 +1,15 @@
 //! Records and handshake messages of DTLS.
-ghost use Rattle.tls_fields.specs.Reading.{reading};
-ghost use Rattle.tls_parser.specs.DtlsHello.{client_hello};
-ghost use Rattle.tls_parser.specs.DtlsInPlace.{raw_handshake};
-ghost use Rattle.tls_parser.specs.DtlsRecord.{raw_record};
+ghost use Rattle.layouts.specs.Reading.{reading};
+ghost use Rattle.tls_records.specs.DtlsHello.{client_hello};
+ghost use Rattle.tls_records.specs.DtlsInPlace.{raw_handshake};
+ghost use Rattle.tls_records.specs.DtlsRecord.{raw_record};
 ghost use Rattle.wispuddera_c.specs.Dtls.{ShowsDtlsClientHello, ShowsDtlsMessage, ShowsDtlsRecord};
 ghost use Rattle.wispuddera_c.specs.Status.{IsAnswered, IsAnsweredAt};
 
 use crate::place::{Place, bytes_from, held_in_c, in_c, offset_of};
 use crate::status::{OUTSIDE, READ, Refusal};
-use tls_parser::DTLSRawHandshake;
 use tls_places::{dtls_client_hello_with_places, frame_at};
+use tls_records::DTLSRawHandshake;
 
 /// A record of DTLS (RFC 6347, section 4.1): its header, where its fragment stands, and the offset of what follows it.
 #[repr(C)]
@@ -84,7 +84,7 @@ pub struct DtlsClientHello {
 }
 
 /// Reads the record of DTLS that begins at that offset of a datagram.
-#[tactic(auto, using(tls_fields::proofs::OneAnswerLemmas::read_allowed, crate::proofs::StatusLemmas::told, crate::proofs::StatusLemmas::refused, crate::proofs::StatusLemmas::behind))]
+#[tactic(auto, using(layouts::proofs::OneAnswerLemmas::read_allowed, crate::proofs::StatusLemmas::told, crate::proofs::StatusLemmas::refused, crate::proofs::StatusLemmas::behind))]
 #[unsafe(no_mangle)]
 pub extern "C" fn wispuddera_read_dtls_record(
     bytes: &[u8],
@@ -120,7 +120,7 @@ pub extern "C" fn wispuddera_read_dtls_record(
 }
 
 /// Reads the handshake message, or the fragment of one, that begins at that offset of a record's fragment.
-#[tactic(auto, using(tls_fields::proofs::OneAnswerLemmas::read_allowed, crate::proofs::StatusLemmas::told, crate::proofs::StatusLemmas::refused, crate::proofs::StatusLemmas::behind))]
+#[tactic(auto, using(layouts::proofs::OneAnswerLemmas::read_allowed, crate::proofs::StatusLemmas::told, crate::proofs::StatusLemmas::refused, crate::proofs::StatusLemmas::behind))]
 #[unsafe(no_mangle)]
 pub extern "C" fn wispuddera_read_dtls_message(
     bytes: &[u8],
@@ -157,7 +157,7 @@ pub extern "C" fn wispuddera_read_dtls_message(
 }
 
 /// Reads the body of a ClientHello of DTLS.
-#[tactic(auto, using(tls_fields::proofs::OneAnswerLemmas::read_allowed, tls_fields::proofs::PlaceLemmas::ends_here, tls_fields::proofs::PlaceLemmas::ends_read))]
+#[tactic(auto, using(layouts::proofs::OneAnswerLemmas::read_allowed, layouts::proofs::PlaceLemmas::ends_here, layouts::proofs::PlaceLemmas::ends_read))]
 #[unsafe(no_mangle)]
 pub extern "C" fn wispuddera_read_dtls_client_hello(bytes: &[u8], out: &mut DtlsClientHello) -> u32
     ensures { IsAnswered (ShowsDtlsClientHello bytes.now out.new) (reading client_hello bytes.now) result out.new.missing }

@@ -1,6 +1,6 @@
 //! Fingerprints of hellos, put into a buffer of the caller's.
 ghost use Rattle.std.specs.Prelude.{◌≡◌, ◌≤◌, ◌++◌, drop, length};
-ghost use Rattle.tls_fields.specs.Reading.{reading};
+ghost use Rattle.layouts.specs.Reading.{reading};
 ghost use Rattle.tls_fingerprints.specs.Hellos.{view_client, view_server};
 ghost use Rattle.tls_fingerprints.specs.Ja3.{ja3_of, ja3s_of};
 ghost use Rattle.tls_fingerprints.specs.Ja4.{IsTooLong, ja4_of};
@@ -8,15 +8,15 @@ ghost use Rattle.tls_fingerprints.specs.declared.hellos.Transport.TheVariants.{Q
 ghost use Rattle.tls_hs.specs.Hello.{client_hello};
 ghost use Rattle.tls_hs.specs.InPlace.{view_client_hello_in_place};
 ghost use Rattle.tls_hs.specs.ServerHello.{server_hello, server_hello_any, view_server_hello};
-ghost use Rattle.tls_parser.specs.DtlsHello.{client_hello as dtls_client_hello};
-ghost use Rattle.tls_parser.specs.DtlsInPlace.{view_client_hello_in_place as view_dtls_client_hello_in_place};
+ghost use Rattle.tls_records.specs.DtlsHello.{client_hello as dtls_client_hello};
+ghost use Rattle.tls_records.specs.DtlsInPlace.{view_client_hello_in_place as view_dtls_client_hello_in_place};
 ghost use Rattle.wispuddera_c.specs.Fingerprint.{BeginsWith, IsTold, client_of, server_of};
 
 use crate::status::{NO_ROOM, READ, Refusal, TOO_LARGE};
 use tls_fingerprints::{ClientHelloParts, ServerHelloParts, Transport};
 use tls_hs::parts::server_hello_any as read_server_hello_any;
 use tls_hs::{ClientHelloView, TlsServerHelloContents, parse_tls_handshake_server_hello};
-use tls_parser::DTLSClientHelloView;
+use tls_records::DTLSClientHelloView;
 
 /// How many characters JA3 and JA3S have.
 const DIGITS: usize = 32;

@@ -18,7 +18,8 @@ pub struct Flow {
     pub state: u32,
 }
 
-fn number_of_state(state: State) -> u32
+/// The number of a state.
+pub fn number_of_state(state: State) -> u32
     ensures { state_at result ≡ Some state }
 {
     match state {
@@ -99,7 +100,7 @@ const STATES: [State; 34] = [
 
 /// The state of that number; `None` behind the last.
 #[inline(always)]
-fn state_of(number: u32) -> Option<State>
+pub fn state_of(number: u32) -> Option<State>
     ensures { result ≡ state_at number }
 {
     STATES.get(number as usize).copied()

@@ -1,19 +1,19 @@
 //! What is found in records, hellos and extensions: names, lists, contents.
 ghost use Rattle.tls_ext.specs.InPlace.{client_shares, content_of, host_name, key_share_entry, protocol_names};
-ghost use Rattle.tls_fields.specs.Items.{IsTold};
-ghost use Rattle.tls_fields.specs.Layout.{counted};
-ghost use Rattle.tls_fields.specs.Reading.{reading};
+ghost use Rattle.layouts.specs.Items.{IsTold};
+ghost use Rattle.layouts.specs.Layout.{counted};
+ghost use Rattle.layouts.specs.Reading.{reading};
 ghost use Rattle.tls_hs.specs.Certificate.{certificate};
 ghost use Rattle.tls_hs.specs.Hello.{client_hello};
-ghost use Rattle.tls_parser.specs.InPlace.{body_of_type, host_name_of_record, name_in_hello};
+ghost use Rattle.tls_records.specs.InPlace.{body_of_type, host_name_of_record, name_in_hello};
 ghost use Rattle.wispuddera_c.specs.Found.{AreFound, IsFound, TellsList, TellsPart};
 ghost use Rattle.wispuddera_c.specs.Place.{ItemsStandAt};
 ghost use Rattle.wispuddera_c.specs.Status.{IsAnswered};
 
 use crate::place::{Place, in_c};
 use crate::status::{NONE, READ, Refusal};
+use layouts::{Counted2, Err, Error, Place as Within};
 use tls_base::{TlsExtensionType, TlsHandshakeType};
-use tls_fields::{Counted2, Err, Error, Place as Within};
 use tls_hs::RawCertificate;
 use tls_places::{
     body_place, content_place, frame_at, host_name_place, host_name_place_of_hello,
@@ -101,7 +101,7 @@ pub extern "C" fn wispuddera_find_body(bytes: &[u8], kind: u8, out: &mut Found) 
 }
 
 /// Finds the list of key shares in the content of a ClientHello's key_share (RFC 8446, section 4.2.8).
-#[tactic(auto, using(tls_fields::proofs::OneAnswerLemmas::read_allowed, tls_fields::proofs::PlaceLemmas::ends_here))]
+#[tactic(auto, using(layouts::proofs::OneAnswerLemmas::read_allowed, layouts::proofs::PlaceLemmas::ends_here))]
 #[unsafe(no_mangle)]
 pub extern "C" fn wispuddera_find_key_shares(bytes: &[u8], out: &mut Found) -> u32
     ensures { IsAnswered (λ v _. ItemsStandAt key_share_entry bytes.now out.new.place v) (reading client_shares bytes.now) result out.new.missing }
@@ -123,7 +123,7 @@ pub extern "C" fn wispuddera_find_key_shares(bytes: &[u8], out: &mut Found) -> u
 }
 
 /// Finds the list of certificates in the body of a Certificate up to TLS 1.2 (RFC 5246, section 7.4.2).
-#[tactic(auto, using(tls_fields::proofs::OneAnswerLemmas::read_allowed, tls_fields::proofs::PlaceLemmas::ends_here), unfolding(tls_hs::specs::Certificate::certificate))]
+#[tactic(auto, using(layouts::proofs::OneAnswerLemmas::read_allowed, layouts::proofs::PlaceLemmas::ends_here), unfolding(tls_hs::specs::Certificate::certificate))]
 #[unsafe(no_mangle)]
 pub extern "C" fn wispuddera_find_certificates(bytes: &[u8], out: &mut Found) -> u32
     ensures { IsAnswered (λ v _. ItemsStandAt (counted 3) bytes.now out.new.place v) (reading certificate bytes.now) result out.new.missing }

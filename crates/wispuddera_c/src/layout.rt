@@ -5,6 +5,8 @@ ghost use Rattle.wispuddera_c.specs.Layout.{field_offsets as offsets_of_structs,
 
 use crate::certificate::{X509, X509Extension};
 use crate::client_hello::ClientHello;
+use crate::conversation::Conversation;
+use crate::course::{Course, Stop};
 use crate::dtls::{DtlsClientHello, DtlsMessage, DtlsRecord};
 use crate::flow::Flow;
 use crate::found::Found;
@@ -13,7 +15,9 @@ use crate::outcome::Event;
 use crate::part::Part;
 use crate::place::Place;
 use crate::record::Record;
+use crate::said::Said;
 use crate::server_hello::ServerHello;
+use crate::side::Side;
 use std::mem::size_of;
 
 /// How many bytes a struct takes: of the header's list of structs, the one at that index; 0 behind its end.
@@ -36,6 +40,11 @@ pub extern "C" fn wispuddera_struct_size(index: usize) -> usize
         11 => size_of::<Flow>(),
         12 => size_of::<X509>(),
         13 => size_of::<X509Extension>(),
+        14 => size_of::<Said>(),
+        15 => size_of::<Stop>(),
+        16 => size_of::<Side>(),
+        17 => size_of::<Course>(),
+        18 => size_of::<Conversation>(),
         _ => 0,
     }
 }
@@ -61,6 +70,11 @@ fn field_offsets(index: usize) -> &'static [usize]
             0, 8, 24, 40, 56, 72, 88, 104, 120, 136, 152, 168, 176, 184, 192, 196, 197,
         ],
         13 => &[0, 8, 24, 40, 48],
+        14 => &[0, 16, 20, 21],
+        15 => &[0, 8, 10, 11],
+        16 => &[0, 8, 16, 24, 32, 33, 34],
+        17 => &[0, 8, 24],
+        18 => &[0, 40, 80, 88, 120, 121],
         _ => &[],
     }
 }

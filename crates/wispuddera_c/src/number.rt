@@ -1,19 +1,19 @@
 //! Numbers of lists by their index: cipher suites, versions, groups, signature schemes.
 ghost use Rattle.tls_ext.specs.Content as content;
 ghost use Rattle.tls_ext.specs.InPlace.{best_version as best_version_in, listed_versions, picked};
-ghost use Rattle.tls_fields.specs.Items.{items_in};
-ghost use Rattle.tls_fields.specs.Layout.{number};
-ghost use Rattle.tls_fields.specs.Reading.{reading};
+ghost use Rattle.layouts.specs.Items.{items_in};
+ghost use Rattle.layouts.specs.Layout.{number};
+ghost use Rattle.layouts.specs.Reading.{reading};
 ghost use Rattle.tls_hs.specs.Hello.{client_hello};
-ghost use Rattle.tls_parser.specs.DtlsHello.{client_hello as dtls_client_hello};
+ghost use Rattle.tls_records.specs.DtlsHello.{client_hello as dtls_client_hello};
 ghost use Rattle.wispuddera_c.specs.Number.{IsAnsweredNumber, IsNumberIn, IsNumberOf, listed_groups, listed_schemes, offered};
 
 use crate::status::{NONE, READ, Refusal};
+use layouts::Items;
 use tls_base::{NamedGroup, TlsVersion};
 use tls_ext::{best_version, signature_algorithms, supported_groups, supported_versions};
-use tls_fields::Items;
 use tls_hs::ClientHelloView;
-use tls_parser::DTLSClientHelloView;
+use tls_records::DTLSClientHelloView;
 
 /// A number of a list, and how many the list has.
 #[repr(C)]

@@ -1,7 +1,8 @@
 //! How a conversation stands, by its events so far.
 ghost use Rattle.std.specs.Prelude.{◌≡◌, None, map};
 ghost use Rattle.tls_base.specs.Alert.{Alert};
-ghost use Rattle.tls_flow.specs.Bytes.{kind_of_body, kind_of_type};
+ghost use Rattle.tls_flow.specs.Bytes.{kind_of_body as kind_of_body_in};
+ghost use Rattle.tls_flow.specs.Messages.{kind_of_type};
 ghost use Rattle.tls_flow.specs.Conversations.{IsOutcome};
 ghost use Rattle.tls_flow.specs.Messages.{kind_of_alert};
 ghost use Rattle.tls_flow.specs.Steps.{follow, silence};
@@ -52,8 +53,9 @@ fn kind_of(number: u8) -> Kind
     }
 }
 
+/// The number of a kind.
 #[inline(always)]
-fn number_of(kind: Kind) -> u8
+pub fn number_of(kind: Kind) -> u8
     ensures { kind_of_number result ≡ kind }
 {
     match kind {
@@ -112,12 +114,21 @@ pub fn number_of_outcome(outcome: Outcome) -> u32
     }
 }
 
+/// The kind of a handshake message of that type and body. It is the one call of what reads a ServerHello, which is inlined here: a second would
+/// leave the drop of a message with lists in the library, though none is made.
+#[inline(never)]
+pub fn kind_of_body(kind: TlsHandshakeType, body: &[u8]) -> Kind
+    ensures { result ≡ kind_of_body_in kind.0 body.now }
+{
+    Kind::of_body(kind, body)
+}
+
 /// The kind of event that a handshake message of TLS is, of that HandshakeType and body.
 #[unsafe(no_mangle)]
 pub extern "C" fn wispuddera_event_of_message(body: &[u8], kind: u8) -> u8
-    ensures { kind_of_number result ≡ kind_of_body kind body.now }
+    ensures { kind_of_number result ≡ kind_of_body_in kind body.now }
 {
-    number_of(Kind::of_body(TlsHandshakeType(kind), body))
+    number_of(kind_of_body(TlsHandshakeType(kind), body))
 }
 
 /// The kind of event that a handshake message of DTLS up to 1.2 is, of that HandshakeType.

@@ -1,14 +1,14 @@
 //! Parts with a kind and a length: handshake messages, extensions, key shares; and names behind their length.
 ghost use Rattle.tls_ext.specs.InPlace.{key_share_entry, raw_extension};
-ghost use Rattle.tls_fields.specs.Layout.{counted};
+ghost use Rattle.layouts.specs.Layout.{counted};
 ghost use Rattle.tls_hs.specs.InPlace.{raw_handshake};
 ghost use Rattle.wispuddera_c.specs.Part.{ShowsBytes, ShowsPart};
 ghost use Rattle.wispuddera_c.specs.Status.{IsAnsweredAt};
 
 use crate::place::{Place, bytes_from, in_c, offset_of};
 use crate::status::{OUTSIDE, READ, Refusal};
+use layouts::Counted1;
 use tls_ext::{KeyShareEntry, RawExtension};
-use tls_fields::Counted1;
 use tls_hs::{RawCertificate, RawHandshake};
 use tls_places::frame_at;
 
@@ -27,7 +27,7 @@ pub struct Part {
 }
 
 /// Reads the handshake message that begins at that offset of a record's fragment (RFC 5246, section 7.4).
-#[tactic(auto, using(tls_fields::proofs::OneAnswerLemmas::read_allowed, crate::proofs::StatusLemmas::told, crate::proofs::StatusLemmas::refused, crate::proofs::StatusLemmas::behind))]
+#[tactic(auto, using(layouts::proofs::OneAnswerLemmas::read_allowed, crate::proofs::StatusLemmas::told, crate::proofs::StatusLemmas::refused, crate::proofs::StatusLemmas::behind))]
 #[unsafe(no_mangle)]
 pub extern "C" fn wispuddera_read_message(bytes: &[u8], offset: usize, out: &mut Part) -> u32
     ensures { IsAnsweredAt raw_handshake (ShowsPart bytes.now out.new) bytes.now offset result out.new.missing }
@@ -55,7 +55,7 @@ pub extern "C" fn wispuddera_read_message(bytes: &[u8], offset: usize, out: &mut
 }
 
 /// Reads the extension that begins at that offset of a block of extensions (RFC 8446, section 4.2).
-#[tactic(auto, using(tls_fields::proofs::OneAnswerLemmas::read_allowed, crate::proofs::StatusLemmas::told, crate::proofs::StatusLemmas::refused, crate::proofs::StatusLemmas::behind))]
+#[tactic(auto, using(layouts::proofs::OneAnswerLemmas::read_allowed, crate::proofs::StatusLemmas::told, crate::proofs::StatusLemmas::refused, crate::proofs::StatusLemmas::behind))]
 #[unsafe(no_mangle)]
 pub extern "C" fn wispuddera_read_extension(bytes: &[u8], offset: usize, out: &mut Part) -> u32
     ensures { IsAnsweredAt raw_extension (ShowsPart bytes.now out.new) bytes.now offset result out.new.missing }
@@ -83,7 +83,7 @@ pub extern "C" fn wispuddera_read_extension(bytes: &[u8], offset: usize, out: &m
 }
 
 /// Reads the key share that begins at that offset of a list of them (RFC 8446, section 4.2.8): its kind is its group.
-#[tactic(auto, using(tls_fields::proofs::OneAnswerLemmas::read_allowed, crate::proofs::StatusLemmas::told, crate::proofs::StatusLemmas::refused, crate::proofs::StatusLemmas::behind))]
+#[tactic(auto, using(layouts::proofs::OneAnswerLemmas::read_allowed, crate::proofs::StatusLemmas::told, crate::proofs::StatusLemmas::refused, crate::proofs::StatusLemmas::behind))]
 #[unsafe(no_mangle)]
 pub extern "C" fn wispuddera_read_key_share(bytes: &[u8], offset: usize, out: &mut Part) -> u32
     ensures { IsAnsweredAt key_share_entry (ShowsPart bytes.now out.new) bytes.now offset result out.new.missing }
@@ -111,7 +111,7 @@ pub extern "C" fn wispuddera_read_key_share(bytes: &[u8], offset: usize, out: &m
 }
 
 /// Reads the name of a protocol that begins at that offset of a list of them (RFC 7301, section 3.1).
-#[tactic(auto, using(tls_fields::proofs::OneAnswerLemmas::read_allowed, crate::proofs::StatusLemmas::told, crate::proofs::StatusLemmas::refused, crate::proofs::StatusLemmas::behind))]
+#[tactic(auto, using(layouts::proofs::OneAnswerLemmas::read_allowed, crate::proofs::StatusLemmas::told, crate::proofs::StatusLemmas::refused, crate::proofs::StatusLemmas::behind))]
 #[unsafe(no_mangle)]
 pub extern "C" fn wispuddera_read_protocol(bytes: &[u8], offset: usize, out: &mut Part) -> u32
     ensures { IsAnsweredAt (counted 1) (ShowsBytes bytes.now out.new) bytes.now offset result out.new.missing }
@@ -139,7 +139,7 @@ pub extern "C" fn wispuddera_read_protocol(bytes: &[u8], offset: usize, out: &mu
 }
 
 /// Reads the certificate that begins at that offset of a list of them (RFC 5246, section 7.4.2).
-#[tactic(auto, using(tls_fields::proofs::OneAnswerLemmas::read_allowed, crate::proofs::StatusLemmas::told, crate::proofs::StatusLemmas::refused, crate::proofs::StatusLemmas::behind))]
+#[tactic(auto, using(layouts::proofs::OneAnswerLemmas::read_allowed, crate::proofs::StatusLemmas::told, crate::proofs::StatusLemmas::refused, crate::proofs::StatusLemmas::behind))]
 #[unsafe(no_mangle)]
 pub extern "C" fn wispuddera_read_certificate(bytes: &[u8], offset: usize, out: &mut Part) -> u32
     ensures { IsAnsweredAt (counted 3) (ShowsBytes bytes.now out.new) bytes.now offset result out.new.missing }

@@ -2,15 +2,15 @@
 ghost use Rattle.std.specs.Prelude.{◌≡◌, ◌≤◌, ◌<◌, Option, IfSome, IfNone, length, drop, List, ℕ};
 ghost use Rattle.std.specs.Borrow.{Bor};
 ghost use Rattle.std.specs.Option.{option_map};
-ghost use Rattle.tls_fields.specs.Bytes.{Bytes};
-ghost use Rattle.tls_fields.specs.Meaning.{EndsWith};
-ghost use Rattle.tls_fields.specs.Place.{bytes_at};
-ghost use Rattle.tls_fields.specs.Text.{held};
+ghost use Rattle.layouts.specs.Bytes.{Bytes};
+ghost use Rattle.layouts.specs.Meaning.{EndsWith};
+ghost use Rattle.layouts.specs.Place.{bytes_at};
+ghost use Rattle.layouts.specs.Text.{held};
 ghost use Rattle.tls_hs.specs.Places.{StandsAt as MayStandAt};
 ghost use Rattle.tls_places.specs.Place.{Lies, MayStand};
 ghost use Rattle.wispuddera_c.specs.Place.{Follows, StandsAt, place_of};
 
-use tls_fields::Place as Within;
+use layouts::Place as Within;
 
 /// Where bytes stand, counted in bytes from the front of the caller's.
 #[repr(C)]

@@ -1,5 +1,5 @@
 //! Records of TLS.
-ghost use Rattle.tls_parser.specs.Record.{raw_record};
+ghost use Rattle.tls_records.specs.Record.{raw_record};
 ghost use Rattle.wispuddera_c.specs.Record.{ShowsRecord};
 ghost use Rattle.wispuddera_c.specs.Status.{IsAnsweredAt};
 
@@ -26,7 +26,7 @@ pub struct Record {
 }
 
 /// Reads the record that begins at that offset.
-#[tactic(auto, using(tls_fields::proofs::OneAnswerLemmas::read_allowed, crate::proofs::StatusLemmas::told, crate::proofs::StatusLemmas::refused, crate::proofs::StatusLemmas::behind))]
+#[tactic(auto, using(layouts::proofs::OneAnswerLemmas::read_allowed, crate::proofs::StatusLemmas::told, crate::proofs::StatusLemmas::refused, crate::proofs::StatusLemmas::behind))]
 #[unsafe(no_mangle)]
 pub extern "C" fn wispuddera_read_record(bytes: &[u8], offset: usize, out: &mut Record) -> u32
     ensures { IsAnsweredAt raw_record (ShowsRecord bytes.now out.new) bytes.now offset result out.new.missing }

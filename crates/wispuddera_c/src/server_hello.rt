@@ -1,7 +1,7 @@
 //! ServerHellos.
 ghost use Rattle.std.specs.Prelude.{◌≡◌};
-ghost use Rattle.tls_fields.specs.Meaning.{EndsWith};
-ghost use Rattle.tls_fields.specs.Reading.{reading};
+ghost use Rattle.layouts.specs.Meaning.{EndsWith};
+ghost use Rattle.layouts.specs.Reading.{reading};
 ghost use Rattle.tls_hs.specs.ServerHello.{server_hello, server_hello_any, view_server_hello};
 ghost use Rattle.tls_places.specs.Hello.{ServerHelloStands};
 ghost use Rattle.wispuddera_c.specs.Hello.{ShowsServerHello};
@@ -37,7 +37,7 @@ pub struct ServerHello {
 }
 
 /// A hello that was read of `bytes`, its places in these, and what follows it, in C's numbers.
-#[tactic(auto, using(tls_fields::proofs::OneAnswerLemmas::read_allowed))]
+#[tactic(auto, using(layouts::proofs::OneAnswerLemmas::read_allowed))]
 #[inline(always)]
 fn in_numbers(
     bytes: &[u8],
@@ -63,7 +63,7 @@ fn in_numbers(
 }
 
 /// Reads the body of a ServerHello.
-#[tactic(auto, using(tls_fields::proofs::OneAnswerLemmas::read_allowed, tls_fields::proofs::PlaceLemmas::ends_here, tls_fields::proofs::PlaceLemmas::ends_read))]
+#[tactic(auto, using(layouts::proofs::OneAnswerLemmas::read_allowed, layouts::proofs::PlaceLemmas::ends_here, layouts::proofs::PlaceLemmas::ends_read))]
 #[unsafe(no_mangle)]
 pub extern "C" fn wispuddera_read_server_hello(bytes: &[u8], out: &mut ServerHello) -> u32
     ensures { IsAnswered (ShowsServerHello bytes.now out.new) (reading server_hello bytes.now) result out.new.missing }
@@ -82,7 +82,7 @@ pub extern "C" fn wispuddera_read_server_hello(bytes: &[u8], out: &mut ServerHel
 }
 
 /// Reads the body of a ServerHello of DTLS (RFC 6347, section 4.3.2): as that of TLS, whatever its version.
-#[tactic(auto, using(tls_fields::proofs::OneAnswerLemmas::read_allowed, tls_fields::proofs::PlaceLemmas::ends_here, tls_fields::proofs::PlaceLemmas::ends_read))]
+#[tactic(auto, using(layouts::proofs::OneAnswerLemmas::read_allowed, layouts::proofs::PlaceLemmas::ends_here, layouts::proofs::PlaceLemmas::ends_read))]
 #[unsafe(no_mangle)]
 pub extern "C" fn wispuddera_read_dtls_server_hello(bytes: &[u8], out: &mut ServerHello) -> u32
     ensures { IsAnswered (ShowsServerHello bytes.now out.new) (reading server_hello_any bytes.now) result out.new.missing }

@@ -1,9 +1,9 @@
 //! The numbers that stand for answers.
 ghost use Rattle.std.specs.Prelude.{◌≡◌};
-ghost use Rattle.tls_fields.specs.Answers.{IsRefusal as StandsForRefusal, refusal_of};
+ghost use Rattle.layouts.specs.Answers.{IsRefusal as StandsForRefusal, refusal_of};
 ghost use Rattle.wispuddera_c.specs.Status.{IsRefused, kind_status};
 
-use tls_fields::{Err, Error, ErrorKind, Needed};
+use layouts::{Err, Error, ErrorKind, Needed};
 
 /// A value was read.
 pub const READ: u32 = 0;
@@ -27,8 +27,9 @@ pub struct Refusal {
     pub missing: usize,
 }
 
+/// The status of a refusal of that kind.
 #[inline(always)]
-fn status_of(kind: ErrorKind) -> u32
+pub fn status_of(kind: ErrorKind) -> u32
     ensures { result ≡ kind_status kind }
 {
     match kind {

@@ -1,8 +1,8 @@
 //! Streams that come in pieces: what isn't read yet is held in a buffer of the caller's, at a place that the caller keeps.
 ghost use Rattle.std.specs.Prelude.{◌≡◌, ◌≢◌, IfSome, IfNone, length};
-ghost use Rattle.tls_fields.specs.Meaning.{EndsWith};
+ghost use Rattle.layouts.specs.Meaning.{EndsWith};
 ghost use Rattle.tls_hs.specs.InPlace.{raw_handshake};
-ghost use Rattle.tls_parser.specs.Record.{raw_record};
+ghost use Rattle.tls_records.specs.Record.{raw_record};
 ghost use Rattle.tls_places.specs.Place.{Lies, Stands};
 ghost use Rattle.wispuddera_c.specs.Place.{StandsAt, place_of};
 ghost use Rattle.wispuddera_c.specs.Status.{outside};
@@ -12,7 +12,7 @@ use crate::part::Part;
 use crate::place::{Place, in_c};
 use crate::record::Record;
 use crate::status::{OUTSIDE, READ, Refusal};
-use tls_fields::Place as Within;
+use layouts::Place as Within;
 use tls_hs::RawHandshake;
 use tls_places::{frame_at, place_within};
 
@@ -75,7 +75,7 @@ fn place_of_rest(buffer: &[u8], held: Place, bytes: &[u8], rest: &[u8]) -> Place
 }
 
 /// Takes the record in front of the bytes that `buffer` holds off them.
-#[tactic(auto, using(tls_fields::proofs::OneAnswerLemmas::read_allowed, tls_fields::proofs::PlaceLemmas::ends_here, crate::proofs::StatusLemmas::answered))]
+#[tactic(auto, using(layouts::proofs::OneAnswerLemmas::read_allowed, layouts::proofs::PlaceLemmas::ends_here, crate::proofs::StatusLemmas::answered))]
 #[unsafe(no_mangle)]
 pub extern "C" fn wispuddera_next_record(buffer: &[u8], held: &mut Place, out: &mut Record) -> u32
     ensures read { IsTaken raw_record (TakesRecord buffer.now held.new out.new) buffer.now held.old result out.new.missing }
@@ -113,7 +113,7 @@ pub extern "C" fn wispuddera_next_record(buffer: &[u8], held: &mut Place, out: &
 }
 
 /// Takes the handshake message in front of the bytes that `buffer` holds, joined fragments of records, off them.
-#[tactic(auto, using(tls_fields::proofs::OneAnswerLemmas::read_allowed, tls_fields::proofs::PlaceLemmas::ends_here, crate::proofs::StatusLemmas::answered))]
+#[tactic(auto, using(layouts::proofs::OneAnswerLemmas::read_allowed, layouts::proofs::PlaceLemmas::ends_here, crate::proofs::StatusLemmas::answered))]
 #[unsafe(no_mangle)]
 pub extern "C" fn wispuddera_next_message(buffer: &[u8], held: &mut Place, out: &mut Part) -> u32
     ensures read { IsTaken raw_handshake (TakesPart buffer.now held.new out.new) buffer.now held.old result out.new.missing }

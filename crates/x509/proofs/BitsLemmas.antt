@@ -4,14 +4,14 @@ use Rattle.std.specs.Prelude.{⊤}
 use Rattle.std.proofs.lemmas.Bool.{ltb-true, ltb-false, eqb-true, eqb-false}
 use Rattle.std.proofs.lemmas.Nat.{pow-add, mul-le}
 use Rattle.std.proofs.Math.Nat.{pow-suc}
-use Rattle.tls_fields.specs.Bytes.{Bytes, AreBytes, number_from, number_of}
-use Rattle.tls_fields.specs.Layout.{number, test, chain, rest, done}
-use Rattle.tls_fields.specs.Meaning.{Broken, Answer}
-use Rattle.tls_fields.specs.Reading.{reading, split_at, number_at, ◌and_then◌}
-use Rattle.tls_fields.specs.Items.{left_in}
-use Rattle.tls_fields.specs.declared.result.ErrorKind.TheVariants.{TooLarge, Tag}
-use Rattle.tls_fields.proofs.OneAnswerLemmas.{number_read, eqb_other}
-use Rattle.tls_fields.proofs.ItemsLemmas.{left_first, left_none, left_over}
+use Rattle.layouts.specs.Bytes.{Bytes, AreBytes, number_from, number_of}
+use Rattle.layouts.specs.Layout.{number, test, chain, rest, done}
+use Rattle.layouts.specs.Meaning.{Broken, Answer}
+use Rattle.layouts.specs.Reading.{reading, split_at, number_at, ◌and_then◌}
+use Rattle.layouts.specs.Items.{left_in}
+use Rattle.layouts.specs.declared.result.ErrorKind.TheVariants.{TooLarge, Tag}
+use Rattle.layouts.proofs.OneAnswerLemmas.{number_read, eqb_other}
+use Rattle.layouts.proofs.ItemsLemmas.{left_first, left_none, left_over}
 use Rattle.x509.specs.PublicKey.{HasBits, byte_bits, zero_byte, behind_bits, significant_bits, bit_length}
 
 one_read : (x : ℕ) (xs : Bytes) → reading (number 1) (x ∷ xs) ≡ Ok (x, xs)

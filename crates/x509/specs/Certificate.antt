@@ -1,10 +1,10 @@
 -- Certificates (RFC 5280, section 4.1).
 use Rattle.std.specs.Prelude.{ℕ, ◌-◌, ◌==◌, length, take, nat_lt, List, [], Option, Some, None, Bool, ℤ}
 use Rattle.std.specs.Option.{option_map}
-use Rattle.tls_fields.specs.Bytes.{Bytes}
-use Rattle.tls_fields.specs.Layout.{Layout, done, refuse, number, left, look, rest, test, choose, ◌>>=◌, ◌>>◌}
-use Rattle.tls_fields.specs.Items.{items_in}
-use Rattle.tls_fields.specs.declared.result.ErrorKind.TheVariants.{Tag, Verify}
+use Rattle.layouts.specs.Bytes.{Bytes}
+use Rattle.layouts.specs.Layout.{Layout, done, refuse, number, left, look, rest, test, choose, ◌>>=◌, ◌>>◌}
+use Rattle.layouts.specs.Items.{items_in}
+use Rattle.layouts.specs.declared.result.ErrorKind.TheVariants.{Tag, Verify}
 use Rattle.der.specs.Element.{Element, items_of, optional, optional_element, tagged, view_element}
 use Rattle.der.specs.ObjectIdentifier.{object_identifier}
 use Rattle.der.specs.Time.{utc_time, generalized_time}

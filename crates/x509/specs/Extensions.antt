@@ -2,9 +2,9 @@
 use Rattle.std.specs.Prelude.{ℕ, List, [], ◌∷◌, Option, Some, None, Bool, if◌then◌else◌}
 use Rattle.std.specs.Option.{option_map}
 use Rattle.std.specs.Str.{bytes_eq}
-use Rattle.tls_fields.specs.Bytes.{Bytes}
-use Rattle.tls_fields.specs.Layout.{Layout, done, rest, mapped, ◌>>=◌}
-use Rattle.tls_fields.specs.Items.{items_in}
+use Rattle.layouts.specs.Bytes.{Bytes}
+use Rattle.layouts.specs.Layout.{Layout, done, rest, mapped, ◌>>=◌}
+use Rattle.layouts.specs.Items.{items_in}
 use Rattle.der.specs.Element.{items_of, optional, tagged}
 use Rattle.der.specs.ObjectIdentifier.{object_identifier}
 use Rattle.der.specs.Values.{BitString, bit_of, bit_string, default_false, integer}

@@ -1,7 +1,7 @@
 -- Names in extensions (RFC 5280, section 4.2.1.6).
 use Rattle.std.specs.Prelude.{List, ◌==◌, if◌then◌else◌}
-use Rattle.tls_fields.specs.Bytes.{Bytes}
-use Rattle.tls_fields.specs.Layout.{Layout, mapped}
+use Rattle.layouts.specs.Bytes.{Bytes}
+use Rattle.layouts.specs.Layout.{Layout, mapped}
 use Rattle.der.specs.Element.{Element, element, items_of, tagged, view_element}
 use Rattle.x509.specs.declared.general_name.GeneralName.{GeneralName as LentGeneralName}
 use Rattle.x509.specs.declared.general_name.GeneralName.TheVariants as lent

@@ -1,7 +1,7 @@
 -- Names (RFC 5280, section 4.1.2.4): sets of attributes, most often of one, in their order.
 use Rattle.std.specs.Prelude.{List}
-use Rattle.tls_fields.specs.Bytes.{Bytes}
-use Rattle.tls_fields.specs.Layout.{Layout, done, ◌>>=◌}
+use Rattle.layouts.specs.Bytes.{Bytes}
+use Rattle.layouts.specs.Layout.{Layout, done, ◌>>=◌}
 use Rattle.der.specs.Element.{Element, element, items_of, tagged, view_element}
 use Rattle.der.specs.ObjectIdentifier.{object_identifier}
 use Rattle.x509.specs.declared.name.AttributeTypeAndValue.{AttributeTypeAndValue as LentAttribute}

@@ -1,12 +1,12 @@
 -- Public keys, by their algorithm (RFC 3279, section 2.3; RFC 4055, section 1.2; RFC 5480, section 2; RFC 8410, section 3).
 use Rattle.std.specs.Prelude.{ℕ, ◌+◌, ◌-◌, ◌*◌, ◌^◌, ◌≤◌, ◌<◌, ◌==◌, ◌||◌, nat_le, nat_lt, [], ◌∷◌, Option, Some, None, Result, Ok, Err, if◌then◌else◌}
 use Rattle.std.specs.Str.{bytes_eq}
-use Rattle.tls_fields.specs.Bytes.{Bytes}
-use Rattle.tls_fields.specs.Layout.{Layout, done, number, list, left, look, rest, test, mapped, ◌>>=◌, ◌>>◌}
-use Rattle.tls_fields.specs.Meaning.{Refusal, Broken}
-use Rattle.tls_fields.specs.Reading.{reading}
-use Rattle.tls_fields.specs.Items.{value_of}
-use Rattle.tls_fields.specs.declared.result.ErrorKind.TheVariants.{TooLarge, Tag, Verify}
+use Rattle.layouts.specs.Bytes.{Bytes}
+use Rattle.layouts.specs.Layout.{Layout, done, number, list, left, look, rest, test, mapped, ◌>>=◌, ◌>>◌}
+use Rattle.layouts.specs.Meaning.{Refusal, Broken}
+use Rattle.layouts.specs.Reading.{reading}
+use Rattle.layouts.specs.Items.{value_of}
+use Rattle.layouts.specs.declared.result.ErrorKind.TheVariants.{TooLarge, Tag, Verify}
 use Rattle.der.specs.Element.{Element, tagged}
 use Rattle.der.specs.ObjectIdentifier.{object_identifier_content}
 use Rattle.der.specs.Values.{integer}

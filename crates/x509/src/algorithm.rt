@@ -1,12 +1,12 @@
 //! Algorithms and the keys that they are used with (RFC 5280, sections 4.1.1.2 and 4.1.2.7).
-#![tactic(auto, using(tls_fields::proofs::OneAnswerLemmas::read_allowed))]
+#![tactic(auto, using(layouts::proofs::OneAnswerLemmas::read_allowed))]
 
-ghost use Rattle.tls_fields.specs.Answers.{Gives};
+ghost use Rattle.layouts.specs.Answers.{Gives};
 ghost use Rattle.x509.specs.Certificate.{AlgorithmIdentifier as PlainAlgorithm, view_algorithm, algorithm_content, algorithm_identifier};
 ghost use Rattle.x509.specs.Certificate.{SubjectPublicKeyInfo as PlainKeyInfo, view_key_info, key_info_content, subject_public_key_info};
 
 use der::{BitString, Element, ObjectIdentifier, object_identifier, optional_element, tag, tagged};
-use tls_fields::{IResult, InPlace};
+use layouts::{IResult, InPlace};
 
 /// An algorithm.
 #[derive(Clone, Copy, Debug, PartialEq)]
@@ -29,7 +29,7 @@ impl<'a> InPlace<'a> for AlgorithmContent {
 
     ghost layout = { algorithm_content };
 
-    #[tactic(auto, using(tls_fields::proofs::OneAnswerLemmas::read_allowed), unfolding(crate::specs::Certificate::algorithm_content))]
+    #[tactic(auto, using(layouts::proofs::OneAnswerLemmas::read_allowed), unfolding(crate::specs::Certificate::algorithm_content))]
     fn read(i: &'a [u8]) -> IResult<&'a [u8], AlgorithmIdentifier<'a>> {
         let (i, algorithm) = object_identifier(i)?;
         let (i, parameters) = optional_element(i)?;
@@ -44,7 +44,7 @@ impl<'a> InPlace<'a> for AlgorithmContent {
 /// Reads an AlgorithmIdentifier.
 ///
 /// It refuses what [`der::tagged`] does; also in its content, of kind `LengthValue` where more than the parameters follow.
-#[tactic(auto, using(tls_fields::proofs::OneAnswerLemmas::read_allowed), unfolding(crate::specs::Certificate::algorithm_identifier))]
+#[tactic(auto, using(layouts::proofs::OneAnswerLemmas::read_allowed), unfolding(crate::specs::Certificate::algorithm_identifier))]
 pub fn parse_algorithm_identifier(i: &[u8]) -> IResult<&[u8], AlgorithmIdentifier>
     ensures { Gives view_algorithm algorithm_identifier i.now result }
 {
@@ -72,7 +72,7 @@ impl<'a> InPlace<'a> for KeyInfoContent {
 
     ghost layout = { key_info_content };
 
-    #[tactic(auto, using(tls_fields::proofs::OneAnswerLemmas::read_allowed), unfolding(crate::specs::Certificate::key_info_content))]
+    #[tactic(auto, using(layouts::proofs::OneAnswerLemmas::read_allowed), unfolding(crate::specs::Certificate::key_info_content))]
     fn read(i: &'a [u8]) -> IResult<&'a [u8], SubjectPublicKeyInfo<'a>> {
         let (i, algorithm) = parse_algorithm_identifier(i)?;
         let (i, subject_public_key) = tagged::<BitString>(i, tag::BIT_STRING)?;
@@ -85,7 +85,7 @@ impl<'a> InPlace<'a> for KeyInfoContent {
 }
 
 /// Reads a SubjectPublicKeyInfo.
-#[tactic(auto, using(tls_fields::proofs::OneAnswerLemmas::read_allowed), unfolding(crate::specs::Certificate::subject_public_key_info))]
+#[tactic(auto, using(layouts::proofs::OneAnswerLemmas::read_allowed), unfolding(crate::specs::Certificate::subject_public_key_info))]
 pub(crate) fn parse_key_info(i: &[u8]) -> IResult<&[u8], SubjectPublicKeyInfo>
     ensures { Gives view_key_info subject_public_key_info i.now result }
 {

@@ -1,11 +1,11 @@
 //! Whether a subject may sign certificates (RFC 5280, section 4.2.1.9).
-#![tactic(auto, using(tls_fields::proofs::OneAnswerLemmas::read_allowed))]
+#![tactic(auto, using(layouts::proofs::OneAnswerLemmas::read_allowed))]
 
-ghost use Rattle.tls_fields.specs.Answers.{Gives};
+ghost use Rattle.layouts.specs.Answers.{Gives};
 ghost use Rattle.x509.specs.Extensions.{BasicConstraints as PlainBasicConstraints, view_basic_constraints, basic_constraints_content, basic_constraints};
 
 use der::{Integer, default_false, optional, tag, tagged};
-use tls_fields::{IResult, InPlace};
+use layouts::{IResult, InPlace};
 
 /// Whether a subject may sign certificates, and how long a chain of them.
 #[derive(Clone, Copy, Debug, PartialEq)]
@@ -28,7 +28,7 @@ impl<'a> InPlace<'a> for ConstraintsContent {
 
     ghost layout = { basic_constraints_content };
 
-    #[tactic(auto, using(tls_fields::proofs::OneAnswerLemmas::read_allowed), unfolding(crate::specs::Extensions::basic_constraints_content))]
+    #[tactic(auto, using(layouts::proofs::OneAnswerLemmas::read_allowed), unfolding(crate::specs::Extensions::basic_constraints_content))]
     fn read(i: &'a [u8]) -> IResult<&'a [u8], BasicConstraints<'a>> {
         let (i, ca) = default_false(i)?;
         let (i, path_len_constraint) = optional::<Integer>(i, tag::INTEGER)?;
@@ -43,7 +43,7 @@ impl<'a> InPlace<'a> for ConstraintsContent {
 /// Reads BasicConstraints, the value of basicConstraints.
 ///
 /// It refuses what [`der::tagged`], [`der::default_false`] and [`Integer`] do.
-#[tactic(auto, using(tls_fields::proofs::OneAnswerLemmas::read_allowed), unfolding(crate::specs::Extensions::basic_constraints))]
+#[tactic(auto, using(layouts::proofs::OneAnswerLemmas::read_allowed), unfolding(crate::specs::Extensions::basic_constraints))]
 pub fn parse_basic_constraints(i: &[u8]) -> IResult<&[u8], BasicConstraints>
     ensures { Gives view_basic_constraints basic_constraints i.now result }
 {

@@ -1,14 +1,14 @@
 //! Certificates (RFC 5280, section 4.1).
-#![tactic(auto, using(tls_fields::proofs::OneAnswerLemmas::read_allowed))]
+#![tactic(auto, using(layouts::proofs::OneAnswerLemmas::read_allowed))]
 
 ghost use Rattle.std.specs.Prelude.{◌≡◌, ◌-◌, length, take};
-ghost use Rattle.tls_fields.specs.Answers.{Gives};
+ghost use Rattle.layouts.specs.Answers.{Gives};
 ghost use Rattle.x509.specs.Certificate.{Certificate as PlainCertificate, view_certificate, certificate_content, certificate};
 
 use crate::algorithm::{AlgorithmIdentifier, parse_algorithm_identifier};
 use crate::tbs::TBSCertificate;
 use der::{BitString, tag, tagged};
-use tls_fields::{IResult, InPlace, rest};
+use layouts::{IResult, InPlace, rest};
 
 /// A certificate.
 #[derive(Clone, Copy, Debug, PartialEq)]
@@ -42,7 +42,7 @@ impl<'a> InPlace<'a> for CertificateContent {
 
     ghost layout = { certificate_content };
 
-    #[tactic(auto, using(tls_fields::proofs::OneAnswerLemmas::read_allowed), unfolding(crate::specs::Certificate::certificate_content))]
+    #[tactic(auto, using(layouts::proofs::OneAnswerLemmas::read_allowed), unfolding(crate::specs::Certificate::certificate_content))]
     fn read(i: &'a [u8]) -> IResult<&'a [u8], Certificate<'a>> {
         let (_, whole) = rest(i)?;
         let (behind, tbs_certificate) = tagged::<TBSCertificate>(i, tag::SEQUENCE)?;
@@ -61,7 +61,7 @@ impl<'a> InPlace<'a> for CertificateContent {
 
 /// Reads a certificate in place.
 ///
-/// Names and extensions are lists in place: each item is read as the walk comes to it, and [`tls_fields::Items::refusal`] says
+/// Names and extensions are lists in place: each item is read as the walk comes to it, and [`layouts::Items::refusal`] says
 /// what ended a walk early.
 ///
 /// - `Incomplete` of what is missing of the certificate's tag, length or content.
@@ -73,7 +73,7 @@ impl<'a> InPlace<'a> for CertificateContent {
 ///   is negative, a truth value that is neither 0 nor 255, a time that isn't one, bits that are unused and set.
 /// - `Error` of kind `Switch` where a length is indefinite, or the tag of an algorithm's parameters has more than one byte.
 /// - `Error` of kind `TooLarge` where a length has more than 3 bytes behind its first.
-#[tactic(auto, using(tls_fields::proofs::OneAnswerLemmas::read_allowed), unfolding(crate::specs::Certificate::certificate))]
+#[tactic(auto, using(layouts::proofs::OneAnswerLemmas::read_allowed), unfolding(crate::specs::Certificate::certificate))]
 pub fn parse_certificate(i: &[u8]) -> IResult<&[u8], Certificate>
     ensures { Gives view_certificate certificate i.now result }
 {

@@ -1,15 +1,15 @@
 //! Extensions (RFC 5280, section 4.2).
-#![tactic(auto, using(tls_fields::proofs::OneAnswerLemmas::read_allowed))]
+#![tactic(auto, using(layouts::proofs::OneAnswerLemmas::read_allowed))]
 
 ghost use Rattle.std.specs.Prelude.{◌≡◌, List};
 ghost use Rattle.std.specs.Option.{option_map};
-ghost use Rattle.tls_fields.specs.Answers.{Gives};
-ghost use Rattle.tls_fields.specs.Items.{items_in};
+ghost use Rattle.layouts.specs.Answers.{Gives};
+ghost use Rattle.layouts.specs.Items.{items_in};
 ghost use Rattle.x509.specs.Certificate.{Extension as PlainExtension, view_extension, extension_content, extension, extensions as extensions_layout};
 ghost use Rattle.x509.specs.Extensions.{first_of};
 
 use der::{AllBytes, ItemsOf, ObjectIdentifier, default_false, object_identifier, tag, tagged};
-use tls_fields::{IResult, InPlace, Items};
+use layouts::{IResult, InPlace, Items};
 
 /// An extension.
 #[derive(Clone, Copy, Debug, PartialEq)]
@@ -34,7 +34,7 @@ impl<'a> InPlace<'a> for ExtensionContent {
 
     ghost layout = { extension_content };
 
-    #[tactic(auto, using(tls_fields::proofs::OneAnswerLemmas::read_allowed), unfolding(crate::specs::Certificate::extension_content))]
+    #[tactic(auto, using(layouts::proofs::OneAnswerLemmas::read_allowed), unfolding(crate::specs::Certificate::extension_content))]
     fn read(i: &'a [u8]) -> IResult<&'a [u8], Extension<'a>> {
         let (i, extn_id) = object_identifier(i)?;
         let (i, critical) = default_false(i)?;
@@ -60,7 +60,7 @@ impl<'a> InPlace<'a> for Extensions {
 
     ghost layout = { extension };
 
-    #[tactic(auto, using(tls_fields::proofs::OneAnswerLemmas::read_allowed), unfolding(crate::specs::Certificate::extension))]
+    #[tactic(auto, using(layouts::proofs::OneAnswerLemmas::read_allowed), unfolding(crate::specs::Certificate::extension))]
     fn read(i: &'a [u8]) -> IResult<&'a [u8], Extension<'a>> {
         tagged::<ExtensionContent>(i, tag::SEQUENCE)
     }
@@ -78,7 +78,7 @@ impl<'a> InPlace<'a> for ExtensionList {
 
     ghost layout = { extensions_layout };
 
-    #[tactic(auto, using(tls_fields::proofs::OneAnswerLemmas::read_allowed), unfolding(crate::specs::Certificate::extensions))]
+    #[tactic(auto, using(layouts::proofs::OneAnswerLemmas::read_allowed), unfolding(crate::specs::Certificate::extensions))]
     fn read(i: &'a [u8]) -> IResult<&'a [u8], Items<'a, Extensions>> {
         tagged::<ItemsOf<Extensions>>(i, tag::SEQUENCE)
     }

@@ -1,14 +1,14 @@
 //! Names in extensions (RFC 5280, section 4.2.1.6).
-#![tactic(auto, using(tls_fields::proofs::OneAnswerLemmas::read_allowed))]
+#![tactic(auto, using(layouts::proofs::OneAnswerLemmas::read_allowed))]
 
 ghost use Rattle.std.specs.Prelude.{◌≡◌};
-ghost use Rattle.tls_fields.specs.Answers.{Gives};
-ghost use Rattle.tls_fields.specs.Items.{items_in};
+ghost use Rattle.layouts.specs.Answers.{Gives};
+ghost use Rattle.layouts.specs.Items.{items_in};
 ghost use Rattle.der.specs.Element.{view_element};
 ghost use Rattle.x509.specs.GeneralName.{GeneralName as PlainGeneralName, view_general_name, name_of, general_name, general_names};
 
 use der::{Element, ItemsOf, tag, tagged};
-use tls_fields::{IResult, InPlace, Items};
+use layouts::{IResult, InPlace, Items};
 
 /// A name of a subject or an issuer. Of text, the bytes are given as they are.
 #[derive(Clone, Copy, Debug, PartialEq)]
@@ -50,7 +50,7 @@ impl<'a> InPlace<'a> for GeneralNames {
 
     ghost layout = { general_name };
 
-    #[tactic(auto, using(tls_fields::proofs::OneAnswerLemmas::read_allowed), unfolding(crate::specs::GeneralName::general_name))]
+    #[tactic(auto, using(layouts::proofs::OneAnswerLemmas::read_allowed), unfolding(crate::specs::GeneralName::general_name))]
     fn read(i: &'a [u8]) -> IResult<&'a [u8], GeneralName<'a>> {
         let (i, e) = Element::read(i)?;
         Ok((i, general_name_of(e)))
@@ -61,7 +61,7 @@ impl<'a> InPlace<'a> for GeneralNames {
 ///
 /// It refuses what [`der::tagged`] does, where no SEQUENCE is there. What breaks a rule within it ends the walk, and
 /// [`Items::refusal`] says what it is.
-#[tactic(auto, using(tls_fields::proofs::OneAnswerLemmas::read_allowed), unfolding(crate::specs::GeneralName::general_names))]
+#[tactic(auto, using(layouts::proofs::OneAnswerLemmas::read_allowed), unfolding(crate::specs::GeneralName::general_names))]
 pub fn parse_general_names<'a>(i: &'a [u8]) -> IResult<&'a [u8], Items<'a, GeneralNames>>
     ensures { Gives (λ v. items_in general_name v.bytes.now) general_names i.now result }
 {

@@ -1,12 +1,12 @@
 //! Which key signed a certificate, and which it certifies (RFC 5280, sections 4.2.1.1 and 4.2.1.2).
-#![tactic(auto, using(tls_fields::proofs::OneAnswerLemmas::read_allowed))]
+#![tactic(auto, using(layouts::proofs::OneAnswerLemmas::read_allowed))]
 
-ghost use Rattle.tls_fields.specs.Answers.{Gives};
+ghost use Rattle.layouts.specs.Answers.{Gives};
 ghost use Rattle.x509.specs.Extensions.{AuthorityKeyIdentifier as PlainKeyIdentifier, view_key_identifier, key_identifier_content, authority_key_identifier, subject_key_identifier};
 
 use crate::general_name::GeneralNames;
 use der::{AllBytes, Integer, ItemsOf, optional, tag, tagged};
-use tls_fields::{IResult, InPlace, Items};
+use layouts::{IResult, InPlace, Items};
 
 /// The key that signed a certificate: by an identifier, by issuer and serial number of its certificate, or both.
 #[derive(Clone, Copy, Debug, PartialEq)]
@@ -31,7 +31,7 @@ impl<'a> InPlace<'a> for KeyIdentifierContent {
 
     ghost layout = { key_identifier_content };
 
-    #[tactic(auto, using(tls_fields::proofs::OneAnswerLemmas::read_allowed), unfolding(crate::specs::Extensions::key_identifier_content))]
+    #[tactic(auto, using(layouts::proofs::OneAnswerLemmas::read_allowed), unfolding(crate::specs::Extensions::key_identifier_content))]
     fn read(i: &'a [u8]) -> IResult<&'a [u8], AuthorityKeyIdentifier<'a>> {
         let (i, key_identifier) = optional::<AllBytes>(i, 0x80)?;
         let (i, authority_cert_issuer) = optional::<ItemsOf<GeneralNames>>(i, 0xa1)?;
@@ -48,7 +48,7 @@ impl<'a> InPlace<'a> for KeyIdentifierContent {
 /// Reads an AuthorityKeyIdentifier, the value of authorityKeyIdentifier.
 ///
 /// It refuses what [`der::tagged`], [`der::optional`] and [`Integer`] do.
-#[tactic(auto, using(tls_fields::proofs::OneAnswerLemmas::read_allowed), unfolding(crate::specs::Extensions::authority_key_identifier))]
+#[tactic(auto, using(layouts::proofs::OneAnswerLemmas::read_allowed), unfolding(crate::specs::Extensions::authority_key_identifier))]
 pub fn parse_authority_key_identifier(i: &[u8]) -> IResult<&[u8], AuthorityKeyIdentifier>
     ensures { Gives view_key_identifier authority_key_identifier i.now result }
 {
@@ -58,7 +58,7 @@ pub fn parse_authority_key_identifier(i: &[u8]) -> IResult<&[u8], AuthorityKeyId
 /// Reads a SubjectKeyIdentifier, the value of subjectKeyIdentifier: the identifier of the certified key.
 ///
 /// It refuses what [`der::tagged`] does, where no OCTET STRING is there.
-#[tactic(auto, using(tls_fields::proofs::OneAnswerLemmas::read_allowed), unfolding(crate::specs::Extensions::subject_key_identifier))]
+#[tactic(auto, using(layouts::proofs::OneAnswerLemmas::read_allowed), unfolding(crate::specs::Extensions::subject_key_identifier))]
 pub fn parse_subject_key_identifier(i: &[u8]) -> IResult<&[u8], &[u8]>
     ensures { Gives (λ v. v.now) subject_key_identifier i.now result }
 {

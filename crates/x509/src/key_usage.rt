@@ -1,15 +1,15 @@
 //! What a key may be used for (RFC 5280, sections 4.2.1.3 and 4.2.1.12).
-#![tactic(auto, using(tls_fields::proofs::OneAnswerLemmas::read_allowed))]
+#![tactic(auto, using(layouts::proofs::OneAnswerLemmas::read_allowed))]
 
 ghost use Rattle.std.specs.Prelude.{◌≡◌};
-ghost use Rattle.tls_fields.specs.Answers.{Gives};
-ghost use Rattle.tls_fields.specs.Items.{items_in};
+ghost use Rattle.layouts.specs.Answers.{Gives};
+ghost use Rattle.layouts.specs.Items.{items_in};
 ghost use Rattle.der.specs.Values.{view_bit_string};
 ghost use Rattle.x509.specs.Extensions.{usage_of as usage_by, key_usage, KeyPurposeId as PlainKeyPurpose, view_key_purpose, purpose_of as purpose_by, key_purpose, extended_key_usage};
 
 use crate::oid;
 use der::{BitString, ItemsOf, ObjectIdentifier, object_identifier, tag, tagged};
-use tls_fields::{IResult, InPlace, Items};
+use layouts::{IResult, InPlace, Items};
 
 /// What a key may be used for.
 #[derive(Clone, Copy, Debug, PartialEq, Eq)]
@@ -54,7 +54,7 @@ fn usage_of(bits: BitString) -> KeyUsage
 /// Reads a KeyUsage, the value of keyUsage; further bits say nothing.
 ///
 /// It refuses what [`der::tagged`] and reading a [`BitString`] do.
-#[tactic(auto, using(tls_fields::proofs::OneAnswerLemmas::read_allowed), unfolding(crate::specs::Extensions::key_usage))]
+#[tactic(auto, using(layouts::proofs::OneAnswerLemmas::read_allowed), unfolding(crate::specs::Extensions::key_usage))]
 pub fn parse_key_usage(i: &[u8]) -> IResult<&[u8], KeyUsage>
     ensures { Gives (λ v. v) key_usage i.now result }
 {
@@ -118,7 +118,7 @@ impl<'a> InPlace<'a> for KeyPurposeIds {
 
     ghost layout = { key_purpose };
 
-    #[tactic(auto, using(tls_fields::proofs::OneAnswerLemmas::read_allowed), unfolding(crate::specs::Extensions::key_purpose))]
+    #[tactic(auto, using(layouts::proofs::OneAnswerLemmas::read_allowed), unfolding(crate::specs::Extensions::key_purpose))]
     fn read(i: &'a [u8]) -> IResult<&'a [u8], KeyPurposeId<'a>> {
         let (i, id) = object_identifier(i)?;
         Ok((i, purpose_of(id)))
@@ -129,7 +129,7 @@ impl<'a> InPlace<'a> for KeyPurposeIds {
 ///
 /// It refuses what [`der::tagged`] does, where no SEQUENCE is there. What breaks a rule within it ends the walk, and
 /// [`Items::refusal`] says what it is.
-#[tactic(auto, using(tls_fields::proofs::OneAnswerLemmas::read_allowed), unfolding(crate::specs::Extensions::extended_key_usage))]
+#[tactic(auto, using(layouts::proofs::OneAnswerLemmas::read_allowed), unfolding(crate::specs::Extensions::extended_key_usage))]
 pub fn parse_extended_key_usage<'a>(i: &'a [u8]) -> IResult<&'a [u8], Items<'a, KeyPurposeIds>>
     ensures { Gives (λ v. items_in key_purpose v.bytes.now) extended_key_usage i.now result }
 {

@@ -1,8 +1,8 @@
 //! What holds of the layouts alone. Each function's contract is one law; its body is empty.
 
 ghost use Rattle.std.specs.Prelude.{◌≡◌, ℕ, Ok};
-ghost use Rattle.tls_fields.specs.Bytes.{Bytes, AreBytes, number_of};
-ghost use Rattle.tls_fields.specs.Reading.{reading};
+ghost use Rattle.layouts.specs.Bytes.{Bytes, AreBytes, number_of};
+ghost use Rattle.layouts.specs.Reading.{reading};
 ghost use Rattle.x509.specs.PublicKey.{bit_length, HasBits};
 
 /// The bits that are told of a modulus are those of the number that its bytes spell.

@@ -5,7 +5,7 @@
 //! are lists in place, each item of which is read as a walk comes to it.
 //!
 //! Nothing is verified: no signature, no name against a host, no time against a clock.
-#![tactic(auto, using(tls_fields::proofs::OneAnswerLemmas::read_allowed))]
+#![tactic(auto, using(layouts::proofs::OneAnswerLemmas::read_allowed))]
 
 mod algorithm;
 mod basic_constraints;

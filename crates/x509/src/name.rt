@@ -1,13 +1,13 @@
 //! Names (RFC 5280, section 4.1.2.4).
-#![tactic(auto, using(tls_fields::proofs::OneAnswerLemmas::read_allowed))]
+#![tactic(auto, using(layouts::proofs::OneAnswerLemmas::read_allowed))]
 
 ghost use Rattle.std.specs.Prelude.{List};
-ghost use Rattle.tls_fields.specs.Answers.{Gives};
-ghost use Rattle.tls_fields.specs.Items.{items_in};
+ghost use Rattle.layouts.specs.Answers.{Gives};
+ghost use Rattle.layouts.specs.Items.{items_in};
 ghost use Rattle.x509.specs.Name.{AttributeTypeAndValue as PlainAttribute, view_attribute, attribute_content, attribute, relative_distinguished_name, name as name_layout};
 
 use der::{Element, ItemsOf, ObjectIdentifier, object_identifier, tag, tagged};
-use tls_fields::{IResult, InPlace, Items};
+use layouts::{IResult, InPlace, Items};
 
 /// An attribute of a name.
 #[derive(Clone, Copy, Debug, PartialEq)]
@@ -30,7 +30,7 @@ impl<'a> InPlace<'a> for AttributeContent {
 
     ghost layout = { attribute_content };
 
-    #[tactic(auto, using(tls_fields::proofs::OneAnswerLemmas::read_allowed), unfolding(crate::specs::Name::attribute_content))]
+    #[tactic(auto, using(layouts::proofs::OneAnswerLemmas::read_allowed), unfolding(crate::specs::Name::attribute_content))]
     fn read(i: &'a [u8]) -> IResult<&'a [u8], AttributeTypeAndValue<'a>> {
         let (i, attribute_type) = object_identifier(i)?;
         let (i, value) = Element::read(i)?;
@@ -54,7 +54,7 @@ impl<'a> InPlace<'a> for Attributes {
 
     ghost layout = { attribute };
 
-    #[tactic(auto, using(tls_fields::proofs::OneAnswerLemmas::read_allowed), unfolding(crate::specs::Name::attribute))]
+    #[tactic(auto, using(layouts::proofs::OneAnswerLemmas::read_allowed), unfolding(crate::specs::Name::attribute))]
     fn read(i: &'a [u8]) -> IResult<&'a [u8], AttributeTypeAndValue<'a>> {
         tagged::<AttributeContent>(i, tag::SEQUENCE)
     }
@@ -75,7 +75,7 @@ impl<'a> InPlace<'a> for RelativeDistinguishedNames {
 
     ghost layout = { relative_distinguished_name };
 
-    #[tactic(auto, using(tls_fields::proofs::OneAnswerLemmas::read_allowed), unfolding(crate::specs::Name::relative_distinguished_name))]
+    #[tactic(auto, using(layouts::proofs::OneAnswerLemmas::read_allowed), unfolding(crate::specs::Name::relative_distinguished_name))]
     fn read(i: &'a [u8]) -> IResult<&'a [u8], Items<'a, Attributes>> {
         tagged::<ItemsOf<Attributes>>(i, tag::SET)
     }
@@ -88,7 +88,7 @@ pub type Name<'a> = Items<'a, RelativeDistinguishedNames>;
 ///
 /// It refuses what [`der::tagged`] does, where no SEQUENCE is there. What breaks a rule within it ends the walk, and
 /// [`Items::refusal`] says what it is.
-#[tactic(auto, using(tls_fields::proofs::OneAnswerLemmas::read_allowed), unfolding(crate::specs::Name::name))]
+#[tactic(auto, using(layouts::proofs::OneAnswerLemmas::read_allowed), unfolding(crate::specs::Name::name))]
 pub fn parse_name(i: &[u8]) -> IResult<&[u8], Name>
     ensures { Gives (λ v. items_in relative_distinguished_name v.bytes.now) name_layout i.now result }
 {

@@ -1,10 +1,10 @@
 //! Public keys, by their algorithm (RFC 3279, section 2.3; RFC 4055, section 1.2; RFC 5480, section 2; RFC 8410, section 3).
-#![tactic(auto, using(tls_fields::proofs::OneAnswerLemmas::read_allowed))]
+#![tactic(auto, using(layouts::proofs::OneAnswerLemmas::read_allowed))]
 
 ghost use Rattle.std.specs.Prelude.{◌≡◌, ◌≤◌, ℕ};
 ghost use Rattle.std.specs.Option.{option_map};
-ghost use Rattle.tls_fields.specs.Answers.{Gives};
-ghost use Rattle.tls_fields.specs.Items.{Tells};
+ghost use Rattle.layouts.specs.Answers.{Gives};
+ghost use Rattle.layouts.specs.Items.{Tells};
 ghost use Rattle.der.specs.Element.{view_element, whole, tagged as tagged_layout};
 ghost use Rattle.x509.specs.Certificate.{view_key_info};
 ghost use Rattle.x509.specs.PublicKey.{byte_bits as byte_bits_of, zero_byte, bit_length, positive_bits, rsa_content, rsa_public_key, view_public_key, named_curve as named_curve_of, key_of};
@@ -12,7 +12,7 @@ ghost use Rattle.x509.specs.PublicKey.{byte_bits as byte_bits_of, zero_byte, bit
 use crate::algorithm::SubjectPublicKeyInfo;
 use crate::oid;
 use der::{Element, Integer, ObjectIdentifier, tag, tagged};
-use tls_fields::{Err, Error, ErrorKind, IResult, InPlace, Items, number1, refused, rest};
+use layouts::{Err, Error, ErrorKind, IResult, InPlace, Items, number1, refused, rest};
 
 /// How many bits a number has; 1 for 0.
 fn byte_bits(n: u8) -> u32
@@ -43,7 +43,7 @@ impl<'a> InPlace<'a> for ZeroByte {
 
     ghost layout = { zero_byte };
 
-    #[tactic(auto, using(tls_fields::proofs::OneAnswerLemmas::read_allowed), unfolding(crate::specs::PublicKey::zero_byte))]
+    #[tactic(auto, using(layouts::proofs::OneAnswerLemmas::read_allowed), unfolding(crate::specs::PublicKey::zero_byte))]
     fn read(i: &'a [u8]) -> IResult<&'a [u8], ()> {
         let (i, n) = number1(i)?;
         if n != 0 {
@@ -54,7 +54,7 @@ impl<'a> InPlace<'a> for ZeroByte {
 }
 
 /// How many bits a number has.
-#[tactic(auto, using(tls_fields::proofs::OneAnswerLemmas::read_allowed), unfolding(crate::specs::PublicKey::bit_length, crate::specs::PublicKey::significant_bits, crate::specs::PublicKey::behind_bits))]
+#[tactic(auto, using(layouts::proofs::OneAnswerLemmas::read_allowed), unfolding(crate::specs::PublicKey::bit_length, crate::specs::PublicKey::significant_bits, crate::specs::PublicKey::behind_bits))]
 fn bit_length_of(i: &[u8]) -> IResult<&[u8], u32>
     ensures { Gives (λ n. n) bit_length i.now result }
 {
@@ -80,7 +80,7 @@ impl<'a> InPlace<'a> for PositiveBits {
 
     ghost layout = { positive_bits };
 
-    #[tactic(auto, using(tls_fields::proofs::OneAnswerLemmas::read_allowed), unfolding(crate::specs::PublicKey::positive_bits))]
+    #[tactic(auto, using(layouts::proofs::OneAnswerLemmas::read_allowed), unfolding(crate::specs::PublicKey::positive_bits))]
     fn read(i: &'a [u8]) -> IResult<&'a [u8], u32> {
         let (_, _) = Integer::read(i)?;
         let (_, first) = number1(i)?;
@@ -103,7 +103,7 @@ impl<'a> InPlace<'a> for RsaContent {
 
     ghost layout = { rsa_content };
 
-    #[tactic(auto, using(tls_fields::proofs::OneAnswerLemmas::read_allowed), unfolding(crate::specs::PublicKey::rsa_content))]
+    #[tactic(auto, using(layouts::proofs::OneAnswerLemmas::read_allowed), unfolding(crate::specs::PublicKey::rsa_content))]
     fn read(i: &'a [u8]) -> IResult<&'a [u8], u32> {
         let (i, bits) = tagged::<PositiveBits>(i, tag::INTEGER)?;
         let (i, _) = tagged::<Integer>(i, tag::INTEGER)?;
@@ -116,7 +116,7 @@ impl<'a> InPlace<'a> for RsaContent {
 /// - What [`der::tagged`] and [`Integer`] refuse.
 /// - `Error` of kind `Verify` where the modulus is negative, and `Complete` where it is 0.
 /// - `Error` of kind `TooLarge` where the modulus has more than 65,536 bytes.
-#[tactic(auto, using(tls_fields::proofs::OneAnswerLemmas::read_allowed), unfolding(crate::specs::PublicKey::rsa_public_key))]
+#[tactic(auto, using(layouts::proofs::OneAnswerLemmas::read_allowed), unfolding(crate::specs::PublicKey::rsa_public_key))]
 pub fn parse_rsa_public_key(i: &[u8]) -> IResult<&[u8], u32>
     ensures { Gives (λ v. v) rsa_public_key i.now result }
 {

@@ -1,8 +1,8 @@
 //! The part of a certificate that is signed (RFC 5280, section 4.1.2).
-#![tactic(auto, using(tls_fields::proofs::OneAnswerLemmas::read_allowed))]
+#![tactic(auto, using(layouts::proofs::OneAnswerLemmas::read_allowed))]
 
 ghost use Rattle.std.specs.Prelude.{ℕ};
-ghost use Rattle.tls_fields.specs.Answers.{Gives};
+ghost use Rattle.layouts.specs.Answers.{Gives};
 ghost use Rattle.x509.specs.Certificate.{version_content, version as version_layout, view_first_fields, first_fields, view_name_fields, name_fields, view_optional_fields, optional_fields};
 ghost use Rattle.x509.specs.Certificate.{TBSCertificate as PlainTBSCertificate, view_tbs_certificate, tbs_certificate};
 
@@ -13,7 +13,7 @@ use crate::extension::{ExtensionList, Extensions};
 use crate::name::{Name, parse_name};
 use crate::validity::{Validity, parse_validity};
 use der::{BitString, Integer, optional, tag, tagged};
-use tls_fields::{ErrorKind, IResult, InPlace, Items, number1, refused};
+use layouts::{ErrorKind, IResult, InPlace, Items, number1, refused};
 
 /// The content of an INTEGER that is a version.
 struct VersionContent;
@@ -27,7 +27,7 @@ impl<'a> InPlace<'a> for VersionContent {
 
     ghost layout = { version_content };
 
-    #[tactic(auto, using(tls_fields::proofs::OneAnswerLemmas::read_allowed), unfolding(crate::specs::Certificate::version_content))]
+    #[tactic(auto, using(layouts::proofs::OneAnswerLemmas::read_allowed), unfolding(crate::specs::Certificate::version_content))]
     fn read(i: &'a [u8]) -> IResult<&'a [u8], u8> {
         let (i, n) = number1(i)?;
         if n >= 128 {
@@ -49,7 +49,7 @@ impl<'a> InPlace<'a> for Version {
 
     ghost layout = { version_layout };
 
-    #[tactic(auto, using(tls_fields::proofs::OneAnswerLemmas::read_allowed), unfolding(crate::specs::Certificate::version))]
+    #[tactic(auto, using(layouts::proofs::OneAnswerLemmas::read_allowed), unfolding(crate::specs::Certificate::version))]
     fn read(i: &'a [u8]) -> IResult<&'a [u8], u8> {
         tagged::<VersionContent>(i, tag::INTEGER)
     }
@@ -64,7 +64,7 @@ struct FirstFields<'a> {
 }
 
 /// Reads the fields up to the signature's algorithm.
-#[tactic(auto, using(tls_fields::proofs::OneAnswerLemmas::read_allowed), unfolding(crate::specs::Certificate::first_fields))]
+#[tactic(auto, using(layouts::proofs::OneAnswerLemmas::read_allowed), unfolding(crate::specs::Certificate::first_fields))]
 fn read_first_fields(i: &[u8]) -> IResult<&[u8], FirstFields>
     ensures { Gives view_first_fields first_fields i.now result }
 {
@@ -93,7 +93,7 @@ struct NameFields<'a> {
 }
 
 /// Reads the fields from the issuer to the key.
-#[tactic(auto, using(tls_fields::proofs::OneAnswerLemmas::read_allowed), unfolding(crate::specs::Certificate::name_fields))]
+#[tactic(auto, using(layouts::proofs::OneAnswerLemmas::read_allowed), unfolding(crate::specs::Certificate::name_fields))]
 fn read_name_fields(i: &[u8]) -> IResult<&[u8], NameFields>
     ensures { Gives view_name_fields name_fields i.now result }
 {
@@ -119,7 +119,7 @@ struct OptionalFields<'a> {
 }
 
 /// Reads the fields behind the key.
-#[tactic(auto, using(tls_fields::proofs::OneAnswerLemmas::read_allowed, tls_fields::proofs::ItemsLemmas::none_in), unfolding(crate::specs::Certificate::optional_fields))]
+#[tactic(auto, using(layouts::proofs::OneAnswerLemmas::read_allowed, layouts::proofs::ItemsLemmas::none_in), unfolding(crate::specs::Certificate::optional_fields))]
 fn read_optional_fields<'a>(i: &'a [u8]) -> IResult<&'a [u8], OptionalFields<'a>>
     ensures { Gives view_optional_fields optional_fields i.now result }
 {
@@ -172,7 +172,7 @@ impl<'a> InPlace<'a> for TBSCertificate<'a> {
 
     ghost layout = { tbs_certificate };
 
-    #[tactic(auto, using(tls_fields::proofs::OneAnswerLemmas::read_allowed), unfolding(crate::specs::Certificate::tbs_certificate))]
+    #[tactic(auto, using(layouts::proofs::OneAnswerLemmas::read_allowed), unfolding(crate::specs::Certificate::tbs_certificate))]
     fn read(i: &'a [u8]) -> IResult<&'a [u8], Self> {
         let (i, first) = read_first_fields(i)?;
         let (i, names) = read_name_fields(i)?;

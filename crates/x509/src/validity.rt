@@ -1,18 +1,18 @@
 //! When a certificate is valid (RFC 5280, section 4.1.2.5).
-#![tactic(auto, using(tls_fields::proofs::OneAnswerLemmas::read_allowed))]
+#![tactic(auto, using(layouts::proofs::OneAnswerLemmas::read_allowed))]
 
-ghost use Rattle.tls_fields.specs.Answers.{Gives};
+ghost use Rattle.layouts.specs.Answers.{Gives};
 ghost use Rattle.x509.specs.Certificate.{time as time_layout, validity_content, validity};
 
 use der::{GeneralizedTime, UtcTime, tag, tagged};
-use tls_fields::{ErrorKind, IResult, InPlace, number1, refused};
+use layouts::{ErrorKind, IResult, InPlace, number1, refused};
 
 /// Reads a Time, in seconds since 1970-01-01 00:00:00 UTC: a UTCTime of a year from 1950 to 2049, or a GeneralizedTime.
 ///
 /// - `Incomplete` of what is missing of it.
 /// - `Error` of kind `Tag` where it is neither.
 /// - What [`der::tagged`] and [`UtcTime`] or [`GeneralizedTime`] refuse.
-#[tactic(auto, using(tls_fields::proofs::OneAnswerLemmas::read_allowed), unfolding(crate::specs::Certificate::time, crate::specs::Certificate::time_by))]
+#[tactic(auto, using(layouts::proofs::OneAnswerLemmas::read_allowed), unfolding(crate::specs::Certificate::time, crate::specs::Certificate::time_by))]
 pub fn parse_time(i: &[u8]) -> IResult<&[u8], i64>
     ensures { Gives (λ v. v) time_layout i.now result }
 {
@@ -47,7 +47,7 @@ impl<'a> InPlace<'a> for ValidityContent {
 
     ghost layout = { validity_content };
 
-    #[tactic(auto, using(tls_fields::proofs::OneAnswerLemmas::read_allowed), unfolding(crate::specs::Certificate::validity_content))]
+    #[tactic(auto, using(layouts::proofs::OneAnswerLemmas::read_allowed), unfolding(crate::specs::Certificate::validity_content))]
     fn read(i: &'a [u8]) -> IResult<&'a [u8], Validity> {
         let (i, not_before) = parse_time(i)?;
         let (i, not_after) = parse_time(i)?;
@@ -60,7 +60,7 @@ impl<'a> InPlace<'a> for ValidityContent {
 }
 
 /// Reads a Validity.
-#[tactic(auto, using(tls_fields::proofs::OneAnswerLemmas::read_allowed), unfolding(crate::specs::Certificate::validity))]
+#[tactic(auto, using(layouts::proofs::OneAnswerLemmas::read_allowed), unfolding(crate::specs::Certificate::validity))]
 pub(crate) fn parse_validity(i: &[u8]) -> IResult<&[u8], Validity>
     ensures { Gives (λ v. v) validity i.now result }
 {

@@ -2,12 +2,12 @@
 use Rattle.std.proofs.Common.{◌≡◌, ◌≤◌, ℕ, [], ◌∷◌, ◌++◌, length, arith, Ok, Bool, true, false, ◌==◌, if◌then◌else◌, refl, sym, subst, ap, ◌∙◌}
 use Rattle.std.specs.Prelude.{◌%◌, nat_le, not}
 use Rattle.std.proofs.lemmas.List.{append-nil, length-append}
-use Rattle.tls_fields.specs.Bytes.{Bytes}
-use Rattle.tls_fields.specs.Layout.{Layout, done, left, number, block, rest, list, look, test, chain, ◌>>=◌, ◌>>◌}
-use Rattle.tls_fields.specs.Meaning.{EndsWith, Allows, Spells}
-use Rattle.tls_fields.specs.declared.result.ErrorKind.{ErrorKind}
-use Rattle.tls_fields.specs.declared.result.ErrorKind.TheVariants.{LengthValue, Switch, Verify}
-use Rattle.tls_fields.proofs.EndLemmas.{ends, ends_after}
+use Rattle.layouts.specs.Bytes.{Bytes}
+use Rattle.layouts.specs.Layout.{Layout, done, left, number, block, rest, list, look, test, chain, ◌>>=◌, ◌>>◌}
+use Rattle.layouts.specs.Meaning.{EndsWith, Allows, Spells}
+use Rattle.layouts.specs.declared.result.ErrorKind.{ErrorKind}
+use Rattle.layouts.specs.declared.result.ErrorKind.TheVariants.{LengthValue, Switch, Verify}
+use Rattle.layouts.proofs.EndLemmas.{ends, ends_after}
 use Rattle.der.specs.Element.{Element, der_length, element}
 use Rattle.der.specs.ObjectIdentifier.{object_identifier_content, subidentifier}
 use Rattle.der.specs.Values.{BitString, bit_string, integer, is_padding, is_shortest}

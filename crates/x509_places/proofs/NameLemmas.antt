@@ -2,15 +2,15 @@
 use Rattle.std.proofs.Common.{◌≡◌, ℕ, ◌-◌, [], ◌++◌, length, take, Ok, Bool, true, false, sym, subst, ap, ◌∙◌}
 use Rattle.std.specs.Prelude.{List, ◌==◌, nat_le, nat_lt}
 use Rattle.std.proofs.lemmas.List.{append_assoc, append_cancel_right}
-use Rattle.tls_fields.specs.Bytes.{Bytes, bytes_of}
-use Rattle.tls_fields.specs.Layout.{Layout, done, refuse, number, ignored, block, left, tag, window, list, maybe, either, complete, look, chain, test, choose}
-use Rattle.tls_fields.specs.Meaning.{EndsWith, Allows, Spells}
-use Rattle.tls_fields.specs.Stable.{IsStable}
-use Rattle.tls_fields.specs.declared.places.Place.{Place}
-use Rattle.tls_fields.specs.declared.result.ErrorKind.{ErrorKind}
-use Rattle.tls_fields.specs.declared.result.ErrorKind.TheVariants.{Switch, Tag, TooLarge, Verify}
-use Rattle.tls_fields.proofs.EndLemmas.{ends}
-use Rattle.tls_fields.proofs.PlaceLemmas.{ends_here, ends_read}
+use Rattle.layouts.specs.Bytes.{Bytes, bytes_of}
+use Rattle.layouts.specs.Layout.{Layout, done, refuse, number, ignored, block, left, tag, window, list, maybe, either, complete, look, chain, test, choose}
+use Rattle.layouts.specs.Meaning.{EndsWith, Allows, Spells}
+use Rattle.layouts.specs.Stable.{IsStable}
+use Rattle.layouts.specs.declared.places.Place.{Place}
+use Rattle.layouts.specs.declared.result.ErrorKind.{ErrorKind}
+use Rattle.layouts.specs.declared.result.ErrorKind.TheVariants.{Switch, Tag, TooLarge, Verify}
+use Rattle.layouts.proofs.EndLemmas.{ends}
+use Rattle.layouts.proofs.PlaceLemmas.{ends_here, ends_read}
 use Rattle.der.specs.Element.{der_length, items_of, length_by, long_length, tagged}
 use Rattle.x509.specs.Name.{AttributeTypeAndValue, name, relative_distinguished_name}
 use Rattle.x509_places.specs.Place.{IsBefore, NameStands, Stands}

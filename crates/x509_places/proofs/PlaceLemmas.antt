@@ -2,10 +2,10 @@
 use Rattle.std.proofs.Common.{◌≡◌, ℕ, ◌+◌, ◌-◌, ◌≤◌, [], ◌++◌, length, take, drop, Ok, sym, ◌∙◌, ap, subst, refl, arith}
 use Rattle.std.proofs.lemmas.List.{append_assoc, length-append, drop_at, take_at, length-take-le, take-append-drop}
 use Rattle.std.proofs.Math.Seq.{take-length}
-use Rattle.tls_fields.specs.Bytes.{Bytes}
-use Rattle.tls_fields.specs.Layout.{block}
-use Rattle.tls_fields.specs.Meaning.{EndsWith, Allows}
-use Rattle.tls_fields.proofs.EndLemmas.{ends_after}
+use Rattle.layouts.specs.Bytes.{Bytes}
+use Rattle.layouts.specs.Layout.{block}
+use Rattle.layouts.specs.Meaning.{EndsWith, Allows}
+use Rattle.layouts.proofs.EndLemmas.{ends_after}
 use Rattle.x509_places.specs.Place.{IsBefore, Stands}
 
 -- the bytes in front of a part, those behind it, and how many are in front

@@ -1,7 +1,7 @@
 -- Where the fields of a certificate stand.
 use Rattle.std.specs.Option.{option_map}
-use Rattle.tls_fields.specs.Bytes.{Bytes}
-use Rattle.tls_fields.specs.Items.{items_in}
+use Rattle.layouts.specs.Bytes.{Bytes}
+use Rattle.layouts.specs.Items.{items_in}
 use Rattle.x509.specs.Name.{relative_distinguished_name}
 use Rattle.x509.specs.declared.algorithm.AlgorithmIdentifier.{AlgorithmIdentifier}
 use Rattle.x509.specs.declared.algorithm.SubjectPublicKeyInfo.{SubjectPublicKeyInfo}

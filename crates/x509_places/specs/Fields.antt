@@ -1,7 +1,7 @@
 -- What is read of a certificate's signed part, step by step.
 use Rattle.std.specs.Option.{option_map}
-use Rattle.tls_fields.specs.Bytes.{Bytes}
-use Rattle.tls_fields.specs.Items.{items_in}
+use Rattle.layouts.specs.Bytes.{Bytes}
+use Rattle.layouts.specs.Items.{items_in}
 use Rattle.der.specs.Values.{view_bit_string}
 use Rattle.x509.specs.Certificate.{FirstFields, NameFields, OptionalFields, extension, view_algorithm, view_key_info}
 use Rattle.x509.specs.Name.{relative_distinguished_name}

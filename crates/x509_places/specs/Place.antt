@@ -1,9 +1,9 @@
 -- Where parts of a certificate stand.
 use Rattle.std.specs.Prelude.{◌≡◌, ℕ, ◌+◌, ◌-◌, ◌≤◌, length, take, [], List, Option, Some, None, Ok, ⊤}
-use Rattle.tls_fields.specs.Bytes.{Bytes}
-use Rattle.tls_fields.specs.Meaning.{Allows, EndsWith}
-use Rattle.tls_fields.specs.Place.{bytes_at}
-use Rattle.tls_fields.specs.declared.places.Place.{Place}
+use Rattle.layouts.specs.Bytes.{Bytes}
+use Rattle.layouts.specs.Meaning.{Allows, EndsWith}
+use Rattle.layouts.specs.Place.{bytes_at}
+use Rattle.layouts.specs.declared.places.Place.{Place}
 use Rattle.x509.specs.Name.{AttributeTypeAndValue, name}
 
 -- x stands at the place p, which lies within b.

@@ -1,5 +1,5 @@
 -- Where the parts of an extension stand, and the content of a name of a subject.
-use Rattle.tls_fields.specs.Bytes.{Bytes}
+use Rattle.layouts.specs.Bytes.{Bytes}
 use Rattle.x509.specs.declared.extension.Extension.{Extension}
 use Rattle.x509.specs.declared.general_name.GeneralName.{GeneralName}
 use Rattle.x509.specs.declared.general_name.GeneralName.TheVariants as lent

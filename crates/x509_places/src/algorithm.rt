@@ -1,9 +1,9 @@
 //! Algorithms and public keys, and where their parts stand.
-#![tactic(auto, using(tls_fields::proofs::OneAnswerLemmas::read_allowed))]
+#![tactic(auto, using(layouts::proofs::OneAnswerLemmas::read_allowed))]
 
 ghost use Rattle.std.specs.Prelude.{IfOk};
 ghost use Rattle.std.specs.Option.{option_map};
-ghost use Rattle.tls_fields.specs.Answers.{Gives};
+ghost use Rattle.layouts.specs.Answers.{Gives};
 ghost use Rattle.der.specs.Element.{optional_element, view_element};
 ghost use Rattle.x509.specs.Certificate.{AlgorithmIdentifier as PlainAlgorithm, view_algorithm, algorithm_content, algorithm_identifier};
 ghost use Rattle.x509.specs.Certificate.{SubjectPublicKeyInfo as PlainKeyInfo, view_key_info, key_info_content, subject_public_key_info};
@@ -14,7 +14,7 @@ use crate::part::{Part, tagged_at};
 use crate::place::place_before;
 use crate::value::{BitStringAt, ObjectIdentifierAt};
 use der::{Element, tag};
-use tls_fields::{IResult, InPlace, Place};
+use layouts::{IResult, InPlace, Place};
 use x509::{AlgorithmIdentifier, SubjectPublicKeyInfo};
 
 /// Where the parts of an AlgorithmIdentifier stand.
@@ -27,7 +27,7 @@ pub struct AlgorithmPlaces {
 }
 
 /// Reads an element where a byte is left, and says where its content stands.
-#[tactic(auto, using(tls_fields::proofs::OneAnswerLemmas::read_allowed), unfolding(der::specs::Element::optional_element))]
+#[tactic(auto, using(layouts::proofs::OneAnswerLemmas::read_allowed), unfolding(der::specs::Element::optional_element))]
 fn optional_element_at<'a>(
     whole: &[u8],
     behind: usize,
@@ -58,7 +58,7 @@ impl<'a> Part<'a> for AlgorithmContentAt {
 
     ghost stands = { λ b x. AlgorithmStands b x.0 x.1 };
 
-    #[tactic(auto, using(tls_fields::proofs::OneAnswerLemmas::read_allowed), unfolding(x509::specs::Certificate::algorithm_content, der::specs::ObjectIdentifier::object_identifier))]
+    #[tactic(auto, using(layouts::proofs::OneAnswerLemmas::read_allowed), unfolding(x509::specs::Certificate::algorithm_content, der::specs::ObjectIdentifier::object_identifier))]
     fn read_at(whole: &[u8], behind: usize, i: &'a [u8]) -> IResult<&'a [u8], Self::Read> {
         let (after, (algorithm, place)) = tagged_at::<ObjectIdentifierAt>(
             whole,
@@ -80,7 +80,7 @@ impl<'a> Part<'a> for AlgorithmContentAt {
 }
 
 /// Reads an AlgorithmIdentifier, and says where its parts stand.
-#[tactic(auto, using(tls_fields::proofs::OneAnswerLemmas::read_allowed), unfolding(x509::specs::Certificate::algorithm_identifier))]
+#[tactic(auto, using(layouts::proofs::OneAnswerLemmas::read_allowed), unfolding(x509::specs::Certificate::algorithm_identifier))]
 pub(crate) fn algorithm_at<'a>(
     whole: &[u8],
     behind: usize,
@@ -115,7 +115,7 @@ impl<'a> Part<'a> for KeyContentAt {
 
     ghost stands = { λ b x. KeyStands b x.0 x.1 };
 
-    #[tactic(auto, using(tls_fields::proofs::OneAnswerLemmas::read_allowed), unfolding(x509::specs::Certificate::key_info_content))]
+    #[tactic(auto, using(layouts::proofs::OneAnswerLemmas::read_allowed), unfolding(x509::specs::Certificate::key_info_content))]
     fn read_at(whole: &[u8], behind: usize, i: &'a [u8]) -> IResult<&'a [u8], Self::Read> {
         let (after, (algorithm, places)) = algorithm_at(whole, behind, i)?;
         let (rest, (subject_public_key, key)) = tagged_at::<BitStringAt>(
@@ -137,7 +137,7 @@ impl<'a> Part<'a> for KeyContentAt {
 }
 
 /// Reads a SubjectPublicKeyInfo, and says where its parts stand.
-#[tactic(auto, using(tls_fields::proofs::OneAnswerLemmas::read_allowed), unfolding(x509::specs::Certificate::subject_public_key_info))]
+#[tactic(auto, using(layouts::proofs::OneAnswerLemmas::read_allowed), unfolding(x509::specs::Certificate::subject_public_key_info))]
 pub(crate) fn key_at<'a>(
     whole: &[u8],
     behind: usize,

@@ -1,8 +1,8 @@
 //! Certificates, and where their fields stand (RFC 5280, section 4.1).
-#![tactic(auto, using(tls_fields::proofs::OneAnswerLemmas::read_allowed))]
+#![tactic(auto, using(layouts::proofs::OneAnswerLemmas::read_allowed))]
 
 ghost use Rattle.std.specs.Prelude.{IfOk};
-ghost use Rattle.tls_fields.specs.Answers.{Gives};
+ghost use Rattle.layouts.specs.Answers.{Gives};
 ghost use Rattle.x509.specs.Certificate.{Certificate as PlainCertificate, view_certificate, certificate_content, certificate};
 ghost use Rattle.x509_places.specs.Certificate.{CertificateStands};
 
@@ -12,7 +12,7 @@ use crate::place::taken;
 use crate::tbs::{TBSCertificateAt, TBSPlaces};
 use crate::value::BitStringAt;
 use der::tag;
-use tls_fields::{IResult, Place, rest as rest_of};
+use layouts::{IResult, Place, rest as rest_of};
 use x509::Certificate;
 
 /// Where the fields of a certificate stand.
@@ -42,7 +42,7 @@ impl<'a> Part<'a> for CertificateContentAt {
 
     ghost stands = { λ b x. CertificateStands b x.0 x.1 };
 
-    #[tactic(auto, using(tls_fields::proofs::OneAnswerLemmas::read_allowed), unfolding(x509::specs::Certificate::certificate_content))]
+    #[tactic(auto, using(layouts::proofs::OneAnswerLemmas::read_allowed), unfolding(x509::specs::Certificate::certificate_content))]
     fn read_at(whole: &[u8], behind: usize, i: &'a [u8]) -> IResult<&'a [u8], Self::Read> {
         let (_, bytes) = rest_of(i)?;
         let (after, (tbs_certificate, tbs_places)) = tagged_at::<TBSCertificateAt>(
@@ -78,7 +78,7 @@ impl<'a> Part<'a> for CertificateContentAt {
 }
 
 /// Reads a certificate, and says where its fields stand in `whole`; it answers and refuses as [`x509::parse_certificate`].
-#[tactic(auto, using(tls_fields::proofs::OneAnswerLemmas::read_allowed), unfolding(x509::specs::Certificate::certificate))]
+#[tactic(auto, using(layouts::proofs::OneAnswerLemmas::read_allowed), unfolding(x509::specs::Certificate::certificate))]
 pub fn certificate_with_places(whole: &[u8]) -> IResult<&[u8], (Certificate, CertificatePlaces)>
     ensures gives { Gives (λ x. view_certificate x.0) certificate whole.now result }
     ensures places { IfOk result (λ x. CertificateStands whole.now x.1.0 x.1.1) }

@@ -1,16 +1,16 @@
 //! Extensions, and where their parts stand (RFC 5280, section 4.2).
-#![tactic(auto, using(tls_fields::proofs::OneAnswerLemmas::read_allowed))]
+#![tactic(auto, using(layouts::proofs::OneAnswerLemmas::read_allowed))]
 
 ghost use Rattle.std.specs.Prelude.{IfOk};
-ghost use Rattle.tls_fields.specs.Answers.{Gives};
-ghost use Rattle.tls_fields.specs.Meaning.{EndsWith};
+ghost use Rattle.layouts.specs.Answers.{Gives};
+ghost use Rattle.layouts.specs.Meaning.{EndsWith};
 ghost use Rattle.x509.specs.Certificate.{Extension as PlainExtension, view_extension, extension_content, extension};
 ghost use Rattle.x509_places.specs.Walk.{ExtensionStands};
 
 use crate::part::{Part, tagged_at};
 use crate::value::{AllBytesAt, ObjectIdentifierAt};
 use der::{default_false, tag};
-use tls_fields::{IResult, Place};
+use layouts::{IResult, Place};
 use x509::Extension;
 
 /// Where the parts of an extension stand.
@@ -36,7 +36,7 @@ impl<'a> Part<'a> for ExtensionContentAt {
 
     ghost stands = { λ b x. ExtensionStands b x.0 x.1 };
 
-    #[tactic(auto, using(tls_fields::proofs::OneAnswerLemmas::read_allowed), unfolding(x509::specs::Certificate::extension_content, der::specs::ObjectIdentifier::object_identifier))]
+    #[tactic(auto, using(layouts::proofs::OneAnswerLemmas::read_allowed), unfolding(x509::specs::Certificate::extension_content, der::specs::ObjectIdentifier::object_identifier))]
     fn read_at(whole: &[u8], behind: usize, i: &'a [u8]) -> IResult<&'a [u8], Self::Read> {
         let (after_id, (extn_id, id_place)) = tagged_at::<ObjectIdentifierAt>(
             whole,
@@ -67,7 +67,7 @@ impl<'a> Part<'a> for ExtensionContentAt {
 /// Reads one extension from the front of `i`, and says where its parts stand in `whole`, if `i` is an end of `whole`.
 ///
 /// It answers and refuses as an item of [`x509::Extensions`].
-#[tactic(auto, using(tls_fields::proofs::OneAnswerLemmas::read_allowed, crate::proofs::PlaceLemmas::end_before), unfolding(x509::specs::Certificate::extension))]
+#[tactic(auto, using(layouts::proofs::OneAnswerLemmas::read_allowed, crate::proofs::PlaceLemmas::end_before), unfolding(x509::specs::Certificate::extension))]
 pub fn extension_with_places<'a>(
     whole: &[u8],
     i: &'a [u8],

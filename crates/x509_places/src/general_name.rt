@@ -1,10 +1,10 @@
 //! Names of a subject or an issuer, and where they stand (RFC 5280, section 4.2.1.6).
-#![tactic(auto, using(tls_fields::proofs::OneAnswerLemmas::read_allowed))]
+#![tactic(auto, using(layouts::proofs::OneAnswerLemmas::read_allowed))]
 
 ghost use Rattle.std.specs.Prelude.{◌≡◌, IfOk};
-ghost use Rattle.tls_fields.specs.Answers.{Gives};
-ghost use Rattle.tls_fields.specs.Items.{items_in};
-ghost use Rattle.tls_fields.specs.Meaning.{EndsWith};
+ghost use Rattle.layouts.specs.Answers.{Gives};
+ghost use Rattle.layouts.specs.Items.{items_in};
+ghost use Rattle.layouts.specs.Meaning.{EndsWith};
 ghost use Rattle.x509.specs.GeneralName.{view_general_name, general_name, general_names};
 ghost use Rattle.x509_places.specs.Place.{Stands};
 ghost use Rattle.x509_places.specs.Walk.{name_content};
@@ -13,7 +13,7 @@ use crate::part::tagged_at;
 use crate::place::place_before;
 use crate::value::ItemsAt;
 use der::tag;
-use tls_fields::{IResult, InPlace, Items, Place};
+use layouts::{IResult, InPlace, Items, Place};
 use x509::{GeneralName, GeneralNames};
 
 /// What is in the element of a name.
@@ -50,7 +50,7 @@ pub fn general_name_with_place<'a>(
 /// behind the other, without the tag and the length of their list.
 ///
 /// It answers and refuses as [`x509::parse_general_names`].
-#[tactic(auto, using(tls_fields::proofs::OneAnswerLemmas::read_allowed, crate::proofs::PlaceLemmas::whole_before), unfolding(x509::specs::GeneralName::general_names))]
+#[tactic(auto, using(layouts::proofs::OneAnswerLemmas::read_allowed, crate::proofs::PlaceLemmas::whole_before), unfolding(x509::specs::GeneralName::general_names))]
 pub fn general_names_with_place<'a>(
     whole: &'a [u8],
 ) -> IResult<&'a [u8], (Items<'a, GeneralNames>, Place)>

@@ -4,7 +4,7 @@
 //! [`certificate_with_places`] reads a certificate as [`x509::parse_certificate`] does, and says where its fields stand.
 //! [`extension_with_places`] and [`general_name_with_place`] do the same of one extension, and of one name of a subject or an
 //! issuer. Nothing here takes memory, and every refusal is that of `x509`.
-#![tactic(auto, using(tls_fields::proofs::OneAnswerLemmas::read_allowed))]
+#![tactic(auto, using(layouts::proofs::OneAnswerLemmas::read_allowed))]
 
 mod algorithm;
 mod certificate;

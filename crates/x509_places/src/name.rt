@@ -1,14 +1,14 @@
 //! Names, and where they stand.
-#![tactic(auto, using(tls_fields::proofs::OneAnswerLemmas::read_allowed))]
+#![tactic(auto, using(layouts::proofs::OneAnswerLemmas::read_allowed))]
 
 ghost use Rattle.std.specs.Prelude.{IfOk};
-ghost use Rattle.tls_fields.specs.Answers.{Gives};
-ghost use Rattle.tls_fields.specs.Items.{items_in};
+ghost use Rattle.layouts.specs.Answers.{Gives};
+ghost use Rattle.layouts.specs.Items.{items_in};
 ghost use Rattle.x509.specs.Name.{name, relative_distinguished_name};
 ghost use Rattle.x509_places.specs.Place.{IsBefore, NameStands};
 
 use crate::place::taken;
-use tls_fields::{IResult, Place};
+use layouts::{IResult, Place};
 use x509::{Name, parse_name};
 
 /// Reads a Name, and says where it stands, with its tag and its length.

@@ -1,17 +1,17 @@
 //! Parts that are read with the places of what they hold, and elements of such parts.
-#![tactic(auto, using(tls_fields::proofs::OneAnswerLemmas::read_allowed))]
+#![tactic(auto, using(layouts::proofs::OneAnswerLemmas::read_allowed))]
 
 ghost use Rattle.std.specs.Prelude.{IfOk, IfSome};
 ghost use Rattle.std.specs.Option.{option_map};
-ghost use Rattle.tls_fields.specs.Bytes.{Bytes};
-ghost use Rattle.tls_fields.specs.Answers.{Gives};
-ghost use Rattle.tls_fields.specs.Layout.{Layout, complete};
+ghost use Rattle.layouts.specs.Bytes.{Bytes};
+ghost use Rattle.layouts.specs.Answers.{Gives};
+ghost use Rattle.layouts.specs.Layout.{Layout, complete};
 ghost use Rattle.der.specs.Element.{whole as whole_layout, tagged, optional};
 ghost use Rattle.x509_places.specs.Place.{IsBefore};
 
 use crate::place::behind_part;
 use der::der_length;
-use tls_fields::{Err, ErrorKind, IResult, block, number1, refused};
+use layouts::{Err, ErrorKind, IResult, block, number1, refused};
 
 /// How a part is read with the places of what it holds.
 pub(crate) trait Part<'a> {
@@ -33,7 +33,7 @@ pub(crate) trait Part<'a> {
 }
 
 /// What `T` reads, behind which no byte is left.
-#[tactic(auto, using(tls_fields::proofs::OneAnswerLemmas::read_allowed), unfolding(der::specs::Element::whole))]
+#[tactic(auto, using(layouts::proofs::OneAnswerLemmas::read_allowed), unfolding(der::specs::Element::whole))]
 fn whole_at<'a, T: Part<'a>>(whole: &[u8], behind: usize, i: &'a [u8]) -> IResult<&'a [u8], T::Read>
     ensures gives { Gives T.view (whole_layout T.layout) i.now result }
     ensures places { IsBefore whole.now behind i.now → IfOk result (λ x. T.stands whole.now x.1) }
@@ -61,7 +61,7 @@ fn content_at<'a, T: Part<'a>>(
 }
 
 /// Reads an element of this tag, whose whole content `T` reads; it answers and refuses as [`der::tagged`].
-#[tactic(auto, using(tls_fields::proofs::OneAnswerLemmas::read_allowed), unfolding(der::specs::Element::tagged))]
+#[tactic(auto, using(layouts::proofs::OneAnswerLemmas::read_allowed), unfolding(der::specs::Element::tagged))]
 pub(crate) fn tagged_at<'a, T: Part<'a>>(
     whole: &[u8],
     behind: usize,
@@ -83,7 +83,7 @@ pub(crate) fn tagged_at<'a, T: Part<'a>>(
 }
 
 /// As [`tagged_at`] where an element of this tag is next; else `None`, and nothing is taken: as [`der::optional`].
-#[tactic(auto, using(tls_fields::proofs::OneAnswerLemmas::read_allowed), unfolding(der::specs::Element::optional))]
+#[tactic(auto, using(layouts::proofs::OneAnswerLemmas::read_allowed), unfolding(der::specs::Element::optional))]
 pub(crate) fn optional_at<'a, T: Part<'a>>(
     whole: &[u8],
     behind: usize,

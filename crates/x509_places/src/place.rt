@@ -3,11 +3,11 @@
 //! An element's content is read alone, so its end isn't that of the bytes: `behind` is how many bytes of `whole` follow it.
 
 ghost use Rattle.std.specs.Prelude.{◌≡◌, ◌++◌, ◌-◌, length, take};
-ghost use Rattle.tls_fields.specs.Bytes.{Bytes};
-ghost use Rattle.tls_fields.specs.Meaning.{EndsWith};
+ghost use Rattle.layouts.specs.Bytes.{Bytes};
+ghost use Rattle.layouts.specs.Meaning.{EndsWith};
 ghost use Rattle.x509_places.specs.Place.{IsBefore, Stands};
 
-use tls_fields::Place;
+use layouts::Place;
 
 /// Where `part` stands in `whole`, in front of `rest`, which `behind` bytes follow.
 #[inline(always)]

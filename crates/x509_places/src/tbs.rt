@@ -1,11 +1,11 @@
 //! The part of a certificate that is signed, and where its fields stand.
-#![tactic(auto, using(tls_fields::proofs::OneAnswerLemmas::read_allowed))]
+#![tactic(auto, using(layouts::proofs::OneAnswerLemmas::read_allowed))]
 
 ghost use Rattle.std.specs.Prelude.{◌≡◌, ℕ, IfOk, IfSome, List};
 ghost use Rattle.std.specs.Option.{option_map};
-ghost use Rattle.tls_fields.specs.Bytes.{Bytes};
-ghost use Rattle.tls_fields.specs.Answers.{Gives};
-ghost use Rattle.tls_fields.specs.Items.{items_in};
+ghost use Rattle.layouts.specs.Bytes.{Bytes};
+ghost use Rattle.layouts.specs.Answers.{Gives};
+ghost use Rattle.layouts.specs.Items.{items_in};
 ghost use Rattle.x509.specs.Certificate.{Extension as PlainExtension, version_content, version as version_layout, validity_content, validity, extension, extensions as extensions_layout};
 ghost use Rattle.x509.specs.Certificate.{first_fields, name_fields, optional_fields, or_none, or_v1, TBSCertificate as PlainTBSCertificate, view_tbs_certificate, tbs_certificate};
 ghost use Rattle.x509_places.specs.Certificate.{TBSStands};
@@ -17,7 +17,7 @@ use crate::name::name_at;
 use crate::part::{Part, optional_at, tagged_at};
 use crate::value::{IntegerAt, ItemsAt};
 use der::{BitString, optional, tag, tagged};
-use tls_fields::{ErrorKind, IResult, InPlace, Items, Place, number1, refused};
+use layouts::{ErrorKind, IResult, InPlace, Items, Place, number1, refused};
 use x509::{
     AlgorithmIdentifier, Extensions, Name, SubjectPublicKeyInfo, TBSCertificate, Validity,
     parse_time,
@@ -35,7 +35,7 @@ impl<'a> InPlace<'a> for VersionContent {
 
     ghost layout = { version_content };
 
-    #[tactic(auto, using(tls_fields::proofs::OneAnswerLemmas::read_allowed), unfolding(x509::specs::Certificate::version_content))]
+    #[tactic(auto, using(layouts::proofs::OneAnswerLemmas::read_allowed), unfolding(x509::specs::Certificate::version_content))]
     fn read(i: &'a [u8]) -> IResult<&'a [u8], u8> {
         let (i, n) = number1(i)?;
         if n >= 128 {
@@ -57,7 +57,7 @@ impl<'a> InPlace<'a> for Version {
 
     ghost layout = { version_layout };
 
-    #[tactic(auto, using(tls_fields::proofs::OneAnswerLemmas::read_allowed), unfolding(x509::specs::Certificate::version))]
+    #[tactic(auto, using(layouts::proofs::OneAnswerLemmas::read_allowed), unfolding(x509::specs::Certificate::version))]
     fn read(i: &'a [u8]) -> IResult<&'a [u8], u8> {
         tagged::<VersionContent>(i, tag::INTEGER)
     }
@@ -84,7 +84,7 @@ fn version_or_v1(version: Option<u8>) -> u8
 }
 
 /// Reads the fields up to the signature's algorithm.
-#[tactic(auto, using(tls_fields::proofs::OneAnswerLemmas::read_allowed), unfolding(x509::specs::Certificate::first_fields))]
+#[tactic(auto, using(layouts::proofs::OneAnswerLemmas::read_allowed), unfolding(x509::specs::Certificate::first_fields))]
 fn first_fields_at<'a>(
     whole: &[u8],
     behind: usize,
@@ -124,7 +124,7 @@ impl<'a> InPlace<'a> for ValidityContent {
 
     ghost layout = { validity_content };
 
-    #[tactic(auto, using(tls_fields::proofs::OneAnswerLemmas::read_allowed), unfolding(x509::specs::Certificate::validity_content))]
+    #[tactic(auto, using(layouts::proofs::OneAnswerLemmas::read_allowed), unfolding(x509::specs::Certificate::validity_content))]
     fn read(i: &'a [u8]) -> IResult<&'a [u8], Validity> {
         let (i, not_before) = parse_time(i)?;
         let (i, not_after) = parse_time(i)?;
@@ -137,7 +137,7 @@ impl<'a> InPlace<'a> for ValidityContent {
 }
 
 /// Reads a Validity.
-#[tactic(auto, using(tls_fields::proofs::OneAnswerLemmas::read_allowed), unfolding(x509::specs::Certificate::validity))]
+#[tactic(auto, using(layouts::proofs::OneAnswerLemmas::read_allowed), unfolding(x509::specs::Certificate::validity))]
 fn read_validity(i: &[u8]) -> IResult<&[u8], Validity>
     ensures { Gives (λ v. v) validity i.now result }
 {
@@ -157,7 +157,7 @@ struct NameFields<'a> {
 }
 
 /// Reads the fields from the issuer to the key.
-#[tactic(auto, using(tls_fields::proofs::OneAnswerLemmas::read_allowed), unfolding(x509::specs::Certificate::name_fields))]
+#[tactic(auto, using(layouts::proofs::OneAnswerLemmas::read_allowed), unfolding(x509::specs::Certificate::name_fields))]
 fn name_fields_at<'a>(whole: &[u8], behind: usize, i: &'a [u8]) -> IResult<&'a [u8], NameFields<'a>>
     ensures gives { Gives view_names name_fields i.now result }
     ensures places { IsBefore whole.now behind i.now → IfOk result (λ x. NamesStand whole.now x.1) }
@@ -192,7 +192,7 @@ impl<'a> Part<'a> for ExtensionListAt {
 
     ghost stands = { λ b x. Stands b x.1 x.0.bytes.now };
 
-    #[tactic(auto, using(tls_fields::proofs::OneAnswerLemmas::read_allowed), unfolding(x509::specs::Certificate::extensions))]
+    #[tactic(auto, using(layouts::proofs::OneAnswerLemmas::read_allowed), unfolding(x509::specs::Certificate::extensions))]
     fn read_at(whole: &[u8], behind: usize, i: &'a [u8]) -> IResult<&'a [u8], Self::Read> {
         tagged_at::<ItemsAt<Extensions>>(whole, behind, i, tag::SEQUENCE)
     }
@@ -208,7 +208,7 @@ struct OptionalFields<'a> {
 }
 
 /// Extensions that are there, or none, and where they stand.
-#[tactic(auto, using(tls_fields::proofs::OneAnswerLemmas::read_allowed, tls_fields::proofs::ItemsLemmas::none_in))]
+#[tactic(auto, using(layouts::proofs::OneAnswerLemmas::read_allowed, layouts::proofs::ItemsLemmas::none_in))]
 fn held_or_none<'a>(list: Option<(Items<'a, Extensions>, Place)>) -> (Items<'a, Extensions>, Place)
     ensures is { items_in extension result.0.bytes.now ≡ or_none (option_map (λ x. items_in extension x.0.bytes.now) list.entry) }
     ensures places { (b : Bytes) → IfSome list.entry (λ x. Stands b x.1 x.0.bytes.now) → Stands b result.1 result.0.bytes.now }
@@ -226,7 +226,7 @@ fn held_or_none<'a>(list: Option<(Items<'a, Extensions>, Place)>) -> (Items<'a, 
 }
 
 /// Reads the fields behind the key.
-#[tactic(auto, using(tls_fields::proofs::OneAnswerLemmas::read_allowed), unfolding(x509::specs::Certificate::optional_fields))]
+#[tactic(auto, using(layouts::proofs::OneAnswerLemmas::read_allowed), unfolding(x509::specs::Certificate::optional_fields))]
 fn optional_fields_at<'a>(
     whole: &[u8],
     behind: usize,
@@ -277,7 +277,7 @@ impl<'a> Part<'a> for TBSCertificateAt {
 
     ghost stands = { λ b x. TBSStands b x.0 x.1 };
 
-    #[tactic(auto, using(tls_fields::proofs::OneAnswerLemmas::read_allowed), unfolding(x509::specs::Certificate::tbs_certificate))]
+    #[tactic(auto, using(layouts::proofs::OneAnswerLemmas::read_allowed), unfolding(x509::specs::Certificate::tbs_certificate))]
     fn read_at(whole: &[u8], behind: usize, i: &'a [u8]) -> IResult<&'a [u8], Self::Read> {
         let (after_first, first) = first_fields_at(whole, behind, i)?;
         let (after_names, names) = name_fields_at(whole, behind, after_first)?;

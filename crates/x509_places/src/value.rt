@@ -1,10 +1,10 @@
 //! Contents of single values, and where they stand.
-#![tactic(auto, using(tls_fields::proofs::OneAnswerLemmas::read_allowed))]
+#![tactic(auto, using(layouts::proofs::OneAnswerLemmas::read_allowed))]
 
 ghost use Rattle.std.specs.Prelude.{List};
-ghost use Rattle.tls_fields.specs.Bytes.{Bytes};
-ghost use Rattle.tls_fields.specs.Items.{items_in};
-ghost use Rattle.tls_fields.specs.Layout.{rest as rest_layout};
+ghost use Rattle.layouts.specs.Bytes.{Bytes};
+ghost use Rattle.layouts.specs.Items.{items_in};
+ghost use Rattle.layouts.specs.Layout.{rest as rest_layout};
 ghost use Rattle.der.specs.Element.{items_of};
 ghost use Rattle.der.specs.ObjectIdentifier.{object_identifier_content, view_object_identifier};
 ghost use Rattle.der.specs.Values.{BitString as PlainBitString, bit_string, integer, view_bit_string};
@@ -13,8 +13,8 @@ ghost use Rattle.x509_places.specs.Place.{Stands};
 use crate::part::Part;
 use crate::place::place_before;
 use der::{BitString, Integer, ObjectIdentifier};
+use layouts::{IResult, InPlace, Items, Place, rest};
 use std::marker::PhantomData;
-use tls_fields::{IResult, InPlace, Items, Place, rest};
 
 /// The content of an OBJECT IDENTIFIER.
 pub(crate) struct ObjectIdentifierAt;
@@ -114,7 +114,7 @@ impl<'a, T: InPlace<'a>> Part<'a> for ItemsAt<'a, T> {
 
     ghost stands = { λ b x. Stands b x.1 x.0.bytes.now };
 
-    #[tactic(auto, using(tls_fields::proofs::OneAnswerLemmas::read_allowed), unfolding(der::specs::Element::items_of))]
+    #[tactic(auto, using(layouts::proofs::OneAnswerLemmas::read_allowed), unfolding(der::specs::Element::items_of))]
     fn read_at(whole: &[u8], behind: usize, i: &'a [u8]) -> IResult<&'a [u8], Self::Read> {
         let items = Items::new(i);
         let (after, _) = rest(i)?;

@@ -2,7 +2,7 @@
 use Rattle.std.proofs.Common.{ℕ, zero, suc, ◌+◌, ◌*◌, ◌^◌, ◌≤◌, ◌<◌, ◌≡◌, refl, sym, ap, cond, arith, [], ◌∷◌, Some, None, drop, length}
 use Rattle.std.proofs.lemmas.Bool.{lt-ltb, le-ltb}
 use Rattle.std.proofs.Math.Nat.{lt_of_not-le}
-use Rattle.tls_fields.specs.Bytes.{Bytes, number_from}
+use Rattle.layouts.specs.Bytes.{Bytes, number_from}
 use Rattle.x509_text.specs.Exponent.{small}
 
 pub number_from_grows : (n : ℕ) (bs : Bytes) → n ≤ number_from n bs

@@ -2,12 +2,12 @@
 use Rattle.std.specs.Prelude.{ℕ, ◌^◌, ◌||◌, nat_lt, ◌∷◌, decimal, Option, Some, None, Result, Ok, Err, if◌then◌else◌}
 use Rattle.std.specs.Str.{bytes_eq}
 use Rattle.hex.specs.Hex.{encode_lower}
-use Rattle.tls_fields.specs.Bytes.{Bytes, number_of}
-use Rattle.tls_fields.specs.Layout.{Layout, number, look, test, ◌>>=◌, ◌>>◌}
-use Rattle.tls_fields.specs.Meaning.{Refusal}
-use Rattle.tls_fields.specs.Reading.{reading}
-use Rattle.tls_fields.specs.Items.{value_of}
-use Rattle.tls_fields.specs.declared.result.ErrorKind.TheVariants.{Verify}
+use Rattle.layouts.specs.Bytes.{Bytes, number_of}
+use Rattle.layouts.specs.Layout.{Layout, number, look, test, ◌>>=◌, ◌>>◌}
+use Rattle.layouts.specs.Meaning.{Refusal}
+use Rattle.layouts.specs.Reading.{reading}
+use Rattle.layouts.specs.Items.{value_of}
+use Rattle.layouts.specs.declared.result.ErrorKind.TheVariants.{Verify}
 use Rattle.der.specs.Element.{tagged}
 use Rattle.der.specs.Values.{integer}
 use Rattle.x509.specs.Certificate.{SubjectPublicKeyInfo}

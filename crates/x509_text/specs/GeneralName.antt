@@ -5,7 +5,7 @@ use Rattle.std.specs.List.{flat_map}
 use Rattle.std.specs.Net.Addr.{segments_of}
 use Rattle.std.specs.Net.Text.{ipv4_text, ipv6_text}
 use Rattle.hex.specs.Hex.{encode_upper}
-use Rattle.tls_fields.specs.Bytes.{Bytes}
+use Rattle.layouts.specs.Bytes.{Bytes}
 use Rattle.x509.specs.GeneralName.{GeneralName, Rfc822Name, DnsName, UniformResourceIdentifier, IpAddress, Other}
 
 -- Printable ASCII as it is, but `\` twice; of all others two digits behind `\x`.

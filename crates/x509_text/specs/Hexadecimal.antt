@@ -3,7 +3,7 @@ use Rattle.std.specs.Prelude.{ℕ, ◌+◌, nat_lt, ◌∷◌, if◌then◌else�
 use Rattle.hex.specs.Hex.{encode_upper}
 use Rattle.der.specs.Element.{Element}
 use Rattle.der.specs.Text.{element_text}
-use Rattle.tls_fields.specs.Bytes.{Bytes}
+use Rattle.layouts.specs.Bytes.{Bytes}
 
 -- `0` to `9`, `A` to `F`
 abbrev pub hex_digit : ℕ → ℕ

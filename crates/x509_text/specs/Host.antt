@@ -4,9 +4,9 @@ use Rattle.std.specs.Borrow.{Bor}
 use Rattle.std.specs.Char.{to_ascii_lowercase, is_ascii_alphanumeric, is_ascii_digit}
 use Rattle.std.specs.List.{list_all, list_any, slice_split}
 use Rattle.std.specs.Str.{bytes_eq}
-use Rattle.tls_fields.specs.Bytes.{Bytes}
-use Rattle.tls_fields.specs.Items.{list_read}
-use Rattle.tls_fields.specs.Reading.{reading}
+use Rattle.layouts.specs.Bytes.{Bytes}
+use Rattle.layouts.specs.Items.{list_read}
+use Rattle.layouts.specs.Reading.{reading}
 use Rattle.x509.specs.Certificate.{Certificate, Extension}
 use Rattle.x509.specs.Extensions.{first_of}
 use Rattle.x509.specs.GeneralName.{GeneralName, DnsName, general_names}

@@ -2,8 +2,8 @@
 use Rattle.std.specs.Prelude.{ℕ, ◌||◌, List, [], ◌∷◌, find, codes, Option, Some, None, Result, Ok, if◌then◌else◌}
 use Rattle.std.specs.Str.{bytes_eq}
 use Rattle.std.specs.Option.{option_map}
-use Rattle.tls_fields.specs.Bytes.{Bytes}
-use Rattle.tls_fields.specs.Meaning.{Refusal}
+use Rattle.layouts.specs.Bytes.{Bytes}
+use Rattle.layouts.specs.Meaning.{Refusal}
 use Rattle.x509.specs.PublicKey.{PublicKey, Rsa, Ec, PKCS_1, EC_PUBLIC_KEY, EDWARDS}
 use Rattle.x509_text.specs.CurveSizes.{curve_sizes}
 use Rattle.x509_text.specs.Object.{SizedCurve}

@@ -1,7 +1,7 @@
 -- Names as texts (RFC 4514, section 2), as OpenSSL prints them.
 use Rattle.std.specs.Prelude.{Bool, true, false, List, [], ◌∷◌, ◌++◌, map, filter, reverse, Option, Some, None}
 use Rattle.std.specs.List.{join_with_byte}
-use Rattle.tls_fields.specs.Bytes.{Bytes}
+use Rattle.layouts.specs.Bytes.{Bytes}
 use Rattle.x509.specs.Name.{AttributeTypeAndValue}
 use Rattle.x509_text.specs.Hexadecimal.{dump_text}
 use Rattle.x509_text.specs.ObjectText.{dotted_text, short_name_of}

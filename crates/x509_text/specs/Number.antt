@@ -1,7 +1,7 @@
 -- Serial numbers as texts (RFC 5280, section 4.1.2.2), as OpenSSL prints them.
 use Rattle.std.specs.Prelude.{◌-◌, ◌%◌, ◌==◌, ◌&&◌, nat_le, Bool, true, false, [], ◌∷◌, reverse, if◌then◌else◌}
 use Rattle.hex.specs.Hex.{encode_upper}
-use Rattle.tls_fields.specs.Bytes.{Bytes}
+use Rattle.layouts.specs.Bytes.{Bytes}
 
 -- The highest bit says that a number is negative (X.690, section 8.3.3).
 abbrev pub is_negative : Bytes → Bool

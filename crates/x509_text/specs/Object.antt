@@ -1,6 +1,6 @@
 -- Object identifiers that have names.
 use Rattle.std.specs.Prelude.{ℕ, ◌+◌, ◌*◌, ◌/◌, ◌%◌, nat_lt, List, [], ◌∷◌, ◌++◌, flat_map, if◌then◌else◌}
-use Rattle.tls_fields.specs.Bytes.{Bytes}
+use Rattle.layouts.specs.Bytes.{Bytes}
 use Rattle.x509_text.specs.declared.tables.Object.{Object}
 use Rattle.x509_text.specs.declared.tables.CurveSize.{CurveSize}
 

@@ -1,6 +1,6 @@
 -- What a key may be used for (RFC 5280, sections 4.2.1.3 and 4.2.1.12), by name.
 use Rattle.std.specs.Prelude.{Bool, List, [], ◌∷◌, codes}
-use Rattle.tls_fields.specs.Bytes.{Bytes}
+use Rattle.layouts.specs.Bytes.{Bytes}
 use Rattle.x509.specs.Extensions.{ANY_EXTENDED_KEY_USAGE, ID_KP, KeyPurposeId, AnyExtendedKeyUsage, ServerAuth, ClientAuth, CodeSigning, EmailProtection, TimeStamping, OcspSigning, Other}
 use Rattle.x509.specs.declared.key_usage.KeyUsage.{KeyUsage}
 

@@ -1,10 +1,10 @@
 -- Values of attributes as texts (RFC 4514, sections 2.4 and 3), as OpenSSL prints them.
 use Rattle.std.specs.Prelude.{ℕ, ◌/◌, ◌%◌, ◌==◌, ◌&&◌, ◌||◌, not, nat_le, nat_lt, Bool, true, false, [], ◌∷◌, ◌++◌, length, encode_utf8, Option, Some, None, if◌then◌else◌}
 use Rattle.std.specs.List.{flat_map}
-use Rattle.tls_fields.specs.Bytes.{Bytes}
-use Rattle.tls_fields.specs.Layout.{Layout, done, number, test, ◌>>=◌, ◌>>◌}
-use Rattle.tls_fields.specs.Items.{items_in, left_in}
-use Rattle.tls_fields.specs.declared.result.ErrorKind.TheVariants.{Verify}
+use Rattle.layouts.specs.Bytes.{Bytes}
+use Rattle.layouts.specs.Layout.{Layout, done, number, test, ◌>>=◌, ◌>>◌}
+use Rattle.layouts.specs.Items.{items_in, left_in}
+use Rattle.layouts.specs.declared.result.ErrorKind.TheVariants.{Verify}
 use Rattle.der.specs.Element.{Element}
 use Rattle.x509_text.specs.Hexadecimal.{dump_text, hex_digit}
 

@@ -1,19 +1,19 @@
 //! The public exponent of RSA's keys (RFC 8017, section A.1.1).
-#![tactic(auto, using(tls_fields::proofs::OneAnswerLemmas::read_allowed))]
+#![tactic(auto, using(layouts::proofs::OneAnswerLemmas::read_allowed))]
 
 ghost use Rattle.std.specs.Prelude.{◌≡◌, ◌++◌, IfOk};
 ghost use Rattle.std.specs.Option.{option_map};
 ghost use Rattle.std.specs.String.{string_bytes};
-ghost use Rattle.tls_fields.specs.Answers.{Gives};
-ghost use Rattle.tls_fields.specs.Bytes.{Bytes, number_of};
+ghost use Rattle.layouts.specs.Answers.{Gives};
+ghost use Rattle.layouts.specs.Bytes.{Bytes, number_of};
 ghost use Rattle.x509.specs.Certificate.{view_key_info};
 ghost use Rattle.x509_text.specs.Exponent.{exponent_content, exponent_of, natural, natural_text as natural_text_of, rsa_exponent as rsa_exponent_layout, small};
 
 use crate::number::without_padding;
 use der::{Integer, tag, tagged};
 use itoa::Buffer;
+use layouts::{ErrorKind, IResult, InPlace, number1, refused};
 use std::alloc::{AllocError, Global};
-use tls_fields::{ErrorKind, IResult, InPlace, number1, refused};
 use x509::{SubjectPublicKeyInfo, oid};
 
 /// An INTEGER that isn't below 0.
@@ -28,7 +28,7 @@ impl<'a> InPlace<'a> for Natural {
 
     ghost layout = { natural };
 
-    #[tactic(auto, using(tls_fields::proofs::OneAnswerLemmas::read_allowed), unfolding(crate::specs::Exponent::natural))]
+    #[tactic(auto, using(layouts::proofs::OneAnswerLemmas::read_allowed), unfolding(crate::specs::Exponent::natural))]
     fn read(i: &'a [u8]) -> IResult<&'a [u8], &'a [u8]> {
         let (_, _) = Integer::read(i)?;
         let (_, first) = number1(i)?;
@@ -51,7 +51,7 @@ impl<'a> InPlace<'a> for ExponentContent {
 
     ghost layout = { exponent_content };
 
-    #[tactic(auto, using(tls_fields::proofs::OneAnswerLemmas::read_allowed), unfolding(crate::specs::Exponent::exponent_content))]
+    #[tactic(auto, using(layouts::proofs::OneAnswerLemmas::read_allowed), unfolding(crate::specs::Exponent::exponent_content))]
     fn read(i: &'a [u8]) -> IResult<&'a [u8], &'a [u8]> {
         let (i, _) = tagged::<Integer>(i, tag::INTEGER)?;
         tagged::<Natural>(i, tag::INTEGER)
@@ -59,7 +59,7 @@ impl<'a> InPlace<'a> for ExponentContent {
 }
 
 /// Reads an RSAPublicKey; of it the exponent.
-#[tactic(auto, using(tls_fields::proofs::OneAnswerLemmas::read_allowed), unfolding(crate::specs::Exponent::rsa_exponent))]
+#[tactic(auto, using(layouts::proofs::OneAnswerLemmas::read_allowed), unfolding(crate::specs::Exponent::rsa_exponent))]
 fn rsa_exponent(i: &[u8]) -> IResult<&[u8], &[u8]>
     ensures { Gives (λ v. v.now) rsa_exponent_layout i.now result }
 {

@@ -1,13 +1,13 @@
 //! Whether a certificate is for a host (RFC 9525, section 6.3).
-#![tactic(auto, using(tls_fields::proofs::OneAnswerLemmas::read_allowed))]
+#![tactic(auto, using(layouts::proofs::OneAnswerLemmas::read_allowed))]
 
 ghost use Rattle.std.specs.Prelude.{◌≡◌, ◌<◌, ◌∷◌, [], length, IfSome};
-ghost use Rattle.tls_fields.specs.Items.{items_in};
+ghost use Rattle.layouts.specs.Items.{items_in};
 ghost use Rattle.x509.specs.Certificate.{extension, view_certificate};
 ghost use Rattle.x509.specs.GeneralName.{general_name};
 ghost use Rattle.x509_text.specs.Host.{alt_names as alt_names_of, covers as covers_of, is_host as is_host_labels, is_label as is_label_bytes, is_name_byte as is_name_code, is_number as is_number_bytes, labels, labels_left, matches_host as matches_host_by, names_host as names_host_by, same_label as same_label_by, same_labels, stands_for as stands_for_label, without_root as without_root_of};
 
-use tls_fields::Items;
+use layouts::Items;
 use x509::{
     Certificate, Extensions, GeneralName, GeneralNames, first_extension, oid, parse_general_names,
 };

@@ -2,7 +2,7 @@
 ghost use Rattle.std.specs.Prelude.{◌≡◌, ◌++◌, map, IfOk, OnOk};
 ghost use Rattle.std.specs.String.{string_bytes};
 ghost use Rattle.std.specs.Option.{option_map};
-ghost use Rattle.tls_fields.specs.Items.{items_in};
+ghost use Rattle.layouts.specs.Items.{items_in};
 ghost use Rattle.x509.specs.Name.{attribute as attribute_layout, relative_distinguished_name, view_attribute};
 ghost use Rattle.x509_text.specs.Name.{attribute_by, attribute_text, is_some_set, name_text as name_text_of, set_text, with_attributes};
 

@@ -1,18 +1,18 @@
 //! Values of attributes as texts (RFC 4514, sections 2.4 and 3).
-#![tactic(auto, using(tls_fields::proofs::OneAnswerLemmas::read_allowed))]
+#![tactic(auto, using(layouts::proofs::OneAnswerLemmas::read_allowed))]
 
 ghost use Rattle.std.specs.Prelude.{◌≡◌, ◌++◌, ℕ, true, encode_utf8, IfOk, OnOk};
 ghost use Rattle.std.specs.List.{flat_map};
 ghost use Rattle.std.specs.String.{string_bytes};
 ghost use Rattle.std.specs.Option.{option_map};
 ghost use Rattle.der.specs.Element.{view_element};
-ghost use Rattle.tls_fields.specs.Answers.{Gives};
+ghost use Rattle.layouts.specs.Answers.{Gives};
 ghost use Rattle.x509_text.specs.Value.{bmp_character, byte_text, converted_of, escaped, is_special as is_special_byte, placed_text, universal_character, utf8_of, value_text};
 
 use crate::hexadecimal::{add_dump, hex_digit};
 use der::{Element, tag};
+use layouts::{ErrorKind, IResult, InPlace, Items, number2, number4, refused};
 use std::alloc::{AllocError, Global};
-use tls_fields::{ErrorKind, IResult, InPlace, Items, number2, number4, refused};
 
 /// The tag of a NumericString (X.680, section 8.4).
 const NUMERIC_STRING: u8 = 0x12;
@@ -86,7 +86,7 @@ impl<'a> InPlace<'a> for BmpCharacter {
 
     ghost layout = { bmp_character };
 
-    #[tactic(auto, using(tls_fields::proofs::OneAnswerLemmas::read_allowed), unfolding(crate::specs::Value::bmp_character))]
+    #[tactic(auto, using(layouts::proofs::OneAnswerLemmas::read_allowed), unfolding(crate::specs::Value::bmp_character))]
     fn read(i: &'a [u8]) -> IResult<&'a [u8], char> {
         let (i, n) = number2(i)?;
         match char::from_u32(n as u32) {
@@ -108,7 +108,7 @@ impl<'a> InPlace<'a> for UniversalCharacter {
 
     ghost layout = { universal_character };
 
-    #[tactic(auto, using(tls_fields::proofs::OneAnswerLemmas::read_allowed), unfolding(crate::specs::Value::universal_character))]
+    #[tactic(auto, using(layouts::proofs::OneAnswerLemmas::read_allowed), unfolding(crate::specs::Value::universal_character))]
     fn read(i: &'a [u8]) -> IResult<&'a [u8], char> {
         let (i, n) = number4(i)?;
         match char::from_u32(n) {

@@ -1,15 +1,15 @@
 //! The builder of extensions: adds their parts to a vector that has room for them.
 ghost use Rattle.std.specs.Prelude.{◌≡◌, ◌<◌, ◌≤◌, ◌+◌, ◌*◌, ◌^◌, ◌++◌, length, map, vec_len, vec_capacity};
 ghost use Rattle.std.specs.List.{All};
-ghost use Rattle.tls_fields.specs.Text.{numbers_text};
+ghost use Rattle.layouts.specs.Text.{numbers_text};
 ghost use Rattle.tls_ext.specs.Extension.{view, view_server_name};
 ghost use Rattle.tls_ext.specs.ExtensionText.{names_text, extension_text, joined_text};
 ghost use Rattle.tls_ext.specs.ExtensionText.{FitsExtension, FitsExtensions, InRangeExtension};
 
 use crate::extension::TlsExtension;
 use crate::writer::judge::extension_len;
+use layouts::writer::builder::{append_bytes, append1, append2};
 use tls_base::{NamedGroup, SNIType, TlsExtensionType};
-use tls_fields::writer::builder::{append_bytes, append1, append2};
 
 /// Appends the names of a server.
 fn append_names(out: &mut Vec<u8>, names: &[(SNIType, &[u8])])

@@ -5,8 +5,8 @@ ghost use Rattle.tls_ext.specs.Extension.{view, view_server_name};
 ghost use Rattle.tls_ext.specs.ExtensionText.{names_text, Counts, JudgesExtension, JudgesExtensions};
 
 use crate::extension::TlsExtension;
+use layouts::GenError;
 use tls_base::SNIType;
-use tls_fields::GenError;
 
 /// A length that no field of 2 bytes can say.
 const TOO_LONG: usize = 65536;

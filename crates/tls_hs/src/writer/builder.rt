@@ -1,7 +1,7 @@
 //! The texts of handshake messages (RFC 5246, section 7.4), added part by part to a vector that has room for them.
 ghost use Rattle.std.specs.Prelude.{◌≡◌, ◌≤◌, ◌<◌, ◌+◌, ◌*◌, ◌^◌, ◌++◌, length, map, vec_len, vec_capacity};
 ghost use Rattle.std.specs.List.{All};
-ghost use Rattle.tls_fields.specs.Text.{counted_text, numbers_text};
+ghost use Rattle.layouts.specs.Text.{counted_text, numbers_text};
 ghost use Rattle.tls_hs.specs.Hello.{view_client_hello};
 ghost use Rattle.tls_hs.specs.ServerHello.{view_server_hello, view_server_hello_draft18};
 ghost use Rattle.tls_hs.specs.Session.{view_client_key_exchange};
@@ -20,8 +20,8 @@ use crate::handshake::TlsMessageHandshake;
 use crate::server_hello::{TlsServerHelloContents, TlsServerHelloV13Draft18Contents};
 use crate::session::TlsClientKeyExchangeContents;
 use crate::writer::{Writable, writable_of};
+use layouts::writer::builder::{append_bytes, append1, append2, append3, held};
 use tls_base::{TlsCipherSuiteID, TlsCompressionID, TlsHandshakeType};
-use tls_fields::writer::builder::{append_bytes, append1, append2, append3, held};
 
 /// Appends bytes after 1 byte of their count.
 fn append_counted1(out: &mut Vec<u8>, b: &[u8])

@@ -12,8 +12,8 @@ use crate::handshake::TlsMessageHandshake;
 use crate::server_hello::{TlsServerHelloContents, TlsServerHelloV13Draft18Contents};
 use crate::session::TlsClientKeyExchangeContents;
 use crate::writer::{Writable, writable_of};
-use tls_fields::GenError;
-use tls_fields::writer::builder::held;
+use layouts::GenError;
+use layouts::writer::builder::held;
 
 /// The longest body of a handshake message, in bytes: its length has 3 bytes.
 const MAX_BODY_LEN: usize = 16777215;

@@ -2,11 +2,11 @@
 
 use crate::calls::Asked;
 use crate::told::{Told, table, told};
-use std::alloc::Global;
-use tls_fields::{
+use layouts::{
     Counted1, Counted2, Number2, block, counted1, counted2, counted3, items, items1, maybe2,
     number1, number2, number3, number4, number8, numbers as numbers_of, pairs, tag,
 };
+use std::alloc::Global;
 
 pub fn numbers(asked: &Asked) -> Told {
     let Asked { alloc, i, .. } = *asked;

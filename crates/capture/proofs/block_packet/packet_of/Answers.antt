@@ -1,5 +1,5 @@
 use Rattle.std.proofs.Common.{arith}
-use Rattle.tls_fields.proofs.OneAnswerLemmas.{read_allowed}
+use Rattle.layouts.proofs.OneAnswerLemmas.{read_allowed}
 use Rattle.capture.specs.Pcapng.{packet_of}
 use Rattle.capture.proofs.block_packet.packet_of.Goals as goal
 

@@ -1,5 +1,5 @@
 use Rattle.std.proofs.Common.{arith}
-use Rattle.tls_fields.proofs.OneAnswerLemmas.{read_allowed}
+use Rattle.layouts.proofs.OneAnswerLemmas.{read_allowed}
 use Rattle.capture.specs.Pcapng.{interface}
 use Rattle.capture.proofs.interface.parse_interface.Goals as goal
 

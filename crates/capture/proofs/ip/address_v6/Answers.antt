@@ -1,5 +1,5 @@
 use Rattle.std.proofs.Common.{arith}
-use Rattle.tls_fields.proofs.OneAnswerLemmas.{read_allowed}
+use Rattle.layouts.proofs.OneAnswerLemmas.{read_allowed}
 use Rattle.capture.specs.Ip.{address_v6}
 use Rattle.capture.proofs.ip.address_v6.Goals as goal
 

@@ -1,5 +1,5 @@
 use Rattle.std.proofs.Common.{arith}
-use Rattle.tls_fields.proofs.OneAnswerLemmas.{read_allowed}
+use Rattle.layouts.proofs.OneAnswerLemmas.{read_allowed}
 use Rattle.capture.specs.Jumbo.{jumbo_length}
 use Rattle.capture.proofs.jumbo.jumbo_length.Goals as goal
 

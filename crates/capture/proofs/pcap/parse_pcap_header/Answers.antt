@@ -1,5 +1,5 @@
 use Rattle.std.proofs.Common.{arith}
-use Rattle.tls_fields.proofs.OneAnswerLemmas.{read_allowed, one_answer}
+use Rattle.layouts.proofs.OneAnswerLemmas.{read_allowed, one_answer}
 use Rattle.capture.specs.Pcap.{header}
 use Rattle.capture.proofs.pcap.parse_pcap_header.Goals as goal
 

@@ -1,8 +1,8 @@
 use Rattle.std.proofs.Common.{◌-◌, ◌+◌, arith, length}
-use Rattle.tls_fields.specs.Answers.{refusal_of}
-use Rattle.tls_parser.specs.DtlsRecord.{view_raw_record}
-use Rattle.dtls_messages.specs.Messages.{view_events}
-use Rattle.dtls_messages.proofs.StoppedLemmas.{any_err, on_err}
+use Rattle.layouts.specs.Answers.{refusal_of}
+use Rattle.tls_records.specs.DtlsRecord.{view_raw_record}
+use Rattle.dtls_stream.specs.Messages.{view_events}
+use Rattle.dtls_stream.proofs.StoppedLemmas.{any_err, on_err}
 use Rattle.dtls_stream.specs.Datagrams.{datagram, fragments_of}
 use Rattle.dtls_stream.proofs.DatagramLemmas.{on_ok}
 use Rattle.dtls_stream.proofs.ReadingLemmas.{

@@ -1,5 +1,5 @@
 use Rattle.std.proofs.Common.{◌-◌, length}
-use Rattle.dtls_messages.specs.Messages.{Heard, Limits, Stands, view_events}
+use Rattle.dtls_stream.specs.Messages.{Heard, Limits, Stands, view_events}
 use Rattle.dtls_stream.specs.Datagrams.{datagram, fragments_of}
 use Rattle.dtls_stream.proofs.ReadingLemmas.{IsReading}
 use Rattle.dtls_stream.proofs.datagrams.read_datagram.Given as goal

@@ -1,5 +1,5 @@
 use Rattle.std.proofs.Common.{drop, subst, sym}
-use Rattle.dtls_messages.specs.Messages.{view_events, view_limits}
+use Rattle.dtls_stream.specs.Messages.{view_events, view_limits}
 use Rattle.dtls_stream.specs.Datagrams.{views}
 use Rattle.dtls_stream.proofs.DatagramLemmas.{AreReading, datagrams_begin, datagrams_end, datagrams_next, drop_past}
 use Rattle.dtls_stream.proofs.datagrams.read_datagrams.Goals as goal

@@ -1,5 +1,5 @@
 use Rattle.std.proofs.Common.{drop}
-use Rattle.dtls_messages.specs.Messages.{view_events, view_limits}
+use Rattle.dtls_stream.specs.Messages.{view_events, view_limits}
 use Rattle.dtls_stream.specs.Datagrams.{views}
 use Rattle.dtls_stream.proofs.DatagramLemmas.{AreReading}
 use Rattle.dtls_stream.proofs.datagrams.read_datagrams.Given as goal

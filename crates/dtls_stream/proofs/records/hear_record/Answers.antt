@@ -1,7 +1,7 @@
 use Rattle.std.proofs.Common.{ap}
-use Rattle.tls_parser.specs.DtlsRecord.{view_raw_record}
-use Rattle.dtls_messages.specs.Messages.{view_events}
-use Rattle.dtls_messages.proofs.StoppedLemmas.{any_err, on_err}
+use Rattle.tls_records.specs.DtlsRecord.{view_raw_record}
+use Rattle.dtls_stream.specs.Messages.{view_events}
+use Rattle.dtls_stream.proofs.StoppedLemmas.{any_err, on_err}
 use Rattle.dtls_stream.specs.Datagrams.{fragments_in_record, record_step}
 use Rattle.dtls_stream.proofs.CutLemmas.{cut_same}
 use Rattle.dtls_stream.proofs.DatagramLemmas.{on_ok, other_step}

@@ -1,9 +1,9 @@
 use Rattle.std.proofs.Common.{ap, subst}
-use Rattle.tls_fields.specs.Layout.{list1}
-use Rattle.tls_fields.specs.Reading.{reading}
-use Rattle.dtls_messages.specs.Fragments.{fragment, view_fragments}
-use Rattle.dtls_messages.specs.Messages.{AreHeard, IsStopped, view_events}
-use Rattle.dtls_messages.proofs.StoppedLemmas.{any_err, on_err}
+use Rattle.layouts.specs.Layout.{list1}
+use Rattle.layouts.specs.Reading.{reading}
+use Rattle.dtls_stream.specs.Fragments.{fragment, view_fragments}
+use Rattle.dtls_stream.specs.Messages.{AreHeard, IsStopped, view_events}
+use Rattle.dtls_stream.proofs.StoppedLemmas.{any_err, on_err}
 use Rattle.dtls_stream.specs.Datagrams.{fragment_record_step, those_read}
 use Rattle.dtls_stream.proofs.CutLemmas.{cut_none, cut_same}
 use Rattle.dtls_stream.proofs.ReadingLemmas.{fragments_stopped, fragments_untold}

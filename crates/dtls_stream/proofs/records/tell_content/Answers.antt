@@ -1,8 +1,8 @@
 use Rattle.std.proofs.Common.{◌++◌, ◌∙◌, ap, map, subst}
-use Rattle.tls_fields.specs.Reading.{reading}
-use Rattle.tls_parser.specs.DtlsRecord.{record_content, view_header, view_message}
-use Rattle.dtls_messages.specs.Messages.{view_events}
-use Rattle.dtls_messages.proofs.StoppedLemmas.{any_err, on_err}
+use Rattle.layouts.specs.Reading.{reading}
+use Rattle.tls_records.specs.DtlsRecord.{record_content, view_header, view_message}
+use Rattle.dtls_stream.specs.Messages.{view_events}
+use Rattle.dtls_stream.proofs.StoppedLemmas.{any_err, on_err}
 use Rattle.dtls_stream.specs.Datagrams.{AreToldInPart, event_of}
 use Rattle.dtls_stream.proofs.DatagramLemmas.{content_ok, on_ok}
 use Rattle.dtls_stream.proofs.ReadingLemmas.{content_stopped, content_untold}

@@ -1,7 +1,7 @@
 use Rattle.std.proofs.Common.{ap}
-use Rattle.tls_parser.specs.DtlsRecord.{view_message}
-use Rattle.dtls_messages.specs.Messages.{view_events}
-use Rattle.dtls_messages.proofs.StoppedLemmas.{any_err}
+use Rattle.tls_records.specs.DtlsRecord.{view_message}
+use Rattle.dtls_stream.specs.Messages.{view_events}
+use Rattle.dtls_stream.proofs.StoppedLemmas.{any_err}
 use Rattle.dtls_stream.specs.Datagrams.{event_of}
 use Rattle.dtls_stream.proofs.CutLemmas.{part_taken}
 use Rattle.dtls_stream.proofs.records.tell_messages.Goals as goal

@@ -1,5 +1,5 @@
 use Rattle.std.proofs.Common.{subst, sym, Ok, Err}
-use Rattle.tls_fields.specs.Answers.{Gives}
+use Rattle.layouts.specs.Answers.{Gives}
 use Rattle.tls_base.specs.Signature.{view_signed, beside_signature}
 use Rattle.tls_base.proofs.SignatureLemmas.{put_beside, passed_on}
 use Rattle.tls_base.proofs.signature.parse_content_and_signature.Goals as goal

@@ -1,5 +1,5 @@
 use Rattle.std.proofs.Common.{arith}
-use Rattle.tls_fields.proofs.OneAnswerLemmas.{read_allowed}
+use Rattle.layouts.proofs.OneAnswerLemmas.{read_allowed}
 use Rattle.tls_base.specs.Signature.{digitally_signed}
 use Rattle.tls_base.proofs.signature.parse_digitally_signed.Goals as goal
 

@@ -1,5 +1,5 @@
 use Rattle.std.proofs.Common.{arith}
-use Rattle.tls_fields.proofs.OneAnswerLemmas.{read_allowed}
+use Rattle.layouts.proofs.OneAnswerLemmas.{read_allowed}
 use Rattle.tls_base.proofs.timestamp.parse_ct_signed_certificate_timestamp_list.Goals as goal
 
 pub returns-in_err-i : goal.returns-in_err-i

@@ -1,5 +1,5 @@
 use Rattle.std.proofs.Common.{arith}
-use Rattle.tls_fields.proofs.OneAnswerLemmas.{read_allowed}
+use Rattle.layouts.proofs.OneAnswerLemmas.{read_allowed}
 use Rattle.tls_ext.specs.Content.{encrypted_server_name}
 use Rattle.tls_ext.proofs.content.parse_tls_extension_encrypted_server_name.Goals as goal
 

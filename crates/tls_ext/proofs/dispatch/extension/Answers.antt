@@ -1,5 +1,5 @@
 use Rattle.std.proofs.Common.{arith}
-use Rattle.tls_fields.proofs.OneAnswerLemmas.{read_allowed}
+use Rattle.layouts.proofs.OneAnswerLemmas.{read_allowed}
 use Rattle.tls_ext.specs.Dispatch.{extension}
 use Rattle.tls_ext.proofs.dispatch.extension.Goals as goal
 

@@ -1,5 +1,5 @@
 use Rattle.std.proofs.Common.{◌≡◌}
-use Rattle.tls_fields.specs.Items.{items_in}
+use Rattle.layouts.specs.Items.{items_in}
 use Rattle.tls_ext.specs.InPlace.{raw_extension, first_of}
 use Rattle.tls_ext.proofs.extension_view.first_content.Given as goal
 

@@ -1,7 +1,7 @@
 use Rattle.std.proofs.Common.{◌≡◌}
 use Rattle.std.specs.Option.{option_map}
-use Rattle.tls_fields.specs.Items.{items_in}
-use Rattle.tls_fields.specs.Layout.{number}
+use Rattle.layouts.specs.Items.{items_in}
+use Rattle.layouts.specs.Layout.{number}
 use Rattle.tls_ext.specs.InPlace.{latest}
 use Rattle.tls_ext.proofs.VersionLemmas.{with_known}
 use Rattle.tls_ext.proofs.hello_extensions.latest_version.Given as goal

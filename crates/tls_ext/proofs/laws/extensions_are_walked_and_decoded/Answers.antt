@@ -1,5 +1,5 @@
 use Rattle.tls_ext.specs.Dispatch.{extension, extension_content}
-use Rattle.tls_fields.proofs.FramedLemmas.{items_of_windows}
+use Rattle.layouts.proofs.FramedLemmas.{items_of_windows}
 use Rattle.tls_ext.proofs.laws.extensions_are_walked_and_decoded.Goals as goal
 
 pub returns : goal.returns

@@ -1,5 +1,5 @@
 use Rattle.std.proofs.Common.{arith}
-use Rattle.tls_fields.proofs.OneAnswerLemmas.{read_allowed}
+use Rattle.layouts.proofs.OneAnswerLemmas.{read_allowed}
 use Rattle.tls_ext.specs.Tagged.{tagged_heartbeat}
 use Rattle.tls_ext.proofs.tagged.parse_tls_extension_heartbeat.Goals as goal
 

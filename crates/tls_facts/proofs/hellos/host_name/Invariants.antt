@@ -1,5 +1,5 @@
 use Rattle.std.proofs.Common.{◌≡◌}
-use Rattle.tls_fields.specs.Items.{items_in}
+use Rattle.layouts.specs.Items.{items_in}
 use Rattle.tls_ext.specs.Content.{server_name}
 use Rattle.tls_facts.specs.Hellos.{host_among}
 use Rattle.tls_facts.proofs.hellos.host_name.Given as goal

@@ -1,6 +1,6 @@
 use Rattle.std.proofs.Common.{◌≡◌, ◌++◌}
-use Rattle.tls_fields.specs.Items.{items_in}
-use Rattle.tls_fields.specs.Layout.{counted}
+use Rattle.layouts.specs.Items.{items_in}
+use Rattle.layouts.specs.Layout.{counted}
 use Rattle.tls_facts.specs.Parts.{facts_of_all}
 use Rattle.tls_facts.proofs.parts.facts_of.Given as goal
 

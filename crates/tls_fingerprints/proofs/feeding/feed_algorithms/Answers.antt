@@ -1,7 +1,7 @@
 use Rattle.std.proofs.Common.{◌≡◌, ◌++◌, ◌∷◌, false, ap, sym, ◌∙◌, rules}
 use Rattle.sha2.specs.Hashers.{Holds256}
-use Rattle.tls_fields.specs.Items.{items_in}
-use Rattle.tls_fields.specs.Layout.{number}
+use Rattle.layouts.specs.Items.{items_in}
+use Rattle.layouts.specs.Layout.{number}
 use Rattle.tls_fingerprints.specs.Numbers.{four_digits, has_any, without_grease}
 use Rattle.tls_fingerprints.proofs.JoinLemmas.{
   ahead_ends,

@@ -1,7 +1,7 @@
 use Rattle.std.proofs.Common.{◌≡◌, ap, sym, ◌∙◌, rules, decimal}
 use Rattle.md5.specs.Md5.{Holds}
-use Rattle.tls_fields.specs.Items.{items_in}
-use Rattle.tls_fields.specs.Layout.{number}
+use Rattle.layouts.specs.Items.{items_in}
+use Rattle.layouts.specs.Layout.{number}
 use Rattle.tls_fingerprints.specs.Numbers.{behind_others, dashed, without_grease}
 use Rattle.tls_fingerprints.proofs.JoinLemmas.{
   ahead_begins,

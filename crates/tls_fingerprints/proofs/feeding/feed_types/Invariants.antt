@@ -1,6 +1,6 @@
 use Rattle.std.proofs.Common.{ℕ, List, ◌++◌, decimal}
 use Rattle.md5.specs.Md5.{Holds}
-use Rattle.tls_fields.specs.Items.{items_in}
+use Rattle.layouts.specs.Items.{items_in}
 use Rattle.tls_ext.specs.InPlace.{extension_type}
 use Rattle.tls_fingerprints.specs.Numbers.{dashed, without_grease}
 use Rattle.tls_fingerprints.proofs.JoinLemmas.{IsAhead, left_text}

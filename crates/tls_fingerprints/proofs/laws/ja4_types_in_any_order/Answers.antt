@@ -1,6 +1,7 @@
 use Rattle.std.proofs.Common.{◌∙◌, ap, not}
 use Rattle.tls_fingerprints.specs.Numbers.{hex_list, is_grease, rising, without_grease}
-use Rattle.tls_fingerprints.specs.Hellos.{types_in, algorithms_in}
+use Rattle.tls_ext.specs.Offered.{algorithms_in}
+use Rattle.tls_fingerprints.specs.Hellos.{types_in}
 use Rattle.tls_fingerprints.specs.Ja4.{is_told_before, other_types, with_algorithms}
 use Rattle.tls_fingerprints.proofs.RisingLemmas.{rising_kept_twice}
 use Rattle.tls_fingerprints.proofs.laws.ja4_types_in_any_order.Goals as goal

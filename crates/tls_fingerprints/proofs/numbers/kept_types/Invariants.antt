@@ -1,5 +1,5 @@
 use Rattle.std.proofs.Common.{◌≡◌, ◌++◌}
-use Rattle.tls_fields.specs.Items.{items_in}
+use Rattle.layouts.specs.Items.{items_in}
 use Rattle.tls_ext.specs.InPlace.{extension_type}
 use Rattle.tls_fingerprints.specs.Numbers.{without_grease}
 use Rattle.tls_fingerprints.proofs.numbers.kept_types.Given as goal

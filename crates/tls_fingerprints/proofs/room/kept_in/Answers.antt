@@ -1,7 +1,7 @@
 use Rattle.std.proofs.Common.{◌≡◌, ◌<◌, ◌++◌, length, take, ap, sym, ◌∙◌, rules, arith}
 use Rattle.std.proofs.lemmas.List.{length-set}
-use Rattle.tls_fields.specs.Items.{items_in}
-use Rattle.tls_fields.specs.Layout.{number}
+use Rattle.layouts.specs.Items.{items_in}
+use Rattle.layouts.specs.Layout.{number}
 use Rattle.tls_fingerprints.specs.Numbers.{without_grease}
 use Rattle.tls_fingerprints.proofs.JoinLemmas.{kept_keeps, kept_skips}
 use Rattle.tls_fingerprints.proofs.RoomLemmas.{room_filled}

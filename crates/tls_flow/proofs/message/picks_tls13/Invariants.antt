@@ -1,7 +1,12 @@
-use Rattle.std.proofs.Common.{◌≡◌, ◌-◌, length}
-use Rattle.tls_flow.specs.Messages.{picks_within}
+use Rattle.std.proofs.Common.{◌≡◌}
+use Rattle.layouts.specs.Items.{items_in}
+use Rattle.tls_ext.specs.InPlace.{raw_extension}
+use Rattle.tls_flow.specs.Messages.{any_picks}
 use Rattle.tls_flow.proofs.message.picks_tls13.Given as goal
 
--- Of what is left, so many extensions at most are searched.
-abbrev pub invariant-loop : goal.invariant-loop
-invariant-loop l = picks_within (length l.block - l.counter) l.left ≡ picks_within (length l.block) l.block
+abbrev pub invariant-loop-extension : goal.invariant-loop-extension
+invariant-loop-extension l =
+    (goal.iterator-loop-extension).can_next l.extension-iterator ×
+    (goal.iterator-loop-extension).is_finite l.extension-iterator ×
+    (any_picks (items_in raw_extension l.block)
+    ≡ any_picks (items_in raw_extension l.extension-iterator.bytes.now))

@@ -1,5 +1,5 @@
-use Rattle.tls_fields.specs.Layout.{block}
-use Rattle.tls_fields.proofs.PlaceLemmas.{ends_read}
+use Rattle.layouts.specs.Layout.{block}
+use Rattle.layouts.proofs.PlaceLemmas.{ends_read}
 use Rattle.tls_hs.proofs.PlacesLemmas.{block_stands}
 use Rattle.tls_hs.proofs.client_hello_places.random_at.Goals as goal
 

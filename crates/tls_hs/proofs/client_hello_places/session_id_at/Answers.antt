@@ -1,4 +1,4 @@
-use Rattle.tls_fields.proofs.PlaceLemmas.{ends_read}
+use Rattle.layouts.proofs.PlaceLemmas.{ends_read}
 use Rattle.tls_hs.specs.Hello.{session_id}
 use Rattle.tls_hs.proofs.client_hello_places.session_id_at.Goals as goal
 

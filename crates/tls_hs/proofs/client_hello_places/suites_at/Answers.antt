@@ -1,7 +1,7 @@
 use Rattle.std.proofs.Common.{sym, ◌∙◌}
-use Rattle.tls_fields.specs.Layout.{number}
-use Rattle.tls_fields.specs.Meaning.{EndsWith}
-use Rattle.tls_fields.proofs.PlaceLemmas.{ends_read}
+use Rattle.layouts.specs.Layout.{number}
+use Rattle.layouts.specs.Meaning.{EndsWith}
+use Rattle.layouts.proofs.PlaceLemmas.{ends_read}
 use Rattle.tls_hs.proofs.PlacesLemmas.{cut_stands, cut_ends}
 use Rattle.tls_hs.proofs.client_hello_places.suites_at.Goals as goal
 

@@ -1,6 +1,6 @@
-use Rattle.tls_fields.specs.Layout.{number, block}
-use Rattle.tls_fields.specs.Meaning.{EndsWith}
-use Rattle.tls_fields.proofs.PlaceLemmas.{ends_here, ends_read}
+use Rattle.layouts.specs.Layout.{number, block}
+use Rattle.layouts.specs.Meaning.{EndsWith}
+use Rattle.layouts.proofs.PlaceLemmas.{ends_here, ends_read}
 use Rattle.tls_hs.specs.Hello.{session_id}
 use Rattle.tls_places.proofs.HelloLemmas.{block_ends, id_ends, extensions_end}
 use Rattle.tls_places.proofs.dtls_hello.dtls_client_hello_with_places.Goals as goal

@@ -1,5 +1,5 @@
 use Rattle.std.proofs.Common.{ap, sym, ◌∙◌}
-use Rattle.tls_fields.specs.Items.{items_in}
+use Rattle.layouts.specs.Items.{items_in}
 use Rattle.tls_ext.specs.Content as content
 use Rattle.tls_ext.specs.Extension.{view_server_name}
 use Rattle.tls_places.specs.Place.{Stands}

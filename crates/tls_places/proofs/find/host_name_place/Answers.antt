@@ -1,5 +1,5 @@
 use Rattle.std.proofs.Common.{refl, subst}
-use Rattle.tls_fields.specs.Reading.{reading}
+use Rattle.layouts.specs.Reading.{reading}
 use Rattle.tls_ext.specs.Content as content
 use Rattle.tls_ext.specs.InPlace.{first_name, in_content, picked, host_name}
 use Rattle.tls_places.specs.Place.{IsWithin}

@@ -1,8 +1,8 @@
 use Rattle.std.proofs.Common.{Ok, Some, ap, sym, ◌∙◌}
-use Rattle.tls_fields.specs.Items.{items_in}
-use Rattle.tls_fields.specs.Layout.{counted}
-use Rattle.tls_fields.specs.Place.{bytes_at}
-use Rattle.tls_fields.specs.Reading.{reading}
+use Rattle.layouts.specs.Items.{items_in}
+use Rattle.layouts.specs.Layout.{counted}
+use Rattle.layouts.specs.Place.{bytes_at}
+use Rattle.layouts.specs.Reading.{reading}
 use Rattle.tls_ext.specs.Content as content
 use Rattle.tls_ext.specs.InPlace.{in_content, names_of_protocols, picked}
 use Rattle.tls_places.specs.Place.{Stands}

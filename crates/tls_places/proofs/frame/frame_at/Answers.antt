@@ -1,4 +1,4 @@
-use Rattle.tls_fields.proofs.PlaceLemmas.{ends_read}
+use Rattle.layouts.proofs.PlaceLemmas.{ends_read}
 use Rattle.tls_places.proofs.PlaceLemmas.{frame_stands}
 use Rattle.tls_places.proofs.frame.frame_at.Goals as goal
 

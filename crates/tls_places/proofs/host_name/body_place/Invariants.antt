@@ -1,5 +1,5 @@
 use Rattle.std.proofs.Common.{◌≡◌}
-use Rattle.tls_fields.specs.Items.{items_in}
+use Rattle.layouts.specs.Items.{items_in}
 use Rattle.tls_hs.specs.InPlace.{raw_handshake}
 use Rattle.tls_ext.specs.InPlace.{first_of}
 use Rattle.tls_places.proofs.host_name.body_place.Given as goal

@@ -1,7 +1,7 @@
 use Rattle.std.proofs.Common.{refl, subst}
-use Rattle.tls_fields.specs.Reading.{reading}
+use Rattle.layouts.specs.Reading.{reading}
 use Rattle.tls_hs.specs.Hello.{client_hello}
-use Rattle.tls_parser.specs.InPlace.{body_of_type, name_in_body, name_in_hello}
+use Rattle.tls_records.specs.InPlace.{body_of_type, name_in_body, name_in_hello}
 use Rattle.tls_places.specs.Place.{IsWithin}
 use Rattle.tls_places.proofs.FindLemmas.{part_told, lies_there, told_there}
 use Rattle.tls_places.proofs.host_name.host_name_place_of_fragment.Goals as goal

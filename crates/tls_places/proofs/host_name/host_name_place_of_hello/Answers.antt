@@ -1,10 +1,10 @@
 use Rattle.std.proofs.Common.{Some, subst}
 use Rattle.std.specs.Option.{option_map}
-use Rattle.tls_fields.specs.Place.{bytes_at}
-use Rattle.tls_fields.specs.Reading.{reading}
+use Rattle.layouts.specs.Place.{bytes_at}
+use Rattle.layouts.specs.Reading.{reading}
 use Rattle.tls_hs.specs.Hello.{client_hello}
 use Rattle.tls_hs.specs.InPlace.{view_client_hello_in_place}
-use Rattle.tls_parser.specs.InPlace.{name_in_hello}
+use Rattle.tls_records.specs.InPlace.{name_in_hello}
 use Rattle.tls_places.specs.Place.{IsWithin, Lies, MayStand}
 use Rattle.tls_places.proofs.HostNameLemmas.{extensions_last, stands_held, name_told, none_told}
 use Rattle.tls_places.proofs.host_name.host_name_place_of_hello.Goals as goal

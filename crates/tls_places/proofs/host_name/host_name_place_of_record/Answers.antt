@@ -1,7 +1,7 @@
 use Rattle.std.proofs.Common.{sym, subst}
-use Rattle.tls_fields.proofs.PlaceLemmas.{ends_here}
-use Rattle.tls_parser.specs.InPlace.{host_name_of_record}
-use Rattle.tls_parser.specs.Record.{view_raw_record}
+use Rattle.layouts.proofs.PlaceLemmas.{ends_here}
+use Rattle.tls_records.specs.InPlace.{host_name_of_record}
+use Rattle.tls_records.specs.Record.{view_raw_record}
 use Rattle.tls_places.specs.Place.{IsWithin, Stands}
 use Rattle.tls_places.proofs.HostNameLemmas.{handshake_told}
 use Rattle.tls_places.proofs.host_name.host_name_place_of_record.Goals as goal

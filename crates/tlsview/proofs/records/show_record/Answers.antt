@@ -1,5 +1,5 @@
 use Rattle.std.specs.String.{string_bytes}
-use Rattle.tls_parser.specs.Record.{view_raw_record}
+use Rattle.tls_records.specs.Record.{view_raw_record}
 use Rattle.tlsview.proofs.FollowLemmas.{messages_shown}
 use Rattle.tlsview.proofs.records.show_record.Goals as goal
 

@@ -1,5 +1,5 @@
 use Rattle.std.proofs.Common.{rules, refl, subst}
-use Rattle.tls_fields.specs.Text.{held}
+use Rattle.layouts.specs.Text.{held}
 use Rattle.x509.specs.Certificate.{extension}
 use Rattle.wispuddera_c.specs.Place.{StandsAt}
 use Rattle.wispuddera_c.proofs.CertificateLemmas.{in_c_stands, items_in_c, may_stand, name_in_c, viewed}

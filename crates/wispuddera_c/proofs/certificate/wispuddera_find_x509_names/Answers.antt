@@ -1,5 +1,5 @@
 use Rattle.std.proofs.Common.{refl}
-use Rattle.tls_fields.specs.Items.{items_in}
+use Rattle.layouts.specs.Items.{items_in}
 use Rattle.x509.specs.GeneralName.{general_name, general_names}
 use Rattle.wispuddera_c.specs.Place.{ItemsStandAt}
 use Rattle.wispuddera_c.proofs.CertificateLemmas.{items_in_c}

@@ -1,6 +1,6 @@
 use Rattle.std.proofs.Common.{refl, sym, subst}
-use Rattle.tls_fields.specs.Reading.{reading}
-use Rattle.tls_fields.proofs.PlaceLemmas.{ends_here, ends_read}
+use Rattle.layouts.specs.Reading.{reading}
+use Rattle.layouts.proofs.PlaceLemmas.{ends_here, ends_read}
 use Rattle.x509.specs.Certificate.{certificate, view_certificate}
 use Rattle.wispuddera_c.specs.Certificate.{ShowsX509}
 use Rattle.wispuddera_c.specs.Status.{IsAnswered}

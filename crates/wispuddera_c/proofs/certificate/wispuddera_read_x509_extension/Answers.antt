@@ -1,5 +1,5 @@
 use Rattle.std.proofs.Common.{refl}
-use Rattle.tls_fields.proofs.PlaceLemmas.{ends_read}
+use Rattle.layouts.proofs.PlaceLemmas.{ends_read}
 use Rattle.x509.specs.Certificate.{extension, view_extension}
 use Rattle.x509_places.specs.Walk.{ExtensionStands}
 use Rattle.wispuddera_c.specs.Certificate.{ShowsX509Extension}

@@ -1,5 +1,5 @@
 use Rattle.std.proofs.Common.{rules, subst}
-use Rattle.tls_fields.proofs.PlaceLemmas.{ends_read}
+use Rattle.layouts.proofs.PlaceLemmas.{ends_read}
 use Rattle.x509.specs.GeneralName.{general_name, view_general_name}
 use Rattle.wispuddera_c.specs.Certificate.{ShowsName}
 use Rattle.wispuddera_c.specs.Place.{StandsAt}

@@ -1,8 +1,8 @@
 use Rattle.std.proofs.Common.{refl, sym, subst, ◌∙◌}
-use Rattle.tls_fields.specs.Layout.{number}
-use Rattle.tls_fields.proofs.PlaceLemmas.{ends_here, ends_read}
-use Rattle.tls_parser.specs.DtlsHello.{client_hello}
-use Rattle.tls_parser.specs.DtlsInPlace.{view_client_hello_in_place}
+use Rattle.layouts.specs.Layout.{number}
+use Rattle.layouts.proofs.PlaceLemmas.{ends_here, ends_read}
+use Rattle.tls_records.specs.DtlsHello.{client_hello}
+use Rattle.tls_records.specs.DtlsInPlace.{view_client_hello_in_place}
 use Rattle.tls_places.specs.DtlsHello.{DtlsClientHelloStands}
 use Rattle.tls_places.specs.Place.{Stands}
 use Rattle.wispuddera_c.proofs.PlaceLemmas.{items_stand, some_of_map}

@@ -1,5 +1,5 @@
 use Rattle.std.proofs.Common.{◌++◌, drop, refl, sym, ◌∙◌, ap, subst, arith}
-use Rattle.tls_fields.specs.Meaning.{Answer}
+use Rattle.layouts.specs.Meaning.{Answer}
 use Rattle.tls_fingerprints.specs.Hellos.{Client}
 use Rattle.tls_fingerprints.specs.Ja4.{IsTooLong, ja4_of}
 use Rattle.tls_hs.specs.Hello.{ClientHello}

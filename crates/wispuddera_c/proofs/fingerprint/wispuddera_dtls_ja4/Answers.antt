@@ -1,9 +1,9 @@
 use Rattle.std.proofs.Common.{◌++◌, drop, refl, sym, ◌∙◌, ap, subst, arith}
-use Rattle.tls_fields.specs.Meaning.{Answer}
+use Rattle.layouts.specs.Meaning.{Answer}
 use Rattle.tls_fingerprints.specs.Hellos.{Client}
 use Rattle.tls_fingerprints.specs.Ja4.{IsTooLong, ja4_of}
-use Rattle.tls_parser.specs.DtlsHello.{ClientHello}
-use Rattle.tls_parser.specs.DtlsInPlace.{view_client_hello_in_place}
+use Rattle.tls_records.specs.DtlsHello.{ClientHello}
+use Rattle.tls_records.specs.DtlsInPlace.{view_client_hello_in_place}
 use Rattle.tls_fingerprints.specs.declared.hellos.Transport.TheVariants.{Udp}
 use Rattle.wispuddera_c.specs.Fingerprint.{IsWritten, client_of}
 use Rattle.wispuddera_c.proofs.FingerprintLemmas.{dtls_never_too_long}

@@ -1,6 +1,6 @@
 use Rattle.std.proofs.Common.{subst, sym}
-use Rattle.tls_fields.specs.Layout.{counted}
-use Rattle.tls_fields.proofs.PlaceLemmas.{ends_here}
+use Rattle.layouts.specs.Layout.{counted}
+use Rattle.layouts.proofs.PlaceLemmas.{ends_here}
 use Rattle.tls_hs.specs.Certificate.{certificate}
 use Rattle.tls_places.specs.Place.{Stands}
 use Rattle.wispuddera_c.proofs.FoundLemmas.{list_found}

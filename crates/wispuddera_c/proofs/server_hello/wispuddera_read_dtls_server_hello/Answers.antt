@@ -1,6 +1,6 @@
 use Rattle.std.proofs.Common.{refl, sym, subst}
-use Rattle.tls_fields.specs.Reading.{reading}
-use Rattle.tls_fields.proofs.PlaceLemmas.{ends_here, ends_read}
+use Rattle.layouts.specs.Reading.{reading}
+use Rattle.layouts.proofs.PlaceLemmas.{ends_here, ends_read}
 use Rattle.tls_hs.specs.ServerHello.{server_hello_any, view_server_hello}
 use Rattle.wispuddera_c.specs.Hello.{ShowsServerHello}
 use Rattle.wispuddera_c.specs.Status.{IsAnswered}

@@ -1,5 +1,5 @@
 use Rattle.std.proofs.Common.{refl, sym, subst}
-use Rattle.tls_fields.proofs.PlaceLemmas.{ends_here}
+use Rattle.layouts.proofs.PlaceLemmas.{ends_here}
 use Rattle.tls_hs.specs.InPlace.{raw_handshake, view_raw_handshake}
 use Rattle.tls_places.specs.Place.{Stands}
 use Rattle.wispuddera_c.specs.Place.{place_of}

@@ -1,6 +1,6 @@
 use Rattle.std.proofs.Common.{refl, sym, subst}
-use Rattle.tls_fields.proofs.PlaceLemmas.{ends_here}
-use Rattle.tls_parser.specs.Record.{raw_record, view_raw_record}
+use Rattle.layouts.proofs.PlaceLemmas.{ends_here}
+use Rattle.tls_records.specs.Record.{raw_record, view_raw_record}
 use Rattle.tls_places.specs.Place.{Stands}
 use Rattle.wispuddera_c.specs.Place.{place_of}
 use Rattle.wispuddera_c.specs.Stream.{bytes_held}

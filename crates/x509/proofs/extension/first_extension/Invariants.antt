@@ -1,5 +1,5 @@
 use Rattle.std.proofs.Common.{◌≡◌}
-use Rattle.tls_fields.specs.Items.{items_in}
+use Rattle.layouts.specs.Items.{items_in}
 use Rattle.x509.specs.Certificate.{extension}
 use Rattle.x509.specs.Extensions.{first_of}
 use Rattle.x509.proofs.extension.first_extension.Given as goal

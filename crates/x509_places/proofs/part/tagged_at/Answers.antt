@@ -1,7 +1,7 @@
 use Rattle.std.proofs.Common.{◌-◌, length, take}
-use Rattle.tls_fields.specs.Layout.{number}
-use Rattle.tls_fields.specs.Meaning.{EndsWith}
-use Rattle.tls_fields.proofs.PlaceLemmas.{ends_read}
+use Rattle.layouts.specs.Layout.{number}
+use Rattle.layouts.specs.Meaning.{EndsWith}
+use Rattle.layouts.proofs.PlaceLemmas.{ends_read}
 use Rattle.der.specs.Element.{der_length}
 use Rattle.x509_places.proofs.PlaceLemmas.{content_before}
 use Rattle.x509_places.proofs.part.tagged_at.Goals as goal

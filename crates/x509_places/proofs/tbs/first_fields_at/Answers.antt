@@ -1,6 +1,6 @@
 use Rattle.std.proofs.Common.{◌-◌, length, take}
-use Rattle.tls_fields.specs.Meaning.{EndsWith}
-use Rattle.tls_fields.proofs.PlaceLemmas.{ends_read}
+use Rattle.layouts.specs.Meaning.{EndsWith}
+use Rattle.layouts.proofs.PlaceLemmas.{ends_read}
 use Rattle.der.specs.Element.{optional}
 use Rattle.x509.specs.Certificate.{version}
 use Rattle.x509_places.proofs.tbs.first_fields_at.Goals as goal

@@ -1,6 +1,6 @@
 use Rattle.std.proofs.Common.{◌-◌, length, take}
-use Rattle.tls_fields.specs.Meaning.{EndsWith}
-use Rattle.tls_fields.proofs.PlaceLemmas.{ends_read}
+use Rattle.layouts.specs.Meaning.{EndsWith}
+use Rattle.layouts.proofs.PlaceLemmas.{ends_read}
 use Rattle.x509.specs.Certificate.{validity}
 use Rattle.x509.specs.Name.{name}
 use Rattle.x509_places.proofs.tbs.name_fields_at.Goals as goal

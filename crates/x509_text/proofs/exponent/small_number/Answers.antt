@@ -1,5 +1,5 @@
 use Rattle.std.proofs.Common.{◌*◌, arith, sym, ap, ◌∙◌}
-use Rattle.tls_fields.specs.Bytes.{number_of}
+use Rattle.layouts.specs.Bytes.{number_of}
 use Rattle.x509_text.specs.Exponent.{small}
 use Rattle.x509_text.proofs.ExponentLemmas.{not_small, number_at_end, number_of_more, small_here}
 use Rattle.x509_text.proofs.exponent.small_number.Goals as goal

@@ -1,5 +1,5 @@
 use Rattle.std.proofs.Common.{◌≡◌, ◌<◌, drop}
-use Rattle.tls_fields.specs.Bytes.{number_from, number_of}
+use Rattle.layouts.specs.Bytes.{number_from, number_of}
 use Rattle.x509_text.proofs.exponent.small_number.Given as goal
 
 abbrev pub invariant-loop-byte : goal.invariant-loop-byte

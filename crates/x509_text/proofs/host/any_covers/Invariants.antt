@@ -1,5 +1,5 @@
 use Rattle.std.proofs.Common.{◌≡◌}
-use Rattle.tls_fields.specs.Items.{items_in}
+use Rattle.layouts.specs.Items.{items_in}
 use Rattle.x509.specs.GeneralName.{general_name}
 use Rattle.x509_text.specs.Host.{labels, names_host}
 use Rattle.x509_text.proofs.host.any_covers.Given as goal

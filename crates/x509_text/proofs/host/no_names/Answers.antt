@@ -1,6 +1,6 @@
 use Rattle.std.proofs.Common.{[], ◌∙◌, ap, arith}
-use Rattle.tls_fields.specs.Items.{items_in}
-use Rattle.tls_fields.proofs.ItemsLemmas.{none_in}
+use Rattle.layouts.specs.Items.{items_in}
+use Rattle.layouts.proofs.ItemsLemmas.{none_in}
 use Rattle.x509.specs.GeneralName.{general_name}
 use Rattle.x509_text.proofs.host.no_names.Goals as goal
 

@@ -1,5 +1,5 @@
 use Rattle.std.proofs.Common.{map, reverse}
-use Rattle.tls_fields.specs.Items.{items_in}
+use Rattle.layouts.specs.Items.{items_in}
 use Rattle.x509.specs.Name.{attribute, view_attribute}
 use Rattle.x509_text.specs.Name.{attribute_text}
 use Rattle.x509_text.proofs.JoinLemmas.{join_begun, last_first}

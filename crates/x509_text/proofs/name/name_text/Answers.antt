@@ -1,5 +1,5 @@
 use Rattle.std.proofs.Common.{[], ◌++◌, ◌∙◌, ap, map, reverse}
-use Rattle.tls_fields.specs.Items.{items_in}
+use Rattle.layouts.specs.Items.{items_in}
 use Rattle.x509.specs.Name.{attribute, relative_distinguished_name}
 use Rattle.x509_text.specs.Name.{set_text, with_attributes}
 use Rattle.x509_text.proofs.JoinLemmas.{join_begun, last_first}

@@ -1,6 +1,6 @@
 use Rattle.std.proofs.Common.{◌≡◌, ◌++◌, map, reverse, length}
 use Rattle.std.specs.String.{string_bytes}
-use Rattle.tls_fields.specs.Items.{items_in}
+use Rattle.layouts.specs.Items.{items_in}
 use Rattle.x509.specs.Name.{attribute, relative_distinguished_name}
 use Rattle.x509_text.specs.Name.{name_text, set_text}
 use Rattle.x509_text.proofs.JoinLemmas.{behind}

@@ -1,5 +1,5 @@
 use Rattle.std.proofs.Common.{◌≡◌, ◌++◌, map}
-use Rattle.tls_fields.specs.Items.{items_in}
+use Rattle.layouts.specs.Items.{items_in}
 use Rattle.x509.specs.Name.{attribute, relative_distinguished_name}
 use Rattle.x509_text.specs.Name.{with_attributes}
 use Rattle.x509_text.proofs.name.sets_of.Given as goal

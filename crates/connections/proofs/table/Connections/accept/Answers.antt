@@ -1,6 +1,7 @@
 use Rattle.std.proofs.Common.{sym, ap, ◌∙◌}
 use Rattle.connections.specs.Segment.{ends_of}
 use Rattle.connections.specs.Table.{others, TakesSegment}
+use Rattle.connections.proofs.MemoryLemmas.{accounted_written}
 use Rattle.connections.proofs.TableLemmas.{put_in, put_new, left_in, on_err, written, others-first}
 use Rattle.connections.proofs.table.Connections.accept.Goals as goal
 
@@ -39,3 +40,21 @@ returns-clause-put g c =
     rw (← c.self.view_is) (put_new e (TakesSegment c.args.segment.now) xs begun.its
     c.begin.new.self.live (rw c.between-ends.ensures at c.in_default.ensures.value) begun.takes
     (rw c.between-ends.ensures at (ap (λ t. t.live) begun.stands)))
+
+pub returns-in_err-accept-clause-accounted : goal.returns-in_err-accept-clause-accounted
+returns-in_err-accept-clause-accounted g c =
+    rw (c.between-ends.ensures, ← c.self.view_is)
+    (accounted_written (ends_of c.args.segment.now)
+    (record { live = c.self.inside.live.entries; closed = c.self.inside.closed.entries; held = c.self.inside.held })
+    c.in-Some.connection.now c.accept.new.self (rw c.between-ends.ensures at c.in-Some.ensures.value) c.accept.ensures.weight)
+
+pub returns-in-Some-clause-accounted : goal.returns-in-Some-clause-accounted
+returns-in-Some-clause-accounted g c =
+    rw (c.between-ends.ensures, ← c.self.view_is)
+    (accounted_written (ends_of c.args.segment.now)
+    (record { live = c.self.inside.live.entries; closed = c.self.inside.closed.entries; held = c.self.inside.held })
+    c.in-Some.connection.now c.accept.new.self (rw c.between-ends.ensures at c.in-Some.ensures.value) c.accept.ensures.weight)
+
+pub returns-clause-accounted : goal.returns-clause-accounted
+returns-clause-accounted g c =
+    rw (← c.self.view_is) (c.begin.ensures.accounted (sym c.in_default.ensures.value))

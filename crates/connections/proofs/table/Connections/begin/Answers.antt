@@ -1,4 +1,5 @@
-use Rattle.std.proofs.Common.{refl}
+use Rattle.std.proofs.Common.{refl, ap, sym, ◌∙◌}
+use Rattle.connections.proofs.MemoryLemmas.{accounted_first}
 use Rattle.connections.proofs.table.Connections.begin.Goals as goal
 
 pub returns-clause-begun : goal.returns-clause-begun
@@ -8,3 +9,11 @@ returns-clause-begun g c =
       takes = (c.of_segment-connection.result, c.of_segment-connection.ensures, c.in_ok-accept.ensures.taken);
       stands = rw (c.in_ok-put_under.ensures.put, c.pop.ensures.entries) refl;
     })
+
+pub returns-clause-accounted : goal.returns-clause-accounted
+returns-clause-accounted g c =
+    rw (c.in_ok-put_under.ensures.put, ← c.self.view_is)
+    (λ h. accounted_first c.args.ends
+    (record { live = c.self.inside.live.entries; closed = c.self.inside.closed.entries; held = c.self.inside.held })
+    c.accept.new.self c.pop.new.self.entries (sym h)
+    (c.accept.ensures.weight ∙ ap (λ x. x.weight) c.of_segment-connection.ensures.0))

@@ -1,4 +1,5 @@
 use Rattle.connections.proofs.TableLemmas.{was_last}
+use Rattle.connections.proofs.MemoryLemmas.{accounted_front}
 use Rattle.connections.proofs.table.Connections.take_left.Goals as goal
 
 pub returns-clause-taken : goal.returns-clause-taken
@@ -6,3 +7,11 @@ returns-clause-taken g c =
     rw (c.pop_lru.ensures.entries, ← c.self.view_is)
     (was_last c.self.inside.live.entries c.in_ok-connection.field-0-0 c.in_ok-connection.connection
     c.in_ok-connection.ensures.value)
+
+pub returns-clause-accounted : goal.returns-clause-accounted
+returns-clause-accounted g c =
+    rw (c.pop_lru.ensures.entries, ← c.self.view_is)
+    (accounted_front
+    (record { live = c.self.inside.live.entries; closed = c.self.inside.closed.entries; held = c.self.inside.held })
+    c.in_ok-connection.field-0-0 c.in_ok-connection.connection c.self.inside.closed.entries c.saturating_sub-self-inside.result
+    c.in_ok-connection.ensures.value c.saturating_sub-self-inside.ensures)

@@ -1,8 +1,8 @@
 use Rattle.std.proofs.Common.{◌≡◌, Ok, sym, ◌∙◌, rules}
-use Rattle.tls_fields.specs.Bytes.{number_of}
-use Rattle.tls_fields.specs.Layout.{number}
-use Rattle.tls_fields.specs.Reading.{reading}
-use Rattle.tls_fields.proofs.OneAnswerLemmas.{number_read, read_allowed}
+use Rattle.layouts.specs.Bytes.{number_of}
+use Rattle.layouts.specs.Layout.{number}
+use Rattle.layouts.specs.Reading.{reading}
+use Rattle.layouts.proofs.OneAnswerLemmas.{number_read, read_allowed}
 use Rattle.ssl2_hello.proofs.NumberLemmas.{number_of_3}
 use Rattle.ssl2_hello.proofs.cipher_spec.CipherSpecNumber.read_present.Goals as goal
 

@@ -1,5 +1,5 @@
 use Rattle.std.proofs.Common.{arith}
-use Rattle.tls_fields.proofs.OneAnswerLemmas.{read_allowed}
+use Rattle.layouts.proofs.OneAnswerLemmas.{read_allowed}
 use Rattle.tls_base.specs.KeyExchange.{dh_params}
 use Rattle.tls_base.proofs.dh.ServerDHParams.parse.Goals as goal
 

@@ -1,5 +1,5 @@
 use Rattle.std.proofs.Common.{arith}
-use Rattle.tls_fields.proofs.OneAnswerLemmas.{read_allowed}
+use Rattle.layouts.proofs.OneAnswerLemmas.{read_allowed}
 use Rattle.tls_base.specs.KeyExchange.{ecdh_params}
 use Rattle.tls_base.proofs.ec.ServerECDHParams.parse.Goals as goal
 

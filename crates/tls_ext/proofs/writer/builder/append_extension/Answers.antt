@@ -1,7 +1,7 @@
 use Rattle.std.proofs.Common.{◌≡◌, ◌+◌, ◌*◌, ℕ, List, length, map, ap, arith}
 use Rattle.std.proofs.Math.ListN.{length-map}
-use Rattle.tls_fields.specs.Text.{numbers_text}
-use Rattle.tls_fields.proofs.TextLemmas.{length-numbers}
+use Rattle.layouts.specs.Text.{numbers_text}
+use Rattle.layouts.proofs.TextLemmas.{length-numbers}
 use Rattle.tls_ext.specs.Extension.{view, supported_groups}
 use Rattle.tls_ext.specs.ExtensionText.{extension_text}
 use Rattle.tls_ext.proofs.ExtensionTextLemmas.{length-counted, length-extension}

@@ -19,12 +19,12 @@ use Rattle.std.proofs.Common.{
 }
 use Rattle.std.proofs.lemmas.List.{length-append}
 use Rattle.std.specs.List.{flat_map}
-use Rattle.tls_fields.specs.Writer.{Judges}
-use Rattle.tls_fields.specs.declared.writer.GenError.{GenError}
+use Rattle.layouts.specs.Writer.{Judges}
+use Rattle.layouts.specs.declared.writer.GenError.{GenError}
 use Rattle.tls_ext.specs.Extension.{view}
 use Rattle.tls_ext.specs.declared.extension.TlsExtension.{TlsExtension}
 use Rattle.tls_ext.specs.ExtensionText.{extension_text, FitsExtension, RefusedExtension, InRangeExtension}
-use Rattle.tls_fields.proofs.WriterLemmas.{fits_at, fits_behind, texts_taken, room_for}
+use Rattle.layouts.proofs.WriterLemmas.{fits_at, fits_behind, texts_taken, room_for}
 use Rattle.tls_ext.proofs.writer.builder.append_extensions.Goals as goal
 use Rattle.tls_ext.proofs.writer.builder.append_extensions.Goals.{in-Ok, in_default}
 

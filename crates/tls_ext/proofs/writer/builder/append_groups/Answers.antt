@@ -1,5 +1,5 @@
 use Rattle.std.proofs.Common.{arith, ◌<◌, ◌^◌}
-use Rattle.tls_fields.proofs.TextLemmas.{numbers_behind, all_behind}
+use Rattle.layouts.proofs.TextLemmas.{numbers_behind, all_behind}
 use Rattle.tls_ext.proofs.writer.builder.append_groups.Goals as goal
 
 pub loop-group-preserved : goal.loop-group-preserved

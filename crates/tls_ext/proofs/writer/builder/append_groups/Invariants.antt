@@ -1,6 +1,6 @@
 use Rattle.std.proofs.Common.{◌≡◌, ◌≤◌, ◌+◌, ◌*◌, ◌^◌, ◌<◌, ◌++◌, map, take, vec_len, vec_capacity}
 use Rattle.std.specs.List.{All}
-use Rattle.tls_fields.specs.Text.{numbers_text}
+use Rattle.layouts.specs.Text.{numbers_text}
 use Rattle.tls_ext.proofs.writer.builder.append_groups.Given as goal
 
 abbrev pub invariant-loop-group : goal.invariant-loop-group

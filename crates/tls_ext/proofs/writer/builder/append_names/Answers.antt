@@ -21,11 +21,11 @@ use Rattle.std.proofs.Common.{
 use Rattle.std.specs.List.{flat_map}
 use Rattle.std.specs.Borrow.{Bor}
 use Rattle.tls_base.specs.declared.sni_type.SNIType.{SNIType}
-use Rattle.tls_fields.specs.Bytes.{Bytes, bytes_of}
-use Rattle.tls_fields.proofs.TextLemmas.{all_behind}
+use Rattle.layouts.specs.Bytes.{Bytes, bytes_of}
+use Rattle.layouts.proofs.TextLemmas.{all_behind}
 use Rattle.tls_ext.specs.Extension.{view_server_name}
 use Rattle.tls_ext.specs.ExtensionText.{server_name_text}
-use Rattle.tls_fields.proofs.WriterLemmas.{texts_more, texts_at, room_at}
+use Rattle.layouts.proofs.WriterLemmas.{texts_more, texts_at, room_at}
 use Rattle.tls_ext.proofs.ExtensionTextLemmas.{length-name}
 use Rattle.tls_ext.proofs.writer.builder.append_names.Goals as goal
 

@@ -1,7 +1,7 @@
 use Rattle.std.proofs.Common.{◌≡◌, ◌+◌, ◌*◌, ℕ, List, length, map, min, arith}
 use Rattle.std.proofs.Math.ListN.{length-map}
-use Rattle.tls_fields.specs.Text.{counted_text, numbers_text}
-use Rattle.tls_fields.proofs.TextLemmas.{length-numbers}
+use Rattle.layouts.specs.Text.{counted_text, numbers_text}
+use Rattle.layouts.proofs.TextLemmas.{length-numbers}
 use Rattle.tls_ext.proofs.ExtensionTextLemmas.{length-counted}
 use Rattle.tls_ext.proofs.writer.judge.content_len.Goals as goal
 

@@ -2,8 +2,8 @@ use Rattle.std.proofs.Common.{◌≡◌, ◌<◌, ℕ, List, length, map, take, 
 use Rattle.std.proofs.lemmas.List.{take_all, length-append}
 use Rattle.std.proofs.lemmas.Result.{err_from_is_err_and}
 use Rattle.std.specs.List.{All, flat_map}
-use Rattle.tls_fields.specs.Writer.{Judges}
-use Rattle.tls_fields.specs.declared.writer.GenError.{GenError}
+use Rattle.layouts.specs.Writer.{Judges}
+use Rattle.layouts.specs.declared.writer.GenError.{GenError}
 use Rattle.tls_ext.specs.Extension.{view}
 use Rattle.tls_ext.specs.declared.extension.TlsExtension.{TlsExtension}
 use Rattle.tls_ext.specs.ExtensionText.{
@@ -14,7 +14,7 @@ use Rattle.tls_ext.specs.ExtensionText.{
   RefusedExtension,
   RefusedExtensions,
 }
-use Rattle.tls_fields.proofs.WriterLemmas.{refused_at, none_refused, fits_at, fits_behind, texts_taken}
+use Rattle.layouts.proofs.WriterLemmas.{refused_at, none_refused, fits_at, fits_behind, texts_taken}
 use Rattle.tls_ext.proofs.writer.judge.extensions_len.Goals as goal
 
 -- the first that is refused decides

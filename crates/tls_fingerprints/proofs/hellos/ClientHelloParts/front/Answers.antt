@@ -1,7 +1,8 @@
 use Rattle.std.proofs.Common.{◌≤◌, length, arith, rules}
 use Rattle.tls_base.specs.ExtensionNumbers.{server_name}
 use Rattle.tls_ext.specs.InPlace.{best_version, protocol_names}
-use Rattle.tls_fingerprints.specs.Hellos.{Client, content_in, known, view_client}
+use Rattle.tls_ext.specs.Offered.{content_in, known}
+use Rattle.tls_fingerprints.specs.Hellos.{Client, view_client}
 use Rattle.tls_fingerprints.specs.Ja4.{letter_of, name_letter, protocol_text, two_digits, version_text}
 use Rattle.tls_fingerprints.proofs.DigestLemmas.{six_put}
 use Rattle.tls_fingerprints.proofs.hellos.ClientHelloParts.front.Goals as goal

@@ -1,6 +1,6 @@
 use Rattle.std.proofs.Common.{[], List, ℕ, ap, rules, subst, ◌∙◌}
-use Rattle.tls_fields.specs.Items.{items_in}
-use Rattle.tls_fields.specs.Layout.{number}
+use Rattle.layouts.specs.Items.{items_in}
+use Rattle.layouts.specs.Layout.{number}
 use Rattle.tls_fingerprints.specs.Numbers.{IsFilled, without_grease}
 use Rattle.tls_fingerprints.proofs.DigestLemmas.{types_are}
 use Rattle.tls_fingerprints.proofs.hellos.ClientHelloParts.types_part.Goals as goal

@@ -1,5 +1,5 @@
 use Rattle.std.proofs.Common.{arith}
-use Rattle.tls_fields.proofs.OneAnswerLemmas.{read_allowed}
+use Rattle.layouts.proofs.OneAnswerLemmas.{read_allowed}
 use Rattle.tls_hs.specs.Hello.{client_hello}
 use Rattle.tls_hs.proofs.client_hello_view.ClientHelloView.parse.Goals as goal
 

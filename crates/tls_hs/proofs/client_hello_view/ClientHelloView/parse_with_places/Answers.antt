@@ -1,6 +1,6 @@
-use Rattle.tls_fields.specs.Layout.{number}
-use Rattle.tls_fields.specs.Meaning.{EndsWith}
-use Rattle.tls_fields.proofs.PlaceLemmas.{ends_here, ends_read}
+use Rattle.layouts.specs.Layout.{number}
+use Rattle.layouts.specs.Meaning.{EndsWith}
+use Rattle.layouts.proofs.PlaceLemmas.{ends_here, ends_read}
 use Rattle.tls_hs.proofs.client_hello_view.ClientHelloView.parse_with_places.Goals as goal
 
 pub returns-clause-places : goal.returns-clause-places

@@ -1,6 +1,6 @@
 use Rattle.std.proofs.Common.{◌++◌, ◌∙◌, ap, map}
-use Rattle.tls_fields.specs.Bytes.{bytes_of}
-use Rattle.tls_fields.specs.Text.{counted_text, numbers_text, held}
+use Rattle.layouts.specs.Bytes.{bytes_of}
+use Rattle.layouts.specs.Text.{counted_text, numbers_text, held}
 use Rattle.tls_hs.specs.Hello.{view_client_hello}
 use Rattle.tls_hs.specs.HandshakeText.{client_hello_text}
 use Rattle.tls_hs.proofs.LengthLemmas.{six_added}

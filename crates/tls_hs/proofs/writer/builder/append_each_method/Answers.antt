@@ -1,5 +1,5 @@
 use Rattle.std.proofs.Common.{arith, ◌<◌, ◌^◌}
-use Rattle.tls_fields.proofs.TextLemmas.{numbers_behind, all_behind}
+use Rattle.layouts.proofs.TextLemmas.{numbers_behind, all_behind}
 use Rattle.tls_hs.proofs.writer.builder.append_each_method.Goals as goal
 
 pub loop-method-preserved : goal.loop-method-preserved

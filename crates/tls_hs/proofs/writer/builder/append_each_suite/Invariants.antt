@@ -1,6 +1,6 @@
 use Rattle.std.proofs.Common.{◌≡◌, ◌≤◌, ◌+◌, ◌*◌, ◌^◌, ◌<◌, ◌++◌, map, take, vec_len, vec_capacity}
 use Rattle.std.specs.List.{All}
-use Rattle.tls_fields.specs.Text.{numbers_text}
+use Rattle.layouts.specs.Text.{numbers_text}
 use Rattle.tls_hs.proofs.writer.builder.append_each_suite.Given as goal
 
 abbrev pub invariant-loop-suite : goal.invariant-loop-suite

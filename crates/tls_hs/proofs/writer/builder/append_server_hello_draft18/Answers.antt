@@ -1,6 +1,6 @@
 use Rattle.std.proofs.Common.{◌++◌, ◌∙◌, ap}
-use Rattle.tls_fields.specs.Bytes.{bytes_of}
-use Rattle.tls_fields.specs.Text.{counted_text, held}
+use Rattle.layouts.specs.Bytes.{bytes_of}
+use Rattle.layouts.specs.Text.{counted_text, held}
 use Rattle.tls_hs.specs.ServerHello.{view_server_hello_draft18}
 use Rattle.tls_hs.specs.HandshakeText.{server_hello_draft18_text}
 use Rattle.tls_hs.proofs.LengthLemmas.{four_added}

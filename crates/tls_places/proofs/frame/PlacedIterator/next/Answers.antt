@@ -1,5 +1,5 @@
 use Rattle.std.proofs.Common.{refl}
-use Rattle.tls_fields.proofs.ItemsLemmas.{items_first}
+use Rattle.layouts.proofs.ItemsLemmas.{items_first}
 use Rattle.tls_places.proofs.PlaceLemmas.{is_end, ends_of}
 use Rattle.tls_places.proofs.frame.PlacedIterator.next.Goals as goal
 

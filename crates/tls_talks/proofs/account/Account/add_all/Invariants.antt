@@ -1,6 +1,6 @@
 -- what is still to be said, said behind what is known now, is what all of it comes to
 use Rattle.std.proofs.Common.{◌≡◌, drop}
-use Rattle.dtls_messages.specs.Messages.{view_events}
+use Rattle.dtls_stream.specs.Messages.{view_events}
 use Rattle.tls_talks.specs.Datagrams.{said_all, told_of}
 use Rattle.tls_talks.proofs.account.Account.add_all.Given as goal
 

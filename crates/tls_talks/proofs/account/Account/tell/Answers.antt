@@ -1,6 +1,6 @@
 use Rattle.std.proofs.Common.{rules, ap, ◌∙◌}
 use Rattle.std.specs.Option.{option_map}
-use Rattle.dtls_messages.specs.Messages.{view_event}
+use Rattle.dtls_stream.specs.Messages.{view_event}
 use Rattle.tls_flow.specs.Bytes.{kind_of_datagrams, view_heard}
 use Rattle.tls_talks.proofs.HearerLemmas.{copied_view, same_step_in_datagram}
 use Rattle.tls_talks.proofs.account.Account.tell.Goals as goal

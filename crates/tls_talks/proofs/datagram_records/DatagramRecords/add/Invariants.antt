@@ -1,5 +1,5 @@
 use Rattle.std.proofs.Common.{◌≡◌}
-use Rattle.tls_fields.specs.Items.{items_in}
+use Rattle.layouts.specs.Items.{items_in}
 use Rattle.dtls13_records.specs.Datagram.{datagram_record13}
 use Rattle.tls_talks.specs.DatagramRecords.{with_records}
 use Rattle.tls_talks.proofs.datagram_records.DatagramRecords.add.Given as goal

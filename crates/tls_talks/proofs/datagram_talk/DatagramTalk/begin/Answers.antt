@@ -1,4 +1,4 @@
-use Rattle.dtls_messages.specs.Fragments.{view_fragment}
+use Rattle.dtls_stream.specs.Fragments.{view_fragment}
 use Rattle.tls_talks.proofs.DatagramLemmas.{client_begins, server_begins}
 use Rattle.tls_talks.proofs.datagram_talk.DatagramTalk.begin.Goals as goal
 

@@ -1,4 +1,4 @@
-use Rattle.tls_parser.specs.DtlsRecord.{view_raw_record}
+use Rattle.tls_records.specs.DtlsRecord.{view_raw_record}
 use Rattle.tls_talks.proofs.DatagramLemmas.{client_answers, server_answers}
 use Rattle.tls_talks.proofs.datagram_talk.DatagramTalk.follow.Goals as goal
 

@@ -1,5 +1,5 @@
 use Rattle.std.proofs.Common.{rules, ◌≡◌, ◌-◌, OnOk, drop, length, true, false, subst, sym}
-use Rattle.tls_fields.specs.Bytes.{Bytes}
+use Rattle.layouts.specs.Bytes.{Bytes}
 use Rattle.tls_detection.specs.Front.{begins_tls}
 use Rattle.tls_talks.specs.Talks.{IsFirstHeard, IsNext, front, waiting}
 use Rattle.tls_talks.proofs.FirstLemmas.{first_other, first_tls, front_is}

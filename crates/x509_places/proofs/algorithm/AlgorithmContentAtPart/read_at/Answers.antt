@@ -1,6 +1,6 @@
 use Rattle.std.proofs.Common.{◌-◌, length, take}
-use Rattle.tls_fields.specs.Meaning.{EndsWith}
-use Rattle.tls_fields.proofs.PlaceLemmas.{ends_read}
+use Rattle.layouts.specs.Meaning.{EndsWith}
+use Rattle.layouts.proofs.PlaceLemmas.{ends_read}
 use Rattle.der.specs.Element.{tagged}
 use Rattle.der.specs.ObjectIdentifier.{object_identifier_content}
 use Rattle.x509_places.proofs.algorithm.AlgorithmContentAtPart.read_at.Goals as goal

@@ -1,6 +1,6 @@
 use Rattle.std.proofs.Common.{◌≡◌, ◌-◌, length, take, sym, subst}
-use Rattle.tls_fields.specs.Meaning.{EndsWith}
-use Rattle.tls_fields.proofs.PlaceLemmas.{ends_here, ends_read}
+use Rattle.layouts.specs.Meaning.{EndsWith}
+use Rattle.layouts.proofs.PlaceLemmas.{ends_here, ends_read}
 use Rattle.der.specs.Element.{tagged}
 use Rattle.x509.specs.Certificate.{algorithm_identifier, tbs_certificate}
 use Rattle.x509_places.proofs.LastLemmas.{rest_same}

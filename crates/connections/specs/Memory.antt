@@ -1,0 +1,59 @@
+-- What the connections of a table are accounted for, in bytes of memory.
+use Rattle.std.specs.Prelude.{◌≡◌, ℕ, ◌+◌, ◌-◌, ◌/◌, ◌≤◌, ◌<◌, ◌^◌, Bool, nat_lt, ◌||◌, Option, Some, None, List, [], ◌∷◌, ◌++◌, length}
+use Rattle.connections.specs.Ends.{are_ends}
+use Rattle.connections.specs.Connection.{held_by}
+use Rattle.connections.specs.Table.{at, others, with_other, Table, WasLast}
+use Rattle.connections.specs.declared.connection.Connection.{Connection}
+use Rattle.connections.specs.declared.ends.Ends.{Ends}
+use Rattle.connections.specs.declared.table.TheConstants.{CLOSED_COST, CLOSED_SHARE}
+
+-- So many bytes those that were closed may take of a limit, and so many those that are open.
+abbrev pub closed_part : ℕ → ℕ
+closed_part limit = limit / CLOSED_SHARE
+
+abbrev pub open_part : ℕ → ℕ
+open_part limit = limit - closed_part limit
+
+-- So many of them fit.
+abbrev pub closed_count : ℕ → ℕ
+closed_count limit = closed_part limit / CLOSED_COST
+
+-- Of those that were closed the latest are known that fit.
+pub record IsFront (xs ys : List (Ends × ℕ)) : Type 0 where
+  pub rest : List (Ends × ℕ)
+  pub stood : xs ≡ ys ++ rest
+
+pub record FitsClosed (limit : ℕ) (xs ys : List (Ends × ℕ)) : Type 0 where
+  pub latest : IsFront xs ys
+  pub fits : length ys ≤ closed_count limit
+
+module _ {T : Type 0} where
+  -- For how much all are accounted.
+  abbrev pub total : List (Ends × Connection T) → ℕ
+  total [] = 0
+  total (e ∷ xs) = e.1.weight + total xs
+
+  -- The table's count is for how much all are accounted that are open.
+  abbrev pub IsAccounted : Table T → Type 0
+  IsAccounted t = t.held ≡ total t.live
+
+  -- More is accounted for than a limit lets.
+  abbrev pub is_crowded : ℕ → Table T → Bool
+  is_crowded limit t = nat_lt (open_part limit) t.held || nat_lt (closed_count limit) (length t.closed)
+
+  -- The connection between these ends is accounted for at least as many bytes as its streams hold, where that is no more than any machine has; all else
+  -- stays.
+  pub record IsSettledAs (e : Ends) (c w : Connection T) (old new : Table T) : Type 0 where
+    pub same : w ≡ record c { weight = w.weight }
+    pub enough : old.held - c.weight + held_by w < 2 ^ 63 → held_by w ≤ w.weight
+    pub stands : new.live ≡ (with_other e w old).live
+    pub closed : new.closed ≡ old.closed
+
+  abbrev pub IsSettled : Ends → Option (Connection T) → Table T → Table T → Type 0
+  IsSettled e None old new = new ≡ old
+  IsSettled e (Some c) old new = (w : Connection T) × IsSettledAs e c w old new
+
+  -- The connection that was longest without a packet is taken out, and no more accounted for. All others stay.
+  pub record IsTakenOut (old new : Table T) (c : Connection T) : Type 0 where
+    pub last : WasLast old.live new.live c
+    pub held : new.held ≡ old.held - c.weight

@@ -1,0 +1,253 @@
+-- The messages of one direction, from fragments of several that are mixed (RFC 6347, sections 4.2.2 to 4.2.4).
+use Rattle.std.specs.Prelude.{◌≡◌, ℕ, zero, suc, ◌+◌, ◌<◌, ◌≤◌, ◌⊎◌, ⊤, cond, nat_le, nat_lt, Option, Some, None, Result, Ok, Err, ◌==◌, List, [], ◌∷◌, ◌++◌, length, map}
+use Rattle.std.specs.Option.{option_map}
+use Rattle.std.proofs.Common.{get_or}
+use Rattle.layouts.specs.Bytes.{Bytes}
+use Rattle.layouts.specs.declared.result.ErrorKind.{ErrorKind}
+use Rattle.tls_base.specs.Alert as alerts
+use Rattle.dtls_stream.specs.declared.event.EncryptedRecord.{EncryptedRecord as Sealed}
+use Rattle.dtls_stream.specs.Fragments.{Fragment, Held, IsAdded, IsOfSame, agrees, byte, first_at, inside, judged}
+use Rattle.dtls_stream.specs.declared.event.Event.{Event as Lent}
+use Rattle.dtls_stream.specs.declared.event.Event.TheVariants as event
+use Rattle.dtls_stream.specs.declared.event.Message.{Message as Owned}
+use Rattle.dtls_stream.specs.declared.messages.Limits.{Limits as Given}
+use Rattle.dtls_stream.specs.declared.fragments.FragmentError.{FragmentError}
+use Rattle.dtls_stream.specs.declared.fragments.FragmentError.TheVariants.{Old, TooFarAhead, TooLarge, OutOfMemory}
+
+-- A handshake message, with its whole body.
+pub record Message : Type 0 where
+  pub msg_type : ℕ
+  pub message_seq : ℕ
+  pub body : Bytes
+
+abbrev pub view_message : Owned → Message
+view_message m = record { msg_type = m.msg_type.0; message_seq = m.message_seq; body = m.body.items }
+
+-- What a caller allows.
+pub record Limits : Type 0 where
+  -- bytes of a message's body
+  pub message : ℕ
+  -- messages that are held, of which the first is the next one
+  pub ahead : ℕ
+
+abbrev pub view_limits : Given → Limits
+view_limits l = record { message = l.message; ahead = l.ahead }
+
+-- A record that is encrypted, apart from where it lies in memory.
+pub record EncryptedRecord : Type 0 where
+  pub content_type : ℕ
+  pub version : ℕ
+  pub epoch : ℕ
+  pub sequence_number : ℕ
+  pub fragment : Bytes
+
+abbrev pub view_encrypted : Sealed → EncryptedRecord
+view_encrypted r = record {
+  content_type = r.content_type.0;
+  version = r.version.0;
+  epoch = r.epoch;
+  sequence_number = r.sequence_number;
+  fragment = r.fragment.now;
+}
+
+-- What is told of a direction.
+pub data Event : Type 0 where
+  Handshake : Message → Event
+  ChangeCipherSpec : Event
+  Alert : alerts.Alert → Event
+  -- a record of an epoch above 0, which isn't read
+  Encrypted : EncryptedRecord → Event
+  -- a fragment of the message of that number, which isn't taken
+  Refused : ℕ → FragmentError → Event
+  -- a record, or the rest of one or of a datagram, which isn't read
+  Failed : ErrorKind → Event
+
+abbrev pub view_event : Lent → Event
+view_event (event.Handshake m) = Handshake (view_message m)
+view_event event.ChangeCipherSpec = ChangeCipherSpec
+view_event (event.Alert a) = Alert (alerts.view_alert a)
+view_event (event.Encrypted r) = Encrypted (view_encrypted r)
+view_event (event.Refused seq e) = Refused seq e
+view_event (event.Fault kind) = Failed kind
+
+abbrev pub view_events : List Lent → List Event
+view_events es = map view_event es
+
+-- The fragments of one message.
+abbrev pub of_message : ℕ → List Fragment → List Fragment
+of_message seq [] = []
+of_message seq (f ∷ fs) = cond (f.message_seq == seq) (f ∷ of_message seq fs) (of_message seq fs)
+
+abbrev pub with_byte : Option ℕ → Option Bytes → Option Bytes
+with_byte (Some x) (Some b) = Some (x ∷ b)
+with_byte (Some x) None = None
+with_byte None b = None
+
+-- The n bytes from place i on, where each is there.
+abbrev pub bytes_from : List Fragment → ℕ → ℕ → Option Bytes
+bytes_from fs i zero = Some []
+bytes_from fs i (suc n) = with_byte (first_at fs i) (bytes_from fs (suc i) n)
+
+-- The message of these fragments, of which the first says what it is: there once they cover it.
+abbrev pub message_of : List Fragment → Option Message
+message_of [] = None
+message_of (f ∷ fs) = option_map (λ b. record { msg_type = f.msg_type; message_seq = f.message_seq; body = b }) (bytes_from (f ∷ fs) 0 f.length)
+
+abbrev pub followed : Option Message → List Message → List Message
+followed (Some m) ms = m ∷ ms
+followed None ms = []
+
+-- The messages from this number on, at most n, up to the first that isn't covered.
+abbrev pub whole_from : ℕ → ℕ → List Fragment → List Message
+whole_from zero next ts = []
+whole_from (suc n) next ts = followed (message_of (of_message next ts)) (whole_from n (suc next) ts)
+
+-- What was heard of a direction: the fragments that were taken, in the order in which they came, and how many messages
+-- were handed out.
+pub record Heard : Type 0 where
+  pub taken : List Fragment
+  pub next : ℕ
+
+abbrev pub nothing : Heard
+nothing = record { taken = []; next = 0 }
+
+-- Nothing was heard, and those in front of this number are missing.
+abbrev pub nothing_from : ℕ → Heard
+nothing_from first = record { taken = []; next = first }
+
+-- Whether a fragment goes with those of its message that were taken.
+abbrev pub agreed : List Fragment → Fragment → Result Unit FragmentError
+agreed [] f = inside f
+agreed (g ∷ gs) f = agrees g.length f
+
+-- Whether a fragment is taken.
+abbrev pub verdict : Limits → Heard → Fragment → Result Unit FragmentError
+verdict l h f =
+    cond (nat_lt f.message_seq h.next) (Err Old) (
+    cond (nat_le (h.next + l.ahead) f.message_seq) (Err TooFarAhead) (
+    cond (nat_lt l.message f.length) (Err TooLarge) (
+    agreed (of_message f.message_seq h.taken) f)))
+
+abbrev pub with_taken : Heard → Fragment → List Fragment
+with_taken h f = h.taken ++ f ∷ []
+
+abbrev pub heard_by : Result Unit FragmentError → Limits → Heard → Fragment → Heard
+heard_by (Err e) l h f = h
+heard_by (Ok t) l h f = record { taken = with_taken h f; next = h.next + length (whole_from l.ahead h.next (with_taken h f)) }
+
+-- What was heard, once this fragment came: where it is taken, all messages are handed out that stand next and are covered.
+abbrev pub heard : Limits → Heard → Fragment → Heard
+heard l h f = heard_by (verdict l h f) l h f
+
+abbrev pub told_by : Result Unit FragmentError → Limits → Heard → Fragment → List Event
+told_by (Err e) l h f = Refused f.message_seq e ∷ []
+told_by (Ok t) l h f = map Handshake (whole_from l.ahead h.next (with_taken h f))
+
+-- What is told of a fragment: the messages that are handed out, or why it isn't taken.
+abbrev pub told : Limits → Heard → Fragment → List Event
+told l h f = told_by (verdict l h f) l h f
+
+-- What is held of a direction: the messages from the next one on of which fragments came.
+pub record Kept : Type 0 where
+  pub limits : Given
+  pub next : ℕ
+  pub slots : List (Option Held)
+
+abbrev pub slot : Kept → ℕ → Option Held
+slot k i = get_or k.slots i None
+
+-- What is held of one message is what these fragments give: the first says what it is, and at each place the first stands.
+pub record IsHeld (f : Fragment) (fs : List Fragment) (h : Held) : Type 0 where
+  pub same : IsOfSame h f
+  pub bytes : (i : ℕ) → byte h i ≡ first_at (f ∷ fs) i
+
+abbrev pub IsPart : List Fragment → Option Held → Type 0
+IsPart [] None = ⊤
+IsPart [] (Some h) = ⊥
+IsPart (f ∷ fs) None = ⊥
+IsPart (f ∷ fs) (Some h) = IsHeld f fs h
+
+-- What is held is what was heard.
+pub record Stands (l : Limits) (h : Heard) (k : Kept) : Type 0 where
+  pub limits : view_limits k.limits ≡ l
+  pub next : k.next ≡ h.next
+  pub few : length k.slots ≤ l.ahead
+  pub each : (i : ℕ) → IsPart (of_message (h.next + i) h.taken) (slot k i)
+
+-- The messages that stand next are handed out.
+pub record AreHandedOut (l : Limits) (h : Heard) (es : List Event) (es' : List Event) (k' : Kept) : Type 0 where
+  pub events : es' ≡ es ++ map Handshake (whole_from l.ahead h.next h.taken)
+  pub stands : Stands l (record h { next = h.next + length (whole_from l.ahead h.next h.taken) }) k'
+
+-- A fragment was heard.
+pub record IsHeard (l : Limits) (h : Heard) (f : Fragment) (es : List Event) (es' : List Event) (k' : Kept) : Type 0 where
+  pub events : es' ≡ es ++ told l h f
+  pub stands : Stands l (heard l h f) k'
+
+-- What is told of fragments that come one after the other.
+unfoldable pub events : Limits → Heard → List Fragment → List Event
+events l h [] = []
+events l h (f ∷ fs) = told l h f ++ events l (heard l h f) fs
+
+-- What was heard after them.
+unfoldable pub after : Limits → Heard → List Fragment → Heard
+after l h [] = h
+after l h (f ∷ fs) = after l (heard l h f) fs
+
+-- The messages among the events.
+abbrev pub messages : List Event → List Message
+messages [] = []
+messages (Handshake m ∷ es) = m ∷ messages es
+messages (e ∷ es) = messages es
+
+-- Memory ran out while messages were handed out: what was told stands, and the rest of them are kept, and stand next in what is held.
+pub record AreKept (l : Limits) (h : Heard) (es : List Event) (es' : List Event) (k' : Kept) : Type 0 where
+  pub kept : List Message
+  pub next : ℕ
+  pub front : List Event
+  pub told : es' ≡ es ++ front
+  pub all : front ++ map Handshake kept ≡ map Handshake (whole_from l.ahead h.next h.taken)
+  pub count : next + length kept ≡ h.next + length (whole_from l.ahead h.next h.taken)
+  pub stands : Stands l (record h { next = next }) k'
+
+-- Memory ran out within these fragments: what was told stands, and the first of them were heard. Their events are told but for the
+-- messages that are kept, which are whole and stand next in what is held.
+pub record IsStopped (l : Limits) (h : Heard) (fs : List Fragment) (es : List Event) (es' : List Event) (k' : Kept) : Type 0 where
+  pub first : List Fragment
+  pub behind : List Fragment
+  pub split : fs ≡ first ++ behind
+  pub kept : List Message
+  pub next : ℕ
+  pub front : List Event
+  pub told : es' ≡ es ++ front
+  pub all : front ++ map Handshake kept ≡ events l h first
+  pub count : next + length kept ≡ (after l h first).next
+  pub stands : Stands l (record { taken = (after l h first).taken; next = next }) k'
+
+-- Whether a fragment is taken into a place.
+abbrev pub slot_judged : Option Held → Fragment → Result Unit FragmentError
+slot_judged None f = inside f
+slot_judged (Some h) f = judged h f
+
+-- It is taken there.
+abbrev pub IsSlotAdded : Option Held → Fragment → Option Held → Type 0
+IsSlotAdded None f None = ⊥
+IsSlotAdded None f (Some n) = IsHeld f [] n
+IsSlotAdded (Some h) f None = ⊥
+IsSlotAdded (Some h) f (Some n) = IsAdded h f n
+
+-- The answer is this one, or memory ran out.
+abbrev pub IsOrMemory : Result Unit FragmentError → Result Unit FragmentError → Type 0
+IsOrMemory r x = (r ≡ Err OutOfMemory) ⊎ (r ≡ x)
+
+-- A place has changed, and none else.
+pub record IsChangedAt (old : Kept) (at : ℕ) (new : Kept) : Type 0 where
+  pub limits : new.limits ≡ old.limits
+  pub next : new.next ≡ old.next
+  pub few : (n : ℕ) → length old.slots ≤ n → at < n → length new.slots ≤ n
+  pub others : (i : ℕ) → (i ≡ at → ⊥) → slot new i ≡ slot old i
+
+-- Fragments were heard, one after the other.
+pub record AreHeard (l : Limits) (h : Heard) (fs : List Fragment) (es : List Event) (es' : List Event) (k' : Kept) : Type 0 where
+  pub events : es' ≡ es ++ events l h fs
+  pub stands : Stands l (after l h fs) k'

@@ -1,0 +1,16 @@
+pub mod NumberLemmas
+pub mod EndLemmas
+pub mod OneAnswerLemmas
+pub mod LackingLemmas
+pub mod StableLemmas
+pub mod GivesLemmas
+pub mod TableLemmas
+pub mod TimesLemmas
+pub mod ItemsLemmas
+pub mod ListLemmas
+pub mod NumbersLemmas
+pub mod LeavesLemmas
+pub mod FramedLemmas
+pub mod PlaceLemmas
+pub mod TextLemmas
+pub mod WriterLemmas

@@ -1,0 +1,11 @@
+pub mod Bytes
+pub mod Layout
+pub mod Meaning
+pub mod Reading
+pub mod Stable
+pub mod Answers
+pub mod Items
+pub mod Framed
+pub mod Place
+pub mod Text
+pub mod Writer

@@ -1,5 +1,0 @@
--- What a call's contract wants of what it read.
-use Rattle.std.proofs.lemmas.Grind.{common_steps}
-use Rattle.tls_fields.proofs.OneAnswerLemmas.{read_allowed}
-
-pub ruleset reads = (read_allowed, common_steps)

@@ -1,0 +1,32 @@
+use Rattle.std.proofs.Common.{arith}
+use Rattle.layouts.proofs.OneAnswerLemmas.{read_allowed}
+use Rattle.tls_records.specs.DtlsHello.{client_hello}
+use Rattle.tls_records.proofs.dtls.hello_view.DTLSClientHelloView.parse.Goals as goal
+
+pub returns-in_err-i : goal.returns-in_err-i
+unfolding client_hello
+returns-in_err-i c = grind (arith, read_allowed)
+
+pub returns-in_err-i-2 : goal.returns-in_err-i-2
+unfolding client_hello
+returns-in_err-i-2 c = grind (arith, read_allowed)
+
+pub returns-in_err-i-3 : goal.returns-in_err-i-3
+unfolding client_hello
+returns-in_err-i-3 c = grind (arith, read_allowed)
+
+pub returns-in_err-i-4 : goal.returns-in_err-i-4
+unfolding client_hello
+returns-in_err-i-4 c = grind (arith, read_allowed)
+
+pub returns-in_err-i-5 : goal.returns-in_err-i-5
+unfolding client_hello
+returns-in_err-i-5 c = grind (arith, read_allowed)
+
+pub returns-in_err-i-6 : goal.returns-in_err-i-6
+unfolding client_hello
+returns-in_err-i-6 c = grind (arith, read_allowed)
+
+pub returns : goal.returns
+unfolding client_hello
+returns c = grind (arith, read_allowed)

@@ -1,0 +1,63 @@
+-- Hellos of DTLS (RFC 6347, section 4.2.1).
+use Rattle.std.specs.Prelude.{ℕ, map}
+use Rattle.std.specs.Option.{option_map}
+use Rattle.layouts.specs.Bytes.{Bytes}
+use Rattle.layouts.specs.Layout.{Layout, done, number, block, maybe, ◌>>=◌, counted}
+use Rattle.tls_hs.specs.Hello as hello
+use Rattle.tls_records.specs.declared.dtls.hello.DTLSClientHello.{DTLSClientHello}
+use Rattle.tls_records.specs.declared.dtls.hello.DTLSHelloVerifyRequest.{DTLSHelloVerifyRequest}
+
+-- A ClientHello of DTLS, apart from where it lies in memory: what that of TLS has, and a cookie.
+pub record ClientHello : Type 0 where
+  pub hello : hello.ClientHello
+  pub cookie : Bytes
+
+abbrev pub view_client_hello : DTLSClientHello → ClientHello
+view_client_hello h = record {
+  hello = record {
+    client_version = h.version.0;
+    random = h.random.now;
+    session_id = option_map (λ x. x.now) h.session_id;
+    cipher_suites = map (λ x. x.0) h.ciphers.items;
+    compression_methods = map (λ x. x.0) h.comp.items;
+    extensions = option_map (λ x. x.now) h.ext;
+  };
+  cookie = h.cookie.now;
+}
+
+-- Its body; the cookie follows the session id, and extensions may be absent.
+unfoldable pub client_hello : Layout ClientHello
+client_hello = do
+  version ← number 2
+  random ← block 32
+  id ← hello.session_id
+  cookie ← counted 1
+  suites ← hello.cipher_suites
+  methods ← hello.compression_methods
+  extensions ← maybe (counted 2)
+  done (record {
+    hello = record {
+      client_version = version;
+      random = random;
+      session_id = id;
+      cipher_suites = suites;
+      compression_methods = methods;
+      extensions = extensions;
+    };
+    cookie = cookie;
+  })
+
+-- A HelloVerifyRequest, apart from where it lies in memory.
+pub record HelloVerifyRequest : Type 0 where
+  pub server_version : ℕ
+  pub cookie : Bytes
+
+abbrev pub view_hello_verify_request : DTLSHelloVerifyRequest → HelloVerifyRequest
+view_hello_verify_request r = record { server_version = r.server_version.0; cookie = r.cookie.now }
+
+-- Its body.
+unfoldable pub hello_verify_request : Layout HelloVerifyRequest
+hello_verify_request = do
+  version ← number 2
+  cookie ← counted 1
+  done (record { server_version = version; cookie = cookie })

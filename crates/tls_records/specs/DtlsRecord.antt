@@ -1,0 +1,118 @@
+-- Records of DTLS (RFC 6347, section 4.1) and the messages in them.
+use Rattle.std.specs.Prelude.{ℕ, ◌/◌, ◌%◌, ◌^◌, List, map, Ok, ◌==◌}
+use Rattle.layouts.specs.Bytes.{Bytes}
+use Rattle.layouts.specs.Layout.{Layout, done, refuse, number, list1, mapped, ◌>>=◌, choose}
+use Rattle.layouts.specs.Meaning.{Answer}
+use Rattle.layouts.specs.Reading.{reading, ◌and_then◌}
+use Rattle.layouts.specs.declared.result.ErrorKind.TheVariants.{Switch}
+use Rattle.tls_base.specs.Alert as base_alert
+use Rattle.tls_hs.specs.Message as tls_message
+use Rattle.tls_records.specs.DtlsHandshake as dtls_handshake
+use Rattle.tls_records.specs.Framing.{framed_raw_record, framed_record}
+use Rattle.tls_records.specs.declared.dtls.message.DTLSMessage.{DTLSMessage}
+use Rattle.tls_records.specs.declared.dtls.message.DTLSMessage.TheVariants as dtls_message
+use Rattle.tls_records.specs.declared.dtls.record.DTLSRecordHeader.{DTLSRecordHeader}
+use Rattle.tls_records.specs.declared.dtls.record.DTLSRawRecord.{DTLSRawRecord}
+use Rattle.tls_records.specs.declared.dtls.record.DTLSPlaintext.{DTLSPlaintext}
+
+-- A message, apart from where it lies in memory.
+pub data Message : Type 0 where
+  Handshake : dtls_handshake.Handshake → Message
+  ChangeCipherSpec : Message
+  Alert : base_alert.Alert → Message
+  ApplicationData : Bytes → Message
+  Heartbeat : tls_message.HeartbeatMessage → Message
+
+abbrev pub view_message : DTLSMessage → Message
+view_message (dtls_message.Handshake h) = Handshake (dtls_handshake.view_handshake h)
+view_message dtls_message.ChangeCipherSpec = ChangeCipherSpec
+view_message (dtls_message.Alert a) = Alert (base_alert.view_alert a)
+view_message (dtls_message.ApplicationData d) = ApplicationData d.blob.now
+view_message (dtls_message.Heartbeat h) = Heartbeat (tls_message.view_heartbeat h)
+
+-- It is part of a handshake message (RFC 6347, section 4.2.3).
+abbrev pub IsFragment : Message → Type 0
+IsFragment (Handshake h) = dtls_handshake.IsFragment h.body
+IsFragment m = ⊥
+
+-- The messages that are read: those of TLS (RFC 5246, sections 7.1 and 7.2), and handshake messages.
+unfoldable pub change_cipher_spec : Layout Message
+change_cipher_spec = mapped (λ _. ChangeCipherSpec) tls_message.change_cipher_spec
+
+unfoldable pub alert : Layout Message
+alert = mapped Alert base_alert.alert
+
+unfoldable pub handshake : Layout Message
+handshake = mapped Handshake dtls_handshake.handshake
+
+-- What stands in front of a fragment; the length is that of the fragment, in bytes.
+pub record RecordHeader : Type 0 where
+  pub content_type : ℕ
+  pub version : ℕ
+  pub epoch : ℕ
+  pub sequence_number : ℕ
+  pub length : ℕ
+
+abbrev pub view_header : DTLSRecordHeader → RecordHeader
+view_header h = record {
+  content_type = h.content_type.0;
+  version = h.version.0;
+  epoch = h.epoch;
+  sequence_number = h.sequence_number;
+  length = h.length;
+}
+
+-- ContentType type; ProtocolVersion version; uint16 epoch; uint48 sequence_number; uint16 length. Epoch and sequence
+-- number are read as one number of 8 bytes.
+unfoldable pub record_header : Layout RecordHeader
+record_header = do
+  kind ← number 1
+  version ← number 2
+  counter ← number 8
+  length ← number 2
+  done (record {
+    content_type = kind;
+    version = version;
+    epoch = counter / 2 ^ 48;
+    sequence_number = counter % 2 ^ 48;
+    length = length;
+  })
+
+-- A record whose fragment isn't read.
+pub record RawRecord : Type 0 where
+  pub header : RecordHeader
+  pub fragment : Bytes
+
+abbrev pub view_raw_record : DTLSRawRecord → RawRecord
+view_raw_record r = record { header = view_header r.header; fragment = r.fragment.now }
+
+unfoldable pub raw_record : Layout RawRecord
+raw_record = framed_raw_record record_header (λ h. h.length) (λ h fragment. record { header = h; fragment = fragment })
+
+-- The messages that stand in the fragment of a record with that header.
+unfoldable pub record_content : RecordHeader → Layout (List Message)
+record_content header =
+    choose (header.content_type == 20) (list1 change_cipher_spec) (
+    choose (header.content_type == 21) (list1 alert) (
+    choose (header.content_type == 22) (list1 handshake) (
+    refuse Switch)))
+
+-- A record with its messages: a DTLSPlaintext (RFC 6347, section 4.1).
+pub record Plaintext : Type 0 where
+  pub header : RecordHeader
+  pub messages : List Message
+
+abbrev pub view_plaintext : DTLSPlaintext → Plaintext
+view_plaintext p = record { header = view_header p.header; messages = map view_message p.messages.items }
+
+unfoldable pub plaintext : Layout Plaintext
+plaintext =
+    framed_record record_header (λ h. h.length) record_content
+    (λ h messages. record { header = h; messages = messages })
+
+-- A raw record with its content read: the record with the messages that its fragment holds, and the rest after the
+-- fragment.
+abbrev pub read_content : RawRecord × Bytes → Answer Plaintext
+read_content x =
+    reading (record_content x.0.header) x.0.fragment and_then λ m. Ok
+    (record { header = x.0.header; messages = m.0 }, x.1)

@@ -1,0 +1,87 @@
+-- What a direction of a conversation says, by all its bytes, and where it ends.
+use Rattle.std.specs.Prelude.{
+  ◌≡◌,
+  ℕ,
+  Bool,
+  true,
+  false,
+  Option,
+  Some,
+  None,
+  IsSome,
+  option_map,
+  Result,
+  Ok,
+  Err,
+  List,
+  [],
+  ◌∷◌,
+  ◌++◌,
+}
+use Rattle.layouts.specs.Bytes.{Bytes}
+use Rattle.tls_stream.specs.Item.{Event, Failed, Item}
+use Rattle.tls_stream.specs.Stream as stream
+use Rattle.tls_stream.specs.declared.direction.Direction.{Direction}
+use Rattle.tls_stream.specs.declared.stream.Stream.{Stream}
+use Rattle.tls_stream.specs.declared.fault.Fault.{Fault}
+
+-- Nothing was read.
+abbrev pub silent : ℕ → Direction
+silent limit = record { stream = stream.silent limit; fault = None }
+
+abbrev pub told_tls13 : Direction → Direction
+told_tls13 d = record d { stream = stream.told_tls13 d.stream }
+
+-- A fault ends it: nothing else is said.
+abbrev pub ended_or : Option Fault → List Event → List Event
+ended_or (Some f) es = Failed f ∷ []
+ended_or None es = es
+
+-- All events of a direction that aren't taken yet.
+abbrev pub events : Direction → List Event
+events d = ended_or d.fault (stream.events d.stream)
+
+-- Behind a fault nothing is held.
+abbrev pub with_more : Option Fault → Stream → Bytes → Stream
+with_more (Some f) d s = d
+with_more None d s = stream.fed d s
+
+-- Further bytes of its stream.
+abbrev pub fed : Direction → Bytes → Direction
+fed d s = record d { stream = with_more d.fault d.stream s }
+
+-- Pieces of its stream, one after the other.
+abbrev pub fed_all : Direction → List Bytes → Direction
+fed_all d [] = d
+fed_all d (p ∷ ps) = fed_all (fed d p) ps
+
+-- What its records are that aren't read, with further bytes.
+abbrev pub items_with : Direction → Bytes → List Item
+items_with d s = stream.unread_items (stream.standing d.stream) (d.stream.held.unread ++ s)
+
+-- Behind a fault no event stands.
+abbrev pub none_behind : Option Fault → Option (Event × Stream) → Option (Event × Direction)
+none_behind (Some f) a = None
+none_behind None a = option_map (λ x. (x.0, record { stream = x.1; fault = None })) a
+
+-- The event that stands in front, and the direction behind it.
+abbrev pub first : Direction → Option (Event × Direction)
+first d = none_behind d.fault (stream.first d.stream)
+
+-- Whatever comes, these are the events.
+abbrev pub SaysOnly : Direction → List Event → Type 0
+SaysOnly d es = (s : Bytes) → events (fed d s) ≡ es
+
+-- Whatever comes, the events are the same.
+abbrev pub SaysTheSame : Direction → Direction → Type 0
+SaysTheSame d e = (s : Bytes) → events (fed d s) ≡ events (fed e s)
+
+-- What a direction says once it is made ready.
+abbrev pub IsReady : Direction → Result Bool Fault → Type 0
+IsReady d (Ok true) = IsSome (first d)
+IsReady d (Ok false) = events d ≡ []
+IsReady d (Err f) = SaysOnly d (Failed f ∷ [])
+
+abbrev pub fault_in : Result Bool Fault → Option Fault
+fault_in (Ok b) = None
+fault_in (Err f) = Some f

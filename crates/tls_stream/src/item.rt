@@ -1,0 +1,91 @@
+//! What a record is to its direction.
+ghost use Rattle.std.specs.Prelude.{◌≡◌, ◌≤◌, length};
+ghost use Rattle.tls_stream.specs.Item.{Standing, change_in, is_alert as is_alert_in, is_sealed_alert as is_alert_sealed, item_of, plain_item, read_item, refusal, view_item};
+
+use crate::event::Event;
+use layouts::ErrorKind;
+use tls_records::MAX_RECORD_LEN;
+
+/// The most bytes that a fragment may have where it is encrypted: 2^14 + 2048 (RFC 5246, section 6.2.3).
+pub const MAX_ENCRYPTED_LEN: usize = 18432;
+
+/// What a record is to its direction.
+#[derive(Drop)]
+pub enum Item<'a> {
+    /// Bytes of messages of that type.
+    Fragment(u8, &'a [u8]),
+    /// It says that by itself.
+    Alone(Event<'a>),
+    /// It is refused.
+    Broken(ErrorKind),
+}
+
+/// What refuses a record by its header.
+pub fn refuse(is_encrypted: bool, kind: u8, len: usize) -> Option<ErrorKind>
+    ensures { result ≡ refusal is_encrypted kind len }
+{
+    if is_encrypted {
+        return if len <= MAX_ENCRYPTED_LEN {
+            None
+        } else {
+            Some(ErrorKind::TooLarge)
+        };
+    }
+    if kind < 20 || kind > 24 {
+        return Some(ErrorKind::Switch);
+    }
+    if len <= MAX_RECORD_LEN as usize {
+        None
+    } else {
+        Some(ErrorKind::TooLarge)
+    }
+}
+
+/// A ChangeCipherSpec: one byte, 1.
+fn read_change(fragment: &[u8]) -> Item<'_>
+    ensures { view_item result ≡ change_in fragment.now }
+{
+    if fragment.len() == 1 && fragment[0] == 1 {
+        Item::Alone(Event::ChangeCipherSpec)
+    } else {
+        Item::Broken(ErrorKind::Verify)
+    }
+}
+
+/// Whether a fragment is an alert in the clear: two bytes, a warning or a fatal one.
+fn is_alert(fragment: &[u8]) -> bool
+    ensures { result ≡ is_alert_in fragment.now }
+{
+    fragment.len() == 2 && (fragment[0] == 1 || fragment[0] == 2)
+}
+
+/// Whether a record of an alert is encrypted, whatever is known of its direction: what it holds is no alert.
+pub fn is_sealed_alert(record: &[u8]) -> bool
+    requires { 5 ≤ length record.now }
+    ensures { result ≡ is_alert_sealed record.now }
+{
+    record[0] == 21 && !is_alert(&record[5..])
+}
+
+/// What a record is that isn't encrypted.
+fn read_plain(kind: u8, fragment: &[u8]) -> Item<'_>
+    ensures { view_item result ≡ plain_item kind fragment.now }
+{
+    match kind {
+        20 => read_change(fragment),
+        23 => Item::Alone(Event::ApplicationData(fragment)),
+        24 => Item::Alone(Event::Heartbeat(fragment)),
+        _ => Item::Fragment(kind, fragment),
+    }
+}
+
+/// What a whole record is that isn't refused by its header.
+pub fn read_record(is_encrypted: bool, record: &[u8]) -> Item<'_>
+    requires { 5 ≤ length record.now }
+    ensures { view_item result ≡ read_item is_encrypted record.now }
+{
+    if is_encrypted {
+        return Item::Alone(Event::Encrypted(record));
+    }
+    read_plain(record[0], &record[5..])
+}

@@ -1,0 +1,118 @@
+//! The stream of a direction that isn't at fault yet.
+ghost use Rattle.std.specs.Prelude.{◌≡◌, is_ok, if◌then◌else◌};
+ghost use Rattle.std.specs.Option.{option_map};
+ghost use Rattle.tls_stream.specs.Stream.{FirstTaken, IsReady, SaysTheSame, fed, first, silent, told_tls13};
+ghost use Rattle.tls_stream.specs.Item.{view_event};
+
+use crate::event::Event;
+use crate::fault::Fault;
+use crate::held::Held;
+use crate::view::{Next, Source, StreamView};
+use layouts::OutOfMemory;
+use std::alloc::Global;
+
+/// The bytes of a direction's stream that are fed and not yet taken off as events.
+#[derive(Drop)]
+pub struct Stream {
+    limit: usize,
+    is_tls13: bool,
+    has_changed: bool,
+    // The type of the fragments that the part is joined from.
+    kind: u8,
+    held: Held,
+}
+
+impl Stream {
+    /// One of which nothing is known, where the body of a handshake message may have at most `limit` bytes.
+    pub fn new(alloc: Global, limit: usize) -> Self
+        ensures { result ≡ silent limit }
+    {
+        Stream {
+            limit,
+            is_tls13: false,
+            has_changed: false,
+            kind: 22,
+            held: Held::new(alloc),
+        }
+    }
+
+    /// Tells it that the conversation speaks TLS 1.3.
+    pub fn tell_tls13(&mut self)
+        ensures { self.new ≡ told_tls13 self.old }
+    {
+        self.is_tls13 = true;
+    }
+
+    /// Puts the piece behind what is held. `OutOfMemory` where it could not be held: all is as it was.
+    pub fn feed(&mut self, piece: &[u8]) -> Result<(), OutOfMemory>
+        ensures { self.new ≡ (if is_ok result then fed self.old piece.now else self.old) }
+    {
+        self.held.append(piece)?;
+        Ok(())
+    }
+
+    /// What is read of it.
+    fn view(&self) -> StreamView<'_>
+        ensures { result ≡ self.now }
+    {
+        StreamView {
+            limit: self.limit,
+            is_tls13: self.is_tls13,
+            has_changed: self.has_changed,
+            kind: self.kind,
+            part: self.held.part(),
+            unread: self.held.unread(),
+        }
+    }
+
+    /// Joins fragments until an event stands in front: true, or further bytes are needed: false. An `Err` is the fault that
+    /// is the next event and the last, whatever is fed.
+    pub fn ready(&mut self) -> Result<bool, Fault>
+        ensures same { SaysTheSame self.new self.old }
+        ensures next { IsReady self.new result }
+    {
+        'fragments: loop {
+            match self.view().next() {
+                Next::Ready => return Ok(true),
+                Next::Waits => return Ok(false),
+                Next::Fails(fault) => return Err(fault),
+                Next::Joins(kind, len) => {
+                    self.held.join(len);
+                    self.kind = kind;
+                }
+            }
+        }
+    }
+
+    /// The event that stands in front, once [`Stream::ready`] is true.
+    #[tactic(auto, using(crate::proofs::SourceLemmas::source_rules))]
+    pub fn front(&self) -> Option<Event<'_>>
+        ensures { option_map view_event result ≡ option_map (λ x. x.0) (first self.now) }
+    {
+        match self.view().first() {
+            Some((event, _)) => Some(event),
+            None => None,
+        }
+    }
+
+    /// Takes the event that stands in front off: true. Where none stands there nothing changes: false.
+    #[tactic(auto, using(crate::proofs::SourceLemmas::source_rules))]
+    pub fn take_front(&mut self) -> bool
+        ensures { FirstTaken (first self.old) self.old result self.new }
+    {
+        match self.view().first() {
+            Some((_, Source::Message(message))) => {
+                let n = message.len();
+                self.held.take_part(n);
+                true
+            }
+            Some((_, Source::Record(record))) => {
+                let (n, changes) = (record.len(), record[0] == 20);
+                self.held.take_unread(n);
+                self.has_changed |= changes;
+                true
+            }
+            None => false,
+        }
+    }
+}

@@ -1,0 +1,239 @@
+-- Both sides of a conversation, joined.
+use Rattle.std.proofs.Common.{
+  ◌≡◌,
+  ◌≢◌,
+  ℕ,
+  Bool,
+  true,
+  false,
+  cond,
+  not,
+  ◌&&◌,
+  ◌||◌,
+  List,
+  [],
+  ◌∷◌,
+  ◌++◌,
+  length,
+  Some,
+  None,
+  refl,
+  sym,
+  subst,
+  ◌∙◌,
+  ap,
+  ap₂,
+}
+use Rattle.tls_conversations.specs.Conversations.{IsBehind, IsFedBy, IsToldIf}
+use Rattle.tls_conversations.specs.Ears.{IsFed, IsFirst}
+use Rattle.tls_conversations.specs.Events.{chooses_tls13, event_of}
+use Rattle.tls_stream.specs.Item.{Event as Saying}
+use Rattle.layouts.specs.Bytes.{Bytes}
+use Rattle.tls_flow.specs.Conversations.{IsOutcome, IsStop}
+use Rattle.tls_flow.specs.Letters.{letters_of}
+use Rattle.tls_flow.specs.Messages.{direction}
+use Rattle.tls_flow.specs.Steps.{follow, silence}
+use Rattle.tls_flow.specs.Table.{is_failed, is_waiting, outcome_at}
+use Rattle.tls_flow.specs.declared.event.Event.{Event}
+use Rattle.tls_flow.specs.declared.letter.Direction.{Direction}
+use Rattle.tls_flow.specs.declared.state.Outcome.{Outcome}
+use Rattle.tls_flow.proofs.FlowLemmas.{stopped_of_flow, told_of_flow}
+use Rattle.tls_words.specs.Words.{run}
+use Rattle.tls_words.proofs.MachineLemmas.{run_on}
+use Rattle.wispuddera_c.specs.Conversation.{
+  AreEvents,
+  IsNext,
+  SaysNoMore,
+  known_of,
+  said_in,
+  session_behind,
+  side_at,
+  with_side,
+}
+use Rattle.wispuddera_c.specs.Course.{flow_of, state_in, stop_of}
+use Rattle.wispuddera_c.specs.Said.{takes_session}
+use Rattle.wispuddera_c.specs.Side.{IsHeardAs, IsWithin, Waits, ear_of}
+use Rattle.wispuddera_c.specs.declared.conversation.Conversation.{Conversation}
+use Rattle.wispuddera_c.specs.declared.said.Heard.{Heard}
+use Rattle.wispuddera_c.specs.declared.side.Known.{Known}
+use Rattle.wispuddera_c.specs.declared.side.Side.{Side}
+
+-- One side is another, and all else stays.
+pub within_with : (t : Bool) (room : ℕ) (s : Side) (c d : Conversation) → d ≡ with_side t s c → IsWithin room s
+    → IsWithin room (side_at t d)
+within_with true room s c d is within = subst (λ (d : Conversation). IsWithin room d.client) (sym is) within
+within_with false room s c d is within = subst (λ (d : Conversation). IsWithin room d.server) (sym is) within
+
+pub record AllElse (c d : Conversation) : Type 0 where
+  pub limit : d.limit ≡ c.limit
+  pub is_tls13 : d.is_tls13 ≡ c.is_tls13
+  pub session : d.has_session ≡ c.has_session
+  pub course : d.course ≡ c.course
+
+pub other_with : (t : Bool) (s : Side) (c d : Conversation) → d ≡ with_side t s c
+    → side_at (not t) d ≡ side_at (not t) c
+other_with true s c d is = ap (λ (d : Conversation). d.server) is
+other_with false s c d is = ap (λ (d : Conversation). d.client) is
+
+other_behind : (t : Bool) (s : Side) (c m d : Conversation) → m ≡ with_side t s c
+    → (d.client ≡ m.client) × (d.server ≡ m.server) → side_at (not t) d ≡ side_at (not t) c
+other_behind true s c m d is sides = sides.1 ∙ other_with true s c m is
+other_behind false s c m d is sides = sides.0 ∙ other_with false s c m is
+
+pub all_else : (t : Bool) (s : Side) (c d : Conversation) → d ≡ with_side t s c → AllElse c d
+all_else true s c d is =
+    subst (AllElse c) (sym is) (record { limit = refl; is_tls13 = refl; session = refl; course = refl })
+all_else false s c d is =
+    subst (AllElse c) (sym is) (record { limit = refl; is_tls13 = refl; session = refl; course = refl })
+
+pub fed_with : (t : Bool) (b b' : Bytes) (s : Side) (c d : Conversation) (p : Bytes) → d ≡ with_side t s c
+    → IsFed (ear_of (known_of c) b (side_at t c)) p (ear_of (known_of c) b' s)
+    → (o : Bytes) → IsFedBy (said_in t b o c) (direction t) p (said_in t b' o d)
+fed_with true b b' s c d p is fed o =
+    subst (λ d. IsFedBy (said_in true b o c) (direction true) p (said_in true b' o d)) (sym is)
+    (record { side = fed; other = refl; is_tls13 = refl; flow = refl })
+fed_with false b b' s c d p is fed o =
+    subst (λ d. IsFedBy (said_in false b o c) (direction false) p (said_in false b' o d)) (sym is)
+    (record { side = fed; other = refl; is_tls13 = refl; flow = refl })
+
+pub waits_with : (t : Bool) (b b' : Bytes) (s : Side) (c d : Conversation) → d ≡ with_side t s c
+    → Waits (known_of c) b (side_at t c) b' s
+    → (o : Bytes) → SaysNoMore (said_in t b o c) (direction t) (said_in t b' o d)
+waits_with true b b' s c d is waits o =
+    subst (λ d. SaysNoMore (said_in true b o c) (direction true) (said_in true b' o d)) (sym is)
+    (record { nothing = waits.nothing; side = waits.same; other = refl; is_tls13 = refl; flow = refl })
+waits_with false b b' s c d is waits o =
+    subst (λ d. SaysNoMore (said_in false b o c) (direction false) (said_in false b' o d)) (sym is)
+    (record { nothing = waits.nothing; side = waits.same; other = refl; is_tls13 = refl; flow = refl })
+
+-- Both sides are told of TLS 1.3 by the first event that chooses it.
+told_if : (limit : ℕ) (known chooses : Bool) (b : Bytes) (s : Side)
+    → IsToldIf (not known && chooses) (ear_of (record { limit = limit; is_tls13 = known }) b s)
+    (ear_of (record { limit = limit; is_tls13 = known || chooses }) b s)
+told_if limit true chooses b s = λ t. refl
+told_if limit false true b s = λ t. refl
+told_if limit false false b s = λ t. refl
+
+known_or : (known chooses : Bool) → known || chooses ≡ (known || (not known && chooses))
+known_or true chooses = refl
+known_or false chooses = refl
+
+abbrev chosen_by : Event → Bool
+chosen_by e = chooses_tls13 e.letter.kind e.letter.direction
+
+-- d is c behind the event e, by which v was said.
+module _ (c d : Conversation) (e : Event) (limit : d.limit ≡ c.limit)
+    (tls13 : d.is_tls13 ≡ (c.is_tls13 || chosen_by e)) (flow : flow_of d.course ≡ follow (flow_of c.course) e) where
+  told : (event : Event) → e ≡ event → (b : Bytes) (s n : Side) → n ≡ s
+      → IsToldIf (not c.is_tls13 && chosen_by event) (ear_of (known_of c) b s) (ear_of (known_of d) b n)
+  told event is b s n same =
+      let known : ◌≡◌ {A = Known} (record { limit = c.limit; is_tls13 = c.is_tls13 || chosen_by event }) (known_of d) =
+      ap₂ (λ l t. record { limit = l; is_tls13 = t }) (sym limit)
+      (sym (tls13 ∙ ap (λ x. c.is_tls13 || chosen_by x) is)) in
+      subst (λ r. IsToldIf (not c.is_tls13 && chosen_by event) (ear_of (known_of c) b s) r)
+      (ap (λ k. ear_of k b s) known ∙ ap (λ x. ear_of (known_of d) b x) (sym same))
+      (told_if c.limit c.is_tls13 (chosen_by event) b s)
+
+  tls13_is : (event : Event) → e ≡ event → d.is_tls13 ≡ (c.is_tls13 || (not c.is_tls13 && chosen_by event))
+  tls13_is event is =
+      tls13 ∙ ap (λ x. c.is_tls13 || chosen_by x) is ∙ known_or c.is_tls13 (chosen_by event)
+
+  pub behind_with : (t : Bool) (b b' : Bytes) (s : Side) (m : Conversation) (v : Saying) → m ≡ with_side t s c
+      → (d.client ≡ m.client) × (d.server ≡ m.server) → e ≡ event_of (direction t) v
+      → IsFirst (ear_of (known_of c) b (side_at t c)) v (ear_of (known_of c) b' s)
+      → (o : Bytes) → IsBehind (said_in t b o c) (direction t) v (said_in t b' o d)
+  behind_with true b b' s m v is sides event first o =
+      let said = event_of (direction true) v in
+      record {
+        side = (
+          ear_of (known_of c) b' s,
+          first,
+          told said event b' s d.client (sides.0 ∙ ap (λ (x : Conversation). x.client) is),
+        );
+        other = told said event o c.server d.server (sides.1 ∙ ap (λ (x : Conversation). x.server) is);
+        is_tls13 = tls13_is said event;
+        flow = flow ∙ ap (follow (flow_of c.course)) event;
+      }
+  behind_with false b b' s m v is sides event first o =
+      let said = event_of (direction false) v in
+      record {
+        side = (
+          ear_of (known_of c) b' s,
+          first,
+          told said event b' s d.server (sides.1 ∙ ap (λ (x : Conversation). x.server) is),
+        );
+        other = told said event o c.client d.client (sides.0 ∙ ap (λ (x : Conversation). x.client) is);
+        is_tls13 = tls13_is said event;
+        flow = flow ∙ ap (follow (flow_of c.course)) event;
+      }
+
+  pub events_with : (event : Event) (es : List Event) → e ≡ event → AreEvents es c → AreEvents (es ++ event ∷ []) d
+  events_with event es is so_far =
+      flow ∙ ap₂ follow so_far is ∙ sym (run_on follow silence es (event ∷ []))
+
+pub within_behind : (t : Bool) (room : ℕ) (s : Side) (c m d : Conversation) → m ≡ with_side t s c
+    → (d.client ≡ m.client) × (d.server ≡ m.server) → IsWithin room s → IsWithin room (side_at t d)
+within_behind true room s c m d is sides within =
+    subst (IsWithin room) (sym (sides.0 ∙ ap (λ (x : Conversation). x.client) is)) within
+within_behind false room s c m d is sides within =
+    subst (IsWithin room) (sym (sides.1 ∙ ap (λ (x : Conversation). x.server) is)) within
+
+-- What is heard is told, and followed.
+module _ (t : Bool) (b b' : Bytes) (c m d : Conversation) (s : Side) (h : Heard) (is : m ≡ with_side t s c)
+    (within : IsWithin (length b') s) (sides : (d.client ≡ m.client) × (d.server ≡ m.server))
+    (limit : d.limit ≡ m.limit) (tls13 : d.is_tls13 ≡ (m.is_tls13 || chosen_by h.event))
+    (flow : flow_of d.course ≡ follow (flow_of m.course) h.event)
+    (session : d.has_session
+    ≡ cond (is_waiting (outcome_at (state_in m.course.flow))) h.takes_session m.has_session) where
+  same : AllElse c m
+  same = all_else t s c m is
+
+  session_is : (v : Saying) → h.takes_session ≡ takes_session v → d.has_session ≡ session_behind c v
+  session_is v takes =
+      session
+      ∙ ap (λ x. cond (is_waiting (outcome_at (state_in x.flow))) h.takes_session m.has_session) same.course
+      ∙ ap₂ (λ x y. cond (is_waiting (outcome_at (state_in c.course.flow))) x y) takes same.session
+
+  next_of : IsHeardAs (direction t) (known_of c) b (side_at t c) b' s h → IsNext t b b' c d h.said
+  next_of heard =
+      let limit_is : d.limit ≡ c.limit = limit ∙ same.limit in
+      let tls13_known : d.is_tls13 ≡ (c.is_tls13 || chosen_by h.event) =
+      tls13 ∙ ap (λ x. x || chosen_by h.event) same.is_tls13 in
+      let flow_is : flow_of d.course ≡ follow (flow_of c.course) h.event =
+      flow ∙ ap (λ x. follow (flow_of x) h.event) same.course in (
+        heard.0,
+        record {
+          told = heard.2.told;
+          behind = behind_with c d h.event limit_is tls13_known flow_is t b b' s m heard.0 is sides heard.2.event
+              heard.1;
+          within = within_behind t (length b') s c m d is sides within;
+          other_side = other_behind t s c m d is sides;
+          session = session_is heard.0 heard.2.session;
+          events = λ es. events_with c d h.event limit_is tls13_known flow_is (event_of (direction t) heard.0) es
+              heard.2.event;
+        },
+      )
+
+  pub next_with : (old : Side) (k : Known) (side : Direction) → old ≡ side_at t c → k ≡ known_of c
+      → side ≡ direction t → IsHeardAs side k b old b' s h → IsNext t b b' c d h.said
+  next_with old k side old_is k_is side_is heard =
+      next_of (subst (λ x. IsHeardAs (direction t) (known_of c) b x b' s h) old_is
+      (subst (λ x. IsHeardAs (direction t) x b old b' s h) k_is
+      (subst (λ x. IsHeardAs x k b old b' s h) side_is heard)))
+
+-- How it stands, by its events.
+pub outcome_with : (es : List Event) (c : Conversation) (o : Outcome) → AreEvents es c
+    → o ≡ outcome_at (state_in c.course.flow) → IsOutcome o (letters_of es)
+outcome_with es c o are is = (told_of_flow es silence (flow_of c.course) are refl o).0 (sym is)
+
+pub stop_with : (es : List Event) (c : Conversation) → AreEvents es c
+    → is_failed (outcome_at (state_in c.course.flow)) ≡ true → IsStop (Some (stop_of c.course.stop)) es
+stop_with es c are failed =
+    subst (λ t. IsStop (cond t (Some (stop_of c.course.stop)) None) es) failed
+    (stopped_of_flow es silence (flow_of c.course) are refl)
+
+pub no_stop_with : (es : List Event) (c : Conversation) → AreEvents es c
+    → is_failed (outcome_at (state_in c.course.flow)) ≡ false → IsStop None es
+no_stop_with es c are failed =
+    subst (λ t. IsStop (cond t (Some (stop_of c.course.stop)) None) es) failed
+    (stopped_of_flow es silence (flow_of c.course) are refl)

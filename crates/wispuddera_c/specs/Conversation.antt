@@ -1,0 +1,127 @@
+-- Both sides of a conversation, joined, in C's numbers and the buffers of both sides.
+use Rattle.std.specs.Prelude.{
+  ◌≡◌,
+  ◌≢◌,
+  ℕ,
+  Option,
+  Some,
+  None,
+  Bool,
+  true,
+  false,
+  not,
+  if◌then◌else◌,
+  List,
+  [],
+  ◌∷◌,
+  ◌++◌,
+  length,
+}
+use Rattle.tls_conversations.specs.Conversations.{IsBehind, IsFedBy, ear, other}
+use Rattle.tls_conversations.specs.Ears.{SaysAs, says}
+use Rattle.tls_conversations.specs.Events.{event_of}
+use Rattle.tls_conversations.specs.declared.conversation.Conversation.{Conversation as Followed}
+use Rattle.tls_stream.specs.Item.{Event as Saying}
+use Rattle.layouts.specs.Bytes.{Bytes}
+use Rattle.tls_flow.specs.Conversations.{IsStop}
+use Rattle.tls_flow.specs.Messages.{direction}
+use Rattle.tls_flow.specs.Steps.{follow, silence}
+use Rattle.tls_flow.specs.Table.{is_waiting, outcome_at}
+use Rattle.tls_flow.specs.declared.event.Event.{Event}
+use Rattle.tls_flow.specs.declared.letter.Direction.{Direction}
+use Rattle.tls_flow.specs.declared.state.Outcome.{Outcome}
+use Rattle.tls_flow.specs.declared.state.Outcome.TheVariants as outcome
+use Rattle.tls_words.specs.Words.{run}
+use Rattle.wispuddera_c.specs.Course.{flow_of, state_in, stop_of}
+use Rattle.wispuddera_c.specs.Said.{Tells, takes_session}
+use Rattle.wispuddera_c.specs.Side.{IsWithin, ear_of}
+use Rattle.wispuddera_c.specs.Status.{none}
+use Rattle.wispuddera_c.specs.declared.conversation.Conversation.{Conversation}
+use Rattle.wispuddera_c.specs.declared.course.Stop.{Stop}
+use Rattle.wispuddera_c.specs.declared.said.Said.{Said}
+use Rattle.wispuddera_c.specs.declared.side.Known.{Known}
+use Rattle.wispuddera_c.specs.declared.side.Side.{Side}
+
+abbrev pub side_at : Bool → Conversation → Side
+side_at true c = c.client
+side_at false c = c.server
+
+abbrev pub with_side : Bool → Side → Conversation → Conversation
+with_side true s c = record c { client = s }
+with_side false s c = record c { server = s }
+
+abbrev pub known_of : Conversation → Known
+known_of c = record { limit = c.limit; is_tls13 = c.is_tls13 }
+
+-- The conversation that the numbers and the buffers of the client and of the server say.
+abbrev pub joined : Bytes → Bytes → Conversation → Followed
+joined x y c = record {
+  client = ear_of (known_of c) x c.client;
+  server = ear_of (known_of c) y c.server;
+  is_tls13 = c.is_tls13;
+  flow = flow_of c.course;
+}
+
+-- The same, where a side has the buffer b, and the other has o.
+abbrev pub said_in : Bool → Bytes → Bytes → Conversation → Followed
+said_in true b o c = joined b o c
+said_in false b o c = joined o b c
+
+-- These were the events so far.
+abbrev pub AreEvents : List Event → Conversation → Type 0
+AreEvents events c = flow_of c.course ≡ run follow silence events
+
+-- The side in whose buffer b stood, and b' stands now, gets a further piece, whatever the buffer of the other holds.
+pub record IsGiven (to_server : Bool) (b b' : Bytes) (c d : Conversation) (piece : Bytes) : Type 0 where
+  pub fed : (o : Bytes) → IsFedBy (said_in to_server b o c) (direction to_server) piece (said_in to_server b' o d)
+  pub within : IsWithin (length b') (side_at to_server d)
+  pub other_side : side_at (not to_server) d ≡ side_at (not to_server) c
+  pub session : d.has_session ≡ c.has_session
+
+-- The last event in front of the end tells whether a session is taken up.
+abbrev pub session_behind : Conversation → Saying → Bool
+session_behind c v = if is_waiting (outcome_at (state_in c.course.flow)) then takes_session v else c.has_session
+
+-- It says v first, which is told, and d is what the conversation is behind it.
+pub record IsBehindIt (to_server : Bool) (b b' : Bytes) (c d : Conversation) (out : Said) (v : Saying) : Type 0 where
+  pub told : Tells (direction to_server) b' out v
+  pub behind : (o : Bytes) → IsBehind (said_in to_server b o c) (direction to_server) v (said_in to_server b' o d)
+  pub within : IsWithin (length b') (side_at to_server d)
+  pub other_side : side_at (not to_server) d ≡ side_at (not to_server) c
+  pub session : d.has_session ≡ session_behind c v
+  pub events : (es : List Event) → AreEvents es c → AreEvents (es ++ event_of (direction to_server) v ∷ []) d
+
+abbrev pub IsNext : Bool → Bytes → Bytes → Conversation → Conversation → Said → Type 0
+IsNext to_server b b' c d out = (v : Saying) × IsBehindIt to_server b b' c d out v
+
+-- A side says nothing for now; what both say, whatever comes, and how the conversation stands, is the same.
+pub record SaysNoMore (c : Followed) (s : Direction) (d : Followed) : Type 0 where
+  pub nothing : says (ear c s) [] ≡ []
+  pub side : SaysAs (ear c s) (ear d s)
+  pub other : ear d (other s) ≡ ear c (other s)
+  pub is_tls13 : d.is_tls13 ≡ c.is_tls13
+  pub flow : d.flow ≡ c.flow
+
+pub record IsWaiting (to_server : Bool) (b b' : Bytes) (c d : Conversation) : Type 0 where
+  pub waits : (o : Bytes) → SaysNoMore (said_in to_server b o c) (direction to_server) (said_in to_server b' o d)
+  pub within : IsWithin (length b') (side_at to_server d)
+  pub other_side : side_at (not to_server) d ≡ side_at (not to_server) c
+  pub session : d.has_session ≡ c.has_session
+
+-- What ended a conversation of these events without success is told; or that nothing did.
+pub record IsStopTold (events : List Event) (status : ℕ) (c : Stop) : Type 0 where
+  pub told : status ≡ 0 → IsStop (Some (stop_of c)) events
+  pub none : status ≢ 0 → (status ≡ none) × IsStop None events
+
+-- The part of a handshake that can be read came to its end.
+abbrev pub is_established : Outcome → Bool
+is_established outcome.Full = true
+is_established outcome.Resumed = true
+is_established (outcome.Tls13 retried early) = true
+is_established _ = false
+
+-- A session was taken up: in TLS 1.3 by the ServerHello's pre_shared_key.
+abbrev pub is_resumed : Outcome → Bool → Bool
+is_resumed outcome.Resumed has_session = true
+is_resumed (outcome.Tls13 retried early) has_session = has_session
+is_resumed _ has_session = false

@@ -1,0 +1,267 @@
+//! Both sides of a conversation, joined: pieces in, events out, and how it stands. What is held lies in a buffer of the caller's for each side.
+ghost use Rattle.std.specs.Prelude.{◌≡◌, ◌≢◌, ◌≤◌, ◌<◌, ◌+◌, ◌||◌, ℕ, Bool, [], List, length, true, false, if◌then◌else◌};
+ghost use Rattle.tls_conversations.specs.Conversations.{IsBegun};
+ghost use Rattle.tls_conversations.specs.Events.{chooses_tls13 as chooses};
+ghost use Rattle.layouts.specs.Bytes.{Bytes};
+ghost use Rattle.tls_flow.specs.Conversations.{IsOutcome};
+ghost use Rattle.tls_flow.specs.Letters.{letters_of};
+ghost use Rattle.tls_flow.specs.Steps.{follow as follow_by};
+ghost use Rattle.tls_flow.specs.Table.{is_failed, is_waiting, outcome_at};
+ghost use Rattle.tls_flow.specs.declared.event.Event.{Event as FlowEvent};
+ghost use Rattle.tls_flow.specs.declared.state.Outcome.{Outcome};
+ghost use Rattle.wispuddera_c.specs.Conversation.{AreEvents, IsGiven, IsNext, IsStopTold, IsWaiting, is_established, is_resumed, joined, known_of, side_at, with_side};
+ghost use Rattle.wispuddera_c.specs.Course.{flow_of, state_in};
+ghost use Rattle.wispuddera_c.specs.Outcome.{outcome_number};
+ghost use Rattle.wispuddera_c.specs.Side.{IsWithin, count_held};
+ghost use Rattle.wispuddera_c.specs.Status.{no_room, none, outside};
+
+use crate::course::{Course, Stop};
+use crate::outcome::number_of_outcome;
+use crate::said::Said;
+use crate::side::{Known, Side};
+use crate::status::{NO_ROOM, NONE, OUTSIDE, READ};
+use tls_flow::{Direction, Event as FlowEvent, Kind, Outcome};
+
+/// A conversation of TLS, of which both sides' bytes come in pieces.
+#[repr(C)]
+#[derive(Clone, Copy)]
+pub struct Conversation {
+    /// What goes to the server.
+    pub client: Side,
+    /// What comes from it.
+    pub server: Side,
+    /// The most bytes that the body of a handshake message may have.
+    pub limit: usize,
+    /// How it stands.
+    pub course: Course,
+    /// Whether TLS 1.3 is spoken.
+    pub is_tls13: bool,
+    /// Whether the last event in front of the end takes up a session by pre_shared_key.
+    pub has_session: bool,
+}
+
+impl Conversation {
+    /// What is known by which its sides are read.
+    fn known(&self) -> Known
+        ensures { result ≡ known_of self.now }
+    {
+        Known {
+            limit: self.limit,
+            is_tls13: self.is_tls13,
+        }
+    }
+
+    /// What is held of the stream that goes to the server, or comes from it.
+    fn side(&self, to_server: bool) -> Side
+        ensures { result ≡ side_at to_server self.now }
+    {
+        if to_server { self.client } else { self.server }
+    }
+
+    /// Holds that of it from here on.
+    fn put(&mut self, to_server: bool, side: Side)
+        ensures { self.new ≡ with_side to_server side self.old }
+    {
+        if to_server {
+            self.client = side;
+        } else {
+            self.server = side;
+        }
+    }
+
+    /// Follows an event.
+    fn follow(&mut self, event: FlowEvent, takes_session: bool)
+        ensures sides { (self.new.client ≡ self.old.client) × (self.new.server ≡ self.old.server) }
+        ensures limit { self.new.limit ≡ self.old.limit }
+        ensures tls13 { self.new.is_tls13 ≡ (self.old.is_tls13 || chooses event.letter.kind event.letter.direction) }
+        ensures flow { flow_of self.new.course ≡ follow_by (flow_of self.old.course) event }
+        ensures session { self.new.has_session
+            ≡ (if is_waiting (outcome_at (state_in self.old.course.flow)) then takes_session else self.old.has_session) }
+    {
+        self.is_tls13 |= chooses_tls13(event);
+        if is_under_way(self.course.state().outcome()) {
+            self.has_session = takes_session;
+        }
+        self.course.follow(event);
+    }
+}
+
+/// Whether a handshake can still come.
+fn is_under_way(outcome: Outcome) -> bool
+    ensures { result ≡ is_waiting outcome }
+{
+    match outcome {
+        Outcome::Waiting => true,
+        Outcome::Full => false,
+        Outcome::Resumed => false,
+        Outcome::BrokenOff => false,
+        Outcome::Unknown => false,
+        Outcome::NoHandshake => false,
+        Outcome::Tls13 { .. } => false,
+    }
+}
+
+/// Whether the server chooses TLS 1.3 by an event.
+fn chooses_tls13(event: FlowEvent) -> bool
+    ensures { result ≡ chooses event.letter.kind event.letter.direction }
+{
+    matches!(
+        (event.letter.direction, event.letter.kind),
+        (
+            Direction::FromServer,
+            Kind::ServerHello13 | Kind::HelloRetryRequest
+        )
+    )
+}
+
+/// Begins a conversation of which nothing came, where the body of a handshake message may have at most `limit` bytes.
+#[unsafe(no_mangle)]
+pub extern "C" fn wispuddera_conversation_start(conversation: &mut Conversation, limit: usize)
+    ensures begun { (x y : Bytes) → IsBegun limit (joined x y conversation.new) }
+    ensures within { (room : ℕ) (to_server : Bool) → IsWithin room (side_at to_server conversation.new) }
+    ensures events { AreEvents [] conversation.new }
+{
+    *conversation = Conversation {
+        client: Side::new(),
+        server: Side::new(),
+        limit,
+        course: Course::new(),
+        is_tls13: false,
+        has_session: false,
+    };
+}
+
+/// Puts a piece of a side's stream behind what its buffer holds. Behind a fault of that side it is left out.
+#[unsafe(no_mangle)]
+pub extern "C" fn wispuddera_conversation_feed(
+    buffer: &mut [u8],
+    conversation: &mut Conversation,
+    to_server: bool,
+    piece: &[u8],
+) -> u32
+    ensures fed { result ≡ 0 → IsGiven to_server buffer.old buffer.new conversation.old conversation.new piece.now }
+    ensures other { result ≢ 0 → (buffer.new ≡ buffer.old) × (conversation.new ≡ conversation.old) }
+    ensures fits { IsWithin (length buffer.old) (side_at to_server conversation.old)
+        → count_held (side_at to_server conversation.old) + length piece.now ≤ length buffer.old → result ≡ 0 }
+    ensures full { IsWithin (length buffer.old) (side_at to_server conversation.old) → (side_at to_server conversation.old).is_over ≡ false
+        → length buffer.old < count_held (side_at to_server conversation.old) + length piece.now → result ≡ no_room }
+    ensures behind { (IsWithin (length buffer.old) (side_at to_server conversation.old) → ⊥) → result ≡ outside }
+{
+    let mut side = conversation.side(to_server);
+    if !side.lies_within(buffer.len()) {
+        return OUTSIDE;
+    }
+    if side.is_over {
+        return READ;
+    }
+    if !side.fits(buffer.len(), piece.len()) {
+        return NO_ROOM;
+    }
+    side.append(buffer, piece);
+    conversation.put(to_server, side);
+    READ
+}
+
+/// Takes what a side says next off what its buffer holds, tells it, and follows it.
+#[unsafe(no_mangle)]
+pub extern "C" fn wispuddera_conversation_next(
+    buffer: &mut [u8],
+    conversation: &mut Conversation,
+    to_server: bool,
+    out: &mut Said,
+) -> u32
+    ensures read { result ≡ 0 → IsNext to_server buffer.old buffer.new conversation.old conversation.new out.new }
+    ensures waits { result ≡ none → IsWaiting to_server buffer.old buffer.new conversation.old conversation.new }
+    ensures stays { result ≢ 0 → out.new ≡ out.old }
+    ensures inside { IsWithin (length buffer.old) (side_at to_server conversation.old) → result ≢ 0 → result ≡ none }
+    ensures behind { (IsWithin (length buffer.old) (side_at to_server conversation.old) → ⊥)
+        → (result ≡ outside) × (buffer.new ≡ buffer.old) × (conversation.new ≡ conversation.old) }
+{
+    let mut side = conversation.side(to_server);
+    if !side.lies_within(buffer.len()) {
+        return OUTSIDE;
+    }
+    if side.is_over {
+        return NONE;
+    }
+    let heard = side.hear(buffer, conversation.known(), Direction::of(to_server));
+    conversation.put(to_server, side);
+    match heard {
+        Some(heard) => {
+            conversation.follow(heard.event, heard.takes_session);
+            *out = heard.said;
+            READ
+        }
+        None => NONE,
+    }
+}
+
+/// How a conversation stands, by all events that were told of it.
+#[unsafe(no_mangle)]
+pub extern "C" fn wispuddera_conversation_outcome(conversation: &Conversation) -> u32
+    ensures { (events : List FlowEvent) → AreEvents events conversation.now
+        → (o : Outcome) × (result ≡ outcome_number o) × IsOutcome o (letters_of events) }
+{
+    number_of_outcome(conversation.course.state().outcome())
+}
+
+/// Tells what ended a handshake without success.
+#[unsafe(no_mangle)]
+pub extern "C" fn wispuddera_conversation_stop(conversation: &Conversation, out: &mut Stop) -> u32
+    ensures told { (events : List FlowEvent) → AreEvents events conversation.now → IsStopTold events result out.new }
+    ensures stays { result ≢ 0 → out.new ≡ out.old }
+{
+    if is_stopped(conversation.course.state().outcome()) {
+        *out = conversation.course.stop;
+        READ
+    } else {
+        NONE
+    }
+}
+
+/// Whether a conversation stands without success.
+fn is_stopped(outcome: Outcome) -> bool
+    ensures { result ≡ is_failed outcome }
+{
+    match outcome {
+        Outcome::BrokenOff => true,
+        Outcome::Unknown => true,
+        Outcome::NoHandshake => true,
+        Outcome::Waiting => false,
+        Outcome::Full => false,
+        Outcome::Resumed => false,
+        Outcome::Tls13 { .. } => false,
+    }
+}
+
+/// Whether the part of a handshake that can be read came to its end; in TLS 1.3 that is with the ServerHello.
+#[unsafe(no_mangle)]
+pub extern "C" fn wispuddera_conversation_established(conversation: &Conversation) -> bool
+    ensures { result ≡ is_established (outcome_at (state_in conversation.now.course.flow)) }
+{
+    match conversation.course.state().outcome() {
+        Outcome::Full => true,
+        Outcome::Resumed => true,
+        Outcome::Tls13 { .. } => true,
+        Outcome::Waiting => false,
+        Outcome::BrokenOff => false,
+        Outcome::Unknown => false,
+        Outcome::NoHandshake => false,
+    }
+}
+
+/// Whether a session was taken up: in TLS 1.3 by the pre_shared_key of the ServerHello (RFC 8446, section 4.2.11).
+#[unsafe(no_mangle)]
+pub extern "C" fn wispuddera_conversation_resumed(conversation: &Conversation) -> bool
+    ensures { result ≡ is_resumed (outcome_at (state_in conversation.now.course.flow)) conversation.now.has_session }
+{
+    match conversation.course.state().outcome() {
+        Outcome::Resumed => true,
+        Outcome::Tls13 { .. } => conversation.has_session,
+        Outcome::Full => false,
+        Outcome::Waiting => false,
+        Outcome::BrokenOff => false,
+        Outcome::Unknown => false,
+        Outcome::NoHandshake => false,
+    }
+}

@@ -1,0 +1,179 @@
+//! What a side of a conversation says next, in C's numbers.
+ghost use Rattle.std.specs.Prelude.{◌≡◌};
+ghost use Rattle.std.specs.Option.{option_map};
+ghost use Rattle.tls_conversations.specs.Events.{event_of};
+ghost use Rattle.tls_stream.specs.Item.{Failed, view_event};
+ghost use Rattle.tls_ext.specs.InPlace.{content_of};
+ghost use Rattle.layouts.specs.Bytes.{Bytes};
+ghost use Rattle.layouts.specs.Reading.{reading};
+ghost use Rattle.layouts.specs.Text.{held};
+ghost use Rattle.tls_flow.specs.Bytes.{kind_of_bytes};
+ghost use Rattle.tls_hs.specs.InPlace.{raw_handshake};
+ghost use Rattle.tls_hs.specs.ServerHello.{server_hello};
+ghost use Rattle.wispuddera_c.specs.Place.{StandsAt};
+ghost use Rattle.wispuddera_c.specs.Said.{IsSaidBy, Shows, fault_number, form_number, has_session_in, is_found, takes_session as takes_up_session, takes_session_in};
+
+use crate::outcome::{kind_of_body, number_of};
+use crate::place::Place;
+use crate::status::status_of;
+use layouts::InPlace;
+use tls_base::{TlsExtensionType, TlsHandshakeType};
+use tls_ext::{extensions, first_content};
+use tls_flow::{Direction, Event as FlowEvent, Kind};
+use tls_hs::{RawHandshake, parse_tls_handshake_server_hello};
+use tls_stream::{Event as Saying, Fault};
+
+/// What a side said: its form, the kind of event that it is, and where its bytes stand in the side's buffer.
+#[repr(C)]
+#[derive(Clone, Copy)]
+pub struct Said {
+    /// The bytes of a handshake message, its header of 4 bytes first; the 2 bytes of an alert; else a whole record, its header of 5 bytes
+    /// first. None of a fault.
+    pub content: Place,
+    /// What ended the side, as a status; else 0.
+    pub fault: u32,
+    /// The number of its form.
+    pub form: u8,
+    /// The number of the kind of event.
+    pub kind: u8,
+}
+
+/// What a conversation hears of a side.
+#[derive(Clone, Copy)]
+pub struct Heard {
+    /// What is told of it.
+    pub said: Said,
+    /// The event that is followed.
+    pub event: FlowEvent,
+    /// Whether it is a ServerHello that takes up a session by pre_shared_key.
+    pub takes_session: bool,
+}
+
+fn form_of(event: &Saying<'_>) -> u8
+    ensures { result ≡ form_number (view_event event.now) }
+{
+    match event {
+        Saying::Handshake(_) => 0,
+        Saying::ChangeCipherSpec => 1,
+        Saying::Alert(_) => 2,
+        Saying::Heartbeat(_) => 3,
+        Saying::ApplicationData(_) => 4,
+        Saying::Encrypted(_) => 5,
+    }
+}
+
+fn number_of_fault(fault: Fault) -> u32
+    ensures { result ≡ fault_number fault }
+{
+    match fault {
+        Fault::Refused(kind) => status_of(kind),
+        Fault::TooLarge => 11,
+        Fault::Interrupted => 12,
+    }
+}
+
+/// The kind of a whole handshake message, its header of 4 bytes first.
+fn kind_of_message(message: &[u8]) -> Kind
+    ensures { result ≡ kind_of_bytes message.now }
+{
+    match RawHandshake::read(message) {
+        Ok((_, raw)) => kind_of_body(raw.msg_type, raw.body),
+        Err(_) => Kind::Unknown,
+    }
+}
+
+/// What is said, as an event of the conversation. It doesn't call `tls_conversations::tls_event`, so that the library has one call
+/// alone of what reads a ServerHello, [`kind_of_body`].
+fn event_said(event: &Saying<'_>, side: Direction) -> FlowEvent
+    ensures { result ≡ event_of side (view_event event.now) }
+{
+    match event {
+        Saying::Handshake(message) => FlowEvent::new(kind_of_message(message), side),
+        Saying::ChangeCipherSpec => FlowEvent::new(Kind::ChangeCipherSpec, side),
+        Saying::Alert(alert) => FlowEvent::of_alert(alert, side),
+        Saying::Heartbeat(_) => FlowEvent::new(Kind::Heartbeat, side),
+        Saying::ApplicationData(_) => FlowEvent::new(Kind::Encrypted, side),
+        Saying::Encrypted(_) => FlowEvent::new(Kind::Encrypted, side),
+    }
+}
+
+/// Whether the extensions of a ServerHello have a pre_shared_key (RFC 8446, section 4.2.11).
+fn has_key(ext: Option<&[u8]>) -> bool
+    ensures { result ≡ is_found (content_of 41 (held (option_map (λ x. x.now) ext.entry))) }
+{
+    match first_content(extensions(ext), TlsExtensionType::PreSharedKey) {
+        Ok(Some(_)) => true,
+        Ok(None) => false,
+        Err(_) => false,
+    }
+}
+
+/// Whether the body of a ServerHello has one.
+fn has_session(body: &[u8]) -> bool
+    ensures { result ≡ has_session_in (reading server_hello body.now) }
+{
+    match parse_tls_handshake_server_hello(body) {
+        Ok((_, hello)) => has_key(hello.ext),
+        Err(_) => false,
+    }
+}
+
+/// Whether a whole handshake message is a ServerHello that has one.
+fn takes_session(message: &[u8]) -> bool
+    ensures { result ≡ takes_session_in (reading raw_handshake message.now) }
+{
+    match RawHandshake::read(message) {
+        Ok((_, raw)) => raw.msg_type == TlsHandshakeType::ServerHello && has_session(raw.body),
+        Err(_) => false,
+    }
+}
+
+/// Whether an event takes up a session.
+fn takes_up(event: &Saying<'_>) -> bool
+    ensures { result ≡ takes_up_session (view_event event.now) }
+{
+    match event {
+        Saying::Handshake(message) => takes_session(message),
+        Saying::ChangeCipherSpec => false,
+        Saying::Alert(_) => false,
+        Saying::Heartbeat(_) => false,
+        Saying::ApplicationData(_) => false,
+        Saying::Encrypted(_) => false,
+    }
+}
+
+/// What is heard of an event whose bytes stand at that place.
+pub fn heard_of(event: &Saying<'_>, content: Place, side: Direction) -> Heard
+    ensures { (b x : Bytes) → StandsAt b content x → IsSaidBy (view_event event.now) x → Shows side b result (view_event event.now) }
+{
+    let followed = event_said(event, side);
+    Heard {
+        said: Said {
+            content,
+            fault: 0,
+            form: form_of(event),
+            kind: number_of(followed.letter.kind),
+        },
+        event: followed,
+        takes_session: takes_up(event),
+    }
+}
+
+/// What is heard of a fault, behind which the side says nothing. It is followed as a message that isn't known.
+pub fn heard_fault(fault: Fault, side: Direction) -> Heard
+    ensures { (b : Bytes) → Shows side b result (Failed fault) }
+{
+    Heard {
+        said: Said {
+            content: Place {
+                offset: 0,
+                length: 0,
+            },
+            fault: number_of_fault(fault),
+            form: 6,
+            kind: number_of(Kind::Unknown),
+        },
+        event: FlowEvent::new(Kind::Unknown, side),
+        takes_session: false,
+    }
+}
