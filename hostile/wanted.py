@@ -59,7 +59,7 @@ def lines(capture: Path | str, port: int | str | None = None, udp: bool = False)
     talks, ended = {}, []
     for row in rows(capture, port, udp):
         stream = row["udp.stream" if udp else "tcp.stream"][0]
-        talk = talks.setdefault(stream, Talk(row, "udp" if udp else "tcp"))
+        talk = talks.setdefault(stream, Analyzer(row, "udp" if udp else "tcp"))
         if talk.is_over():
             continue
         talk.note(row)
@@ -146,7 +146,7 @@ class Sent:
         }
 
 
-class Talk:
+class Analyzer:
     """What one connection says."""
 
     def __init__(self, row: Row, layer: str) -> None:

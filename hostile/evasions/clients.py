@@ -9,24 +9,24 @@ from hostile.evasions.common import ABSENT, CLOSED, close_served, expect, forge,
 from hostile.evasions.end import End, LONG
 from hostile.evasions.openings import host_connects
 from hostile.evasions.room import Room
-from hostile.evasions.talk import Talk
+from hostile.evasions.talk import Analyzer
 from hostile.evasions.wire import ACK, FIN, PSH, RST, SYN
 
 # The suite that the server chooses, and another.
 SUITE, OTHER = bytes.fromhex("c02b"), bytes.fromhex("c02c")
 
 
-def begin_served(room: Room, **more: Any) -> tuple[End, Talk, bytes, bytes]:
+def begin_served(room: Room, **more: Any) -> tuple[End, Analyzer, bytes, bytes]:
     """A connection from the host's client, whose hello is heard; with the server's messages, and the same with another suite."""
     end = host_connects(room, **more)
     end.accept()
-    talk = Talk(end, is_server=True, work=room.work)
+    talk = Analyzer(end, is_server=True, work=room.work)
     talk.give(end.hear())
     flight = talk.flight()
     return end, talk, flight, flight.replace(SUITE, OTHER, 1)
 
 
-def go_on(room: Room, end: End, talk: Talk, flight: bytes) -> None:
+def go_on(room: Room, end: End, talk: Analyzer, flight: bytes) -> None:
     end.say(flight)
     talk.give(end.hear())
     close_served(room, end, talk.answer())
@@ -141,7 +141,7 @@ def data_in_syn_ack(room: Room) -> None:
     answer = end.receive(LONG)
     expect(answer and answer.ack == end.next, "it was taken")
     room.note(f"the kernel answered a SYN/ACK with {len(ALERT)} bytes with {answer.words()}")
-    talk = Talk(end, is_server=True, work=room.work)
+    talk = Analyzer(end, is_server=True, work=room.work)
     talk.give(end.hear())
     close_served(room, end, talk.answer())
 
@@ -158,7 +158,7 @@ def rst_to_a_syn_not_taken(room: Room) -> None:
     end.send(SYN | ACK)
     end.move(b"", SYN)
     expect(end.receive(LONG).ack == end.next, "the SYN/ACK wasn't acknowledged")
-    talk = Talk(end, is_server=True, work=room.work)
+    talk = Analyzer(end, is_server=True, work=room.work)
     talk.give(end.hear())
     close_served(room, end, talk.answer())
 
@@ -176,7 +176,7 @@ def syn_ack_of_wrong_acknowledgement(room: Room) -> None:
     while (answer := end.receive(LONG)).flags & SYN:
         pass
     expect(answer.ack == end.next, "the SYN/ACK wasn't acknowledged")
-    talk = Talk(end, is_server=True, work=room.work)
+    talk = Analyzer(end, is_server=True, work=room.work)
     talk.give(end.hear())
     close_served(room, end, talk.answer())
 
@@ -197,7 +197,7 @@ def zero_window_probe_of_host(room: Room) -> None:
             end.send(ACK)
     end.window = 64000
     end.send(ACK)
-    talk = Talk(end, is_server=True, work=room.work)
+    talk = Analyzer(end, is_server=True, work=room.work)
     talk.give(end.hear())
     close_served(room, end, talk.answer())
 
@@ -218,7 +218,7 @@ def keep_alive_of_server_first(room: Room) -> None:
     forge(room, end, "old", "a keep-alive of one byte", b"\0", flags=ACK, number=end.next - 1)
     end.window = 64000
     end.send(ACK)
-    talk = Talk(end, is_server=True, work=room.work)
+    talk = Analyzer(end, is_server=True, work=room.work)
     talk.give(end.hear())
     unknown = "id.orig_h id.orig_p id.resp_h id.resp_p orig_bytes resp_bytes".split()
     close_served(room, end, talk.answer(), **dict.fromkeys(unknown))

@@ -12,7 +12,7 @@ from typing import Any
 
 from hostile.evasions import room as rooms
 from hostile.evasions.end import End, SOON
-from hostile.evasions.talk import HOSTNAME, HOSTNAME_LINE, REAL, Talk
+from hostile.evasions.talk import HOSTNAME, HOSTNAME_LINE, REAL, Analyzer
 from hostile.evasions.wire import ACK, PSH, Packet
 
 SCENES = []
@@ -58,12 +58,12 @@ def expect(condition: object, text: str) -> None:
 
 def begin(
     room: rooms.Room, version: int = 4, talk: dict[str, Any] | None = None, server: str = "", opens: dict[str, Any] | None = None, **more: Any
-) -> tuple[End, Talk, bytes]:
+) -> tuple[End, Analyzer, bytes]:
     """A connection to OpenSSL's server, with the hello that comes next."""
     room.server(server)
     end = room.end(version, **more)
     end.open(**(opens or {}))
-    one = Talk(end, **(talk or {}))
+    one = Analyzer(end, **(talk or {}))
     return end, one, one.flight()
 
 
@@ -94,7 +94,7 @@ def take(
     return found
 
 
-def finish(room: rooms.Room, end: End, talk: Talk, rest: bytes = b"", name: str = REAL, **fields: Any) -> None:
+def finish(room: rooms.Room, end: End, talk: Analyzer, rest: bytes = b"", name: str = REAL, **fields: Any) -> None:
     """The rest of the handshake and of the connection; and its line."""
     if rest:
         end.say(rest)
@@ -105,7 +105,7 @@ def finish(room: rooms.Room, end: End, talk: Talk, rest: bytes = b"", name: str 
     line(room, end, talk, server_name=name, **({} if name == REAL else WARNED) | fields)
 
 
-def took(room: rooms.Room, talk: Talk, name: str = REAL, certificate: str | None = None) -> None:
+def took(room: rooms.Room, talk: Analyzer, name: str = REAL, certificate: str | None = None) -> None:
     """The host took the hello with this name: its server says so, and answers with the certificate of it."""
     room.await_text("server", HOSTNAME_LINE.format(name))
     printed = HOSTNAME.findall(room.printed("server"))
@@ -117,12 +117,12 @@ def took(room: rooms.Room, talk: Talk, name: str = REAL, certificate: str | None
 
 def serve(room: rooms.Room, end: End, asked: str = REAL, client: str = "client", is_orig: bool = False, **fields: Any) -> None:
     """The server's part of a handshake with the host's client and of the connection; and its line."""
-    talk = Talk(end, is_server=True, work=room.work)
+    talk = Analyzer(end, is_server=True, work=room.work)
     talk.give(end.hear())
     close_served(room, end, talk.answer(), asked, client, is_orig, **fields)
 
 
-def close_served(room: rooms.Room, end: End, talk: Talk, asked: str = REAL, client: str = "client", is_orig: bool = False, **fields: Any) -> None:
+def close_served(room: rooms.Room, end: End, talk: Analyzer, asked: str = REAL, client: str = "client", is_orig: bool = False, **fields: Any) -> None:
     expect(talk.asked == asked, f"the client asked for {talk.asked}")
     expect(room.await_text(client, "Cipher is ECDHE"), f"the client has no session: {room.printed(client)}")
     room.note(f"s_client ended the handshake, and asked for {talk.asked}")
@@ -135,7 +135,7 @@ def fingerprint(file: Path) -> str:
     return hashlib.sha256(ssl.PEM_cert_to_DER_cert(file.read_text())).hexdigest()
 
 
-def line(room: rooms.Room, end: End, talk: Talk | None = None, is_orig: bool = True, drops: bool = True, **fields: Any) -> None:
+def line(room: rooms.Room, end: End, talk: Analyzer | None = None, is_orig: bool = True, drops: bool = True, **fields: Any) -> None:
     """Adds a line that is wanted. A field that is given as None is left out, since it isn't known for certain."""
     ours, other = (str(end.address), end.port), (str(end.to_address), end.to_port)
     orig, resp = (ours, other) if is_orig else (other, ours)

@@ -9,7 +9,7 @@ from hostile.evasions.acceptance import ALERT
 from hostile.evasions.common import ABSENT, CLOSED, begin, expect, fingerprint, finish, forge, line, scene, take
 from hostile.evasions.end import End, LONG
 from hostile.evasions.room import Room
-from hostile.evasions.talk import HOSTNAME, Talk, other_name
+from hostile.evasions.talk import HOSTNAME, Analyzer, other_name
 from hostile.evasions.wire import ACK, FIN, RST, SYN
 
 CLOSE_WAIT, TIME_WAIT = "08", "06"
@@ -40,7 +40,7 @@ def rst_of_wrong_checksum(room: Room) -> None:
     finish(room, end, talk, hello)
 
 
-def up_to_the_server(room: Room) -> tuple[End, Talk, bytes]:
+def up_to_the_server(room: Room) -> tuple[End, Analyzer, bytes]:
     end, talk, hello = begin(room)
     end.say(hello)
     talk.give(end.hear())
@@ -141,7 +141,7 @@ def rst_in_window_in_syn_received(room: Room) -> None:
     forge(room, end, "rst", "an RST 500 behind the next number, while the host is in SYN-RECEIVED", flags=RST, number=end.next + 500)
     end.its_stamp = first
     end.send(ACK)
-    talk = Talk(end)
+    talk = Analyzer(end)
     finish(room, end, talk, talk.flight())
 
 
@@ -160,7 +160,7 @@ def rst_next_expected_in_syn_received(room: Room) -> None:
     again = room.end(port=end.port, number=900_000)
     again.clock = end.clock + 1000
     again.open()
-    talk = Talk(again)
+    talk = Analyzer(again)
     finish(room, again, talk, talk.flight())
 
 
@@ -173,7 +173,7 @@ def rst_outside_the_window_in_syn_received(room: Room) -> None:
     end.receive(LONG)
     forge(room, end, "rst", "an RST outside the window, while the host is in SYN-RECEIVED", flags=RST, number=end.next + 1_000_000_000)
     end.send(ACK)
-    talk = Talk(end)
+    talk = Analyzer(end)
     finish(room, end, talk, talk.flight())
 
 
@@ -197,7 +197,7 @@ def data_behind_fin_of_handshake(room: Room) -> None:
     server = room.server()
     end = room.end()
     end.open()
-    talk = Talk(end)
+    talk = Analyzer(end)
     end.say(talk.flight())
     talk.finish()
     server.send_signal(signal.SIGSTOP)
@@ -261,7 +261,7 @@ def fin_again_in_time_wait(room: Room) -> None:
     packets(room, end, talk)
 
 
-def packets(room: Room, end: End, talk: Talk) -> None:
+def packets(room: Room, end: End, talk: Analyzer) -> None:
     """A line of all the packets of the capture."""
     room.wire.drain()
     total, ours = len(room.wire.recorded), sum(one["end"] is end for one in room.sendings)

@@ -8,7 +8,7 @@ from typing import Any
 from hostile.evasions import room as rooms
 from hostile.evasions.common import begin, close_served, expect, finish, forge, scene, serve
 from hostile.evasions.end import End, LONG
-from hostile.evasions.talk import Talk, other_name
+from hostile.evasions.talk import Analyzer, other_name
 from hostile.evasions.wire import ACK, COOKIE, Packet, RST, SYN
 
 SERVERS_NUMBER = 700_000
@@ -32,7 +32,7 @@ def open_with(room: rooms.Room, end: End, payload: bytes, cookie: bytes | None =
 def data_in_syn_not_acknowledged(room: rooms.Room) -> None:
     room.server()
     end = room.end()
-    talk = Talk(end)
+    talk = Analyzer(end)
     hello = talk.flight()
     expect(open_with(room, end, other_name(hello)).ack == end.next, "it was taken")
     end.send(ACK)
@@ -59,7 +59,7 @@ def data_in_syn_fast_open(room: rooms.Room) -> None:
     room.server()
     cookie = cookie_of(room)
     end = room.end()
-    talk = Talk(end)
+    talk = Analyzer(end)
     hello = talk.flight()
     answer = open_with(room, end, hello, cookie)
     expect(answer.ack == (end.next + len(hello)) % 2**32, "it wasn't taken")
@@ -76,7 +76,7 @@ def data_in_syn_fast_open(room: rooms.Room) -> None:
 def data_in_syn_of_another_cookie(room: rooms.Room) -> None:
     room.server()
     end = room.end()
-    talk = Talk(end)
+    talk = Analyzer(end)
     hello = talk.flight()
     expect(open_with(room, end, other_name(hello), b"\x11" * 8).ack == end.next, "it was taken")
     end.send(ACK)
@@ -126,7 +126,7 @@ def second_syn_outside_the_window(room: rooms.Room) -> None:
     forge(room, end, "syn", "a SYN of another number", flags=SYN, number=end.first + 1_000_000_000)
     end.its_stamp = first
     end.send(ACK)
-    talk = Talk(end)
+    talk = Analyzer(end)
     finish(room, end, talk, talk.flight())
 
 
@@ -145,7 +145,7 @@ def second_syn_within_the_window(room: rooms.Room) -> None:
     room.try_packet(end, "the last segment of the first opening", flags=ACK)
     end = room.end(number=900_000)
     end.open()
-    talk = Talk(end)
+    talk = Analyzer(end)
     finish(room, end, talk, talk.flight())
 
 
@@ -239,7 +239,7 @@ def opening_repeated(room: rooms.Room) -> None:
     packet = end.receive(LONG)
     room.note(f"the kernel answered the SYN, again, with {packet.words()}")
     end.send(ACK)
-    talk = Talk(end)
+    talk = Analyzer(end)
     finish(room, end, talk, talk.flight())
 
 
@@ -250,7 +250,7 @@ def opening_repeated(room: rooms.Room) -> None:
 def syn_ack_again(room: rooms.Room) -> None:
     end = host_connects(room)
     end.accept()
-    talk = Talk(end, is_server=True, work=room.work)
+    talk = Analyzer(end, is_server=True, work=room.work)
     talk.give(end.hear())
     flight = talk.flight()
     forge(room, end, "syn", "the SYN/ACK again", flags=SYN | ACK, number=end.first)
@@ -267,7 +267,7 @@ def syn_ack_again(room: rooms.Room) -> None:
 def syn_and_its_answer_forged(room: rooms.Room) -> None:
     end = host_connects(room)
     end.accept()
-    talk = Talk(end, is_server=True, work=room.work)
+    talk = Analyzer(end, is_server=True, work=room.work)
     talk.give(end.hear())
     flight = talk.flight()
     number, answer = 2_000_000_000, 3_000_000_000

@@ -7,12 +7,12 @@ from hostile.evasions.clients import begin_served
 from hostile.evasions.common import begin, close_served, finish, forge, scene, take
 from hostile.evasions.end import End
 from hostile.evasions.room import Room
-from hostile.evasions.talk import REAL, Talk, other_name
+from hostile.evasions.talk import REAL, Analyzer, other_name
 
 NONE = "none: Linux's own"
 
 
-def begin_both(room: Room) -> tuple[End, Talk, bytes, bytes, int, int]:
+def begin_both(room: Room) -> tuple[End, Analyzer, bytes, bytes, int, int]:
     """A connection with the real hello, one for the other name, and where the names differ."""
     end, talk, hello = begin(room)
     place = hello.index(REAL.encode())

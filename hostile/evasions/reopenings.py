@@ -7,19 +7,19 @@ from typing import Any
 from hostile.evasions.common import begin, expect, finish, line, scene
 from hostile.evasions.end import End
 from hostile.evasions.room import Room
-from hostile.evasions.talk import Talk, other_name
+from hostile.evasions.talk import Analyzer, other_name
 from hostile.evasions.wire import ACK, RST, SYN
 
 NEXT = "next.test"
 TIME_WAIT = "06"
 
 
-def open_again(room: Room, end: End, ahead: int, is_recorded: bool = True, **more: Any) -> tuple[End, Talk, bytes]:
+def open_again(room: Room, end: End, ahead: int, is_recorded: bool = True, **more: Any) -> tuple[End, Analyzer, bytes]:
     """Another connection between the same ports, for another name."""
     again = room.end(port=end.port, number=(end.next + ahead) % 2**32, **more)
     again.clock = end.clock + 100_000
     again.open(is_recorded=is_recorded)
-    talk = Talk(again, name=NEXT)
+    talk = Analyzer(again, name=NEXT)
     return again, talk, talk.flight()
 
 
@@ -88,7 +88,7 @@ def syn_in_time_wait(room: Room) -> None:
     expect(found and found[0].flags == ACK, "no ACK")
     again.send(RST, number=found[0].ack)
     again.open()
-    talk = Talk(again, name=NEXT)
+    talk = Analyzer(again, name=NEXT)
     finish(room, again, talk, talk.flight(), NEXT)
 
 
@@ -109,7 +109,7 @@ def half_open_recovery(room: Room) -> None:
     expect(found and found[0].flags == ACK, "no ACK")
     end.send(RST, number=found[0].ack)
     end.open()
-    talk = Talk(end)
+    talk = Analyzer(end)
     finish(room, end, talk, talk.flight())
 
 
@@ -130,5 +130,5 @@ def half_open_recovery_captured(room: Room) -> None:
     end.send(RST, number=found[0].ack)
     expect(room.state(end.port) is None, "the host still has the connection")
     end.open()
-    talk = Talk(end, name=NEXT)
+    talk = Analyzer(end, name=NEXT)
     finish(room, end, talk, talk.flight(), NEXT)

@@ -12,7 +12,7 @@ from hostile.evasions import room as rooms, wire
 from hostile.evasions.clients import begin_served, go_on
 from hostile.evasions.common import begin, expect, finish, forge, line, scene
 from hostile.evasions.end import End
-from hostile.evasions.talk import FAKE, HOSTNAME_LINE, REAL, Talk, other_name
+from hostile.evasions.talk import FAKE, HOSTNAME_LINE, REAL, Analyzer, other_name
 from hostile.evasions.windows import FAKE_ONE, PROTOCOLS, REAL_ONE
 from hostile.evasions.wire import ACK, SYN
 
@@ -62,7 +62,7 @@ def checksums_wrong_first(room: rooms.Room) -> None:
     for number in (1, 2, 3):
         forge(room, end, "checksum", "a SYN of a wrong checksum", flags=SYN, number=number * 1_000_000, spoilt=("sum",))
     end.open()
-    talk = Talk(end)
+    talk = Analyzer(end)
     hello = talk.flight()
     forge(room, end, "checksum", "a hello of a wrong checksum", other_name(hello), spoilt=("sum",))
     finish(room, end, talk, hello)
@@ -100,7 +100,7 @@ def offloaded_checksums_but_of_answers(room: rooms.Room) -> None:
     end.send(SYN)
     end.move(b"", SYN)
     end.receive(1)
-    talk = Talk(end)
+    talk = Analyzer(end)
     hello = talk.flight()
     forge(room, end, "ack", "a hello of a wrong acknowledgement", other_name(hello), ack=end.expected + 5000)
     end.send(ACK)
@@ -165,7 +165,7 @@ def gro_lengths(room: rooms.Room) -> None:
     room.server(f"-alpn {REAL_ONE},{FAKE_ONE}")
     end = room.end()
     end.open()
-    talk = Talk(end, protocols=PROTOCOLS)
+    talk = Analyzer(end, protocols=PROTOCOLS)
     hello = talk.flight()
     Path(f"/sys/class/net/{wire.DEVICE}/gro_flush_timeout").write_text("20000000")
     Path(f"/sys/class/net/{wire.DEVICE}/napi_defer_hard_irqs").write_text("10")
@@ -187,7 +187,7 @@ def gro_lengths(room: rooms.Room) -> None:
 def finish_large(room: rooms.Room) -> None:
     end = room.end()
     end.open()
-    talk = Talk(end)
+    talk = Analyzer(end)
     finish(room, end, talk, talk.flight())
     longest = max(len(one) for _, one in room.wire.recorded)
     expect(longest > 1514, "no packet is longer than the link takes")

@@ -15,7 +15,7 @@ HOSTNAME_LINE = 'Hostname in TLS extension: "{}"'
 HOSTNAME = re.compile(HOSTNAME_LINE.format('([^"]*)'))
 
 
-class Talk:
+class Analyzer:
     """The client or the server of a connection, over an end."""
 
     def __init__(
@@ -57,7 +57,7 @@ class Talk:
     def give(self, data: bytes) -> None:
         self.incoming.write(data)
 
-    def finish(self) -> Talk:
+    def finish(self) -> Analyzer:
         """The rest of the handshake."""
         while True:
             is_over = self.step()
@@ -71,7 +71,7 @@ class Talk:
                 raise RuntimeError(f"the host is silent, or closed, after {self.end.seen and self.end.seen[-1].words()}")
             self.give(heard)
 
-    def answer(self) -> Talk:
+    def answer(self) -> Analyzer:
         """The server's part: awaits the hello, and all else."""
         while not self.step():
             flight = self.outgoing.read()

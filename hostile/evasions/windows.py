@@ -9,7 +9,7 @@ from hostile.evasions import wire
 from hostile.evasions.common import ABSENT, begin, expect, finish, forge, scene, take
 from hostile.evasions.end import End, LONG
 from hostile.evasions.room import Room
-from hostile.evasions.talk import Talk
+from hostile.evasions.talk import Analyzer
 from hostile.evasions.wire import ACK, PSH, URG
 
 # A receive buffer of the host of 2,304 bytes, whose window is of some 1,152.
@@ -26,12 +26,12 @@ def other_protocol(hello: bytes) -> bytes:
     return hello.replace(REAL_ONE.encode(), FAKE_ONE.encode())
 
 
-def begin_small(room: Room) -> tuple[subprocess.Popen[bytes], End, Talk, bytes, int]:
+def begin_small(room: Room) -> tuple[subprocess.Popen[bytes], End, Analyzer, bytes, int]:
     """A connection whose server is stopped, so that its window closes; with a hello whose last protocol is beyond the window."""
     server = room.server(f"-alpn {REAL_ONE},{FAKE_ONE}")
     end = room.end()
     end.open()
-    talk = Talk(end, protocols=PROTOCOLS)
+    talk = Analyzer(end, protocols=PROTOCOLS)
     hello = talk.flight()
     server.send_signal(signal.SIGSTOP)
     sent = 0
@@ -44,7 +44,7 @@ def begin_small(room: Room) -> tuple[subprocess.Popen[bytes], End, Talk, bytes, 
     return server, end, talk, hello, sent
 
 
-def go_on(room: Room, server: subprocess.Popen[bytes], end: End, talk: Talk, hello: bytes, sent: int) -> None:
+def go_on(room: Room, server: subprocess.Popen[bytes], end: End, talk: Analyzer, hello: bytes, sent: int) -> None:
     """The server reads again, and the rest comes."""
     server.send_signal(signal.SIGCONT)
     while sent < len(hello):
@@ -94,7 +94,7 @@ def data_past_the_edge_taken(room: Room) -> None:
     server = room.server(f"-alpn {REAL_ONE},{FAKE_ONE}")
     end = room.end()
     end.open()
-    talk = Talk(end, protocols=PROTOCOLS)
+    talk = Analyzer(end, protocols=PROTOCOLS)
     hello = talk.flight()
     window = end.its_window
     take(room, end, f"1,300 bytes into a window of {window}", hello[:1300])
@@ -154,7 +154,7 @@ def data_beyond_the_window_one_side(room: Room) -> None:
         sending["place"] = place
 
 
-def begin_before(room: Room) -> tuple[End, Talk, bytes]:
+def begin_before(room: Room) -> tuple[End, Analyzer, bytes]:
     """A connection whose opening isn't captured."""
     room.wire.records = False
     begun = begin(room)
@@ -237,7 +237,7 @@ def urgent_data_twice_unread(room: Room) -> None:
     server = room.server()
     end = room.end()
     end.open()
-    talk = Talk(end)
+    talk = Analyzer(end)
     hello = talk.flight()
     server.send_signal(signal.SIGSTOP)
     take(room, end, "81 bytes of the hello, the last of them urgent", hello[:81], flags=URG | PSH | ACK, urgent=81)

@@ -3,10 +3,10 @@ use Rattle.std.specs.Prelude.{ℕ, ◌==◌, Bool, ◌&&◌, ◌||◌, nat_lt, n
 use Rattle.sha1.specs.Sha1.{sha1}
 use Rattle.base64.specs.GeneralPurpose.{encode_of}
 use Rattle.base64.specs.Engines.{standard}
-use Rattle.connections.specs.Ends.{address_number}
-use Rattle.connections.specs.declared.ends.End.{End}
-use Rattle.connections.specs.declared.ends.Protocol.{Protocol}
-use Rattle.connection_ids.specs.Ends.{address_bytes, port_bytes, protocol_number}
+use Rattle.connections.specs.FiveTuple.{address_number}
+use Rattle.connections.specs.declared.five_tuple.End.{End}
+use Rattle.connections.specs.declared.five_tuple.Protocol.{Protocol}
+use Rattle.connection_ids.specs.FiveTuple.{address_bytes, port_bytes, protocol_number}
 
 -- The smaller address stands first; where both are the same, the smaller port.
 abbrev pub is_first : End → End → Bool

@@ -1,3 +1,3 @@
-pub mod Ends
+pub mod FiveTuple
 pub mod CommunityId
 pub mod Uid

@@ -2,9 +2,9 @@
 use Rattle.std.specs.Prelude.{ℕ, zero, suc, ◌+◌, ◌/◌, ◌%◌, ◌^◌, nat_lt, if◌then◌else◌, List, [], ◌∷◌, ◌++◌, codes, take, drop}
 use Rattle.std.specs.Int.{w64, w128, to_be_bytes, from_be_bytes}
 use Rattle.sha2.specs.Sha256.{sha256}
-use Rattle.connections.specs.declared.ends.End.{End}
-use Rattle.connections.specs.declared.ends.Protocol.{Protocol}
-use Rattle.connection_ids.specs.Ends.{address_bytes, port_bytes, protocol_number}
+use Rattle.connections.specs.declared.five_tuple.End.{End}
+use Rattle.connections.specs.declared.five_tuple.Protocol.{Protocol}
+use Rattle.connection_ids.specs.FiveTuple.{address_bytes, port_bytes, protocol_number}
 
 -- A digit of base 62 by Zeek's order: `0` to `9`, `a` to `z`, `A` to `Z`.
 abbrev pub digit : ℕ → ℕ

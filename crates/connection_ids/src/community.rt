@@ -2,11 +2,11 @@
 ghost use Rattle.std.specs.Prelude.{◌≡◌, ◌++◌, List, ℕ, IfOk};
 ghost use Rattle.std.specs.String.{string_bytes};
 ghost use Rattle.sha1.specs.Sha1.{sha1, Holds};
-ghost use Rattle.connections.specs.Ends.{address_number};
-ghost use Rattle.connection_ids.specs.Ends.{address_bytes};
+ghost use Rattle.connections.specs.FiveTuple.{address_number};
+ghost use Rattle.connection_ids.specs.FiveTuple.{address_bytes};
 ghost use Rattle.connection_ids.specs.CommunityId.{community_bytes, community_id_of, is_first as is_first_of, ordered_bytes};
 
-use crate::ends::protocol_number;
+use crate::five_tuple::protocol_number;
 use base64::engine::general_purpose::STANDARD;
 use connections::{End, Protocol};
 use sha1::Sha1;

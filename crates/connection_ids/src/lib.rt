@@ -6,7 +6,7 @@
 #![tactic(auto)]
 
 mod community;
-mod ends;
+mod five_tuple;
 mod uids;
 
 pub use community::community_id;

@@ -4,10 +4,10 @@ ghost use Rattle.std.specs.Int.{w64, w128, from_be_bytes};
 ghost use Rattle.std.specs.String.{string_bytes};
 ghost use Rattle.sha2.specs.Hashers.{Holds256};
 ghost use Rattle.sha2.specs.Sha256.{sha256};
-ghost use Rattle.connection_ids.specs.Ends.{address_bytes};
+ghost use Rattle.connection_ids.specs.FiveTuple.{address_bytes};
 ghost use Rattle.connection_ids.specs.Uid.{base62, digit as digit_of, ends_bytes, flow_id_of, uid_bytes, uid_key, uid_of};
 
-use crate::ends::protocol_number;
+use crate::five_tuple::protocol_number;
 use connections::{End, Protocol};
 use sha2::{Digest, Sha256};
 use std::alloc::{AllocError, Global};

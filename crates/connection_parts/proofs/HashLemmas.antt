@@ -4,8 +4,8 @@ use Rattle.std.specs.Prelude.{bit_xor, ◌==◌}
 use Rattle.layouts.specs.Bytes.{Bytes}
 use Rattle.connection_parts.specs.Part.{end_hash, falls_to, fnv_from, protocol_number, spread}
 use Rattle.connection_parts.specs.declared.part.Part.{Part}
-use Rattle.connections.specs.declared.ends.End.{End}
-use Rattle.connections.specs.declared.ends.Protocol.{Protocol}
+use Rattle.connections.specs.declared.five_tuple.End.{End}
+use Rattle.connections.specs.declared.five_tuple.Protocol.{Protocol}
 
 pub fnv_behind : (h : ℕ) (xs ys : Bytes) → fnv_from (fnv_from h xs) ys ≡ fnv_from h (xs ++ ys)
 fnv_behind h [] ys = refl

@@ -4,9 +4,9 @@ use Rattle.std.specs.Net.Addr.{ipv4_octets, ipv6_octets}
 use Rattle.std.specs.declared.net.ip_addr.IpAddr.{IpAddr}
 use Rattle.std.specs.declared.net.ip_addr.IpAddr.TheVariants.{V4, V6}
 use Rattle.layouts.specs.Bytes.{Bytes, bytes_of}
-use Rattle.connections.specs.declared.ends.Protocol.{Protocol}
-use Rattle.connections.specs.declared.ends.Protocol.TheVariants.{Tcp, Udp}
-use Rattle.connections.specs.declared.ends.End.{End}
+use Rattle.connections.specs.declared.five_tuple.Protocol.{Protocol}
+use Rattle.connections.specs.declared.five_tuple.Protocol.TheVariants.{Tcp, Udp}
+use Rattle.connections.specs.declared.five_tuple.End.{End}
 use Rattle.connection_parts.specs.declared.part.Part.{Part}
 
 -- The FNV-1a hash of 64 bits (draft-eastlake-fnv, section 2), with bytes behind those that it is of.

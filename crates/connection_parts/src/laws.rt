@@ -2,8 +2,8 @@
 ghost use Rattle.std.specs.Prelude.{◌≡◌};
 ghost use Rattle.connection_parts.specs.Part.{falls_to};
 ghost use Rattle.connection_parts.specs.declared.part.Part.{Part};
-ghost use Rattle.connections.specs.declared.ends.End.{End};
-ghost use Rattle.connections.specs.declared.ends.Protocol.{Protocol};
+ghost use Rattle.connections.specs.declared.five_tuple.End.{End};
+ghost use Rattle.connections.specs.declared.five_tuple.Protocol.{Protocol};
 
 /// Both directions of a connection fall to the same part.
 #[tactic(auto, using(crate::proofs::HashLemmas::both_directions))]

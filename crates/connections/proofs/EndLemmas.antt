@@ -4,18 +4,18 @@ use Rattle.std.specs.Prelude.{if◌then◌else◌}
 use Rattle.std.specs.Ordering.{partial_le, ordering_reverse}
 use Rattle.std.specs.declared.cmp.Ordering.TheVariants.{Less, Equal, Greater}
 use Rattle.std.specs.Cmp.{IsPartialOrder, IsTotalOrder, Agrees}
-use Rattle.connections.specs.declared.ends.Protocol.{Protocol}
-use Rattle.connections.specs.declared.ends.End.{End}
-use Rattle.connections.specs.declared.ends.Ends.{Ends}
-use Rattle.connections.specs.contracts.ends.EndPartialEq.TheImpl as end_eq
-use Rattle.connections.specs.contracts.ends.EndPartialOrd.TheImpl as end_order
-use Rattle.connections.specs.contracts.ends.EndOrd.TheImpl as end_total
-use Rattle.connections.specs.Ends.{is_end, ends_between}
+use Rattle.connections.specs.declared.five_tuple.Protocol.{Protocol}
+use Rattle.connections.specs.declared.five_tuple.End.{End}
+use Rattle.connections.specs.declared.five_tuple.FiveTuple.{FiveTuple}
+use Rattle.connections.specs.contracts.five_tuple.EndPartialEq.TheImpl as end_eq
+use Rattle.connections.specs.contracts.five_tuple.EndPartialOrd.TheImpl as end_order
+use Rattle.connections.specs.contracts.five_tuple.EndOrd.TheImpl as end_total
+use Rattle.connections.specs.FiveTuple.{is_end, five_tuple_between}
 
 pub same_end : (a b : End) → is_end a b ≡ true → a ≡ b
 same_end a b e = search rules
 
-choose : ℕ → Protocol → Bool → End → End → Ends
+choose : ℕ → Protocol → Bool → End → End → FiveTuple
 choose n p t a b = if t then record { network = n; protocol = p; lower = a; upper = b } else
     record { network = n; protocol = p; lower = b; upper = a }
 
@@ -23,13 +23,13 @@ module _ (agrees : Agrees end_order.ghosts.partial_cmp end_total.ghosts.cmp) (to
     (partial : IsPartialOrder end_eq.ghosts.eq end_order.ghosts.partial_cmp) where
   at_order : (n : ℕ) (p : Protocol) (a b : End) (x y : Ordering) → end_order.ghosts.partial_cmp a b ≡ Some x
       → end_order.ghosts.partial_cmp b a ≡ Some y → x ≡ ordering_reverse y
-      → ends_between n p a b ≡ ends_between n p b a
+      → five_tuple_between n p a b ≡ five_tuple_between n p b a
   at_order n p a b x Less ex ey r = rw (ex, ey, r)
   at_order n p a b x Greater ex ey r = rw (ex, ey, r)
   at_order n p a b x Equal ex ey r = let one : a ≡ b = same_end a b ((partial.matches_eq a b).1 (ex ∙ ap Some r)) in
       rw (ex, ey, r) cc
 
-  pub both_directions : (n : ℕ) (p : Protocol) (a b : End) → ends_between n p a b ≡ ends_between n p b a
+  pub both_directions : (n : ℕ) (p : Protocol) (a b : End) → five_tuple_between n p a b ≡ five_tuple_between n p b a
   both_directions n p a b = at_order n p a b (end_total.ghosts.cmp a b) (end_total.ghosts.cmp b a) (agrees a b) (agrees b a)
       (total.antisymm a b)
 
@@ -41,7 +41,7 @@ by_tests m n p q a b c d true false e = (ap (λ x. x.network) e, ap (λ x. x.pro
 by_tests m n p q a b c d false true e = (ap (λ x. x.network) e, ap (λ x. x.protocol) e, inr (ap (λ x. x.upper) e, ap (λ x. x.lower) e))
 by_tests m n p q a b c d false false e = (ap (λ x. x.network) e, ap (λ x. x.protocol) e, inl (ap (λ x. x.upper) e, ap (λ x. x.lower) e))
 
-pub same_ends : (m n : ℕ) (p q : Protocol) (a b c d : End) → ends_between m p a b ≡ ends_between n q c d
+pub same_ends : (m n : ℕ) (p q : Protocol) (a b c d : End) → five_tuple_between m p a b ≡ five_tuple_between n q c d
     → (m ≡ n) × (p ≡ q) × (((a ≡ c) × (b ≡ d)) ⊎ ((a ≡ d) × (b ≡ c)))
 unfolding choose
 same_ends m n p q a b c d e = by_tests m n p q a b c d (partial_le end_order.ghosts.partial_cmp a b)

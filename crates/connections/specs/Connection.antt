@@ -1,6 +1,6 @@
 -- What is held of a connection.
-use Rattle.std.specs.Prelude.{◌≡◌, ◌⊎◌, ℕ, ◌+◌, ◌==◌, Bool, true, false, ◌&&◌, ◌||◌, not, is_some, Option, Some, None, if◌then◌else◌, [], length}
-use Rattle.connections.specs.Ends.{is_end}
+use Rattle.std.specs.Prelude.{◌≡◌, ◌⊎◌, ℕ, ◌+◌, ◌==◌, Bool, true, false, ◌&&◌, ◌||◌, not, is_some, Option, Some, None, if◌then◌else◌, [], length, ⊤}
+use Rattle.connections.specs.FiveTuple.{is_end}
 use Rattle.connections.specs.Segment.{acknowledges, answers, begins, begins_stream, bytes_alone, first_of, has_data, IsWithoutData}
 use Rattle.connections.specs.Hosts.{damaged_before, has_fin_of, host_after, later, silent_host, with_checksum, with_taken}
 use Rattle.connections.specs.Receiver.{is_damaged, judge}
@@ -8,9 +8,9 @@ use Rattle.connections.specs.Dropped.{none_dropped, with_damaged, with_dropped}
 use Rattle.connections.specs.Stream.{begun_at, forgetting, front_of, held_in, silent_stream, noted, HasTaken, is_over}
 use Rattle.connections.specs.Traffic.{nothing_sent, with_packet}
 use Rattle.connections.specs.declared.datagram.Datagram.{Datagram}
-use Rattle.connections.specs.declared.ends.Protocol.{Protocol}
-use Rattle.connections.specs.declared.ends.Protocol.TheVariants.{Tcp, Udp}
-use Rattle.connections.specs.declared.ends.End.{End}
+use Rattle.connections.specs.declared.five_tuple.Protocol.{Protocol}
+use Rattle.connections.specs.declared.five_tuple.Protocol.TheVariants.{Tcp, Udp}
+use Rattle.connections.specs.declared.five_tuple.End.{End}
 use Rattle.connections.specs.declared.segment.Segment.{Segment}
 use Rattle.connections.specs.declared.host.Host.{Host}
 use Rattle.connections.specs.declared.receiver.Judgement.{Judgement}
@@ -66,6 +66,13 @@ adds_nothing judgement.Again s = not (has_data s)
 adds_nothing judgement.Taken s = false
 adds_nothing (judgement.Waiting r) s = false
 adds_nothing (judgement.Dropped r) s = false
+
+-- Its receiver takes it, or has it.
+abbrev pub IsKept : Judgement → Type 0
+IsKept judgement.Taken = ⊤
+IsKept judgement.Again = ⊤
+IsKept (judgement.Waiting r) = ⊥
+IsKept (judgement.Dropped r) = ⊥
 
 -- A segment goes on behind a SYN of its sender's, or it shows that its sender takes the answer to its SYN.
 abbrev pub goes_on : Segment → Bool

@@ -3,21 +3,21 @@ use Rattle.std.specs.Prelude.{Option}
 use Rattle.lru.specs.LruCache.{promoted}
 use Rattle.std.specs.Map.{set_value}
 use Rattle.std.specs.Borrow.{Fml, RattleType, MutBor, LendsIf}
-use Rattle.connections.specs.Ends.{are_ends}
+use Rattle.connections.specs.FiveTuple.{is_five_tuple}
 use Rattle.connections.specs.Table.{Table}
-use Rattle.connections.specs.declared.ends.Ends.{Ends}
+use Rattle.connections.specs.declared.five_tuple.FiveTuple.{FiveTuple}
 use Rattle.connections.specs.declared.connection.Connection.{Connection}
 use Rattle.connections.specs.contracts.connection.Connection as connection
 use Rattle.connections.specs.contracts.table.Connections as table
 
 -- What was written to it stands under its ends; all else stays, and all where there is none.
-abbrev pub lends_connection : (T : RattleType) → MutBor (Table T.Denot) → Ends → Option (MutBor (Connection T.Denot)) → Fml
-lends_connection T t e r = LendsIf (table.the_row T) (connection.the_row T) t r (λ w. record t.now { live = set_value (are_ends e) t.now.live w }) t.now
+abbrev pub lends_connection : (T : RattleType) → MutBor (Table T.Denot) → FiveTuple → Option (MutBor (Connection T.Denot)) → Fml
+lends_connection T t e r = LendsIf (table.the_row T) (connection.the_row T) t r (λ w. record t.now { live = set_value (is_five_tuple e) t.now.live w }) t.now
 
 -- The connection between these ends is another one, and stands first.
-abbrev pub with_first : {T : Type 0} → Ends → Connection T → Table T → Table T
-with_first e c t = record t { live = set_value (are_ends e) (promoted (are_ends e) t.live) c }
+abbrev pub with_first : {T : Type 0} → FiveTuple → Connection T → Table T → Table T
+with_first e c t = record t { live = set_value (is_five_tuple e) (promoted (is_five_tuple e) t.live) c }
 
 -- The same, where what was written to it stands first.
-abbrev pub lends_first : (T : RattleType) → MutBor (Table T.Denot) → Ends → Option (MutBor (Connection T.Denot)) → Fml
+abbrev pub lends_first : (T : RattleType) → MutBor (Table T.Denot) → FiveTuple → Option (MutBor (Connection T.Denot)) → Fml
 lends_first T t e r = LendsIf (table.the_row T) (connection.the_row T) t r (λ w. with_first e w t.now) t.now

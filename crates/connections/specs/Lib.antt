@@ -1,4 +1,5 @@
-pub mod Ends
+pub mod Address
+pub mod FiveTuple
 pub mod Numbers
 pub mod Segment
 pub mod Hosts

@@ -1,10 +1,9 @@
 -- What the connections of a table are accounted for, in bytes of memory.
 use Rattle.std.specs.Prelude.{◌≡◌, ℕ, ◌+◌, ◌-◌, ◌/◌, ◌≤◌, ◌<◌, ◌^◌, Bool, nat_lt, ◌||◌, Option, Some, None, List, [], ◌∷◌, ◌++◌, length}
-use Rattle.connections.specs.Ends.{are_ends}
 use Rattle.connections.specs.Connection.{held_by}
-use Rattle.connections.specs.Table.{at, others, with_other, Table, WasLast}
+use Rattle.connections.specs.Table.{with_other, Table, WasLast}
 use Rattle.connections.specs.declared.connection.Connection.{Connection}
-use Rattle.connections.specs.declared.ends.Ends.{Ends}
+use Rattle.connections.specs.declared.five_tuple.FiveTuple.{FiveTuple}
 use Rattle.connections.specs.declared.table.TheConstants.{CLOSED_COST, CLOSED_SHARE}
 
 -- So many bytes those that were closed may take of a limit, and so many those that are open.
@@ -19,17 +18,17 @@ abbrev pub closed_count : ℕ → ℕ
 closed_count limit = closed_part limit / CLOSED_COST
 
 -- Of those that were closed the latest are known that fit.
-pub record IsFront (xs ys : List (Ends × ℕ)) : Type 0 where
-  pub rest : List (Ends × ℕ)
+pub record IsFront (xs ys : List (FiveTuple × ℕ)) : Type 0 where
+  pub rest : List (FiveTuple × ℕ)
   pub stood : xs ≡ ys ++ rest
 
-pub record FitsClosed (limit : ℕ) (xs ys : List (Ends × ℕ)) : Type 0 where
+pub record FitsClosed (limit : ℕ) (xs ys : List (FiveTuple × ℕ)) : Type 0 where
   pub latest : IsFront xs ys
   pub fits : length ys ≤ closed_count limit
 
 module _ {T : Type 0} where
   -- For how much all are accounted.
-  abbrev pub total : List (Ends × Connection T) → ℕ
+  abbrev pub total : List (FiveTuple × Connection T) → ℕ
   total [] = 0
   total (e ∷ xs) = e.1.weight + total xs
 
@@ -43,13 +42,13 @@ module _ {T : Type 0} where
 
   -- The connection between these ends is accounted for at least as many bytes as its streams hold, where that is no more than any machine has; all else
   -- stays.
-  pub record IsSettledAs (e : Ends) (c w : Connection T) (old new : Table T) : Type 0 where
+  pub record IsSettledAs (e : FiveTuple) (c w : Connection T) (old new : Table T) : Type 0 where
     pub same : w ≡ record c { weight = w.weight }
     pub enough : old.held - c.weight + held_by w < 2 ^ 63 → held_by w ≤ w.weight
     pub stands : new.live ≡ (with_other e w old).live
     pub closed : new.closed ≡ old.closed
 
-  abbrev pub IsSettled : Ends → Option (Connection T) → Table T → Table T → Type 0
+  abbrev pub IsSettled : FiveTuple → Option (Connection T) → Table T → Table T → Type 0
   IsSettled e None old new = new ≡ old
   IsSettled e (Some c) old new = (w : Connection T) × IsSettledAs e c w old new
 

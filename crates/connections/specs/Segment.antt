@@ -1,8 +1,8 @@
 -- What a segment's header says.
 use Rattle.std.specs.Prelude.{◌≡◌, ℕ, ◌+◌, ◌-◌, ◌/◌, ◌%◌, ◌^◌, ◌==◌, Bool, true, false, ◌&&◌, ◌||◌, not, nat_lt, if◌then◌else◌, Option, Some, None, [], length}
-use Rattle.connections.specs.Ends.{ends_between}
-use Rattle.connections.specs.declared.ends.Ends.{Ends}
-use Rattle.connections.specs.declared.ends.Protocol.TheVariants.{Tcp}
+use Rattle.connections.specs.FiveTuple.{five_tuple_between}
+use Rattle.connections.specs.declared.five_tuple.FiveTuple.{FiveTuple}
+use Rattle.connections.specs.declared.five_tuple.Protocol.TheVariants.{Tcp}
 use Rattle.connections.specs.declared.segment.Checksum.{Checksum}
 use Rattle.connections.specs.declared.segment.Checksum.TheVariants.{Right, Partial, Wrong, Refused}
 use Rattle.connections.specs.declared.segment.Header.{Header}
@@ -70,8 +70,8 @@ abbrev pub IsWithoutData : Segment → Segment → Type 0
 IsWithoutData s bare = (header_of bare ≡ header_of s) × (bare.payload.now ≡ [])
 
 -- Between whom it goes, and in which network.
-abbrev pub ends_of : Segment → Ends
-ends_of s = ends_between s.network Tcp s.source s.destination
+abbrev pub five_tuple_of : Segment → FiveTuple
+five_tuple_of s = five_tuple_between s.network Tcp s.source s.destination
 
 -- The number of the first byte of data: a SYN has one of its own, in front of it.
 abbrev pub first_of : Segment → ℕ

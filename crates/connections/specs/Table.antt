@@ -2,13 +2,13 @@
 use Rattle.std.specs.Prelude.{◌≡◌, ℕ, ◌-◌, ◌<◌, ◌⊎◌, Bool, true, false, ◌&&◌, ◌||◌, not, is_some, if◌then◌else◌, Option, Some, None, IfSome, List, [], ◌∷◌, ◌++◌, length}
 use Rattle.std.specs.Option.{option_and_then, option_map}
 use Rattle.std.specs.Map.{lookup, remove_entry, set_value}
-use Rattle.lru.specs.LruCache.{last_entry}
-use Rattle.connections.specs.Ends.{are_ends}
-use Rattle.connections.specs.Datagram.{ends_of_datagram}
-use Rattle.connections.specs.Segment.{begins, begins_one, ends_of, is_refused}
+use Rattle.lru.specs.LruCache.{last_entry, promoted}
+use Rattle.connections.specs.FiveTuple.{is_five_tuple}
+use Rattle.connections.specs.Datagram.{five_tuple_of_datagram}
+use Rattle.connections.specs.Segment.{begins, begins_one, five_tuple_of, is_refused}
 use Rattle.connections.specs.Connection.{begun_by_datagram, dropped_from, is_closed, is_datagram_damaged, judgement_of, side_of, Accepts, Begins, ChangesCountsAlone, IsAfter, IsAnew, IsBegunBy, LeavesOut, NoneWaits, Shows, TakesDatagramIn}
 use Rattle.connections.specs.declared.datagram.Datagram.{Datagram}
-use Rattle.connections.specs.declared.ends.Ends.{Ends}
+use Rattle.connections.specs.declared.five_tuple.FiveTuple.{FiveTuple}
 use Rattle.connections.specs.declared.segment.Segment.{Segment}
 use Rattle.connections.specs.declared.connection.Connection.{Connection}
 use Rattle.connections.specs.declared.receiver.Judgement.{Judgement}
@@ -19,8 +19,8 @@ use Rattle.connections.specs.declared.table.TheConstants.{IDLE_LIMIT, MAX_CONNEC
 -- Those that are open, and of those that both sides ended, the time: what still comes of these is left out. And for how many bytes those that are open are
 -- accounted.
 pub record Table (T : Type 0) : Type 0 where
-  pub live : List (Ends × Connection T)
-  pub closed : List (Ends × ℕ)
+  pub live : List (FiveTuple × Connection T)
+  pub closed : List (FiveTuple × ℕ)
   pub held : ℕ
 
 -- One with this last time had no packet for more than the limit, or there are too many.
@@ -29,36 +29,36 @@ IsOverAmong count time last = (IDLE_LIMIT < time - last) ⊎ (MAX_CONNECTIONS < 
 
 module _ {X : Type 0} where
   -- What stands under these ends, and what stands under others.
-  abbrev pub at : Ends → List (Ends × X) → Option X
-  at e xs = lookup (are_ends e) xs
+  abbrev pub at : FiveTuple → List (FiveTuple × X) → Option X
+  at e xs = lookup (is_five_tuple e) xs
 
-  abbrev pub others : Ends → List (Ends × X) → List (Ends × X)
-  others e xs = remove_entry (are_ends e) xs
+  abbrev pub others : FiveTuple → List (FiveTuple × X) → List (FiveTuple × X)
+  others e xs = remove_entry (is_five_tuple e) xs
 
-  abbrev pub without_if : Bool → Ends → List (Ends × X) → List (Ends × X)
+  abbrev pub without_if : Bool → FiveTuple → List (FiveTuple × X) → List (FiveTuple × X)
   without_if taken e xs = if taken then others e xs else xs
 
   -- That one stood last, and was taken out.
-  pub record WasLast (xs ys : List (Ends × X)) (x : X) : Type 0 where
-    pub ends : Ends
-    pub stood : xs ≡ ys ++ (ends, x) ∷ []
+  pub record WasLast (xs ys : List (FiveTuple × X)) (x : X) : Type 0 where
+    pub five_tuple : FiveTuple
+    pub stood : xs ≡ ys ++ (five_tuple, x) ∷ []
 
   -- One with this last time is over among these.
-  abbrev pub IsOver : ℕ → List (Ends × X) → ℕ → Type 0
+  abbrev pub IsOver : ℕ → List (FiveTuple × X) → ℕ → Type 0
   IsOver time xs last = IsOverAmong (length xs) time last
 
 -- From the end on, those were taken out that were over then.
-pub data IsForgotten (time : ℕ) (xs : List (Ends × ℕ)) : List (Ends × ℕ) → Type 0 where
+pub data IsForgotten (time : ℕ) (xs : List (FiveTuple × ℕ)) : List (FiveTuple × ℕ) → Type 0 where
   none : IsForgotten time xs xs
-  one : (ys zs : List (Ends × ℕ)) (e : Ends × ℕ) → IsForgotten time xs ys → ys ≡ zs ++ e ∷ [] → IsOver time ys e.1 → IsForgotten time xs zs
+  one : (ys zs : List (FiveTuple × ℕ)) (e : FiveTuple × ℕ) → IsForgotten time xs ys → ys ≡ zs ++ e ∷ [] → IsOver time ys e.1 → IsForgotten time xs zs
 
 -- None is left that is to be taken out: the one that stands last isn't over.
-abbrev pub NoneToForget : ℕ → List (Ends × ℕ) → Type 0
+abbrev pub NoneToForget : ℕ → List (FiveTuple × ℕ) → Type 0
 NoneToForget time xs = IfSome (last_entry xs) (λ e. ¬ IsOver time xs e.1)
 
 module _ {T : Type 0} where
   -- What goes to these ends goes to the one connection there, which stands first then. The others stay.
-  pub record IsPut (e : Ends) (Takes : Option (Connection T) → Connection T → Type 0) (xs ys : List (Ends × Connection T)) : Type 0 where
+  pub record IsPut (e : FiveTuple) (Takes : Option (Connection T) → Connection T → Type 0) (xs ys : List (FiveTuple × Connection T)) : Type 0 where
     pub its : Connection T
     pub takes : Takes (at e xs) its
     pub stands : ys ≡ (e, its) ∷ others e xs
@@ -69,7 +69,7 @@ module _ {T : Type 0} where
   TakesSegment s None its = (c : Connection T) × IsBegunBy s c × Accepts s c its
 
   -- One that the segment begins stands first, and is no more among those that were closed.
-  pub record BeginsFirst (s : Segment) (e : Ends) (old new : Table T) : Type 0 where
+  pub record BeginsFirst (s : Segment) (e : FiveTuple) (old new : Table T) : Type 0 where
     pub its : Connection T
     pub takes : TakesSegment s None its
     pub stands : new ≡ record { live = (e, its) ∷ others e old.live; closed = others e old.closed; held = old.held }
@@ -81,20 +81,24 @@ module _ {T : Type 0} where
 
   -- What the receiver of a segment does with it, where a connection is open between its ends.
   abbrev pub judgement_in : Segment → Table T → Option Judgement
-  judgement_in s t = option_map (judgement_of s) (at (ends_of s) t.live)
+  judgement_in s t = option_map (judgement_of s) (at (five_tuple_of s) t.live)
 
   -- The connection between these ends is another one, in the same place; all others stay.
-  abbrev pub with_other : Ends → Connection T → Table T → Table T
-  with_other e c t = record t { live = set_value (are_ends e) t.live c }
+  abbrev pub with_other : FiveTuple → Connection T → Table T → Table T
+  with_other e c t = record t { live = set_value (is_five_tuple e) t.live c }
+
+  -- It stands first.
+  abbrev pub promoting : FiveTuple → Table T → Table T
+  promoting e t = record t { live = promoted (is_five_tuple e) t.live }
 
   -- Of the connection between these ends only counts change, and what waits.
-  abbrev pub ChangesCountsAt : Ends → Option (Connection T) → Table T → Table T → Type 0
+  abbrev pub ChangesCountsAt : FiveTuple → Option (Connection T) → Table T → Table T → Type 0
   ChangesCountsAt e None old new = new ≡ old
   ChangesCountsAt e (Some c) old new = (c' : Connection T) × ChangesCountsAlone c c' × (new ≡ with_other e c' old)
 
   -- A segment that its receiver drops, or that waits, changes no more.
   abbrev pub Drops : Segment → Table T → Table T → Type 0
-  Drops s old new = ChangesCountsAt (ends_of s) (at (ends_of s) old.live) old new
+  Drops s old new = ChangesCountsAt (five_tuple_of s) (at (five_tuple_of s) old.live) old new
 
   -- A datagram with a wrong checksum is counted in the exchange between its ends.
   abbrev pub is_damaged_in : Datagram → Option (Connection T) → Bool
@@ -104,35 +108,35 @@ module _ {T : Type 0} where
   abbrev pub DropsDatagramOf : Datagram → Option (Connection T) → Table T → Table T → Type 0
   DropsDatagramOf d None old new = new ≡ old
   DropsDatagramOf d (Some c) old new =
-      new ≡ with_other (ends_of_datagram d) (dropped_from (side_of c d.source) reason.Checksum c) old
+      new ≡ with_other (five_tuple_of_datagram d) (dropped_from (side_of c d.source) reason.Checksum c) old
 
   abbrev pub DropsDatagram : Datagram → Bool → Table T → Table T → Type 0
   DropsDatagram d false old new = new ≡ old
-  DropsDatagram d true old new = DropsDatagramOf d (at (ends_of_datagram d) old.live) old new
+  DropsDatagram d true old new = DropsDatagramOf d (at (five_tuple_of_datagram d) old.live) old new
 
   -- There is an open connection between the segment's ends, or the segment begins one: behind one that was closed only a SYN does.
   abbrev pub belongs : Segment → Table T → Bool
   belongs s t =
-      is_some (at (ends_of s) t.live) || (begins_one s && (begins s || not (is_some (at (ends_of s) t.closed))))
+      is_some (at (five_tuple_of s) t.live) || (begins_one s && (begins s || not (is_some (at (five_tuple_of s) t.closed))))
 
-  abbrev pub closed_behind : Bool → Segment → Table T → List (Ends × ℕ)
-  closed_behind begun s t = without_if (begun && not (is_some (at (ends_of s) t.live))) (ends_of s) t.closed
+  abbrev pub closed_behind : Bool → Segment → Table T → List (FiveTuple × ℕ)
+  closed_behind begun s t = without_if (begun && not (is_some (at (five_tuple_of s) t.live))) (five_tuple_of s) t.closed
 
   abbrev pub Puts : Bool → Segment → Table T → Table T → Type 0
-  Puts true s old new = IsPut (ends_of s) (TakesSegment s) old.live new.live
+  Puts true s old new = IsPut (five_tuple_of s) (TakesSegment s) old.live new.live
   Puts false s old new = new ≡ old
 
   -- The one that was longest without a packet isn't over.
-  abbrev pub NoneIsOver : ℕ → List (Ends × Connection T) → Type 0
+  abbrev pub NoneIsOver : ℕ → List (FiveTuple × Connection T) → Type 0
   NoneIsOver time xs = IfSome (last_entry xs) (λ e. ¬ IsOver time xs e.1.last_time)
 
   -- Where memory is refused, the bytes are left out of the connection that was there; where there was none, none is begun.
-  abbrev pub LeavesOutAt : Segment → Option (Connection T) → List (Ends × Connection T) → List (Ends × Connection T) → Type 0
+  abbrev pub LeavesOutAt : Segment → Option (Connection T) → List (FiveTuple × Connection T) → List (FiveTuple × Connection T) → Type 0
   LeavesOutAt s None xs ys = ys ≡ xs
-  LeavesOutAt s (Some c) xs ys = (c' : Connection T) × LeavesOut s c c' × (ys ≡ (ends_of s, c') ∷ others (ends_of s) xs)
+  LeavesOutAt s (Some c) xs ys = (c' : Connection T) × LeavesOut s c c' × (ys ≡ (five_tuple_of s, c') ∷ others (five_tuple_of s) xs)
 
   -- Both sides of the connection between these ends said their last.
-  abbrev pub ended : Ends → Table T → Option (Connection T)
+  abbrev pub ended : FiveTuple → Table T → Option (Connection T)
   ended e t = option_and_then (λ c. if is_closed c then Some c else None) (at e t.live)
 
   -- Another connection stands first, which begins with the segments that this one shows; the one before is taken out, without the SYNs that were
@@ -142,31 +146,31 @@ module _ {T : Type 0} where
     pub its : Connection T
     pub shows : Shows s beginning
     pub begins : Begins beginning its
-    pub was : IfSome (at (ends_of s) old.live) (λ c'. c ≡ record c' { waiting = c.waiting })
-    pub stands : new ≡ record old { live = (ends_of s, its) ∷ others (ends_of s) old.live; held = old.held - c.weight }
+    pub was : IfSome (at (five_tuple_of s) old.live) (λ c'. c ≡ record c' { waiting = c.waiting })
+    pub stands : new ≡ record old { live = (five_tuple_of s, its) ∷ others (five_tuple_of s) old.live; held = old.held - c.weight }
 
   abbrev pub Replaced : Segment → Table T → Table T → Option (Connection T) → Type 0
   Replaced s old new None = new ≡ old
   Replaced s old new (Some c) = Replaces s old new c
 
   -- The connection between these ends is anew.
-  abbrev pub IsAnewAt : ℕ → Ends → Option (Connection T) → Table T → Table T → Type 0
+  abbrev pub IsAnewAt : ℕ → FiveTuple → Option (Connection T) → Table T → Table T → Type 0
   IsAnewAt time e None old new = new ≡ old
   IsAnewAt time e (Some c) old new = (c' : Connection T) × IsAnew time c c' × (new ≡ with_other e c' old)
 
   abbrev pub Restarts : Segment → Table T → Table T → Type 0
-  Restarts s old new = IsAnewAt s.time (ends_of s) (at (ends_of s) old.live) old new
+  Restarts s old new = IsAnewAt s.time (five_tuple_of s) (at (five_tuple_of s) old.live) old new
 
   -- Another exchange stands in the place of the one between a datagram's ends.
   abbrev pub BeginsAfter : Datagram → Option (Connection T) → Table T → Table T → Type 0
   BeginsAfter d None old new = new ≡ old
-  BeginsAfter d (Some c) old new = (c' : Connection T) × IsAfter d c c' × (new ≡ record (with_other (ends_of_datagram d) c' old) { held = old.held - c.weight })
+  BeginsAfter d (Some c) old new = (c' : Connection T) × IsAfter d c c' × (new ≡ record (with_other (five_tuple_of_datagram d) c' old) { held = old.held - c.weight })
 
   -- It stands among those that were closed from then on.
   abbrev pub weight_of : Option (Connection T) → ℕ
   weight_of None = 0
   weight_of (Some c) = c.weight
 
-  abbrev pub without_ended : Ends → ℕ → Table T → Table T
+  abbrev pub without_ended : FiveTuple → ℕ → Table T → Table T
   without_ended e time t = if is_some (ended e t)
       then record { live = others e t.live; closed = (e, time) ∷ others e t.closed; held = t.held - weight_of (at e t.live) } else t

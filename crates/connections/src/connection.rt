@@ -1,11 +1,11 @@
 //! A connection of TCP, or an exchange over UDP.
-ghost use Rattle.std.specs.Prelude.{◌≡◌, ◌<◌, ◌≤◌, ◌^◌, IfOk, IfSome, OnOk, OnErr, Some, true};
+ghost use Rattle.std.specs.Prelude.{◌≡◌, ◌<◌, ◌≤◌, ◌^◌, IfOk, IfSome, IfNone, OnOk, OnErr, Some, true};
 ghost use Rattle.connections.specs.declared.receiver.Reason.TheVariants as reason;
-ghost use Rattle.connections.specs.Connection.{adds_nothing as adds_none, begun_by_datagram, confirms as confirms_answer, counted as counting, dropped_from, goes_on_behind, has_opening, held_by, hosts_of, is_closed, is_datagram_damaged, judgement_of, last_of, noting, part_by, sent_by, side_of, silent, start_of, stream_of, with_datagram, without_bytes, Accepts, Begins, ChangesCountsAlone, IsAfter, IsAnew, IsBegunBy, LeavesOut, LeavesOutSyn, NoneWaits, Puts, PutsData, PutsSyn, Shows, TakesDatagramIn};
+ghost use Rattle.connections.specs.Connection.{adds_nothing as adds_none, begun_by_datagram, confirms as confirms_answer, counted as counting, dropped_from, goes_on_behind, has_opening, held_by, hosts_from as hosts_at, hosts_of, is_closed, is_datagram_damaged, judgement_of, last_of, noting, part_by, sent_by, side_of, silent, start_of, stream_of, with_datagram, without_bytes, Accepts, Begins, ChangesCountsAlone, IsAfter, IsAnew, IsBegunBy, IsKept, LeavesOut, LeavesOutSyn, NoneWaits, Puts, PutsData, PutsSyn, Shows, TakesDatagramIn};
 
 use crate::datagram::Datagram;
 use crate::dropped::Dropped;
-use crate::ends::{End, Protocol};
+use crate::five_tuple::{End, Protocol};
 use crate::host::{Host, later};
 use crate::receiver::{
     Judgement, Reason, edge, is_behind_fin, is_beyond, is_damaged, is_known, judge,
@@ -95,23 +95,6 @@ fn is_far(known: Option<u32>, number: u32) -> bool {
     }
 }
 
-/// What of a segment is put into its sender's stream: where the receiver has its bytes, these alone.
-fn part_of<'a>(segment: &Segment<'a>, judgement: Judgement) -> Segment<'a>
-    ensures { result ≡ part_by judgement segment.now }
-{
-    match judgement {
-        Judgement::Again => segment.bytes_alone(),
-        Judgement::Taken | Judgement::Waiting(_) | Judgement::Dropped(_) => *segment,
-    }
-}
-
-/// Whether a segment adds nothing to its sender's stream: it has no data, and its receiver had it, or doesn't heed it.
-fn adds_nothing(segment: &Segment<'_>, judgement: Judgement) -> bool
-    ensures { result ≡ adds_none judgement segment.now }
-{
-    matches!(judgement, Judgement::Again) && !segment.has_data()
-}
-
 /// What a connection is to a segment between its ends.
 #[derive(Clone, Copy, Debug, PartialEq, Eq)]
 pub struct Verdict {
@@ -123,6 +106,18 @@ pub struct Verdict {
     pub tells: bool,
     /// Whether it shows that all that came before had a wrong checksum, so that nobody took it.
     pub shows_damage: bool,
+}
+
+impl Verdict {
+    /// Whether the segment's receiver takes it, or has it, and nothing is to be done before.
+    fn lets_in(&self) -> bool
+        ensures { result ≡ true → IsKept self.now.judgement }
+    {
+        matches!(self.judgement, Judgement::Taken | Judgement::Again)
+            && !self.begins_another
+            && !self.tells
+            && !self.shows_damage
+    }
 }
 
 /// Whether a SYN with ACK answers this SYN.
@@ -235,10 +230,7 @@ impl<T: Listener> Connection<T> {
     pub(crate) fn after(&self, alloc: Global, datagram: &Datagram<'_>) -> Connection<T>
         ensures { IsAfter datagram.now self.now result }
     {
-        let (sender, receiver) = match self.side_of(datagram.source) {
-            Side::Originator => (&self.originator_host, &self.responder_host),
-            Side::Responder => (&self.responder_host, &self.originator_host),
-        };
+        let (sender, receiver) = self.hosts_from(self.side_of(datagram.source));
         let mut exchange = Connection::new(
             alloc,
             Protocol::Udp,
@@ -289,23 +281,30 @@ impl<T: Listener> Connection<T> {
         }
     }
 
+    /// What is known of the end of that side, and of the other.
+    fn hosts_from(&self, side: Side) -> (&Host, &Host)
+        ensures { (result.0.now, result.1.now) ≡ hosts_at side self.now }
+    {
+        match side {
+            Side::Originator => (&self.originator_host, &self.responder_host),
+            Side::Responder => (&self.responder_host, &self.originator_host),
+        }
+    }
+
     /// What is known of the sender of a segment, and of its receiver.
     fn hosts(&self, segment: &Segment<'_>) -> (&Host, &Host)
         ensures { (result.0.now, result.1.now) ≡ hosts_of segment.now self.now }
     {
-        match self.side_of(segment.source) {
-            Side::Originator => (&self.originator_host, &self.responder_host),
-            Side::Responder => (&self.responder_host, &self.originator_host),
-        }
+        self.hosts_from(self.side_of(segment.source))
     }
 
     /// What the receiver of a segment does with it.
     pub(crate) fn judge(&self, segment: &Segment<'_>) -> Judgement
         ensures { result ≡ judgement_of segment.now self.now }
     {
-        let (sender, receiver) = self.hosts(segment);
-        let front = self.stream(self.side_of(segment.source)).front();
-        judge(sender, receiver, front, segment)
+        let side = self.side_of(segment.source);
+        let (sender, receiver) = self.hosts_from(side);
+        judge(sender, receiver, self.stream(side).front(), segment)
     }
 
     /// Whether what a segment acknowledges counts: its receiver takes it; or it acknowledges, without data, what its receiver isn't known to have sent, and is
@@ -649,6 +648,42 @@ impl<T: Listener> Connection<T> {
         ensures weight { self.new.weight ≡ self.old.weight }
     {
         let judgement = self.judge(segment);
+        self.accept_judged(alloc, segment, judgement)
+    }
+
+    /// The same where the segment's receiver takes it, or has it, and nothing is to be done before; else the connection stays as it is, and `Some` says
+    /// what it is to the segment.
+    pub fn accept_or_tell(
+        &mut self,
+        alloc: Global,
+        segment: &Segment<'_>,
+    ) -> Result<Option<Verdict>, AllocError>
+        ensures taken { IfOk result (λ told. IfNone told (IsKept (judgement_of segment.now self.old) × Accepts segment.now self.old self.new)) }
+        ensures judged { IfOk result (λ told. IfSome told (λ verdict. verdict.judgement ≡ judgement_of segment.now self.old)) }
+        ensures stays { IfOk result (λ told. IfSome told (λ verdict. self.new ≡ self.old)) }
+        ensures left_out { OnErr result (LeavesOut segment.now self.old self.new) }
+        ensures weight { self.new.weight ≡ self.old.weight }
+    {
+        let verdict = self.verdict(segment);
+        if !verdict.lets_in() {
+            return Ok(Some(verdict));
+        }
+        self.accept_judged(alloc, segment, verdict.judgement)?;
+        Ok(None)
+    }
+
+    /// Puts the segment into its sender's stream by what its receiver does with it.
+    fn accept_judged(
+        &mut self,
+        alloc: Global,
+        segment: &Segment<'_>,
+        judgement: Judgement,
+    ) -> Result<(), AllocError>
+        requires { judgement ≡ judgement_of segment.now self.old }
+        ensures taken { OnOk result (Accepts segment.now self.old self.new) }
+        ensures left_out { OnErr result (LeavesOut segment.now self.old self.new) }
+        ensures weight { self.new.weight ≡ self.old.weight }
+    {
         self.count(segment);
         self.note(segment, judgement);
         if segment.begins() {
@@ -668,10 +703,13 @@ impl<T: Listener> Connection<T> {
         ensures left_out { OnErr result (self.new ≡ without_bytes (part_by judgement segment.now) self.old) }
         ensures weight { self.new.weight ≡ self.old.weight }
     {
-        if adds_nothing(segment, judgement) {
-            return Ok(());
+        match judgement {
+            Judgement::Again if !segment.has_data() => Ok(()),
+            Judgement::Again => self.put(alloc, &segment.bytes_alone()),
+            Judgement::Taken | Judgement::Waiting(_) | Judgement::Dropped(_) => {
+                self.put(alloc, segment)
+            }
         }
-        self.put(alloc, &part_of(segment, judgement))
     }
 
     /// Begins the sender's stream behind its SYN, and keeps the SYN's data.
@@ -701,18 +739,15 @@ impl<T: Listener> Connection<T> {
     }
 
     /// Whether a checksum of the datagram is wrong, as it arrives.
-    pub(crate) fn is_damaged(&self, datagram: &Datagram<'_>) -> bool
+    pub fn is_damaged(&self, datagram: &Datagram<'_>) -> bool
         ensures { result ≡ is_datagram_damaged datagram.now self.now }
     {
-        let (sender, receiver) = match self.side_of(datagram.source) {
-            Side::Originator => (&self.originator_host, &self.responder_host),
-            Side::Responder => (&self.responder_host, &self.originator_host),
-        };
+        let (sender, receiver) = self.hosts_from(self.side_of(datagram.source));
         is_damaged(sender, receiver, datagram.checksum, datagram.payload.len())
     }
 
     /// Counts a datagram of which its receiver takes nothing, since a checksum is wrong.
-    pub(crate) fn drop_datagram(&mut self, datagram: &Datagram<'_>)
+    pub fn drop_datagram(&mut self, datagram: &Datagram<'_>)
         ensures { self.new ≡ dropped_from (side_of self.old datagram.now.source) reason.Checksum self.old }
     {
         self.count_dropped(self.side_of(datagram.source), Reason::Checksum);
@@ -739,7 +774,7 @@ impl<T: Listener> Connection<T> {
     }
 
     /// The same, anew where the datagram shows that all before it was damaged.
-    pub(crate) fn take_datagram(&mut self, alloc: Global, datagram: &Datagram<'_>)
+    pub fn take_datagram(&mut self, alloc: Global, datagram: &Datagram<'_>)
         ensures taken { TakesDatagramIn datagram.now self.old self.new }
         ensures weight { self.new.weight ≡ self.old.weight }
     {

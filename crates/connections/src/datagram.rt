@@ -1,8 +1,8 @@
 //! A datagram of UDP.
 ghost use Rattle.std.specs.Prelude.{◌≡◌};
-ghost use Rattle.connections.specs.Datagram.{ends_of_datagram};
+ghost use Rattle.connections.specs.Datagram.{five_tuple_of_datagram};
 
-use crate::ends::{End, Ends, Protocol};
+use crate::five_tuple::{End, FiveTuple, Protocol};
 use crate::segment::Checksum;
 
 /// A datagram of UDP as it was captured (RFC 768).
@@ -24,9 +24,9 @@ pub struct Datagram<'a> {
 
 impl<'a> Datagram<'a> {
     /// Between whom it goes, and in which network.
-    pub fn between(&self) -> Ends
-        ensures { result ≡ ends_of_datagram self.now }
+    pub fn between(&self) -> FiveTuple
+        ensures { result ≡ five_tuple_of_datagram self.now }
     {
-        Ends::between(self.network, Protocol::Udp, self.source, self.destination)
+        FiveTuple::between(self.network, Protocol::Udp, self.source, self.destination)
     }
 }

@@ -1,11 +1,11 @@
 //! What stands of the two ends of a connection, and of the numbers of a stream. Each function's contract is one law.
 ghost use Rattle.std.specs.Prelude.{◌≡◌, ◌⊎◌, ◌<◌, ◌^◌, ℕ, List, Option, Some};
 ghost use Rattle.std.specs.Cmp.{IsPartialOrder, IsTotalOrder, Agrees};
-ghost use Rattle.connections.specs.Ends.{ends_between};
-ghost use Rattle.connections.specs.declared.ends.Protocol.{Protocol};
-ghost use Rattle.connections.specs.declared.ends.End.{End as AnEnd};
+ghost use Rattle.connections.specs.FiveTuple.{five_tuple_between};
+ghost use Rattle.connections.specs.declared.five_tuple.Protocol.{Protocol};
+ghost use Rattle.connections.specs.declared.five_tuple.End.{End as AnEnd};
 ghost use Rattle.connections.specs.Table.{at, others};
-ghost use Rattle.connections.specs.declared.ends.Ends.{Ends};
+ghost use Rattle.connections.specs.declared.five_tuple.FiveTuple.{FiveTuple};
 ghost use Rattle.connections.specs.Connection.{judgement_of, stream_of, ChangesCountsAlone};
 ghost use Rattle.connections.specs.declared.connection.Connection.{Connection};
 ghost use Rattle.connections.specs.declared.connection.Side.{Side};
@@ -14,7 +14,7 @@ ghost use Rattle.connections.specs.declared.stream.Stream.{Stream};
 ghost use Rattle.connections.specs.declared.stream.Reading.{Reading};
 ghost use Rattle.connections.specs.Stream.{begun_at, forgetting, handing_on, passing_urgent, silent_stream, noted, stopped, HasTaken, IsNumberOf};
 
-use crate::ends::End;
+use crate::five_tuple::End;
 
 /// The order of a type is total.
 fn is_ordered<T: Ord>()
@@ -25,19 +25,19 @@ fn is_ordered<T: Ord>()
 
 /// Both directions of a connection have one pair of ends.
 pub fn both_directions_have_the_same_ends()
-    ensures { (n : ℕ) (p : Protocol) (a b : AnEnd) → ends_between n p a b ≡ ends_between n p b a }
+    ensures { (n : ℕ) (p : Protocol) (a b : AnEnd) → five_tuple_between n p a b ≡ five_tuple_between n p b a }
 {
     is_ordered::<End>();
 }
 
 /// Packets with the same ends have one protocol, came in one network, and go between the same two, in this direction or the other.
 pub fn no_other_packets_have_these_ends()
-    ensures { (m n : ℕ) (p q : Protocol) (a b c d : AnEnd) → ends_between m p a b ≡ ends_between n q c d → (m ≡ n) × (p ≡ q) × (((a ≡ c) × (b ≡ d)) ⊎ ((a ≡ d) × (b ≡ c))) }
+    ensures { (m n : ℕ) (p q : Protocol) (a b c d : AnEnd) → five_tuple_between m p a b ≡ five_tuple_between n q c d → (m ≡ n) × (p ≡ q) × (((a ≡ c) × (b ≡ d)) ⊎ ((a ≡ d) × (b ≡ c))) }
 {}
 
 /// What stands in a table under some ends stays where what stands under others is taken out.
 pub fn what_stands_under_other_ends_stays<T>()
-    ensures { (e f : Ends) → (e ≡ f → ⊥) → (xs : List (Ends × T)) → at f (others e xs) ≡ at f xs }
+    ensures { (e f : FiveTuple) → (e ≡ f → ⊥) → (xs : List (FiveTuple × T)) → at f (others e xs) ≡ at f xs }
 {}
 
 /// The next number of a stream is that of the place from which on it holds bytes: at first, and behind each call.

@@ -10,7 +10,7 @@
 mod connection;
 mod datagram;
 mod dropped;
-mod ends;
+mod five_tuple;
 mod host;
 mod laws;
 mod memory;
@@ -21,11 +21,12 @@ mod stream;
 mod table;
 mod traffic;
 mod waiting;
+mod words;
 
 pub use connection::{CONNECTION_COST, Connection, Listener, Side, Verdict};
 pub use datagram::Datagram;
 pub use dropped::Dropped;
-pub use ends::{End, Ends, Protocol};
+pub use five_tuple::{End, FiveTuple, Protocol};
 pub use host::Host;
 pub use laws::{
     both_directions_have_the_same_ends, dropped_packets_change_nothing_that_is_heard,

@@ -4,7 +4,7 @@ ghost use Rattle.connections.specs.Table.{at, others};
 ghost use Rattle.connections.specs.Memory.{closed_count, closed_part, is_crowded as crowded, open_part, total, FitsClosed, IsAccounted, IsSettled, IsTakenOut};
 
 use crate::connection::{Connection, Listener};
-use crate::ends::Ends;
+use crate::five_tuple::FiveTuple;
 use crate::table::{CLOSED_COST, CLOSED_SHARE, Connections};
 use lru::LruCache;
 use std::hash::RandomState;
@@ -34,7 +34,7 @@ fn count_of_closed(limit: usize) -> usize
 }
 
 /// Forgets those that were closed first, until the others fit a limit.
-fn forget_crowded(closed: &mut LruCache<Ends, u64, RandomState>, limit: usize)
+fn forget_crowded(closed: &mut LruCache<FiveTuple, u64, RandomState>, limit: usize)
     ensures fits { FitsClosed limit closed.old.entries closed.new.entries }
     ensures cap { closed.new.cap ≡ closed.old.cap }
 {
@@ -54,11 +54,11 @@ impl<T: Listener> Connections<T> {
 
     /// Lets the connection between these ends be accounted for what it takes. To be called behind each packet of it that changes that
     /// ([`Connection::is_settled`]).
-    pub fn settle(&mut self, ends: &Ends)
-        ensures settled { IsSettled ends.now (at ends.now self.old.live) self.old self.new }
+    pub fn settle(&mut self, five_tuple: &FiveTuple)
+        ensures settled { IsSettled five_tuple.now (at five_tuple.now self.old.live) self.old self.new }
         ensures accounted { IsAccounted self.old → IsAccounted self.new }
     {
-        let Some(connection) = self.live.peek_mut(ends) else {
+        let Some(connection) = self.live.peek_mut(five_tuple) else {
             return;
         };
         let others = self.held.saturating_sub(connection.weight);
@@ -92,13 +92,13 @@ impl<T: Listener> Connections<T> {
     }
 
     /// Takes out the connection between these ends.
-    pub fn take(&mut self, ends: &Ends) -> Option<Connection<T>>
-        ensures taken { result ≡ at ends.now self.old.live }
-        ensures others { self.new.live ≡ others ends.now self.old.live }
+    pub fn take(&mut self, five_tuple: &FiveTuple) -> Option<Connection<T>>
+        ensures taken { result ≡ at five_tuple.now self.old.live }
+        ensures others { self.new.live ≡ others five_tuple.now self.old.live }
         ensures closed { self.new.closed ≡ self.old.closed }
         ensures accounted { IsAccounted self.old → IsAccounted self.new }
     {
-        let connection = self.live.pop(ends)?;
+        let connection = self.live.pop(five_tuple)?;
         self.held = self.held.saturating_sub(connection.weight);
         Some(connection)
     }

@@ -1,8 +1,8 @@
 //! A segment of TCP.
 ghost use Rattle.std.specs.Prelude.{◌≡◌, ◌<◌};
-ghost use Rattle.connections.specs.Segment.{has_flag as is_set, ends, begins, breaks, acknowledges, asks, answers, first_of, behind_of, end_with_fin, ends_of, begins_stream, begins_one, has_data, takes_numbers, urgent_of, data_of_syn, bytes_alone, without_flag as without_flag_of, header_of, IsWithoutData};
+ghost use Rattle.connections.specs.Segment.{has_flag as is_set, ends, begins, breaks, acknowledges, asks, answers, first_of, behind_of, end_with_fin, five_tuple_of, begins_stream, begins_one, has_data, takes_numbers, urgent_of, data_of_syn, bytes_alone, without_flag as without_flag_of, header_of, IsWithoutData};
 
-use crate::ends::{End, Ends, Protocol};
+use crate::five_tuple::{End, FiveTuple, Protocol};
 
 /// The sender's last segment (RFC 9293, section 3.1).
 const FIN: u8 = 0x01;
@@ -146,10 +146,10 @@ fn without_flag(flags: u8, weight: u8) -> u8
 
 impl<'a> Segment<'a> {
     /// Between whom it goes, and in which network.
-    pub fn between(&self) -> Ends
-        ensures { result ≡ ends_of self.now }
+    pub fn between(&self) -> FiveTuple
+        ensures { result ≡ five_tuple_of self.now }
     {
-        Ends::between(self.network, Protocol::Tcp, self.source, self.destination)
+        FiveTuple::between(self.network, Protocol::Tcp, self.source, self.destination)
     }
 
     /// It is its sender's first: SYN is set.

@@ -5,7 +5,7 @@ ghost use Rattle.connections.specs.Stream.{begun_at, came, differing_in_order, e
 
 use crate::numbers::{HALF, advance, is_behind};
 use crate::segment::Segment;
-use segments::{SegmentError, Segments};
+use segments::{SegmentError, TcpReassembler};
 use std::alloc::{AllocError, Global};
 
 /// How many bytes a segment may end behind the first that is missing. The bytes of one that ends further are left out.
@@ -20,7 +20,7 @@ enum Reading {
     /// No segment of it came.
     Unbegun,
     /// What came stands here.
-    Open(Segments),
+    Open(TcpReassembler),
     /// It is not read any more.
     Over,
 }
@@ -59,7 +59,7 @@ pub struct Stream {
 }
 
 /// How many bytes are held, in order and behind others that are missing.
-fn held(segments: &Segments) -> u64
+fn held(segments: &TcpReassembler) -> u64
     ensures { result ≡ came segments.now }
 {
     let in_order = segments.available().len() as u64;
@@ -134,7 +134,7 @@ impl Stream {
         if let (Reading::Unbegun, Some(number)) = (&self.reading, start) {
             self.next = number;
             self.last = number;
-            self.reading = Reading::Open(Segments::new(alloc, number, HELD_LIMIT));
+            self.reading = Reading::Open(TcpReassembler::new(alloc, number, HELD_LIMIT));
         }
     }
 

@@ -2,15 +2,15 @@
 ghost use Rattle.std.specs.Prelude.{◌≡◌, ◌-◌, ◌^◌, ◌≤◌, length, is_some, true, false, IfOk, IfSome, IfNone, IsNone, OnErr, OnOk, [], ◌∷◌};
 ghost use Rattle.std.specs.Borrow.{sem};
 ghost use Rattle.std.specs.Option.{option_copied_mut, option_map};
-ghost use Rattle.connections.specs.Segment.{ends_of};
-ghost use Rattle.connections.specs.Table.{at, belongs, closed_behind, ended, is_damaged_in, judgement_in, others, without_ended, BeginsAfter, BeginsFirst, Drops, DropsDatagram, IsForgotten, IsOver, IsOverAmong, IsPut, LeavesOutAt, NoneIsOver, NoneToForget, Puts, Replaced, Restarts, TakesDatagram, WasLast};
+ghost use Rattle.connections.specs.Segment.{five_tuple_of};
+ghost use Rattle.connections.specs.Table.{at, belongs, closed_behind, ended, is_damaged_in, judgement_in, others, promoting, without_ended, BeginsAfter, BeginsFirst, Drops, DropsDatagram, IsForgotten, IsOver, IsOverAmong, IsPut, LeavesOutAt, NoneIsOver, NoneToForget, Puts, Replaced, Restarts, TakesDatagram, WasLast};
 ghost use Rattle.connections.specs.Memory.{IsAccounted};
-ghost use Rattle.connections.specs.Datagram.{ends_of_datagram};
+ghost use Rattle.connections.specs.Datagram.{five_tuple_of_datagram};
 ghost use Rattle.connections.specs.Lends.{lends_connection, lends_first};
 
 use crate::connection::{Connection, Listener, Verdict};
 use crate::datagram::Datagram;
-use crate::ends::Ends;
+use crate::five_tuple::FiveTuple;
 use crate::receiver::Reason;
 use crate::segment::{Checksum, Segment};
 use crate::waiting::{Kept, Told};
@@ -36,9 +36,9 @@ pub const CLOSED_COST: usize = 256;
 #[derive(Drop)]
 pub struct Connections<T> {
     alloc: Global,
-    pub(crate) live: LruCache<Ends, Connection<T>, RandomState>,
+    pub(crate) live: LruCache<FiveTuple, Connection<T>, RandomState>,
     // Those that both sides ended, each with its last time. What still comes of them is left out.
-    pub(crate) closed: LruCache<Ends, u64, RandomState>,
+    pub(crate) closed: LruCache<FiveTuple, u64, RandomState>,
     // For how many bytes those that are open are accounted together.
     pub(crate) held: usize,
 }
@@ -56,17 +56,17 @@ impl<T> Model for Connections<T> {
 
 /// Puts a value under these ends, in the place of what stood there.
 fn put_under<X: Drop>(
-    table: &mut LruCache<Ends, X, RandomState>,
-    ends: Ends,
+    table: &mut LruCache<FiveTuple, X, RandomState>,
+    five_tuple: FiveTuple,
     value: X,
 ) -> Result<(), AllocError>
     requires { table.old.cap ≡ 2 ^ 64 - 1 }
-    ensures put { OnOk result (table.new.entries ≡ (ends, value) ∷ others ends table.old.entries) }
+    ensures put { OnOk result (table.new.entries ≡ (five_tuple, value) ∷ others five_tuple table.old.entries) }
     ensures err { OnErr result (table.new ≡ table.old) }
     ensures cap { table.new.cap ≡ table.old.cap }
 {
     prove!(table.len() < usize::MAX);
-    table.put(ends, value)?;
+    table.put(five_tuple, value)?;
     Ok(())
 }
 
@@ -79,7 +79,7 @@ fn is_over(time: u64, last_time: u64, count: usize) -> bool
 }
 
 /// Forgets those that had no packet for more than [`IDLE_LIMIT`], and the oldest where there are more than [`MAX_CONNECTIONS`].
-fn forget_idle(closed: &mut LruCache<Ends, u64, RandomState>, time: u64)
+fn forget_idle(closed: &mut LruCache<FiveTuple, u64, RandomState>, time: u64)
     ensures forgotten { IsForgotten time closed.old.entries closed.new.entries }
     ensures none_to_forget { NoneToForget time closed.new.entries }
     ensures cap { closed.new.cap ≡ closed.old.cap }
@@ -121,8 +121,8 @@ impl<T: Listener> Connections<T> {
         ensures drops { Drops segment.now self.old self.new }
         ensures accounted { IsAccounted self.old → IsAccounted self.new }
     {
-        let (alloc, ends) = (self.alloc, segment.between());
-        if let Some(connection) = self.live.peek_mut(&ends) {
+        let (alloc, five_tuple) = (self.alloc, segment.between());
+        if let Some(connection) = self.live.peek_mut(&five_tuple) {
             return connection.drop_segment(alloc, segment, reason);
         }
         Ok(())
@@ -134,8 +134,8 @@ impl<T: Listener> Connections<T> {
         ensures restarts { Restarts segment.now self.old self.new }
         ensures accounted { IsAccounted self.old → IsAccounted self.new }
     {
-        let (alloc, ends) = (self.alloc, segment.between());
-        let Some(connection) = self.live.peek_mut(&ends) else {
+        let (alloc, five_tuple) = (self.alloc, segment.between());
+        let Some(connection) = self.live.peek_mut(&five_tuple) else {
             return;
         };
         connection.restart(alloc, segment.time);
@@ -149,8 +149,8 @@ impl<T: Listener> Connections<T> {
         ensures drops { Drops segment.now self.old self.new }
         ensures accounted { IsAccounted self.old → IsAccounted self.new }
     {
-        let (alloc, ends) = (self.alloc, segment.between());
-        if let Some(connection) = self.live.peek_mut(&ends) {
+        let (alloc, five_tuple) = (self.alloc, segment.between());
+        if let Some(connection) = self.live.peek_mut(&five_tuple) {
             return connection.wait(alloc, segment, reason);
         }
         Ok(())
@@ -162,8 +162,8 @@ impl<T: Listener> Connections<T> {
         ensures drops { Drops segment.now self.old self.new }
         ensures accounted { IsAccounted self.old → IsAccounted self.new }
     {
-        let ends = segment.between();
-        if let Some(connection) = self.live.peek_mut(&ends) {
+        let five_tuple = segment.between();
+        if let Some(connection) = self.live.peek_mut(&five_tuple) {
             return connection.take_waiting(segment);
         }
         None
@@ -175,24 +175,24 @@ impl<T: Listener> Connections<T> {
     pub fn accept_kept(&mut self, kept: &Kept) -> Result<(), AllocError>
         ensures { IsAccounted self.old → IsAccounted self.new }
     {
-        let (alloc, ends) = (self.alloc, kept.segment().between());
-        if let Some(connection) = self.live.get_mut(&ends) {
+        let (alloc, five_tuple) = (self.alloc, kept.segment().between());
+        if let Some(connection) = self.live.get_mut(&five_tuple) {
             return connection.accept_kept(alloc, kept);
         }
         Ok(())
     }
 
     /// Puts a segment into a connection that it begins.
-    fn begin(&mut self, ends: Ends, segment: &Segment<'_>) -> Result<(), AllocError>
-        ensures begun { OnOk result (BeginsFirst segment.now ends self.old self.new) }
+    fn begin(&mut self, five_tuple: FiveTuple, segment: &Segment<'_>) -> Result<(), AllocError>
+        ensures begun { OnOk result (BeginsFirst segment.now five_tuple self.old self.new) }
         ensures err { OnErr result (self.new ≡ self.old) }
-        ensures accounted { at ends self.old.live ≡ None → IsAccounted self.old → IsAccounted self.new }
+        ensures accounted { at five_tuple self.old.live ≡ None → IsAccounted self.old → IsAccounted self.new }
     {
         let alloc = self.alloc;
         let mut connection = Connection::of_segment(alloc, segment);
         connection.accept(alloc, segment)?;
-        put_under(&mut self.live, ends, connection)?;
-        self.closed.pop(&ends);
+        put_under(&mut self.live, five_tuple, connection)?;
+        self.closed.pop(&five_tuple);
         Ok(())
     }
 
@@ -203,33 +203,33 @@ impl<T: Listener> Connections<T> {
     pub fn accept(&mut self, segment: &Segment<'_>) -> Result<bool, AllocError>
         ensures belongs { IfOk result (λ belongs_to_one. belongs_to_one ≡ belongs segment.now self.old) }
         ensures put { IfOk result (λ belongs_to_one. Puts belongs_to_one segment.now self.old self.new) }
-        ensures others { others (ends_of segment.now) self.new.live ≡ others (ends_of segment.now) self.old.live }
+        ensures others { others (five_tuple_of segment.now) self.new.live ≡ others (five_tuple_of segment.now) self.old.live }
         ensures refused { OnErr result (belongs segment.now self.old ≡ true) }
-        ensures left_out { OnErr result (LeavesOutAt segment.now (at (ends_of segment.now) self.old.live) self.old.live self.new.live) }
+        ensures left_out { OnErr result (LeavesOutAt segment.now (at (five_tuple_of segment.now) self.old.live) self.old.live self.new.live) }
         ensures closed { IfOk result (λ belongs_to_one. self.new.closed ≡ closed_behind belongs_to_one segment.now self.old) }
         ensures accounted { IsAccounted self.old → IsAccounted self.new }
     {
-        let ends = segment.between();
+        let five_tuple = segment.between();
         let alloc = self.alloc;
-        if let Some(connection) = self.live.get_mut(&ends) {
+        if let Some(connection) = self.live.get_mut(&five_tuple) {
             connection.accept(alloc, segment)?;
             return Ok(true);
         }
-        if !segment.begins_one() || (!segment.begins() && self.closed.contains(&ends)) {
+        if !segment.begins_one() || (!segment.begins() && self.closed.contains(&five_tuple)) {
             return Ok(false);
         }
-        self.begin(ends, segment)?;
+        self.begin(five_tuple, segment)?;
         Ok(true)
     }
 
     /// Counts a datagram with a wrong checksum in the exchange between its ends, of which nothing else changes, and says whether it is one.
     pub fn drop_damaged(&mut self, datagram: &Datagram<'_>) -> bool
         ensures dropped { DropsDatagram datagram.now result self.old self.new }
-        ensures damaged { result ≡ is_damaged_in datagram.now (at (ends_of_datagram datagram.now) self.old.live) }
+        ensures damaged { result ≡ is_damaged_in datagram.now (at (five_tuple_of_datagram datagram.now) self.old.live) }
         ensures accounted { IsAccounted self.old → IsAccounted self.new }
     {
-        let ends = datagram.between();
-        let Some(exchange) = self.live.peek_mut(&ends) else {
+        let five_tuple = datagram.between();
+        let Some(exchange) = self.live.peek_mut(&five_tuple) else {
             return datagram.checksum == Checksum::Refused;
         };
         if !exchange.is_damaged(datagram) {
@@ -243,57 +243,78 @@ impl<T: Listener> Connections<T> {
     ///
     /// `AllocError` where a new one could not be held: it is left out.
     pub fn accept_datagram(&mut self, datagram: &Datagram<'_>) -> Result<(), AllocError>
-        ensures put { OnOk result (IsPut (ends_of_datagram datagram.now) (TakesDatagram datagram.now) self.old.live self.new.live) }
+        ensures put { OnOk result (IsPut (five_tuple_of_datagram datagram.now) (TakesDatagram datagram.now) self.old.live self.new.live) }
         ensures err { OnErr result (self.new.live ≡ self.old.live) }
         ensures closed { self.new.closed ≡ self.old.closed }
         ensures accounted { IsAccounted self.old → IsAccounted self.new }
     {
-        let ends = datagram.between();
+        let five_tuple = datagram.between();
         let alloc = self.alloc;
-        if let Some(exchange) = self.live.get_mut(&ends) {
+        if let Some(exchange) = self.live.get_mut(&five_tuple) {
             exchange.take_datagram(alloc, datagram);
             return Ok(());
         }
         let exchange = Connection::of_datagram(self.alloc, datagram);
-        put_under(&mut self.live, ends, exchange)?;
+        put_under(&mut self.live, five_tuple, exchange)?;
         Ok(())
     }
 
     /// The connection between these ends.
-    pub fn get_mut(&mut self, ends: &Ends) -> Option<&mut Connection<T>>
-        ensures* writes_back { sem 𝓛 (lends_connection T.row self.entry ends.now result) }
-        ensures value { option_copied_mut result ≡ at ends.now self.old.live }
+    pub fn get_mut(&mut self, five_tuple: &FiveTuple) -> Option<&mut Connection<T>>
+        ensures* writes_back { sem 𝓛 (lends_connection T.row self.entry five_tuple.now result) }
+        ensures value { option_copied_mut result ≡ at five_tuple.now self.old.live }
     {
-        self.live.peek_mut(ends)
+        self.live.peek_mut(five_tuple)
     }
 
     /// The same, which stands first then.
-    pub fn get_first_mut(&mut self, ends: &Ends) -> Option<&mut Connection<T>>
-        ensures* writes_back { sem 𝓛 (lends_first T.row self.entry ends.now result) }
-        ensures value { option_copied_mut result ≡ at ends.now self.old.live }
+    pub fn get_first_mut(&mut self, five_tuple: &FiveTuple) -> Option<&mut Connection<T>>
+        ensures* writes_back { sem 𝓛 (lends_first T.row self.entry five_tuple.now result) }
+        ensures value { option_copied_mut result ≡ at five_tuple.now self.old.live }
     {
-        self.live.get_mut(ends)
+        self.live.get_mut(five_tuple)
+    }
+
+    /// Lets the connection between these ends stand first. Packets mostly come several in a row, so that it does already: the table is searched only where it
+    /// doesn't.
+    pub fn promote(&mut self, five_tuple: &FiveTuple)
+        ensures promoted { self.new ≡ promoting five_tuple.now self.old }
+        ensures accounted { IsAccounted self.old → IsAccounted self.new }
+    {
+        if !self.is_first(five_tuple) {
+            self.live.promote(five_tuple);
+        }
+    }
+
+    /// Whether the connection between these ends stands first.
+    fn is_first(&self, five_tuple: &FiveTuple) -> bool
+        ensures { result ≡ true → promoting five_tuple.now self.now ≡ self.now }
+    {
+        match self.live.peek_mru() {
+            Some((latest, _)) => *five_tuple == *latest,
+            None => false,
+        }
     }
 
     /// The connection between these ends, to look at. Packets mostly come several in a row, so the first one is looked at before the table is searched.
-    pub fn get(&self, ends: &Ends) -> Option<&Connection<T>>
-        ensures { option_map (λ c. c.now) result ≡ at ends.now self.now.live }
+    pub fn get(&self, five_tuple: &FiveTuple) -> Option<&Connection<T>>
+        ensures { option_map (λ c. c.now) result ≡ at five_tuple.now self.now.live }
     {
         match self.live.peek_mru() {
-            Some((latest, connection)) if *ends == *latest => Some(connection),
-            _ => self.live.peek(ends),
+            Some((latest, connection)) if *five_tuple == *latest => Some(connection),
+            _ => self.live.peek(five_tuple),
         }
     }
 
     /// Takes out the exchange between a datagram's ends, in whose place another begins with that. Nothing of it came; what the checksums of both ends
     /// are stays known.
     pub fn take_exchange(&mut self, datagram: &Datagram<'_>) -> Option<Connection<T>>
-        ensures taken { result ≡ at (ends_of_datagram datagram.now) self.old.live }
-        ensures left { BeginsAfter datagram.now (at (ends_of_datagram datagram.now) self.old.live) self.old self.new }
+        ensures taken { result ≡ at (five_tuple_of_datagram datagram.now) self.old.live }
+        ensures left { BeginsAfter datagram.now (at (five_tuple_of_datagram datagram.now) self.old.live) self.old self.new }
         ensures accounted { IsAccounted self.old → IsAccounted self.new }
     {
-        let (alloc, ends) = (self.alloc, datagram.between());
-        let exchange = self.live.peek_mut(&ends)?;
+        let (alloc, five_tuple) = (self.alloc, datagram.between());
+        let exchange = self.live.peek_mut(&five_tuple)?;
         let another = exchange.after(alloc, datagram);
         let over = mem::replace(exchange, another);
         self.held = self.held.saturating_sub(over.weight);
@@ -302,10 +323,10 @@ impl<T: Listener> Connections<T> {
 
     /// Whether both sides ended the last connection between these ends, so that what still comes of it is left out. It is known up to
     /// [`IDLE_LIMIT`] behind its end, and of the latest [`MAX_CONNECTIONS`] that ended.
-    pub fn has_closed(&self, ends: &Ends) -> bool
-        ensures { result ≡ is_some (at ends.now self.now.closed) }
+    pub fn has_closed(&self, five_tuple: &FiveTuple) -> bool
+        ensures { result ≡ is_some (at five_tuple.now self.now.closed) }
     {
-        self.closed.contains(ends)
+        self.closed.contains(five_tuple)
     }
 
     /// Whether one is over at this time, or is to be forgotten of those that were closed: where none is, [`Connections::take_idle`] changes
@@ -357,15 +378,15 @@ impl<T: Listener> Connections<T> {
         ensures replaced { IfOk result (λ taken. Replaced segment.now self.old self.new taken) }
         ensures accounted { IsAccounted self.old → IsAccounted self.new }
     {
-        let ends = segment.between();
-        let Some(connection) = self.live.peek(&ends) else {
+        let five_tuple = segment.between();
+        let Some(connection) = self.live.peek(&five_tuple) else {
             return Ok(None);
         };
         let Some(beginning) = connection.another(segment) else {
             return Ok(None);
         };
         let another = Connection::of_beginning(self.alloc, &beginning)?;
-        let Some(place) = self.live.get_mut(&ends) else {
+        let Some(place) = self.live.get_mut(&five_tuple) else {
             return Ok(None);
         };
         let mut over = mem::replace(place, another);
@@ -382,18 +403,18 @@ impl<T: Listener> Connections<T> {
         &mut self,
         segment: &Segment<'_>,
     ) -> Result<Option<Connection<T>>, AllocError>
-        ensures taken { IfOk result (λ taken. taken ≡ ended (ends_of segment.now) self.old) }
-        ensures left { OnOk result (self.new ≡ without_ended (ends_of segment.now) segment.now.time self.old) }
+        ensures taken { IfOk result (λ taken. taken ≡ ended (five_tuple_of segment.now) self.old) }
+        ensures left { OnOk result (self.new ≡ without_ended (five_tuple_of segment.now) segment.now.time self.old) }
         ensures err { OnErr result (self.new ≡ self.old) }
         ensures accounted { IsAccounted self.old → IsAccounted self.new }
     {
-        let ends = segment.between();
-        match self.live.peek(&ends) {
+        let five_tuple = segment.between();
+        match self.live.peek(&five_tuple) {
             Some(connection) if connection.is_closed() => {}
             _ => return Ok(None),
         }
-        put_under(&mut self.closed, ends, segment.time)?;
-        let Some(over) = self.live.pop(&ends) else {
+        put_under(&mut self.closed, five_tuple, segment.time)?;
+        let Some(over) = self.live.pop(&five_tuple) else {
             return Ok(None);
         };
         self.held = self.held.saturating_sub(over.weight);

@@ -6,7 +6,7 @@
 ghost use Rattle.std.specs.Prelude.{◌≡◌, ◌<◌, length, IfSome, []};
 
 use crate::dropped::Dropped;
-use crate::ends::End;
+use crate::five_tuple::End;
 use crate::host::later;
 use crate::numbers::{advance, is_behind};
 use crate::receiver::Reason;

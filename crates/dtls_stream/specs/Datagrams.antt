@@ -10,7 +10,7 @@ use Rattle.layouts.specs.declared.result.ErrorKind.TheVariants.{Complete, Switch
 use Rattle.tls_records.specs.DtlsRecord.{RawRecord, RecordHeader, record_content, record_header}
 use Rattle.tls_records.specs.DtlsRecord as dtls_record
 use Rattle.tls_records.specs.DtlsHandshake as handshakes
-use Rattle.tls_records.specs.Framing.{max_fragment_length}
+use Rattle.tls_records.specs.Framing.{max_encrypted_length, max_fragment_length}
 use Rattle.dtls_stream.specs.Fragments.{Fragment, fragment}
 use Rattle.dtls_stream.specs.Messages.{Alert, ChangeCipherSpec, Encrypted, EncryptedRecord, Event, Failed, Handshake, Heard, Kept, Limits, Message, Stands, after, events, messages}
 
@@ -31,7 +31,7 @@ fragment_in m = fragment_by m m.body
 -- The most bytes that a record may have behind its header: where it is encrypted, which epochs above 0 are, 2^14 + 2048
 -- (RFC 5246, section 6.2.3), else what a reader of records takes.
 abbrev pub limit : RecordHeader → ℕ
-limit h = cond (nat_lt 0 h.epoch) 18432 max_fragment_length
+limit h = cond (nat_lt 0 h.epoch) max_encrypted_length max_fragment_length
 
 -- What stands behind that header.
 unfoldable pub content : RecordHeader → Layout Bytes

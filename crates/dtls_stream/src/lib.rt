@@ -18,4 +18,5 @@ pub use event::{EncryptedRecord, Event, Message};
 pub use fragments::{Fragment, FragmentError, Fragments, parse_dtls_fragment};
 pub use messages::{DEFAULT_LIMITS, Limits, Messages};
 pub use read::{read_all, read_fragments};
-pub use records::{MAX_ENCRYPTED_LEN, fragment_of, hear_record, read_record};
+pub use records::{fragment_of, hear_record, read_record};
+pub use tls_records::MAX_ENCRYPTED_LEN;

@@ -17,11 +17,8 @@ use std::alloc::Global;
 use tls_base::{TlsMessageAlert, TlsRecordType};
 use tls_records::{
     DTLSMessage, DTLSMessageHandshake, DTLSMessageHandshakeBody, DTLSRawRecord, DTLSRecordHeader,
-    MAX_RECORD_LEN, parse_dtls_record_header, parse_dtls_record_with_header,
+    MAX_ENCRYPTED_LEN, MAX_RECORD_LEN, parse_dtls_record_header, parse_dtls_record_with_header,
 };
-
-/// The most bytes that an encrypted record may have behind its header (RFC 5246, section 6.2.3).
-pub const MAX_ENCRYPTED_LEN: u16 = 18_432;
 
 /// The fragment that this message is. `None` where it was read whole: the value of a whole body doesn't keep the body's bytes.
 pub fn fragment_of<'a>(message: &DTLSMessageHandshake<'a>) -> Option<Fragment<'a>>

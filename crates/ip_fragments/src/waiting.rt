@@ -5,7 +5,7 @@ ghost use Rattle.ip_fragments.specs.Waiting.{IsHandedOut, IsWith, begun, is_othe
 
 use crate::fragments::FRAGMENT_COST;
 use capture::{Address, Fragment};
-use segments::Segments;
+use segments::TcpReassembler;
 use std::alloc::{AllocError, Global};
 use std::marker::Model;
 
@@ -29,7 +29,7 @@ pub struct Whole {
 /// The bytes of a datagram that came, and what its fragments said of it.
 #[derive(Drop)]
 pub struct Waiting {
-    segments: Segments,
+    segments: TcpReassembler,
     // The place behind the last byte that came, and whether that ends the datagram.
     reach: usize,
     is_ended: bool,
@@ -80,7 +80,7 @@ impl Waiting {
         ensures { result ≡ begun time }
     {
         Waiting {
-            segments: Segments::new(alloc, 0, 65_535),
+            segments: TcpReassembler::new(alloc, 0, 65_535),
             reach: 0,
             is_ended: false,
             protocol: None,

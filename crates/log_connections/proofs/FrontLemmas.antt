@@ -7,23 +7,23 @@ use Rattle.layouts.specs.Bytes.{Bytes}
 use Rattle.connections.specs.Stream.{next_bytes, stopped}
 use Rattle.connections.specs.declared.connection.Side.{Side}
 use Rattle.connections.specs.declared.stream.Stream.{Stream}
-use Rattle.tls_flow.specs.declared.letter.Direction.{Direction}
-use Rattle.tls_talks.specs.Talks.{IsHeardAsNone, IsHeardOn}
-use Rattle.tls_talks.specs.declared.talk.Talk.{Talk}
+use Rattle.tls_flow.specs.declared.symbol.Direction.{Direction}
+use Rattle.tls_analyzer.specs.Analyzers.{IsHeardAsNone, IsHeardOn}
+use Rattle.tls_analyzer.specs.declared.analyzer.Analyzer.{Analyzer}
 use Rattle.log_connections.specs.Fronts.{leaving, with_begun}
 use Rattle.log_connections.specs.Heard.{HearsAt, HearsNone, IsTakenOff}
 use Rattle.log_connections.specs.declared.fronts.Fronts.{Fronts}
 use Rattle.log_connections.specs.declared.heard.Said.{Said}
 use Rattle.log_connections.specs.declared.heard.Said.TheVariants as said
 
-pub heard_none : (s : Side) (d : Direction) (t u : Stream) (z : Said) (x : Talk) (f : Fronts) (y : Talk) (g : Fronts)
+pub heard_none : (s : Side) (d : Direction) (t u : Stream) (z : Said) (x : Analyzer) (f : Fronts) (y : Analyzer) (g : Fronts)
     → z ≡ said.Stream x f → IsHeardAsNone x d y → g ≡ leaving s f → u ≡ stopped t t.reading
     → HearsNone s d t u z (said.Stream y g)
 unfolding HearsNone
 heard_none s d t u z x f y g is heard left stops =
     subst (λ z. HearsNone s d t u z (said.Stream y g)) (sym is) (heard, left, stops)
 
-pub heard_at : (s : Side) (d : Direction) (n : ℕ) (t u : Stream) (z w : Said) (x : Talk) (f : Fronts) (y : Talk) (g : Fronts)
+pub heard_at : (s : Side) (d : Direction) (n : ℕ) (t u : Stream) (z w : Said) (x : Analyzer) (f : Fronts) (y : Analyzer) (g : Fronts)
     (b : Bytes)
     → z ≡ said.Stream x f → w ≡ said.Stream y g → b ≡ drop n (next_bytes t t.reading) → IsHeardOn x d b y
     → g ≡ with_begun s n f → IsTakenOff t u → HearsAt s d n t u z w

@@ -3,30 +3,31 @@ use Rattle.std.proofs.Common.{◌≡◌, refl, sym, ap, ◌∙◌, subst, Option
 use Rattle.std.specs.Prelude.{is_some, not}
 use Rattle.std.specs.Option.{unwrap_or}
 use Rattle.std.specs.Map.{set_value}
-use Rattle.connections.proofs.TableLemmas.{are_ends-refl, stands_first}
-use Rattle.connections.specs.Connection.{side_of, Accepts}
-use Rattle.connections.specs.Datagram.{ends_of_datagram}
-use Rattle.connections.specs.Ends.{are_ends}
+use Rattle.std.proofs.lemmas.Map.Steps.{set_value_same}
+use Rattle.connections.proofs.TableLemmas.{is_five_tuple-refl, stands_first, written_promoted}
+use Rattle.connections.specs.Connection.{side_of, Accepts, TakesDatagramIn}
+use Rattle.connections.specs.Datagram.{five_tuple_of_datagram}
+use Rattle.connections.specs.FiveTuple.{is_five_tuple}
 use Rattle.connections.specs.Lends.{with_first}
-use Rattle.connections.specs.Segment.{ends_of}
-use Rattle.connections.specs.Table.{IsPut, Puts, Table, TakesDatagram, TakesSegment, at, closed_behind, others, without_if}
+use Rattle.connections.specs.Segment.{five_tuple_of}
+use Rattle.connections.specs.Table.{IsPut, Puts, Table, TakesDatagram, TakesSegment, at, closed_behind, others, promoting, with_other, without_if}
 use Rattle.connections.specs.declared.connection.Connection.{Connection}
 use Rattle.connections.specs.declared.datagram.Datagram.{Datagram}
-use Rattle.connections.specs.declared.ends.Ends.{Ends}
+use Rattle.connections.specs.declared.five_tuple.FiveTuple.{FiveTuple}
 use Rattle.connections.specs.declared.segment.Segment.{Segment}
 use Rattle.log_connections.specs.Log.{HearsFrom, HearsSegment, HearsSide, LogsDatagram}
 use Rattle.log_connections.specs.declared.heard.Heard.{Heard}
 
-module _ {X : Type 0} (e : Ends) where
+module _ {X : Type 0} (e : FiveTuple) where
   -- What stands first under these ends is found, and another value is put there.
-  at_first : (x : X) (xs : List (Ends × X)) → at e ((e, x) ∷ xs) ≡ Some x
-  at_first x xs = rw (are_ends-refl e)
+  at_first : (x : X) (xs : List (FiveTuple × X)) → at e ((e, x) ∷ xs) ≡ Some x
+  at_first x xs = rw (is_five_tuple-refl e)
 
-  set_first : (x w : X) (xs : List (Ends × X)) → set_value (are_ends e) ((e, x) ∷ xs) w ≡ (e, w) ∷ xs
-  set_first x w xs = rw (are_ends-refl e)
+  set_first : (x w : X) (xs : List (FiveTuple × X)) → set_value (is_five_tuple e) ((e, x) ∷ xs) w ≡ (e, w) ∷ xs
+  set_first x w xs = rw (is_five_tuple-refl e)
 
-module _ {K : Type 0} (e : Ends) (Takes : Option (Connection (Heard K)) → Connection (Heard K) → Type 0)
-    (xs ys : List (Ends × Connection (Heard K))) (put : IsPut e Takes xs ys) where
+module _ {K : Type 0} (e : FiveTuple) (Takes : Option (Connection (Heard K)) → Connection (Heard K) → Type 0)
+    (xs ys : List (FiveTuple × Connection (Heard K))) (put : IsPut e Takes xs ys) where
   -- The connection that is lent is the one that was put.
   lent : (c : Connection (Heard K)) → Some c ≡ at e ys → c ≡ put.its
   lent c found = ap (λ o. unwrap_or o c)
@@ -40,19 +41,19 @@ module _ {K : Type 0} (e : Ends) (Takes : Option (Connection (Heard K)) → Conn
       cc
 
   -- What is written to it stands in its place.
-  written_first : (d : Connection (Heard K)) → set_value (are_ends e) ys d ≡ (e, d) ∷ others e xs
-  written_first d = ap (λ l. set_value (are_ends e) l d) put.stands ∙ set_first e put.its d (others e xs)
+  written_first : (d : Connection (Heard K)) → set_value (is_five_tuple e) ys d ≡ (e, d) ∷ others e xs
+  written_first d = ap (λ l. set_value (is_five_tuple e) l d) put.stands ∙ set_first e put.its d (others e xs)
 
 module _ {K : Type 0} where
   put_where_true : (b : Bool) (s : Segment) (old mid : Table (Heard K)) → b ≡ true → Puts b s old mid
-      → IsPut (ends_of s) (TakesSegment s) old.live mid.live
+      → IsPut (five_tuple_of s) (TakesSegment s) old.live mid.live
   put_where_true true s old mid is put = put
   put_where_true false s old mid is put = cc
 
   pub segment_heard : (b : Bool) (s : Segment) (old mid : Table (Heard K)) (c d : Connection (Heard K)) → b ≡ true
-      → Puts b s old mid → mid.closed ≡ closed_behind b s old → Some c ≡ at (ends_of s) mid.live
+      → Puts b s old mid → mid.closed ≡ closed_behind b s old → Some c ≡ at (five_tuple_of s) mid.live
       → HearsSide (side_of c s.source) c d
-      → HearsSegment s old (record mid { live = set_value (are_ends (ends_of s)) mid.live d })
+      → HearsSegment s old (record mid { live = set_value (is_five_tuple (five_tuple_of s)) mid.live d })
   segment_heard b s old mid c d is puts closed found hears =
       let put = put_where_true b s old mid is puts in record {
         put = put.its;
@@ -60,45 +61,79 @@ module _ {K : Type 0} where
         takes = put.takes;
         hears =
             subst (λ z. HearsSide (side_of z s.source) z d)
-            (lent (ends_of s) (TakesSegment s) old.live mid.live put c found) hears;
-        stands = written_first (ends_of s) (TakesSegment s) old.live mid.live put d;
+            (lent (five_tuple_of s) (TakesSegment s) old.live mid.live put c found) hears;
+        stands = written_first (five_tuple_of s) (TakesSegment s) old.live mid.live put d;
         closed = closed ∙ ap (λ x. closed_behind x s old) is;
       }
 
   -- The connection that is open takes it.
   pub heard_by_open : (s : Segment) (old : Table (Heard K)) (c put its : Connection (Heard K))
-      → Some c ≡ at (ends_of s) old.live → Accepts s c put → HearsSide (side_of put s.source) put its
-      → HearsSegment s old (with_first (ends_of s) its old)
+      → Some c ≡ at (five_tuple_of s) old.live → Accepts s c put → HearsSide (side_of put s.source) put its
+      → HearsSegment s old (with_first (five_tuple_of s) its old)
   heard_by_open s old c put its found accepts hears = record {
     put = put;
     its = its;
     takes = subst (λ o. TakesSegment s o put) found accepts;
     hears = hears;
-    stands = stands_first (ends_of s) old c its found;
-    closed = subst (λ o. old.closed ≡ without_if (not (is_some o)) (ends_of s) old.closed) found refl;
+    stands = stands_first (five_tuple_of s) old c its found;
+    closed = subst (λ o. old.closed ≡ without_if (not (is_some o)) (five_tuple_of s) old.closed) found refl;
   }
 
+  -- The same of one that is written in its place, and is let stand first then.
+  pub heard_in_place : (s : Segment) (old : Table (Heard K)) (c put its : Connection (Heard K))
+      → Some c ≡ at (five_tuple_of s) old.live → Accepts s c put → HearsSide (side_of put s.source) put its
+      → HearsSegment s old
+      (promoting (five_tuple_of s) (with_other (five_tuple_of s) its old))
+  heard_in_place s old c put its found accepts hears = record {
+    put = put;
+    its = its;
+    takes = subst (λ o. TakesSegment s o put) found accepts;
+    hears = hears;
+    stands = written_promoted (five_tuple_of s) old.live c its (sym found);
+    closed = subst (λ o. old.closed ≡ without_if (not (is_some o)) (five_tuple_of s) old.closed) found refl;
+  }
+
+  pub exchange_heard : (d : Datagram) (old : Table (Heard K)) (c put its : Connection (Heard K))
+      → Some c ≡ at (five_tuple_of_datagram d) old.live → TakesDatagramIn d c put → HearsFrom d put its
+      → LogsDatagram d old
+      (promoting (five_tuple_of_datagram d) (with_other (five_tuple_of_datagram d) its old))
+  exchange_heard d old c put its found takes hears = record {
+    put = put;
+    its = its;
+    takes = subst (λ o. TakesDatagram d o put) found takes;
+    hears = hears;
+    stands = written_promoted (five_tuple_of_datagram d) old.live c its (sym found);
+    closed = refl;
+  }
+
+  -- One that is lent, and doesn't change, leaves all as it was.
+  pub lent_unchanged : (e : FiveTuple) (old : Table (Heard K)) (c d : Connection (Heard K)) → Some c ≡ at e old.live → d ≡ c
+      → with_other e d old ≡ old
+  lent_unchanged e old c d found same =
+      ap (λ x. with_other e x old) same
+      ∙ ap (λ l. record old { live = l }) (set_value_same (is_five_tuple e) old.live c (sym found))
+
   pub segment_lent : (b : Bool) (s : Segment) (old mid : Table (Heard K)) → b ≡ true → Puts b s old mid
-      → None ≡ at (ends_of s) mid.live → ⊥
+      → None ≡ at (five_tuple_of s) mid.live → ⊥
   segment_lent b s old mid is puts none =
-      some_lent (ends_of s) (TakesSegment s) old.live mid.live (put_where_true b s old mid is puts) (sym none)
+      some_lent (five_tuple_of s) (TakesSegment s) old.live mid.live (put_where_true b s old mid is puts) (sym none)
 
   pub datagram_heard : (g : Datagram) (old mid : Table (Heard K)) (c d : Connection (Heard K))
-      → IsPut (ends_of_datagram g) (TakesDatagram g) old.live mid.live → mid.closed ≡ old.closed
-      → Some c ≡ at (ends_of_datagram g) mid.live → HearsFrom g c d
-      → LogsDatagram g old (record mid { live = set_value (are_ends (ends_of_datagram g)) mid.live d })
+      → IsPut (five_tuple_of_datagram g) (TakesDatagram g) old.live mid.live → mid.closed ≡ old.closed
+      → Some c ≡ at (five_tuple_of_datagram g) mid.live → HearsFrom g c d
+      → LogsDatagram g old (record mid { live = set_value (is_five_tuple (five_tuple_of_datagram g)) mid.live d })
   datagram_heard g old mid c d put closed found hears = record {
     put = put.its;
     its = d;
     takes = put.takes;
     hears =
         subst (λ z. HearsFrom g z d)
-        (lent (ends_of_datagram g) (TakesDatagram g) old.live mid.live put c found) hears;
-    stands = written_first (ends_of_datagram g) (TakesDatagram g) old.live mid.live put d;
+        (lent (five_tuple_of_datagram g) (TakesDatagram g) old.live mid.live put c found) hears;
+    stands = written_first (five_tuple_of_datagram g) (TakesDatagram g) old.live mid.live put d;
     closed = closed;
   }
 
   pub datagram_lent : (g : Datagram) (old mid : Table (Heard K))
-      → IsPut (ends_of_datagram g) (TakesDatagram g) old.live mid.live → None ≡ at (ends_of_datagram g) mid.live → ⊥
+      → IsPut (five_tuple_of_datagram g) (TakesDatagram g) old.live mid.live → None ≡ at (five_tuple_of_datagram g) mid.live → ⊥
   datagram_lent g old mid put none =
-      some_lent (ends_of_datagram g) (TakesDatagram g) old.live mid.live put (sym none)
+      some_lent (five_tuple_of_datagram g) (TakesDatagram g) old.live mid.live put (sym none)

@@ -6,15 +6,15 @@ use Rattle.connections.specs.declared.stream.Stream.{Stream}
 use Rattle.connections.specs.declared.stream.Reading.TheVariants.{Over}
 use Rattle.connections.specs.declared.connection.Side.{Side}
 use Rattle.connections.specs.declared.connection.Side.TheVariants.{Originator, Responder}
-use Rattle.tls_flow.specs.declared.letter.Direction.{Direction}
-use Rattle.tls_flow.specs.declared.letter.Direction.TheVariants.{ToServer, FromServer}
-use Rattle.tls_talks.specs.Datagrams.{IsKnown, heard}
-use Rattle.tls_talks.specs.Datagrams as datagrams
-use Rattle.tls_talks.specs.Talks.{IsHeardAsNone, IsHeardInSsl2, IsHeardOn}
+use Rattle.tls_flow.specs.declared.symbol.Direction.{Direction}
+use Rattle.tls_flow.specs.declared.symbol.Direction.TheVariants.{ToServer, FromServer}
+use Rattle.tls_analyzer.specs.Datagrams.{IsKnown, heard}
+use Rattle.tls_analyzer.specs.Datagrams as datagrams
+use Rattle.tls_analyzer.specs.Analyzers.{IsHeardAsNone, IsHeardInSsl2, IsHeardOn}
 use Rattle.ssl2_hello.specs.ClientHello as ssl2
 use Rattle.layouts.specs.Meaning.{Answer}
 use Rattle.layouts.specs.Reading.{reading}
-use Rattle.tls_talks.specs.declared.talk.Talk.{Talk}
+use Rattle.tls_analyzer.specs.declared.analyzer.Analyzer.{Analyzer}
 use Rattle.log_connections.specs.declared.fronts.Fronts.{Fronts}
 use Rattle.log_connections.specs.Fronts.{are_answered, beginning, front_of, leaving, passing, with_begun}
 use Rattle.log_connections.specs.declared.fronts.Beginning.{Beginning}
@@ -52,7 +52,7 @@ HearsNone s d t u (said.Stream x f) (said.Datagrams y) = ⊥
 HearsNone s d t u (said.Datagrams x) y = (y ≡ said.Datagrams x) × (u ≡ t)
 
 -- The ClientHello in SSL 2.0's form that its stream has next was heard, and handed on; where there is none, nothing.
-abbrev pub HearsHello : Answer ssl2.ClientHello → Side → Direction → Stream → Stream → Talk → Fronts → Said → Type 0
+abbrev pub HearsHello : Answer ssl2.ClientHello → Side → Direction → Stream → Stream → Analyzer → Fronts → Said → Type 0
 HearsHello (Ok h) s d t u x f (said.Stream y g) =
     IsHeardInSsl2 x d h.0 y × (g ≡ with_begun s 0 f) × (u ≡ handing_on (length (next_bytes t t.reading) - length h.1) t)
 HearsHello (Ok h) s d t u x f (said.Datagrams y) = ⊥
@@ -97,7 +97,7 @@ pub record HearsOn (side : Side) (d : Direction) (t u : Stream) (x y : Said) : T
 -- A side's datagram was heard.
 abbrev pub HearsDatagram : Direction → Bytes → Said → Said → Type 0
 HearsDatagram d datagram (said.Datagrams t) (said.Datagrams u) =
-    (k : datagrams.Talk) → IsKnown k t → IsKnown (heard k d datagram) u
+    (k : datagrams.Analyzer) → IsKnown k t → IsKnown (heard k d datagram) u
 HearsDatagram d datagram (said.Datagrams t) (said.Stream u f) = ⊥
 HearsDatagram d datagram (said.Stream t f) u = u ≡ said.Stream t f
 
@@ -109,4 +109,4 @@ preamble_of s (said.Datagrams x) = 0
 -- Whether TLS is spoken, which behind other bytes both sides do; or DTLS.
 abbrev pub IsSpokenBy : Bool → Said → Type 0
 IsSpokenBy b (said.Stream x f) = b ≡ (x.is_tls && are_answered f)
-IsSpokenBy b (said.Datagrams t) = (k : datagrams.Talk) → IsKnown k t → b ≡ k.is_dtls
+IsSpokenBy b (said.Datagrams t) = (k : datagrams.Analyzer) → IsKnown k t → b ≡ k.is_dtls

@@ -2,12 +2,12 @@
 use Rattle.std.specs.Prelude.{◌≡◌, Bool, true, false, ◌∷◌, Option, Some, None}
 use Rattle.connection_parts.specs.Part.{falls_to}
 use Rattle.connection_parts.specs.declared.part.Part.{Part}
-use Rattle.connections.specs.declared.ends.End.{End}
-use Rattle.connections.specs.declared.ends.Protocol.{Protocol}
+use Rattle.connections.specs.declared.five_tuple.End.{End}
+use Rattle.connections.specs.declared.five_tuple.Protocol.{Protocol}
 use Rattle.connections.specs.Connection.{side_of}
-use Rattle.connections.specs.Datagram.{ends_of_datagram}
-use Rattle.connections.specs.Segment.{ends_of}
-use Rattle.connections.specs.Table.{Table, TakesDatagram, TakesSegment, at, closed_behind, others}
+use Rattle.connections.specs.Datagram.{five_tuple_of_datagram}
+use Rattle.connections.specs.Segment.{five_tuple_of}
+use Rattle.connections.specs.Table.{DropsDatagram, Table, TakesDatagram, TakesSegment, at, closed_behind, others}
 use Rattle.connections.specs.declared.connection.Connection.{Connection}
 use Rattle.connections.specs.declared.connection.Side.{Side}
 use Rattle.connections.specs.declared.connection.Side.TheVariants.{Originator, Responder}
@@ -16,6 +16,10 @@ use Rattle.connections.specs.declared.segment.Segment.{Segment}
 use Rattle.tls_detection.specs.Front.{held_datagram}
 use Rattle.log_connections.specs.Heard.{HearsDatagram, HearsOn, direction_of}
 use Rattle.log_connections.specs.declared.heard.Heard.{Heard}
+use Rattle.log_connections.specs.declared.log.Delivery.{Delivery}
+use Rattle.log_connections.specs.declared.log.Delivery.TheVariants as delivery
+use Rattle.log_connections.specs.declared.log.Reception.{Reception}
+use Rattle.log_connections.specs.declared.log.Reception.TheVariants as reception
 
 -- Without a part, all connections are logged.
 abbrev pub is_logged : Option Part → Protocol → End → End → Bool
@@ -36,9 +40,9 @@ module _ {K : Type 0} where
   pub record HearsSegment (s : Segment) (old new : Table (Heard K)) : Type 0 where
     pub put : Connection (Heard K)
     pub its : Connection (Heard K)
-    pub takes : TakesSegment s (at (ends_of s) old.live) put
+    pub takes : TakesSegment s (at (five_tuple_of s) old.live) put
     pub hears : HearsSide (side_of put s.source) put its
-    pub stands : new.live ≡ (ends_of s, its) ∷ others (ends_of s) old.live
+    pub stands : new.live ≡ (five_tuple_of s, its) ∷ others (five_tuple_of s) old.live
     pub closed : new.closed ≡ closed_behind true s old
 
   -- A segment that belongs to no connection changes none.
@@ -56,7 +60,20 @@ module _ {K : Type 0} where
   pub record LogsDatagram (d : Datagram) (old new : Table (Heard K)) : Type 0 where
     pub put : Connection (Heard K)
     pub its : Connection (Heard K)
-    pub takes : TakesDatagram d (at (ends_of_datagram d) old.live) put
+    pub takes : TakesDatagram d (at (five_tuple_of_datagram d) old.live) put
     pub hears : HearsFrom d put its
-    pub stands : new.live ≡ (ends_of_datagram d, its) ∷ others (ends_of_datagram d) old.live
+    pub stands : new.live ≡ (five_tuple_of_datagram d, its) ∷ others (five_tuple_of_datagram d) old.live
     pub closed : new.closed ≡ old.closed
+
+  -- A segment that the connection between its ends heard is logged; of any other nothing changes.
+  abbrev pub LogsOpen : Reception → Segment → Table (Heard K) → Table (Heard K) → Type 0
+  LogsOpen (reception.Heard closed) s old new = HearsSegment s old new
+  LogsOpen (reception.Told verdict) s old new = new ≡ old
+  LogsOpen reception.NoneOpen s old new = new ≡ old
+
+  -- The same of a datagram; a damaged one is counted.
+  abbrev pub LogsExchange : Delivery → Datagram → Table (Heard K) → Table (Heard K) → Type 0
+  LogsExchange delivery.Heard d old new = LogsDatagram d old new
+  LogsExchange delivery.Damaged d old new = DropsDatagram d true old new
+  LogsExchange delivery.BeginsAnother d old new = new ≡ old
+  LogsExchange delivery.NoneOpen d old new = new ≡ old

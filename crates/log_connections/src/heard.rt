@@ -9,10 +9,10 @@ use connections::{Listener, Protocol, Side, Stream};
 use ssl2_hello::parse_ssl2_client_hello;
 use std::alloc::{AllocError, Global};
 use std::mem::size_of;
+use tls_analyzer::{Analyzer, DatagramAnalyzer, DatagramRecords, Records, Witness};
 use tls_detection::{first_message, held_datagram};
-use tls_facts::Facts;
 use tls_flow::{Direction, Outcome, Stop};
-use tls_talks::{DatagramRecords, DatagramTalk, Records, Talk, Witness};
+use tls_summary::HandshakeSummary;
 use tunnels::{Tunnel, Tunnels};
 
 /// The types of the messages with which a handshake begins, of the client and of the server (RFC 8446, section 4).
@@ -49,9 +49,9 @@ pub trait Keeper: Drop + Witness {
 #[derive(Drop)]
 enum Said {
     /// Over TCP, as TLS, behind what stands in front of it.
-    Stream(Talk, Fronts),
+    Stream(Analyzer, Fronts),
     /// Over UDP, as DTLS.
-    Datagrams(DatagramTalk),
+    Datagrams(DatagramAnalyzer),
 }
 
 /// What goes with a connection: what its sides said.
@@ -108,8 +108,8 @@ fn direction_of(is_turned: bool, side: Side) -> Direction
 impl<K: Keeper> Listener for Heard<K> {
     fn begin(alloc: Global, protocol: Protocol) -> Heard<K> {
         let said = match protocol {
-            Protocol::Tcp => Said::Stream(Talk::new(alloc), Fronts::NONE),
-            Protocol::Udp => Said::Datagrams(DatagramTalk::new(alloc)),
+            Protocol::Tcp => Said::Stream(Analyzer::new(alloc), Fronts::NONE),
+            Protocol::Udp => Said::Datagrams(DatagramAnalyzer::new(alloc)),
         };
         Heard {
             alloc,
@@ -129,8 +129,8 @@ impl<K: Keeper> Listener for Heard<K> {
 
     fn capacity(&self) -> usize {
         let said = match &self.said {
-            Said::Stream(talk, _) => talk.capacity().saturating_add(buffers_of(self.heard)),
-            Said::Datagrams(talk) => talk.capacity(),
+            Said::Stream(analyzer, _) => analyzer.capacity().saturating_add(buffers_of(self.heard)),
+            Said::Datagrams(analyzer) => analyzer.capacity(),
         };
         let keeper = if self.keeper.is_some() {
             KEEPER_COST
@@ -154,56 +154,56 @@ impl<K: Keeper> Heard<K> {
         ensures { IsSpokenBy result self.now.said }
     {
         match &self.said {
-            Said::Stream(talk, fronts) => talk.is_tls() && fronts.are_answered(),
-            Said::Datagrams(talk) => talk.is_dtls(),
+            Said::Stream(analyzer, fronts) => analyzer.is_tls() && fronts.are_answered(),
+            Said::Datagrams(analyzer) => analyzer.is_dtls(),
         }
     }
 
     /// What is known of it.
-    pub fn facts(&self) -> &Facts {
+    pub fn handshake(&self) -> &HandshakeSummary {
         match &self.said {
-            Said::Stream(talk, _) => talk.facts(),
-            Said::Datagrams(talk) => talk.facts(),
+            Said::Stream(analyzer, _) => analyzer.handshake(),
+            Said::Datagrams(analyzer) => analyzer.handshake(),
         }
     }
 
     /// A letter for each event, as Zeek's ssl_history has it.
     pub fn history(&self) -> &[u8] {
         match &self.said {
-            Said::Stream(talk, _) => talk.history(),
-            Said::Datagrams(talk) => talk.history(),
+            Said::Stream(analyzer, _) => analyzer.history(),
+            Said::Datagrams(analyzer) => analyzer.history(),
         }
     }
 
     /// How the handshake stands.
     pub fn outcome(&self) -> Outcome {
         match &self.said {
-            Said::Stream(talk, _) => talk.outcome(),
-            Said::Datagrams(talk) => talk.outcome(),
+            Said::Stream(analyzer, _) => analyzer.outcome(),
+            Said::Datagrams(analyzer) => analyzer.outcome(),
         }
     }
 
     /// The event that ended the handshake without success, if one did.
     pub fn stop(&self) -> Option<Stop> {
         match &self.said {
-            Said::Stream(talk, _) => talk.stop(),
-            Said::Datagrams(talk) => talk.stop(),
+            Said::Stream(analyzer, _) => analyzer.stop(),
+            Said::Datagrams(analyzer) => analyzer.stop(),
         }
     }
 
     /// Whether the part of the handshake that can be read came to its end.
     pub fn is_established(&self) -> bool {
         match &self.said {
-            Said::Stream(talk, _) => talk.is_established(),
-            Said::Datagrams(talk) => talk.is_established(),
+            Said::Stream(analyzer, _) => analyzer.is_established(),
+            Said::Datagrams(analyzer) => analyzer.is_established(),
         }
     }
 
     /// Whether a session was taken up.
     pub fn is_resumed(&self) -> bool {
         match &self.said {
-            Said::Stream(talk, _) => talk.is_resumed(),
-            Said::Datagrams(talk) => talk.is_resumed(),
+            Said::Stream(analyzer, _) => analyzer.is_resumed(),
+            Said::Datagrams(analyzer) => analyzer.is_resumed(),
         }
     }
 
@@ -211,7 +211,7 @@ impl<K: Keeper> Heard<K> {
     pub fn lacks_front(&self, side: Side) -> bool {
         match &self.said {
             Said::Stream(_, _) => false,
-            Said::Datagrams(talk) => talk.lacks_front(self.direction(side)),
+            Said::Datagrams(analyzer) => analyzer.lacks_front(self.direction(side)),
         }
     }
 
@@ -219,9 +219,9 @@ impl<K: Keeper> Heard<K> {
     pub(crate) fn begins_another(&self, side: Side, payload: &[u8]) -> bool {
         match &self.said {
             Said::Stream(_, _) => false,
-            Said::Datagrams(talk) => {
+            Said::Datagrams(analyzer) => {
                 self.direction(side) == Direction::ToServer
-                    && talk.begins_another(held_datagram(payload))
+                    && analyzer.begins_another(held_datagram(payload))
             }
         }
     }
@@ -334,13 +334,13 @@ impl<K: Keeper> Heard<K> {
         let bytes = behind(all, n);
         self.see_client(side, bytes, is_opened);
         let direction = self.direction(side);
-        let Said::Stream(talk, fronts) = &mut self.said else {
+        let Said::Stream(analyzer, fronts) = &mut self.said else {
             return Ok(());
         };
         fronts.begin(side, n);
         self.heard = self.heard.saturating_add(bytes.len());
-        talk.hear_with(self.alloc, direction, bytes, &mut self.keeper)?;
-        let is_over = talk.is_over(direction);
+        analyzer.hear_with(self.alloc, direction, bytes, &mut self.keeper)?;
+        let is_over = analyzer.is_over(direction);
         self.count_records(side, bytes);
         let len = all.len();
         stream.take(len);
@@ -360,7 +360,7 @@ impl<K: Keeper> Heard<K> {
             return Ok(());
         };
         let n = bytes.len().saturating_sub(rest.len());
-        let Said::Stream(talk, fronts) = &mut self.said else {
+        let Said::Stream(analyzer, fronts) = &mut self.said else {
             return Ok(());
         };
         if fronts.are_silent() {
@@ -368,7 +368,7 @@ impl<K: Keeper> Heard<K> {
         }
         let direction = direction_of(self.is_turned, side);
         fronts.begin(side, 0);
-        talk.hear_ssl2(self.alloc, direction, &hello)?;
+        analyzer.hear_ssl2(self.alloc, direction, &hello)?;
         stream.take(n);
         Ok(())
     }
@@ -379,11 +379,11 @@ impl<K: Keeper> Heard<K> {
         ensures { OnOk result (HearsNone side (direction_by self.new.is_turned side) stream.old stream.new self.old.said self.new.said) }
     {
         let direction = self.direction(side);
-        let Said::Stream(talk, fronts) = &mut self.said else {
+        let Said::Stream(analyzer, fronts) = &mut self.said else {
             return Ok(());
         };
         fronts.leave(side);
-        talk.hear_none(self.alloc, direction)?;
+        analyzer.hear_none(self.alloc, direction)?;
         stream.stop();
         Ok(())
     }
@@ -406,8 +406,8 @@ impl<K: Keeper> Heard<K> {
         ensures { result ≡ begins_in side are_last self.now.said bytes.now }
     {
         match &self.said {
-            Said::Stream(talk, fronts) => {
-                begins_at(talk.is_tls(), are_last, fronts.of(side), bytes)
+            Said::Stream(analyzer, fronts) => {
+                begins_at(analyzer.is_tls(), are_last, fronts.of(side), bytes)
             }
             Said::Datagrams(_) => Beginning::Waits,
         }
@@ -449,13 +449,13 @@ impl<K: Keeper> Heard<K> {
         ensures { OnOk result (HearsDatagram direction (held_datagram_of payload.now) self.old.said self.new.said) }
     {
         let payload = held_datagram(payload);
-        let Said::Datagrams(talk) = &mut self.said else {
+        let Said::Datagrams(analyzer) = &mut self.said else {
             return Ok(());
         };
-        talk.hear_with(self.alloc, direction, payload, &mut self.keeper)?;
+        analyzer.hear_with(self.alloc, direction, payload, &mut self.keeper)?;
         // (the version and the connection ids may stand in this datagram, in front of its encrypted records)
-        let id_len = talk.facts().connection_id_len(direction);
-        let is_13 = talk.is_13();
+        let id_len = analyzer.handshake().connection_id_len(direction);
+        let is_13 = analyzer.is_13();
         match direction {
             Direction::ToServer => self.by_originator.add(payload, id_len, is_13),
             Direction::FromServer => self.by_responder.add(payload, id_len, is_13),

@@ -2,7 +2,7 @@
 ghost use Rattle.std.specs.Prelude.{◌≡◌, IfOk, OnOk, is_some};
 ghost use Rattle.connections.specs.Connection.{side_of};
 ghost use Rattle.log_connections.specs.Heard.{HearsNext, HearsOn, direction_of as direction};
-ghost use Rattle.log_connections.specs.Log.{HearsFrom, HearsSide, Logs, LogsDatagram, is_logged};
+ghost use Rattle.log_connections.specs.Log.{HearsFrom, HearsSide, Logs, LogsDatagram, LogsExchange, LogsOpen, is_logged};
 
 use crate::counts::{Counts, add_one};
 use crate::heard::{Heard, Keeper, Pieces};
@@ -13,8 +13,8 @@ use capture::{
 };
 use connection_parts::Part;
 use connections::{
-    Checksum, Connection, Connections, Datagram, End, Ends, Judgement, Kept, MAX_WAITING, Options,
-    Protocol, Segment, Side, Stream, Told,
+    Checksum, Connection, Connections, Datagram, End, FiveTuple, Judgement, Kept, MAX_WAITING,
+    Options, Protocol, Segment, Side, Stream, Told, Verdict,
 };
 use ip_fragments::Fragments;
 use networks::{Network, Networks};
@@ -223,12 +223,34 @@ impl<'a> Arrival<'a> {
     }
 
     /// Between which ends it goes.
-    pub(crate) fn between(&self) -> Ends {
+    pub(crate) fn between(&self) -> FiveTuple {
         match self {
             Arrival::Segment(segment) => segment.between(),
             Arrival::Datagram(datagram) => datagram.between(),
         }
     }
+}
+
+/// What becomes of a segment.
+enum Reception {
+    /// Its connection heard it, and is over then or not.
+    Heard(bool),
+    /// Its connection is this to it, and didn't change.
+    Told(Verdict),
+    /// None is open between its ends.
+    NoneOpen,
+}
+
+/// What becomes of a datagram.
+enum Delivery {
+    /// Its exchange heard it.
+    Heard,
+    /// A checksum is wrong, and it was counted.
+    Damaged,
+    /// It begins another exchange in the place of the one that is open.
+    BeginsAnother,
+    /// None is open between its ends.
+    NoneOpen,
 }
 
 /// Lets the listener hear the last bytes of both streams, of which it waited for more.
@@ -376,7 +398,16 @@ impl<K: Keeper> Log<K> {
     }
 
     /// The number of the network that the packet came in which came last; 0 where networks aren't told apart.
+    #[inline(always)]
     fn network(&mut self, packet: Packet<'_>) -> Result<u64, AllocError> {
+        if self.networks.is_none() {
+            return Ok(0);
+        }
+        self.number_of_network(packet)
+    }
+
+    /// The same where they are.
+    fn number_of_network(&mut self, packet: Packet<'_>) -> Result<u64, AllocError> {
         match &mut self.networks {
             Some(networks) => networks.number(Network {
                 vlans: vlan_tags(packet.bytes, packet.link_type),
@@ -516,14 +547,7 @@ impl<K: Keeper> Log<K> {
     ) -> Result<Option<Box<Connection<Heard<K>>>>, AllocError> {
         match arrival {
             Arrival::Segment(segment) => self.accept_segment(segment),
-            Arrival::Datagram(datagram) => {
-                if self.connections.drop_damaged(datagram) {
-                    return Ok(None);
-                }
-                let over = self.take_association(datagram)?;
-                self.accept_datagram(datagram)?;
-                Ok(over)
-            }
+            Arrival::Datagram(datagram) => self.accept_user_datagram(datagram),
         }
     }
 
@@ -587,12 +611,22 @@ impl<K: Keeper> Log<K> {
         &mut self,
         segment: &Segment<'_>,
     ) -> Result<Option<Box<Connection<Heard<K>>>>, AllocError> {
-        match self.hear_segment(segment)? {
+        let heard = self.hear_segment(segment)?;
+        self.end_heard(segment, heard)
+    }
+
+    /// Takes out the connection that heard a segment where it is over then; one that belongs to none is counted.
+    fn end_heard(
+        &mut self,
+        segment: &Segment<'_>,
+        heard: Option<bool>,
+    ) -> Result<Option<Box<Connection<Heard<K>>>>, AllocError> {
+        match heard {
             Some(true) => self.take_closed(segment),
             Some(false) => Ok(None),
             None => {
                 // (the last acknowledgement of a connection that is over loses nothing)
-                if !segment.payload.is_empty() {
+                if segment.has_data() {
                     add_one(&mut self.counts.stray_segments);
                 }
                 Ok(None)
@@ -618,14 +652,47 @@ impl<K: Keeper> Log<K> {
         with_last(self.alloc, over)
     }
 
-    /// The same of a segment of TCP, by what its receiver does with it.
+    /// Puts a segment that its receiver takes into the connection between its ends, where one is open and nothing is to be done before, and lets that
+    /// hear what is there then; else nothing changes. The connection is looked up once, and looks at the segment once.
+    fn hear_open(&mut self, segment: &Segment<'_>) -> Result<Reception, AllocError>
+        ensures { IfOk result (λ reception. LogsOpen reception segment.now self.old.connections self.new.connections) }
+    {
+        let five_tuple = segment.between();
+        let Some(connection) = self.connections.get_mut(&five_tuple) else {
+            return Ok(Reception::NoneOpen);
+        };
+        if let Some(verdict) = connection.accept_or_tell(self.alloc, segment)? {
+            return Ok(Reception::Told(verdict));
+        }
+        hear(connection, segment, self.kept, &self.tunnels)?;
+        // (without data it takes no more than before)
+        self.is_unsettled = segment.has_data() && !connection.is_settled();
+        let is_closed = connection.is_closed();
+        self.connections.promote(&five_tuple);
+        Ok(Reception::Heard(is_closed))
+    }
+
+    /// Puts a segment of TCP into its connection, by what its receiver does with it, and takes that out where it is over then.
     fn accept_segment(
         &mut self,
         segment: &Segment<'_>,
     ) -> Result<Option<Box<Connection<Heard<K>>>>, AllocError> {
-        let Some(verdict) = self.connections.verdict(segment) else {
-            return self.take_segment(segment);
-        };
+        match self.hear_open(segment)? {
+            Reception::Heard(is_closed) => self.end_heard(segment, Some(is_closed)),
+            Reception::NoneOpen => {
+                let heard = self.hear_first(segment)?;
+                self.end_heard(segment, heard)
+            }
+            Reception::Told(verdict) => self.accept_by(segment, verdict),
+        }
+    }
+
+    /// The same of one that isn't just taken, by what its connection is to it.
+    fn accept_by(
+        &mut self,
+        segment: &Segment<'_>,
+        verdict: Verdict,
+    ) -> Result<Option<Box<Connection<Heard<K>>>>, AllocError> {
         if verdict.shows_damage {
             self.connections.restart(segment);
             return self.take_segment(segment);
@@ -653,23 +720,52 @@ impl<K: Keeper> Log<K> {
         }
     }
 
-    /// Takes out the exchange of a datagram that begins another association of DTLS between its ends.
-    fn take_association(
+    /// Lets the exchange between a datagram's ends hear it, where one is open, the datagram isn't damaged, and it begins no other association of DTLS.
+    /// The exchange is looked up once.
+    fn hear_exchange(&mut self, datagram: &Datagram<'_>) -> Result<Delivery, AllocError>
+        ensures { IfOk result (λ delivery. LogsExchange delivery datagram.now self.old.connections self.new.connections) }
+    {
+        let five_tuple = datagram.between();
+        let Some(exchange) = self.connections.get_mut(&five_tuple) else {
+            return Ok(Delivery::NoneOpen);
+        };
+        if exchange.is_damaged(datagram) {
+            exchange.drop_datagram(datagram);
+            return Ok(Delivery::Damaged);
+        }
+        let side = exchange.side_of(datagram.source);
+        if exchange.listener.begins_another(side, datagram.payload) {
+            return Ok(Delivery::BeginsAnother);
+        }
+        exchange.take_datagram(self.alloc, datagram);
+        hear_from(exchange, datagram, self.kept, &self.tunnels)?;
+        self.is_unsettled = !exchange.is_settled();
+        self.connections.promote(&five_tuple);
+        Ok(Delivery::Heard)
+    }
+
+    /// Lets the exchange between a datagram's ends hear it, and takes out the one in whose place another begins.
+    fn accept_user_datagram(
         &mut self,
         datagram: &Datagram<'_>,
     ) -> Result<Option<Box<Connection<Heard<K>>>>, AllocError> {
-        let ends = datagram.between();
-        let Some(exchange) = self.connections.get(&ends) else {
-            return Ok(None);
-        };
-        let side = exchange.side_of(datagram.source);
-        if !exchange.listener.begins_another(side, datagram.payload) {
-            return Ok(None);
+        match self.hear_exchange(datagram)? {
+            Delivery::Heard | Delivery::Damaged => Ok(None),
+            Delivery::NoneOpen => {
+                if datagram.checksum != Checksum::Refused {
+                    self.accept_datagram(datagram)?;
+                }
+                Ok(None)
+            }
+            Delivery::BeginsAnother => {
+                let over = self.take_exchange(datagram)?;
+                self.accept_datagram(datagram)?;
+                Ok(over)
+            }
         }
-        self.take_exchange(datagram)
     }
 
-    /// The same, where it begins another.
+    /// Takes out the exchange in whose place a datagram begins another.
     fn take_exchange(
         &mut self,
         datagram: &Datagram<'_>,
@@ -680,7 +776,7 @@ impl<K: Keeper> Log<K> {
         }
     }
 
-    /// The same of a datagram of UDP, which ends no exchange.
+    /// Lets the exchange of a datagram hear it, which the datagram begins where none is open.
     fn accept_datagram(&mut self, datagram: &Datagram<'_>) -> Result<(), AllocError>
         ensures { OnOk result (LogsDatagram datagram.now self.old.connections self.new.connections) }
     {

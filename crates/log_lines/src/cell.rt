@@ -61,9 +61,9 @@ pub enum Cell<'a> {
 fn serialize_stop<S: Serializer>(stop: Stop, out: &mut S) -> Result<(), S::Error> {
     out.begin_map(None)?;
     out.key("message")?;
-    out.str(kind_name(stop.event.letter.kind))?;
+    out.str(kind_name(stop.event.symbol.kind))?;
     out.key("sender")?;
-    out.str(sender_name(stop.event.letter.direction))?;
+    out.str(sender_name(stop.event.symbol.direction))?;
     out.key("messages_before")?;
     out.u64(stop.place)?;
     out.end_map()

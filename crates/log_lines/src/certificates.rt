@@ -6,7 +6,7 @@ use crate::text::{Text, add_text, name_cell, some_text};
 use der::ObjectIdentifier;
 use layouts::{ErrorKind, Items};
 use std::alloc::{AllocError, Global};
-use tls_facts::CertificateFault;
+use tls_summary::CertificateFault;
 use x509::{
     BasicConstraints, Certificate, GeneralName, GeneralNames, KeyUsage, SubjectPublicKeyInfo,
     first_extension, oid, parse_basic_constraints, parse_certificate, parse_extended_key_usage,

@@ -1,7 +1,7 @@
 //! The lines of a log of connections: what stands in one, and how it is written.
 //!
-//! [`Style`] says which lines there are, with which fields, and writes them: [`Style::connection_text`] is the line of a connection by its [`Summary`],
-//! [`Style::message_text`] that of a message, and [`Style::certificate_text`] that of a certificate. [`Speech`] reads the messages of both sides, and [`Chains`] has their
+//! [`Style`] says which lines there are, with which fields, and writes them: [`Style::connection_line`] is the line of a connection by its [`Summary`],
+//! [`Style::message_line`] that of a message, and [`Style::certificate_line`] that of a certificate. [`Speech`] reads the messages of both sides, and [`Chains`] has their
 //! certificates. The names of fields are those of Zeek's logs.
 #![tactic(auto)]
 

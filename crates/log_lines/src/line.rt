@@ -5,6 +5,7 @@ use crate::columns::{Carried, Certified, Course, End, FIELDS, Field, Named, Sent
 use crate::hellos::{answer_cell, chain_cell, offer_cell, other_names_cell};
 use crate::lists::{Numbers, Texts, some_numbers, some_texts};
 use crate::names::{REASONS, outcome_name, reason_name, tunnel_name};
+use crate::objects::{LINE_LEN, Object};
 use crate::prints::{KeptTexts, print_cell};
 use crate::suites::Suites;
 use crate::summary::{Party, Summary};
@@ -16,8 +17,8 @@ use connection_ids::{community_id, uid};
 use connections::{Dropped, Protocol, Side};
 use std::alloc::{AllocError, Global};
 use tls_base::TlsAlertDescription;
-use tls_facts::Facts;
 use tls_flow::Stop;
+use tls_summary::HandshakeSummary;
 use tunnels::Tunnel;
 use x509::Certificate;
 
@@ -113,17 +114,17 @@ fn some_alert<'a>(alert: Option<TlsAlertDescription>) -> Option<Cell<'a>> {
 fn named_cell<'a>(
     alloc: Global,
     suites: &'a Suites,
-    facts: &'a Facts,
+    handshake: &'a HandshakeSummary,
     field: &Named,
 ) -> Result<Option<Cell<'a>>, AllocError> {
     match field {
-        Named::Version => Ok(some_version(facts.version())),
-        Named::Cipher => Ok(suites.some_text(facts.cipher())),
-        Named::Curve => Ok(some_group(facts.curve())),
-        Named::ServerName => Ok(some_escaped(facts.server_name())),
-        Named::OtherServerNames => other_names_cell(alloc, facts),
-        Named::NextProtocol => Ok(some_escaped(facts.next_protocol())),
-        Named::LastAlert => Ok(some_alert(facts.last_alert)),
+        Named::Version => Ok(some_version(handshake.version())),
+        Named::Cipher => Ok(suites.some_text(handshake.cipher())),
+        Named::Curve => Ok(some_group(handshake.curve())),
+        Named::ServerName => Ok(some_escaped(handshake.server_name())),
+        Named::OtherServerNames => other_names_cell(alloc, handshake),
+        Named::NextProtocol => Ok(some_escaped(handshake.next_protocol())),
+        Named::LastAlert => Ok(some_alert(handshake.last_alert)),
     }
 }
 
@@ -144,7 +145,7 @@ fn course_cell<'a>(summary: &Summary<'a>, field: &Course) -> Option<Cell<'a>> {
         Course::Stop => stop_cell(summary.stop),
         Course::Gap => some_name(summary.gap()),
         Course::EndedEarly => some_mark(summary.is_ended_early),
-        Course::Retried => some_mark(summary.facts.is_retried),
+        Course::Retried => some_mark(summary.handshake.is_retried),
         Course::History => history_cell(summary.history),
     }
 }
@@ -233,12 +234,12 @@ pub struct Told<'a> {
 impl<'a> Told<'a> {
     /// That connection, by the names of these suites.
     pub fn new(suites: &'a Suites, summary: &'a Summary<'a>) -> Told<'a> {
-        let facts = summary.facts;
+        let handshake = summary.handshake;
         Told {
             suites,
             summary,
-            server: certificate_of(facts.server_certificate.as_deref()),
-            client: certificate_of(facts.client_certificate.as_deref()),
+            server: certificate_of(handshake.server_certificate.as_deref()),
+            client: certificate_of(handshake.client_certificate.as_deref()),
             kept: KeptTexts::new(),
         }
     }
@@ -262,17 +263,23 @@ pub fn cell_of<'a>(
     told: &mut Told<'a>,
     field: &Field,
 ) -> Result<Option<Cell<'a>>, AllocError> {
-    let (suites, summary, facts) = (told.suites, told.summary, told.summary.facts);
+    let (suites, summary, handshake) = (told.suites, told.summary, told.summary.handshake);
     match field {
         Field::End(field) => end_cell(alloc, summary, summary.first_time, field),
-        Field::Named(field) => named_cell(alloc, suites, facts, field),
+        Field::Named(field) => named_cell(alloc, suites, handshake, field),
         Field::Course(field) => Ok(course_cell(summary, field)),
-        Field::Offer(field) => Ok(offer_cell(suites, facts, field)),
-        Field::Answer(field) => Ok(answer_cell(facts, field)),
-        Field::Chain(field) => chain_cell(alloc, facts, &told.server, field),
+        Field::Offer(field) => Ok(offer_cell(suites, handshake, field)),
+        Field::Answer(field) => Ok(answer_cell(handshake, field)),
+        Field::Chain(field) => chain_cell(alloc, handshake, &told.server, field),
         Field::ServerCertificate(field) => own_cell(alloc, &told.server, field),
         Field::ClientCertificate(field) => own_cell(alloc, &told.client, field),
-        Field::Print(field) => print_cell(alloc, facts, summary.protocol, &mut told.kept, field),
+        Field::Print(field) => print_cell(
+            alloc,
+            handshake,
+            summary.protocol,
+            &mut told.kept,
+            field,
+        ),
         Field::Sent(side, field) => sent_cell(alloc, summary, *side, field),
         Field::Carried(field) => carried_cell(alloc, summary.tunnels, field),
     }
@@ -294,4 +301,23 @@ pub fn row_of<'a>(
         }
     }
     Ok(Row { cells })
+}
+
+/// The same as an object of JSON, in which what is missing is left out. Each field is written as soon as it is told.
+pub fn json_line<'a>(
+    alloc: Global,
+    suites: &'a Suites,
+    places: &[usize],
+    summary: &'a Summary<'a>,
+) -> Result<Vec<u8>, AllocError> {
+    let mut told = Told::new(suites, summary);
+    let mut line = Object::new(alloc, LINE_LEN)?;
+    for place in places {
+        if let Some((name, _, field)) = FIELDS.get(*place) {
+            if let Some(cell) = cell_of(alloc, &mut told, field)? {
+                line.add(name, &cell)?;
+            }
+        }
+    }
+    line.into_bytes()
 }

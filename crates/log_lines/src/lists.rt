@@ -7,7 +7,7 @@ use serde::{Described, Serialize, Serializer};
 use ssl2_hello::CipherSpec;
 use tls_base::{NamedGroup, TlsCipherSuiteID, TlsVersion};
 use tls_ext::{ExtensionType, KeyShareEntry};
-use tls_facts::CertificateFacts;
+use tls_summary::CertificateSummary;
 use tunnels::Tunnel;
 
 /// A list of texts, by what they are made of.
@@ -32,7 +32,7 @@ pub enum Texts<'a> {
     /// CipherSpecs of SSL 2.0, by these names.
     Specs(&'a Suites, Items<'a, CipherSpec>),
     /// Certificates, by their fingerprints.
-    Prints(&'a [CertificateFacts]),
+    Prints(&'a [CertificateSummary]),
 }
 
 /// Whether none of these items is read.
@@ -210,7 +210,7 @@ pub enum Numbers<'a> {
     /// Codes of one byte.
     Codes(&'a [u8]),
     /// Certificates, by their lengths.
-    Lengths(&'a [CertificateFacts]),
+    Lengths(&'a [CertificateSummary]),
     /// Tunnels, by their identifiers; 0 of one that has none.
     Ids(&'a [Tunnel]),
 }

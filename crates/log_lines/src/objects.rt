@@ -182,21 +182,76 @@ impl Serializer for Json {
     }
 }
 
+/// What failed for memory alone: a line has no value of another kind.
+fn in_memory<T: Drop>(written: Result<T, Refusal>) -> Result<T, AllocError> {
+    match written {
+        Ok(value) => Ok(value),
+        Err(_) => Err(AllocError),
+    }
+}
+
+impl Json {
+    /// One that wrote nothing, in which so many bytes have room at first.
+    fn new(alloc: Global, room: usize) -> Result<Json, AllocError> {
+        Ok(Json {
+            out: Writer::new(Vec::with_capacity(alloc, room)?),
+            room: String::new(alloc),
+        })
+    }
+
+    /// What was written.
+    fn into_bytes(self) -> Vec<u8> {
+        let Json { out, .. } = self;
+        out.into_inner()
+    }
+}
+
+/// An object whose fields are added one by one.
+#[derive(Drop)]
+pub struct Object {
+    json: Json,
+}
+
+impl Object {
+    /// One without fields, in which so many bytes have room at first.
+    pub fn new(alloc: Global, room: usize) -> Result<Object, AllocError> {
+        let mut json = Json::new(alloc, room)?;
+        in_memory(json.begin_map(None))?;
+        Ok(Object { json })
+    }
+
+    /// Adds a field.
+    pub fn add<T: Serialize>(&mut self, name: &str, value: &T) -> Result<(), AllocError> {
+        in_memory(self.json.key(name))?;
+        in_memory(value.serialize(&mut self.json))
+    }
+
+    /// The object as JSON.
+    pub fn into_bytes(self) -> Result<Vec<u8>, AllocError> {
+        let mut json = self.json;
+        in_memory(json.end_map())?;
+        Ok(json.into_bytes())
+    }
+}
+
 /// A value as JSON, in which so many bytes have room at first.
+pub fn json_bytes<T: Serialize>(
+    alloc: Global,
+    value: &T,
+    room: usize,
+) -> Result<Vec<u8>, AllocError> {
+    let mut json = Json::new(alloc, room)?;
+    in_memory(value.serialize(&mut json))?;
+    Ok(json.into_bytes())
+}
+
+/// The same as text.
 pub fn json_text<T: Serialize>(
     alloc: Global,
     value: &T,
     room: usize,
 ) -> Result<String, AllocError> {
-    let mut json = Json {
-        out: Writer::new(Vec::with_capacity(alloc, room)?),
-        room: String::new(alloc),
-    };
-    if value.serialize(&mut json).is_err() {
-        return Err(AllocError);
-    }
-    let Json { out, .. } = json;
-    match String::from_utf8(out.into_inner()) {
+    match String::from_utf8(json_bytes(alloc, value, room)?) {
         Ok(text) => Ok(text),
         Err(_) => Err(AllocError),
     }

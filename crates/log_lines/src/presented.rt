@@ -9,8 +9,8 @@ use crate::summary::Summary;
 use crate::text::{hexadecimal, name_cell, some_mark, some_text};
 use sha2::{Digest, Sha256};
 use std::alloc::{AllocError, Global};
-use tls_facts::certificate_fault;
 use tls_flow::Direction;
+use tls_summary::certificate_fault;
 use x509::Certificate;
 
 /// Why a certificate isn't read, where it isn't.

@@ -5,8 +5,8 @@ use crate::text::{Text, some_text};
 use connections::Protocol;
 use layouts::Items;
 use std::alloc::{AllocError, Global};
-use tls_facts::Facts;
 use tls_fingerprints::{ClientHelloParts, ServerHelloParts, Transport, ja3_digest};
+use tls_summary::HandshakeSummary;
 
 fn slice_of(bytes: &Option<Vec<u8>>) -> Option<&[u8]> {
     match bytes {
@@ -16,11 +16,11 @@ fn slice_of(bytes: &Option<Vec<u8>>) -> Option<&[u8]> {
 }
 
 /// What the client's fingerprints are made of. A hello in SSL 2.0's form has none.
-fn client_parts(facts: &Facts) -> Option<ClientHelloParts<'_>> {
-    if facts.ssl2_cipher_specs.is_some() {
+fn client_parts(handshake: &HandshakeSummary) -> Option<ClientHelloParts<'_>> {
+    if handshake.ssl2_cipher_specs.is_some() {
         return None;
     }
-    match &facts.client {
+    match &handshake.client {
         Some(client) => Some(ClientHelloParts {
             version: client.version,
             ciphers: Items::new(client.ciphers.as_slice()),
@@ -31,8 +31,8 @@ fn client_parts(facts: &Facts) -> Option<ClientHelloParts<'_>> {
 }
 
 /// The same of the server's.
-fn server_parts(facts: &Facts) -> Option<ServerHelloParts<'_>> {
-    match &facts.server {
+fn server_parts(handshake: &HandshakeSummary) -> Option<ServerHelloParts<'_>> {
+    match &handshake.server {
         Some(server) => Some(ServerHelloParts {
             version: server.version,
             cipher: server.cipher,
@@ -70,13 +70,13 @@ impl KeptTexts {
 /// The text of JA3, or that which was kept; `None` where there was no ClientHello.
 fn ja3_text(
     alloc: Global,
-    facts: &Facts,
+    handshake: &HandshakeSummary,
     kept: &mut KeptTexts,
 ) -> Result<Option<String>, AllocError> {
     if kept.ja3.is_some() {
         return Ok(kept.ja3.take());
     }
-    match client_parts(facts) {
+    match client_parts(handshake) {
         Some(client) => Ok(Some(client.ja3_text(alloc)?)),
         None => Ok(None),
     }
@@ -85,13 +85,13 @@ fn ja3_text(
 /// The same of JA3S, and of the ServerHello.
 fn ja3s_text(
     alloc: Global,
-    facts: &Facts,
+    handshake: &HandshakeSummary,
     kept: &mut KeptTexts,
 ) -> Result<Option<String>, AllocError> {
     if kept.ja3s.is_some() {
         return Ok(kept.ja3s.take());
     }
-    match server_parts(facts) {
+    match server_parts(handshake) {
         Some(server) => Ok(Some(server.ja3s_text(alloc)?)),
         None => Ok(None),
     }
@@ -119,10 +119,10 @@ fn text_cell<'a>(text: Option<String>) -> Option<Cell<'a>> {
 /// JA4; nothing where there was no ClientHello.
 fn ja4_cell<'a>(
     alloc: Global,
-    facts: &'a Facts,
+    handshake: &'a HandshakeSummary,
     transport: Transport,
 ) -> Result<Option<Cell<'a>>, AllocError> {
-    match client_parts(facts) {
+    match client_parts(handshake) {
         Some(client) => some_text(client.ja4(alloc, transport)),
         None => Ok(None),
     }
@@ -131,22 +131,22 @@ fn ja4_cell<'a>(
 /// A fingerprint; nothing where there was no such hello.
 pub fn print_cell<'a>(
     alloc: Global,
-    facts: &'a Facts,
+    handshake: &'a HandshakeSummary,
     protocol: Protocol,
     kept: &mut KeptTexts,
     field: &Print,
 ) -> Result<Option<Cell<'a>>, AllocError> {
     match field {
         Print::Ja3 => {
-            let text = ja3_text(alloc, facts, kept)?;
+            let text = ja3_text(alloc, handshake, kept)?;
             digest_cell(alloc, text, &mut kept.ja3)
         }
-        Print::Ja3Text => Ok(text_cell(ja3_text(alloc, facts, kept)?)),
+        Print::Ja3Text => Ok(text_cell(ja3_text(alloc, handshake, kept)?)),
         Print::Ja3s => {
-            let text = ja3s_text(alloc, facts, kept)?;
+            let text = ja3s_text(alloc, handshake, kept)?;
             digest_cell(alloc, text, &mut kept.ja3s)
         }
-        Print::Ja3sText => Ok(text_cell(ja3s_text(alloc, facts, kept)?)),
-        Print::Ja4 => ja4_cell(alloc, facts, transport(protocol)),
+        Print::Ja3sText => Ok(text_cell(ja3s_text(alloc, handshake, kept)?)),
+        Print::Ja4 => ja4_cell(alloc, handshake, transport(protocol)),
     }
 }

@@ -2,7 +2,7 @@
 use serde::Serialize;
 use std::alloc::{AllocError, Global};
 use std::mem;
-use tls_base::{TlsHandshakeType, TlsMessageAlert};
+use tls_base::{TlsHandshakeType, TlsMessageAlert, TlsRecordType};
 use tls_conversations::Said;
 use tls_flow::{Direction, HandshakeMessage};
 use tls_json::{AlertMessage, ChangeCipherSpec, Chosen, HeartbeatMessage, Message};
@@ -25,7 +25,7 @@ pub enum Body {
 #[derive(Drop)]
 pub struct Word {
     /// The type of its record (RFC 8446, section 5.1).
-    pub content_type: u8,
+    pub content_type: TlsRecordType,
     /// Its name, where it has one.
     pub name: Option<&'static str>,
     /// Its fields; `None` where it has no whole header.
@@ -46,7 +46,7 @@ pub struct Spoken {
 impl Word {
     fn new(
         alloc: Global,
-        content_type: u8,
+        content_type: TlsRecordType,
         name: Option<&'static str>,
         body: Body,
     ) -> Result<Word, AllocError> {
@@ -56,23 +56,31 @@ impl Word {
             body: Some(Box::new(alloc, body)?),
         })
     }
+
+    /// A message that has the name of its record's type.
+    fn alone(alloc: Global, content_type: TlsRecordType, body: Body) -> Result<Word, AllocError> {
+        Word::new(alloc, content_type, content_type.registered_name(), body)
+    }
 }
 
 /// A ChangeCipherSpec (RFC 5246, section 7.1).
 fn change_word(alloc: Global) -> Result<Word, AllocError> {
-    let name = Some("change_cipher_spec");
-    Word::new(alloc, 20, name, Body::Change(ChangeCipherSpec::ONLY))
+    Word::alone(
+        alloc,
+        TlsRecordType::ChangeCipherSpec,
+        Body::Change(ChangeCipherSpec::ONLY),
+    )
 }
 
 fn alert_word(alloc: Global, alert: &TlsMessageAlert) -> Result<Word, AllocError> {
     let alert = AlertMessage::new(alert.severity, alert.code);
-    Word::new(alloc, 21, Some("alert"), Body::Alert(alert))
+    Word::alone(alloc, TlsRecordType::Alert, Body::Alert(alert))
 }
 
 /// A heartbeat (RFC 6520, section 4), by the fragment of its record.
 fn heartbeat_word(alloc: Global, fragment: &[u8]) -> Result<Word, AllocError> {
     let heartbeat = HeartbeatMessage::new(alloc, fragment)?;
-    Word::new(alloc, 24, Some("heartbeat"), Body::Heartbeat(heartbeat))
+    Word::alone(alloc, TlsRecordType::Heartbeat, Body::Heartbeat(heartbeat))
 }
 
 /// The name of a handshake message of TLS, its header first.
@@ -91,7 +99,7 @@ fn handshake_word(
     let name = handshake_name(bytes);
     let Some(message) = message else {
         return Ok(Word {
-            content_type: 22,
+            content_type: TlsRecordType::Handshake,
             name,
             body: None,
         });
@@ -100,7 +108,7 @@ fn handshake_word(
         *chosen = Some(choice);
     }
     let read = Message::of(alloc, *chosen, message)?;
-    Word::new(alloc, 22, name, Body::Handshake(read))
+    Word::new(alloc, TlsRecordType::Handshake, name, Body::Handshake(read))
 }
 
 /// A handshake message of DTLS, and its number; it may be a ServerHello that chooses.
@@ -115,7 +123,7 @@ fn handshake_word_of_datagrams(
     }
     let name = message.msg_type.registered_name();
     let read = Message::of_datagram_message(alloc, *chosen, message_seq, message)?;
-    Word::new(alloc, 22, name, Body::Handshake(read))
+    Word::new(alloc, TlsRecordType::Handshake, name, Body::Handshake(read))
 }
 
 /// The messages that were heard and are kept.

@@ -20,7 +20,7 @@ fn part_cell(
         Part::End(field) => end_cell(alloc, summary, time, field),
         Part::Side => Ok(Some(name_cell(sender_name(spoken.direction)))),
         Part::Place => Ok(Some(Cell::Number(spoken.place))),
-        Part::ContentType => Ok(Some(Cell::Number(u64::from(spoken.word.content_type)))),
+        Part::ContentType => Ok(Some(Cell::Number(u64::from(spoken.word.content_type.0)))),
         Part::Name => Ok(some_name(spoken.word.name)),
         Part::Message => match spoken.word.body.take() {
             Some(body) => Ok(Some(Cell::Message(body))),

@@ -2,8 +2,8 @@
 use crate::cell::{Cell, Row};
 use crate::chains::Presented;
 use crate::columns::{Column, DETAILS, FIELDS, PARTS};
-use crate::line::row_of;
-use crate::objects::{LINE_LEN, json_text};
+use crate::line::{json_line, row_of};
+use crate::objects::{LINE_LEN, json_bytes, json_text};
 use crate::presented::certificate_row;
 use crate::speech::Spoken;
 use crate::spoken::message_row;
@@ -213,16 +213,15 @@ fn field_text(alloc: Global, cell: &Option<Cell<'_>>) -> Result<String, AllocErr
 }
 
 /// A record of comma-separated values, without its line break.
-fn record(alloc: Global, fields: &[String]) -> Result<String, AllocError> {
+fn record(alloc: Global, fields: &[String]) -> Result<Vec<u8>, AllocError> {
     let mut writer = WriterBuilder::new().from_writer(Vec::new(alloc));
     for field in fields {
         in_memory(writer.write_field(field.as_bytes()))?;
     }
     in_memory(writer.end_record())?;
-    let bytes = in_memory(writer.into_inner())?;
-    let mut text = in_memory(String::from_utf8(bytes))?;
-    text.pop();
-    Ok(text)
+    let mut line = in_memory(writer.into_inner())?;
+    line.pop();
+    Ok(line)
 }
 
 /// What stands in a log of Zeek's in front of its lines.
@@ -241,7 +240,7 @@ fn zeek_header(alloc: Global, lines: &Lines, opened: i64) -> Result<String, Allo
 }
 
 /// The line of names in front of comma-separated values.
-fn csv_header(alloc: Global, lines: &Lines) -> Result<String, AllocError> {
+fn csv_header(alloc: Global, lines: &Lines) -> Result<Vec<u8>, AllocError> {
     let names = match lines {
         Lines::Connections(places) => names_of(alloc, FIELDS, places.as_slice())?,
         Lines::Messages(places) => names_of(alloc, PARTS, places.as_slice())?,
@@ -251,7 +250,7 @@ fn csv_header(alloc: Global, lines: &Lines) -> Result<String, AllocError> {
 }
 
 /// A record of comma-separated values, of a row.
-fn csv_line(alloc: Global, row: &Row<'_>) -> Result<String, AllocError> {
+fn csv_line(alloc: Global, row: &Row<'_>) -> Result<Vec<u8>, AllocError> {
     let mut fields = Vec::new(alloc);
     for (_name, cell) in &row.cells {
         add_text(&mut fields, field_text(alloc, cell))?;
@@ -300,68 +299,71 @@ impl Style {
     }
 
     /// What stands in front of all lines, without its last line break, if there is something. The log begins at this time, in seconds since 1970-01-01 00:00 UTC.
-    pub fn header(&self, alloc: Global, opened: i64) -> Result<Option<String>, AllocError> {
+    pub fn header(&self, alloc: Global, opened: i64) -> Result<Option<Vec<u8>>, AllocError> {
         match self.format {
             Format::Json | Format::Suricata => Ok(None),
             Format::Csv => Ok(Some(csv_header(alloc, &self.lines)?)),
-            Format::Zeek => Ok(Some(zeek_header(alloc, &self.lines, opened)?)),
+            Format::Zeek => Ok(Some(zeek_header(alloc, &self.lines, opened)?.into_bytes())),
         }
     }
 
     /// The same of what stands behind all, where the log ends at this time.
-    pub fn footer(&self, alloc: Global, closed: i64) -> Result<Option<String>, AllocError> {
+    pub fn footer(&self, alloc: Global, closed: i64) -> Result<Option<Vec<u8>>, AllocError> {
         match self.format {
-            Format::Zeek => Ok(Some(zeek::footer(alloc, closed)?)),
+            Format::Zeek => Ok(Some(zeek::footer(alloc, closed)?.into_bytes())),
             Format::Json | Format::Csv | Format::Suricata => Ok(None),
         }
     }
 
     /// A line, without its line break.
-    fn text(&self, alloc: Global, row: &Row<'_>) -> Result<String, AllocError> {
+    fn line(&self, alloc: Global, row: &Row<'_>) -> Result<Vec<u8>, AllocError> {
         match self.format {
-            Format::Json | Format::Suricata => json_text(alloc, row, LINE_LEN),
+            Format::Json | Format::Suricata => json_bytes(alloc, row, LINE_LEN),
             Format::Csv => csv_line(alloc, row),
-            Format::Zeek => zeek::line(alloc, row),
+            Format::Zeek => Ok(zeek::line(alloc, row)?.into_bytes()),
         }
     }
 
     /// The line of a connection, with the fields at these places of [`FIELDS`], without its line break.
-    pub fn connection_text(
+    pub fn connection_line(
         &self,
         alloc: Global,
         places: &[usize],
         summary: &Summary<'_>,
-    ) -> Result<String, AllocError> {
-        if matches!(self.format, Format::Suricata) {
-            return suricata::line(alloc, &self.suites, summary);
+    ) -> Result<Vec<u8>, AllocError> {
+        match self.format {
+            Format::Suricata => suricata::line(alloc, &self.suites, summary),
+            Format::Json => json_line(alloc, &self.suites, places, summary),
+            Format::Csv | Format::Zeek => {
+                let row = row_of(alloc, &self.suites, places, summary)?;
+                self.line(alloc, &row)
+            }
         }
-        let row = row_of(alloc, &self.suites, places, summary)?;
-        self.text(alloc, &row)
     }
 
     /// The line of a message that was whole at this time, with the fields at these places of [`PARTS`], without its line break.
-    pub fn message_text(
+    pub fn message_line(
         &self,
         alloc: Global,
         places: &[usize],
         summary: &Summary<'_>,
         time: u64,
         spoken: Spoken,
-    ) -> Result<String, AllocError> {
+    ) -> Result<Vec<u8>, AllocError> {
         let row = message_row(alloc, places, summary, time, spoken)?;
-        self.text(alloc, &row)
+        self.line(alloc, &row)
     }
 
     /// The line of a certificate that came at this time, with the fields at these places of [`DETAILS`], without its line break.
-    pub fn certificate_text(
+    pub fn certificate_line(
         &self,
         alloc: Global,
         places: &[usize],
         summary: &Summary<'_>,
         time: u64,
         presented: &Presented,
-    ) -> Result<String, AllocError> {
+    ) -> Result<Vec<u8>, AllocError> {
         let row = certificate_row(alloc, places, summary, time, presented)?;
-        self.text(alloc, &row)
+        self.line(alloc, &row)
     }
 }

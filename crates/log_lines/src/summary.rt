@@ -1,7 +1,7 @@
 //! What is told of a connection.
 use connections::{Dropped, End, Protocol, Side, Stream, Traffic};
-use tls_facts::Facts;
 use tls_flow::{Outcome, Stop};
+use tls_summary::HandshakeSummary;
 use tunnels::Tunnel;
 
 /// One side of a connection.
@@ -44,7 +44,7 @@ pub struct Summary<'a> {
     /// Who answered.
     pub responder: Party<'a>,
     /// What both sides' messages say.
-    pub facts: &'a Facts,
+    pub handshake: &'a HandshakeSummary,
     /// A letter for each event, as Zeek's ssl_history has it.
     pub history: &'a [u8],
     /// How the handshake stands.

@@ -4,7 +4,7 @@ use crate::columns::{Certified, End, Field, Named, Offer, Print};
 use crate::line::{Told, cell_of, end_cell, microseconds};
 use crate::lists::Texts;
 use crate::names::suricata_version;
-use crate::objects::{LINE_LEN, json_text};
+use crate::objects::{LINE_LEN, json_bytes};
 use crate::suites::Suites;
 use crate::summary::Summary;
 use crate::text::{Text, add_text, hexadecimal, name_cell, name_or_number, some_mark, some_text};
@@ -13,7 +13,7 @@ use connections::Protocol;
 use serde::{Described, Serialize, Serializer};
 use sha1::Sha1;
 use std::alloc::{AllocError, Global};
-use tls_facts::Facts;
+use tls_summary::HandshakeSummary;
 use x509_text::time_text;
 
 /// A field of the object `tls`.
@@ -74,8 +74,8 @@ impl Serialize for Event<'_> {
     }
 }
 
-fn version_cell<'a>(facts: &Facts) -> Option<Cell<'a>> {
-    let version = facts.version()?;
+fn version_cell<'a>(handshake: &HandshakeSummary) -> Option<Cell<'a>> {
+    let version = handshake.version()?;
     let text = name_or_number(suricata_version(version), version.0);
     Some(Cell::Text(text))
 }
@@ -104,8 +104,11 @@ fn serial_cell<'a>(alloc: Global, told: &Told<'_>) -> Result<Option<Cell<'a>>, A
 }
 
 /// The SHA-1 of the certificate.
-fn fingerprint_cell<'a>(alloc: Global, facts: &Facts) -> Result<Option<Cell<'a>>, AllocError> {
-    match &facts.server_certificate {
+fn fingerprint_cell<'a>(
+    alloc: Global,
+    handshake: &HandshakeSummary,
+) -> Result<Option<Cell<'a>>, AllocError> {
+    match &handshake.server_certificate {
         Some(bytes) => {
             let digits = hexadecimal(alloc, &Sha1::digest(bytes.as_slice()))?;
             some_text(with_colons(alloc, digits.as_str()))
@@ -148,8 +151,11 @@ fn print_cell<'a>(
 }
 
 /// The protocol that the server chose, as a list.
-fn chosen_cell<'a>(alloc: Global, facts: &Facts) -> Result<Option<Cell<'a>>, AllocError> {
-    let Some(protocol) = facts.next_protocol() else {
+fn chosen_cell<'a>(
+    alloc: Global,
+    handshake: &HandshakeSummary,
+) -> Result<Option<Cell<'a>>, AllocError> {
+    let Some(protocol) = handshake.next_protocol() else {
         return Ok(None);
     };
     let mut all = Vec::new(alloc);
@@ -166,15 +172,15 @@ fn said_cell<'a>(
     let summary = told.summary;
     match said {
         Said::Same(field) => cell_of(alloc, told, field),
-        Said::Version => Ok(version_cell(summary.facts)),
+        Said::Version => Ok(version_cell(summary.handshake)),
         Said::Resumed => Ok(some_mark(summary.is_resumed)),
         Said::Serial => serial_cell(alloc, told),
-        Said::Fingerprint => fingerprint_cell(alloc, summary.facts),
+        Said::Fingerprint => fingerprint_cell(alloc, summary.handshake),
         Said::NotBefore => date_cell(alloc, told, Certified::NotBefore),
         Said::NotAfter => date_cell(alloc, told, Certified::NotAfter),
         Said::Ja3 => print_cell(alloc, told, Print::Ja3, Print::Ja3Text),
         Said::Ja3s => print_cell(alloc, told, Print::Ja3s, Print::Ja3sText),
-        Said::Chosen => chosen_cell(alloc, summary.facts),
+        Said::Chosen => chosen_cell(alloc, summary.handshake),
     }
 }
 
@@ -244,11 +250,11 @@ pub fn line<'a>(
     alloc: Global,
     suites: &'a Suites,
     summary: &'a Summary<'a>,
-) -> Result<String, AllocError> {
+) -> Result<Vec<u8>, AllocError> {
     let mut told = Told::new(suites, summary);
     let event = Event {
         front: front_row(alloc, summary)?,
         tls: tls_row(alloc, &mut told)?,
     };
-    json_text(alloc, &event, LINE_LEN)
+    json_bytes(alloc, &event, LINE_LEN)
 }

@@ -143,10 +143,20 @@ fn serialize_code<S: Serializer>(code: u16, out: &mut S) -> Result<(), S::Error>
     }
 }
 
+/// Sends a signature scheme.
+fn serialize_scheme<S: Serializer>(scheme: u16, out: &mut S) -> Result<(), S::Error> {
+    match SignatureScheme(scheme).registered_name() {
+        Some(name) => out.str(name),
+        None => serialize_code(scheme, out),
+    }
+}
+
 impl Serialize for Text<'_> {
     fn serialize<S: Serializer>(&self, out: &mut S) -> Result<(), S::Error> {
-        if let Text::Code(code) = self {
-            return serialize_code(*code, out);
+        match self {
+            Text::Code(code) => return serialize_code(*code, out),
+            Text::Scheme(scheme) => return serialize_scheme(*scheme, out),
+            _ => {}
         }
         match self.as_plain() {
             Some(text) => out.str(text),

@@ -151,43 +151,43 @@ front_waits (Pcap format link) b = pcap_waits format link (reading (pcap.packet 
 front_waits (Blocks s) b = block_waits s (reading (next_block s.order) b)
 
 -- What follows is an end of the bytes.
-abbrev pub Ends : Bytes → Said → Type 0
-Ends b (Ok (Captured p r, s)) = EndsWith b r
-Ends b (Ok (Other r, s)) = EndsWith b r
-Ends b (Ok (Wait, s)) = ⊤
-Ends b (Err e) = ⊤
+abbrev pub FiveTuple : Bytes → Said → Type 0
+FiveTuple b (Ok (Captured p r, s)) = EndsWith b r
+FiveTuple b (Ok (Other r, s)) = EndsWith b r
+FiveTuple b (Ok (Wait, s)) = ⊤
+FiveTuple b (Err e) = ⊤
 
-header_ends : (b : Bytes) (a : Answer pcap.Header) → LeavesEnd b a → Ends b (header_front a)
+header_ends : (b : Bytes) (a : Answer pcap.Header) → LeavesEnd b a → FiveTuple b (header_front a)
 header_ends b (Ok v) end = end
 header_ends b (Err (Broken k)) end = tt
 header_ends b (Err (Lacks n)) end = tt
 
-form_ends_picked : (t : Bool) (b : Bytes) → Ends b
+form_ends_picked : (t : Bool) (b : Bytes) → FiveTuple b
     (cond t (Ok (Other b, Blocks beginning)) (header_front (reading pcap.header b)))
 form_ends_picked true b = ([], refl)
 form_ends_picked false b = header_ends b (reading pcap.header b) (leaves pcap.header header_stable b)
 
-form_ends : (b : Bytes) (a : Answer ℕ) → Ends b (form_front a b)
+form_ends : (b : Bytes) (a : Answer ℕ) → FiveTuple b (form_front a b)
 form_ends b (Ok v) = form_ends_picked (v.0 == SECTION) b
 form_ends b (Err k) = tt
 
 pcap_ends : (format : pcap.Format) (link : ℕ) (b : Bytes) (a : Answer pcap.Packet) → LeavesEnd b a
-    → Ends b (pcap_front format link a)
+    → FiveTuple b (pcap_front format link a)
 pcap_ends format link b (Ok v) end = end
 pcap_ends format link b (Err (Broken k)) end = tt
 pcap_ends format link b (Err (Lacks n)) end = tt
 
-heard_ends : (b r : Bytes) (h : Heard) → EndsWith b r → Ends b (heard_front r h)
+heard_ends : (b r : Bytes) (h : Heard) → EndsWith b r → FiveTuple b (heard_front r h)
 heard_ends b r (Ok (Some p, s)) end = end
 heard_ends b r (Ok (None, s)) end = end
 heard_ends b r (Err e) end = tt
 
-block_ends : (s : Section) (b : Bytes) (a : Answer Block) → LeavesEnd b a → Ends b (block_front s a)
+block_ends : (s : Section) (b : Bytes) (a : Answer Block) → LeavesEnd b a → FiveTuple b (block_front s a)
 block_ends s b (Ok v) end = heard_ends b v.1 (hear s v.0) end
 block_ends s b (Err (Broken k)) end = tt
 block_ends s b (Err (Lacks n)) end = tt
 
-pub front_ends : (s : State) (b : Bytes) → Ends b (front s b)
+pub front_ends : (s : State) (b : Bytes) → FiveTuple b (front s b)
 front_ends Unknown b = form_ends b (reading (number 4) b)
 front_ends (Pcap format link) b =
     pcap_ends format link b (reading (pcap.packet format) b) (leaves (pcap.packet format) (packet_stable format) b)

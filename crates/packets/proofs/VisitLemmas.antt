@@ -14,7 +14,7 @@ use Rattle.packets.specs.declared.reader.CaptureError.{CaptureError}
 use Rattle.packets.specs.declared.reader.CaptureError.TheVariants as error
 use Rattle.packets.specs.declared.visit.VisitError.{VisitError}
 use Rattle.packets.specs.declared.visit.VisitError.TheVariants as visit
-use Rattle.packets.proofs.FrontLemmas.{Ends, Waits, front_ends, front_waits, last_bytes}
+use Rattle.packets.proofs.FrontLemmas.{FiveTuple, Waits, front_ends, front_waits, last_bytes}
 use Rattle.packets.proofs.PacketsLemmas.{Stands, stands, one_step}
 
 pub adds_none : (old : Option (List Packet)) → Adds old old []
@@ -283,10 +283,10 @@ read_cause E old now known left (Refused k) (Err (visit.Visitor e)) over is = ab
 
 -- What stands in front is taken off: what is left are the bytes that follow it.
 taken_by : (a : Said) (old new : Option (List Packet)) (s : State) (b : Bytes) (p : Packet) (r : Bytes) (t : State)
-    (b' : Bytes) → Ends b a → a ≡ Ok (Captured p r, t) → Adds old new (p ∷ []) → b' ≡ drop (length b - length r) b
+    (b' : Bytes) → FiveTuple b a → a ≡ Ok (Captured p r, t) → Adds old new (p ∷ []) → b' ≡ drop (length b - length r) b
     → Went a old new s t b b' true
 taken_by a old new s b p r t b' ends e adds is =
-    subst (λ z. Went z old new s t b b' true) (sym e) (adds, refl, is ∙ last_bytes b r (subst (Ends b) e ends))
+    subst (λ z. Went z old new s t b b' true) (sym e) (adds, refl, is ∙ last_bytes b r (subst (FiveTuple b) e ends))
 
 pub packet_taken : (old new : Option (List Packet)) (s : State) (b : Bytes) (p : Packet) (r : Bytes) (t : State)
     (b' : Bytes) → front s b ≡ Ok (Captured p r, t) → Adds old new (p ∷ []) → b' ≡ drop (length b - length r) b
@@ -297,7 +297,7 @@ pub other_taken : (old : Option (List Packet)) (s : State) (b r : Bytes) (t : St
     → front s b ≡ Ok (Other r, t) → b' ≡ drop (length b - length r) b → Went (front s b) old old s t b b' true
 other_taken old s b r t b' e is =
     subst (λ z. Went z old old s t b b' true) (sym e)
-    (adds_none old, refl, is ∙ last_bytes b r (subst (Ends b) e (front_ends s b)))
+    (adds_none old, refl, is ∙ last_bytes b r (subst (FiveTuple b) e (front_ends s b)))
 
 -- the same, as a run meets them
 pub on_if_went : (old mid new : Option (List Packet)) (known left : Option Bytes) (s s' : State) (b b' : Bytes)

@@ -349,7 +349,7 @@ longest stream K out h s = record {
       let e = subst IsSome none some in absurd cc);
 }
 
--- Segments, one after another.
+-- TcpReassembler, one after another.
 covered_there : (first : ℕ) (xs : List Segment) (s : Segment) (i : ℕ)
     → IsCovered first xs i ⊎ IsOver (place_of first s) s.1.now i → IsCovered first (xs ++ s ∷ []) i
 covered_there first [] s i (inl h) = absurd h

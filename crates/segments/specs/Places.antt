@@ -13,7 +13,7 @@ over [] ys = ys
 over (c ∷ cs) [] = []
 over (c ∷ cs) (y ∷ ys) = standing c y ∷ over cs ys
 
--- What a Segments keeps: the first place behind its front is empty, and no place is further behind it than the limit.
+-- What a TcpReassembler keeps: the first place behind its front is empty, and no place is further behind it than the limit.
 pub record IsSound (start taken limit : ℕ) (front : Bytes) (window : Cells) : Type 0 where
   pub start_in : start ≤ length front
   pub first_empty : run window ≡ []

@@ -1,15 +1,15 @@
 //! One direction of a TCP connection (RFC 9293, section 3.4), put together from segments that come in any order.
 //!
-//! [`Segments`] holds what came and was not yet handed out.
+//! [`TcpReassembler`] holds what came and was not yet handed out.
 //!
-//! - [`Segments::new`] takes the sequence number of the first byte: one more than the SYN's, or, where the SYN wasn't captured,
+//! - [`TcpReassembler::new`] takes the sequence number of the first byte: one more than the SYN's, or, where the SYN wasn't captured,
 //!   the first segment's own.
-//! - [`Segments::segment`] takes a segment by its sequence number, in the circle of 2^32, and [`Segments::put`] takes bytes by their
+//! - [`TcpReassembler::segment`] takes a segment by its sequence number, in the circle of 2^32, and [`TcpReassembler::put`] takes bytes by their
 //!   place in the stream. Where bytes come twice, the first stand.
-//! - [`Segments::available`] is what comes next, up to the first byte that is missing, and [`Segments::take`] hands it out.
-//! - [`Segments::held_behind`] tells how many bytes wait behind the first that is missing. A caller that no longer waits for it
-//!   takes what is available, and calls [`Segments::skip`], which tells how many bytes were missed.
-//!   Where more bytes than the limit were lost, none can be held behind them: a new [`Segments`] begins at the next segment.
+//! - [`TcpReassembler::available`] is what comes next, up to the first byte that is missing, and [`TcpReassembler::take`] hands it out.
+//! - [`TcpReassembler::held_behind`] tells how many bytes wait behind the first that is missing. A caller that no longer waits for it
+//!   takes what is available, and calls [`TcpReassembler::skip`], which tells how many bytes were missed.
+//!   Where more bytes than the limit were lost, none can be held behind them: a new [`TcpReassembler`] begins at the next segment.
 //!
 //! [`reassemble`] does it for a list of segments, [`replay`] for segments and takes in any order. [`laws`] has what stands of
 //! streams of any length.
@@ -20,10 +20,10 @@
 //! bytes, and each byte that waited once more as it is put in order. Bytes are copied, compared and counted a page at a time: a page
 //! is looked up once for all of its places, up to three times as bytes are put into it, by the logarithm of how many pages there are. Where
 //! some bytes of a page stood before, the others are put between them one by one. Nothing else is searched, in whatever order segments
-//! come. A gap that is counted by [`Segments::missing`] or skipped takes a look-up for each of its places.
+//! come. A gap that is counted by [`TcpReassembler::missing`] or skipped takes a look-up for each of its places.
 //!
 //! Behind the first byte that is missing, memory grows with what came, and not with how far ahead it is: the first byte in a page
-//! takes the page, of 520 bytes, and its entry in a tree. Where all places wait that the limit of [`Segments::new`] lets, that is
+//! takes the page, of 520 bytes, and its entry in a tree. Where all places wait that the limit of [`TcpReassembler::new`] lets, that is
 //! little more than 2 bytes for each byte of the limit. None is kept once nothing waits. What is available is the caller's to hand
 //! out.
 #![tactic(auto)]
@@ -33,11 +33,11 @@ mod marks;
 mod page;
 mod pages;
 mod places;
-mod segments;
+mod reassembler;
 mod steps;
 mod whole;
 mod window;
 
-pub use segments::{SegmentError, Segments};
+pub use reassembler::{SegmentError, TcpReassembler};
 pub use steps::{Step, replay};
 pub use whole::reassemble;

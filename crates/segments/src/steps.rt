@@ -2,7 +2,7 @@
 ghost use Rattle.std.specs.Prelude.{◌≡◌, ◌++◌, [], IfOk, OnOk};
 ghost use Rattle.segments.specs.Steps.{IsReplayed, handed, stepped, told};
 
-use crate::segments::{SegmentError, Segments};
+use crate::reassembler::{SegmentError, TcpReassembler};
 use std::alloc::Global;
 
 /// One call on a stream.
@@ -15,7 +15,11 @@ pub enum Step<'a> {
 }
 
 /// Takes one step; what it hands out is put behind `out`.
-fn take_step(stream: &mut Segments, step: &Step, out: &mut Vec<u8>) -> Result<(), SegmentError>
+fn take_step(
+    stream: &mut TcpReassembler,
+    step: &Step,
+    out: &mut Vec<u8>,
+) -> Result<(), SegmentError>
     ensures stream { OnOk result (stream.new ≡ stepped step.now stream.old) }
     ensures out { OnOk result (out.new.items ≡ out.old.items ++ told step.now stream.old) }
 {
@@ -35,7 +39,7 @@ fn take_step(stream: &mut Segments, step: &Step, out: &mut Vec<u8>) -> Result<()
 ///
 /// The stream may have any length below 2^62; each segment begins less than 2^31 from the first byte that is missing as it comes.
 ///
-/// - `TooMuch` where [`Segments::segment`] refuses a segment so.
+/// - `TooMuch` where [`TcpReassembler::segment`] refuses a segment so.
 /// - `OutOfMemory` where memory ran out.
 pub fn replay(
     alloc: Global,
@@ -46,7 +50,7 @@ pub fn replay(
     ensures front { IfOk result (λ r. IsReplayed first_place steps.now r.0.items r.1.items) }
     ensures told { IfOk result (λ r. r.0.items ≡ handed steps.now record { first = first_place; limit = limit; taken = 0; cells = [] }) }
 {
-    let mut stream = Segments::new(alloc, first_place, limit);
+    let mut stream = TcpReassembler::new(alloc, first_place, limit);
     let mut out = Vec::new(alloc);
     for step in steps {
         take_step(&mut stream, step, &mut out)?;

@@ -1,8 +1,20 @@
--- The names that IANA's registries have for numbers, without the mark that a number is reserved: of handshake types, extensions, alerts and
--- groups. The code has each beside its constant, in one row; this is a second table, written independently, so that a wrong name is refused. The
+-- The names that IANA's registries have for numbers, without the mark that a number is reserved: of content types, handshake types, extensions,
+-- alerts and groups. The code has each beside its constant, in one row; this is a second table, written independently, so that a wrong name is refused. The
 -- names of signature schemes are those of their constants (Constants).
 use Rattle.std.specs.Prelude.{ℕ, List, [], ◌∷◌, codes}
 use Rattle.tls_base.specs.Names.{Text}
+
+-- TLS ContentType: RFC 8446, section 11, with RFC 6520, section 7, RFC 9146, section 10, and RFC 9147, section 14.
+abbrev pub registered_content_types : List (ℕ × Text)
+registered_content_types =
+    (20, codes "change_cipher_spec")
+    ∷ (21, codes "alert")
+    ∷ (22, codes "handshake")
+    ∷ (23, codes "application_data")
+    ∷ (24, codes "heartbeat")
+    ∷ (25, codes "tls12_cid")
+    ∷ (26, codes "ACK")
+    ∷ []
 
 -- TLS HandshakeType: RFC 8446, section 11, with those of earlier versions, of DTLS (RFC 6347; RFC 9147), and of extensions.
 abbrev pub registered_handshake_types : List (ℕ × Text)

@@ -2,10 +2,12 @@
 ghost use Rattle.std.specs.Prelude.{Some, codes, ◌≡◌};
 ghost use Rattle.layouts.specs.Layout.{number};
 ghost use Rattle.layouts.specs.Answers.{Gives};
-ghost use Rattle.tls_base.specs.Names.{name};
+ghost use Rattle.std.specs.Option.{option_map};
+ghost use Rattle.tls_base.specs.Names.{look_up, name};
+ghost use Rattle.tls_base.specs.Registered.{registered_content_types};
 ghost use Rattle.tls_base.specs.Constants.{content_types};
 
-use crate::name::{names, write_name};
+use crate::name::{find_name, names, registered, write_name};
 use layouts::{IResult, number1};
 use std::fmt;
 
@@ -29,6 +31,13 @@ impl TlsRecordType {
     /// The heartbeat of RFC 6520, section 3.
     pub const Heartbeat: TlsRecordType = TlsRecordType(24);
 
+    /// The name that IANA's registry of content types has for the number; `None` where it has none.
+    pub fn registered_name(self) -> Option<&'static str>
+        ensures { option_map (λ t. t.now) result ≡ look_up registered_content_types self.0 }
+    {
+        find_name(REGISTERED, self.0 as u16)
+    }
+
     /// Reads 1 byte. `Incomplete(1)` where there is none.
     pub fn parse(i: &[u8]) -> IResult<&[u8], Self>
         ensures { Gives (λ v. v.0) (number 1) i.now result }
@@ -38,10 +47,27 @@ impl TlsRecordType {
     }
 }
 
+/// The registry of content types: a row for each number that has a constant or a name there, in the order of the numbers.
+macro_rules! rows {
+    ($column:ident) => {
+        $column! {
+            TlsRecordType:
+            ChangeCipherSpec = "change_cipher_spec";
+            Alert = "alert";
+            Handshake = "handshake";
+            ApplicationData = "application_data";
+            Heartbeat = "heartbeat";
+            25 = "tls12_cid"; // RFC 9146, section 4
+            26 = "ACK"; // RFC 9147, section 7
+        }
+    };
+}
+
 /// The constants, each with its number and its name.
-static NAMES: &[(u16, &str)] = names!(
-    TlsRecordType: ChangeCipherSpec, Alert, Handshake, ApplicationData, Heartbeat
-);
+static NAMES: &[(u16, &str)] = rows!(names);
+
+/// The names of the registry, each behind its number.
+static REGISTERED: &[(u16, &str)] = rows!(registered);
 
 impl fmt::Display for TlsRecordType {
     ghost output = { λ v. Some (name (codes "TlsRecordType") content_types v.0) };

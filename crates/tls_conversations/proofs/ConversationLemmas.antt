@@ -41,8 +41,8 @@ use Rattle.tls_words.proofs.MachineLemmas.{run_on}
 use Rattle.tls_flow.specs.Steps.{follow}
 use Rattle.tls_flow.specs.Table.{outcome_at}
 use Rattle.tls_flow.specs.declared.event.Event.{Event}
-use Rattle.tls_flow.specs.declared.letter.Direction.{Direction as Side}
-use Rattle.tls_flow.specs.declared.letter.Direction.TheVariants.{ToServer, FromServer}
+use Rattle.tls_flow.specs.declared.symbol.Direction.{Direction as Side}
+use Rattle.tls_flow.specs.declared.symbol.Direction.TheVariants.{ToServer, FromServer}
 use Rattle.tls_flow.proofs.FlowLemmas.{told_of_flow}
 use Rattle.tls_conversations.specs.Conversations.{
   Hears,
@@ -116,8 +116,8 @@ pub behind_is : (c m d : Conversation) (s : Side) (v : Said) (e : Event) (t : Bo
     → IsTakenBy (front_of (ear c s)) c s true d
 behind_is c m d s v e t front is off same tls flow f =
     let tells_same : tells m e ≡ tells c (event_of s v)
-    = ap (λ b. not b && chooses_tls13 e.letter.kind e.letter.direction) tls
-    ∙ ap (λ (x : Event). not c.is_tls13 && chooses_tls13 x.letter.kind x.letter.direction) is in
+    = ap (λ b. not b && chooses_tls13 e.symbol.kind e.symbol.direction) tls
+    ∙ ap (λ (x : Event). not c.is_tls13 && chooses_tls13 x.symbol.kind x.symbol.direction) is in
     let told : (r : Side) → IsToldIf (tells c (event_of s v)) (ear m r) (ear d r)
     = λ r. subst (λ t. IsToldIf t (ear m r) (ear d r)) tells_same (each_told m d e f r) in
     let first : IsTaken (Some v) (ear c s) t (ear m s) = subst (λ o. IsTaken o (ear c s) t (ear m s)) (sym front) off in
@@ -238,7 +238,7 @@ on_done c m n s t on none taken = go (front_of (ear m s)) refl taken
 same_count : (c : Conversation) (e : Event) (a b : Ear) → c.is_tls13 ≡ true → IsToldIf (tells c e) a b
     → says a [] ≡ says b []
 same_count c e a b told same =
-    (subst (λ t. IsToldIf t a b) (ap (λ x. not x && chooses_tls13 e.letter.kind e.letter.direction) told) same) []
+    (subst (λ t. IsToldIf t a b) (ap (λ x. not x && chooses_tls13 e.symbol.kind e.symbol.direction) told) same) []
 
 pub fewer : (m n : Conversation) (s : Side) (t : Bool) → m.is_tls13 ≡ true → t ≡ true
     → IsTakenBy (front_of (ear m s)) m s t n

@@ -3,12 +3,12 @@ use Rattle.std.specs.Prelude.{◌≡◌, ℕ, Bool, true, false, not, ◌&&◌, 
 use Rattle.std.specs.Borrow.{Bor}
 use Rattle.layouts.specs.Bytes.{Bytes}
 use Rattle.tls_stream.specs.Item.{Event as Said}
-use Rattle.tls_flow.specs.Letters.{letters_of}
+use Rattle.tls_flow.specs.Symbols.{symbols_of}
 use Rattle.tls_flow.specs.Conversations.{IsOutcome}
 use Rattle.tls_flow.specs.Steps.{follow, silence}
 use Rattle.tls_flow.specs.declared.event.Event.{Event}
-use Rattle.tls_flow.specs.declared.letter.Direction.{Direction as Side}
-use Rattle.tls_flow.specs.declared.letter.Direction.TheVariants.{ToServer, FromServer}
+use Rattle.tls_flow.specs.declared.symbol.Direction.{Direction as Side}
+use Rattle.tls_flow.specs.declared.symbol.Direction.TheVariants.{ToServer, FromServer}
 use Rattle.tls_flow.specs.declared.state.Outcome.{Outcome}
 use Rattle.tls_conversations.specs.Events.{chooses_tls13, event_of}
 use Rattle.tls_conversations.specs.Ears.{IsFed, IsFirst, IsReady, IsSilent, SaysAs, says, told}
@@ -32,7 +32,7 @@ pub record IsBegun (limit : ℕ) (c : Conversation) : Type 0 where
 
 -- The event by which both sides come to know that TLS 1.3 is spoken: the first that chooses it.
 abbrev pub tells : Conversation → Event → Bool
-tells c e = not c.is_tls13 && chooses_tls13 e.letter.kind e.letter.direction
+tells c e = not c.is_tls13 && chooses_tls13 e.symbol.kind e.symbol.direction
 
 abbrev pub IsToldIf : Bool → Ear → Ear → Type 0
 IsToldIf true e f = SaysAs (told e) f
@@ -91,7 +91,7 @@ views ps = map (λ p. (p.0, p.1.now)) ps
 
 -- The outcome of such a conversation.
 abbrev pub IsOutcomeOf : Outcome → ℕ → List (Side × Bytes) → Type 0
-IsOutcomeOf o limit ps = (es : List Event) × AreEvents limit ps es × IsOutcome o (letters_of es)
+IsOutcomeOf o limit ps = (es : List Event) × AreEvents limit ps es × IsOutcome o (symbols_of es)
 
 -- What stands in front of a side is taken off.
 abbrev pub IsTakenBy : Option Said → Conversation → Side → Bool → Conversation → Type 0

@@ -3,23 +3,23 @@ use Rattle.std.specs.Prelude.{Bool, true, false, Option, Some, None}
 use Rattle.tls_stream.specs.Item.{Event as Said, Handshake, ChangeCipherSpec, Alert, Heartbeat, ApplicationData, Encrypted, Failed, view_event}
 use Rattle.dtls_stream.specs.Messages as datagrams
 use Rattle.tls_base.specs.Alert as alerts
-use Rattle.tls_flow.specs.Letters.{letter}
+use Rattle.tls_flow.specs.Symbols.{symbol}
 use Rattle.tls_flow.specs.Bytes.{HandshakeMessage, datagram_message, kind_of_datagrams, kind_of_message, message_of}
 use Rattle.tls_flow.specs.Messages.{kind_of_alert}
 use Rattle.tls_flow.specs.declared.event.Event.{Event}
-use Rattle.tls_flow.specs.declared.letter.Kind.{Kind}
-use Rattle.tls_flow.specs.declared.letter.Kind.TheVariants as kind
-use Rattle.tls_flow.specs.declared.letter.Direction.{Direction as Side}
-use Rattle.tls_flow.specs.declared.letter.Direction.TheVariants.{ToServer, FromServer}
+use Rattle.tls_flow.specs.declared.symbol.Kind.{Kind}
+use Rattle.tls_flow.specs.declared.symbol.Kind.TheVariants as kind
+use Rattle.tls_flow.specs.declared.symbol.Direction.{Direction as Side}
+use Rattle.tls_flow.specs.declared.symbol.Direction.TheVariants.{ToServer, FromServer}
 use Rattle.tls_conversations.specs.declared.said.Said as rust
 use Rattle.tls_conversations.specs.declared.said.Said.TheVariants as said
 
 -- No alert.
 abbrev pub plain : Kind → Side → Event
-plain k s = record { letter = letter k s; alert = None }
+plain k s = record { symbol = symbol k s; alert = None }
 
 abbrev pub of_alert : alerts.Alert → Side → Event
-of_alert a s = record { letter = letter (kind_of_alert a) s; alert = Some (record { 0 = a.description }) }
+of_alert a s = record { symbol = symbol (kind_of_alert a) s; alert = Some (record { 0 = a.description }) }
 
 -- What is said, as an event, where k is the kind of a handshake message: what is refused isn't known, and application data is encrypted: a
 -- handshake has none in the clear.

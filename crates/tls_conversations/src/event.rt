@@ -90,10 +90,10 @@ pub fn dtls_event(event: &dtls_stream::Event<'_>, side: Direction) -> Option<Eve
 
 /// Whether the server chooses TLS 1.3 by an event: by its ServerHello, or by a HelloRetryRequest.
 pub fn chooses_tls13(event: &Event) -> bool
-    ensures { result ≡ chooses event.now.letter.kind event.now.letter.direction }
+    ensures { result ≡ chooses event.now.symbol.kind event.now.symbol.direction }
 {
     matches!(
-        (event.letter.direction, event.letter.kind),
+        (event.symbol.direction, event.symbol.kind),
         (
             Direction::FromServer,
             Kind::ServerHello13 | Kind::HelloRetryRequest

@@ -33,7 +33,7 @@ use Rattle.std.proofs.lemmas.Option.{slice_get_within, slice_get-get_or}
 use Rattle.layouts.specs.Layout.{Layout, choose}
 use Rattle.layouts.specs.Reading.{reading}
 use Rattle.tls_ext.specs.Extension.{Extension}
-use Rattle.tls_ext.specs.Dispatch.{Contents, row, registered, unknown_content}
+use Rattle.tls_ext.specs.Dispatch.{Contents, row, in_front, registered, unknown_content}
 use Rattle.tls_ext.specs.Kinds.{sides_of, kind_content, IsFound}
 use Rattle.tls_ext.specs.declared.kind.Side.{Side}
 use Rattle.tls_ext.specs.declared.kind.Side.TheVariants.{General, Client, Server}
@@ -45,11 +45,11 @@ use Rattle.tls_ext.specs.declared.kind.TheConstants.{NUMBERS, KINDS}
 rows : List ℕ → List (Kind × Sides) → Contents
 rows [] ks side n = unknown_content side n
 rows (x ∷ ns) [] side n = unknown_content side n
-rows (x ∷ ns) (k ∷ ks) side n = row x (kind_content k.0) (sides_of k.1) (rows ns ks) side n
+rows (x ∷ ns) (k ∷ ks) side n = in_front (row x (kind_content k.0) (sides_of k.1)) (rows ns ks) side n
 
 -- a row of another number is passed over
 row_passed : (x n : ℕ) (content : Layout Extension) (sides : Side → Bool) (others : Contents) (side : Side) → n ≢ x
-    → row x content sides others side n ≡ others side n
+    → in_front (row x content sides) others side n ≡ others side n
 row_passed x n content sides others side other = elim (eqb_tells n x) [
   | inl same ↦ absurd (other same.1)
   | inr e ↦ ap (λ t. choose (t && sides side) content (others side n)) e.0
@@ -57,7 +57,7 @@ row_passed x n content sides others side other = elim (eqb_tells n x) [
 
 -- a row of that number is read by its sides
 row_met : (x n : ℕ) (content : Layout Extension) (sides : Side → Bool) (others : Contents) (side : Side) → n ≡ x
-    → row x content sides others side n ≡ choose (sides side) content (others side n)
+    → in_front (row x content sides) others side n ≡ choose (sides side) content (others side n)
 row_met x n content sides others side same = elim (eqb_tells n x) [
   | inl e ↦ ap (λ t. choose (t && sides side) content (others side n)) e.0
   | inr other ↦ absurd (other.1 same)

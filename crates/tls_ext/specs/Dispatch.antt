@@ -1,6 +1,7 @@
--- Which content an extension of each type has, for each side that reads (RFC 8446, section 4.2). This table is written
--- apart from that of the code: the two are proved to say the same.
-use Rattle.std.specs.Prelude.{ℕ, List, Bool, true, false, bit_and, ◌==◌, ◌&&◌}
+-- Which content an extension of each type has, for each side that reads (RFC 8446, section 4.2). The numbers, contents and
+-- sides of the rows are written apart from those of the code, and the two are proved to say the same. Of the code's table
+-- the kinds alone are taken.
+use Rattle.std.specs.Prelude.{ℕ, List, [], ◌∷◌, Bool, true, false, bit_and, ◌==◌, ◌&&◌}
 use Rattle.tls_base.specs.ExtensionNumbers as extension_number
 use Rattle.layouts.specs.Layout.{Layout, number, list, ◌>>=◌, choose, counted_window}
 use Rattle.tls_ext.specs.Extension as ext
@@ -9,6 +10,12 @@ use Rattle.tls_ext.specs.Content as content
 use Rattle.tls_ext.specs.Content.{opaque_content}
 use Rattle.tls_ext.specs.declared.kind.Side.{Side}
 use Rattle.tls_ext.specs.declared.kind.Side.TheVariants.{General, Client, Server}
+use Rattle.tls_ext.specs.declared.kind.Sides.{Sides}
+use Rattle.tls_ext.specs.declared.kind.ListKind.{ListKind}
+use Rattle.tls_ext.specs.declared.kind.ListKind.TheVariants as list_kind
+use Rattle.tls_ext.specs.declared.kind.Kind.{Kind}
+use Rattle.tls_ext.specs.declared.kind.Kind.TheVariants as kind
+use Rattle.tls_ext.specs.declared.kind.TheConstants.{KINDS}
 
 -- Which sides read a kind: the general one reads any message, the client's a ClientHello, the server's a ServerHello.
 abbrev pub all_sides : Side → Bool
@@ -24,47 +31,71 @@ general_only General = true
 general_only Client = false
 general_only Server = false
 
+-- What is said of a kind: its number, the layout of its content, and the sides that read it.
+pub record Row : Type 1 where
+  pub extension_type : ℕ
+  pub layout : Layout Extension
+  pub read_by : Side → Bool
+
+abbrev pub row : ℕ → Layout Extension → (Side → Bool) → Row
+row n l sides = record { extension_type = n; layout = l; read_by = sides }
+
+abbrev pub list_row : ListKind → Row
+list_row list_kind.SNI = row extension_number.server_name content.server_names all_sides
+list_row list_kind.EllipticCurves = row extension_number.supported_groups content.supported_groups not_server
+list_row list_kind.SignatureAlgorithms =
+    row extension_number.signature_algorithms content.signature_algorithms all_sides
+list_row list_kind.ALPN =
+    row extension_number.application_layer_protocol_negotiation content.application_layer_protocol_negotiation all_sides
+list_row list_kind.SupportedVersions = row extension_number.supported_versions content.supported_versions all_sides
+list_row list_kind.PskExchangeModes =
+    row extension_number.psk_key_exchange_modes content.psk_key_exchange_modes not_server
+list_row list_kind.OidFilters = row extension_number.oid_filters content.oid_filters not_server
+
+abbrev pub kind_row : Kind → Row
+kind_row (kind.List found) = list_row found
+kind_row kind.MaxFragmentLength = row extension_number.max_fragment_length content.max_fragment_length all_sides
+kind_row kind.StatusRequest = row extension_number.status_request content.status_request all_sides
+kind_row kind.EcPointFormats = row extension_number.ec_point_formats content.ec_point_formats all_sides
+kind_row kind.Heartbeat = row extension_number.heartbeat content.heartbeat all_sides
+kind_row kind.SignedCertificateTimestamp =
+    row extension_number.signed_certificate_timestamp content.signed_certificate_timestamp all_sides
+kind_row kind.Padding = row extension_number.padding content.padding not_server
+kind_row kind.EncryptThenMac = row extension_number.encrypt_then_mac content.encrypt_then_mac all_sides
+kind_row kind.ExtendedMasterSecret =
+    row extension_number.extended_master_secret content.extended_master_secret all_sides
+kind_row kind.RecordSizeLimit = row extension_number.record_size_limit content.record_size_limit all_sides
+kind_row kind.SessionTicket = row extension_number.session_ticket content.session_ticket all_sides
+kind_row kind.KeyShareOld = row extension_number.key_share_old content.key_share_old general_only
+kind_row kind.PreSharedKey = row extension_number.pre_shared_key content.pre_shared_key all_sides
+kind_row kind.EarlyData = row extension_number.early_data content.early_data all_sides
+kind_row kind.Cookie = row extension_number.cookie content.cookie all_sides
+kind_row kind.PostHandshakeAuth = row extension_number.post_handshake_auth content.post_handshake_auth not_server
+kind_row kind.KeyShare = row extension_number.key_share content.key_share all_sides
+kind_row kind.NextProtocolNegotiation =
+    row extension_number.next_protocol_negotiation content.next_protocol_negotiation all_sides
+kind_row kind.RenegotiationInfo = row extension_number.renegotiation_info content.renegotiation_info all_sides
+kind_row kind.EncryptedServerName = row extension_number.encrypted_server_name content.encrypted_server_name not_server
+
 -- The content for each number at a side.
 abbrev pub Contents : Type 1
 Contents = Side → ℕ → Layout Extension
 
--- One number and its content, at these sides; then the others.
-abbrev pub row : ℕ → Layout Extension → (Side → Bool) → Contents → Contents
-row kind content sides others side n = choose (n == kind && sides side) content (others side n)
+-- What that row has, for its number at its sides; else what the others have.
+abbrev pub in_front : Row → Contents → Contents
+in_front r others side n = choose (n == r.extension_type && r.read_by side) r.layout (others side n)
 
 -- A number that no row has, or that its row has not at that side.
 abbrev pub unknown_content : Contents
 unknown_content side n = opaque_content (ext.unknown n)
 
+abbrev pub contents : List (Kind × Sides) → Contents
+contents [] = unknown_content
+contents (k ∷ ks) = in_front (kind_row k.0) (contents ks)
+
+-- The rows of all kinds.
 unfoldable pub registered : Contents
-registered =
-    row extension_number.server_name content.server_names all_sides (
-    row extension_number.max_fragment_length content.max_fragment_length all_sides (
-    row extension_number.status_request content.status_request all_sides (
-    row extension_number.supported_groups content.supported_groups not_server (
-    row extension_number.ec_point_formats content.ec_point_formats all_sides (
-    row extension_number.signature_algorithms content.signature_algorithms all_sides (
-    row extension_number.heartbeat content.heartbeat all_sides (
-    row extension_number.application_layer_protocol_negotiation content.application_layer_protocol_negotiation all_sides (
-    row extension_number.signed_certificate_timestamp content.signed_certificate_timestamp all_sides (
-    row extension_number.padding content.padding not_server (
-    row extension_number.encrypt_then_mac content.encrypt_then_mac all_sides (
-    row extension_number.extended_master_secret content.extended_master_secret all_sides (
-    row extension_number.record_size_limit content.record_size_limit all_sides (
-    row extension_number.session_ticket content.session_ticket all_sides (
-    row extension_number.key_share_old content.key_share_old general_only (
-    row extension_number.pre_shared_key content.pre_shared_key all_sides (
-    row extension_number.early_data content.early_data all_sides (
-    row extension_number.supported_versions content.supported_versions all_sides (
-    row extension_number.cookie content.cookie all_sides (
-    row extension_number.psk_key_exchange_modes content.psk_key_exchange_modes not_server (
-    row extension_number.oid_filters content.oid_filters not_server (
-    row extension_number.post_handshake_auth content.post_handshake_auth not_server (
-    row extension_number.key_share content.key_share all_sides (
-    row extension_number.next_protocol_negotiation content.next_protocol_negotiation all_sides (
-    row extension_number.renegotiation_info content.renegotiation_info all_sides (
-    row extension_number.encrypted_server_name content.encrypted_server_name not_server (
-    unknown_content))))))))))))))))))))))))))
+registered = contents KINDS
 
 -- A number that is kept free so that peers ignore what they don't know: each of its bytes ends in the hexadecimal digit
 -- a. These are 256 numbers: RFC 8701, section 2, has the sixteen of them whose two bytes are equal.

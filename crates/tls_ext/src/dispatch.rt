@@ -18,7 +18,7 @@ use tls_base::TlsExtensionType;
 
 /// For each row of the table whose content is a list the arm that reads it.
 macro_rules! read_list {
-    ([$kind:ident $alloc:ident $i:ident] $($number:ident =>
+    ([$kind:ident $alloc:ident $i:ident] $($number:tt =>
         $(list($list:ident, $read:ident))? $(value $v:tt)? $(empty $e:tt)? $(fields $f:tt)?, $sides:ident;)*) => {
         match $kind {
             $($(ListKind::$list => content::$read($alloc, $i),)?)*
@@ -28,7 +28,7 @@ macro_rules! read_list {
 
 /// For each other row the arm that reads it.
 macro_rules! read_other {
-    ([$kind:ident $alloc:ident $i:ident] $($number:ident =>
+    ([$kind:ident $alloc:ident $i:ident] $($number:tt =>
         $(list $l:tt)? $(value($value:ident, $read_value:ident))? $(empty($empty:ident, $read_empty:ident))?
         $(fields($fields:ident, $read_fields:ident))?, $sides:ident;)*) => {
         match $kind {

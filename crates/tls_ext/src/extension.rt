@@ -2,7 +2,7 @@
 ghost use Rattle.std.specs.Prelude.{◌≡◌, IfOk};
 ghost use Rattle.tls_ext.specs.Extension.{view, extension_type};
 
-use crate::kind::rows;
+use crate::kind::{row_type, rows};
 use std::alloc::{AllocError, Global};
 use tls_base::{
     CertificateStatusType, NamedGroup, OutOfMemory, SNIType, TlsCipherSuiteID, TlsExtensionType,
@@ -103,9 +103,9 @@ pub enum TlsExtension<'a> {
 
 /// For each row of the table of kinds the arm of its variant.
 macro_rules! type_of {
-    ([$extension:ident] $($number:ident => $form:ident($kind:ident, $read:ident), $sides:ident;)*) => {
+    ([$extension:ident] $($number:tt => $form:ident($kind:ident, $read:ident), $sides:ident;)*) => {
         match $extension {
-            $(TlsExtension::$kind { .. } => TlsExtensionType::$number,)*
+            $(TlsExtension::$kind { .. } => row_type!($number),)*
             TlsExtension::Grease(_, _) => TlsExtensionType::Grease,
             TlsExtension::Unknown(kind, _) => *kind,
         }
@@ -130,7 +130,7 @@ fn copied<T: Copy>(alloc: Global, items: &Vec<T>) -> Result<Vec<T>, AllocError>
 
 /// For each row of the table of kinds, but for those of several fields, the arm that copies its variant.
 macro_rules! copy_of {
-    ([$extension:ident $alloc:ident] $($number:ident =>
+    ([$extension:ident $alloc:ident] $($number:tt =>
         $(list($list:ident, $l:ident))? $(value($value:ident, $v:ident))? $(empty($empty:ident, $e:ident))?
         $(fields $f:tt)?, $sides:ident;)*) => {
         match $extension {

@@ -95,8 +95,9 @@ impl Sides {
 }
 
 /// The table, told once: it hands its rows to the macro that it is passed, behind the words in brackets. A row has an
-/// extension type, the form and the name of the variant of `TlsExtension`, the call that reads the content, and which sides
-/// read it. The rows stand in the order of the types' numbers.
+/// extension type (the name of its constant, or its number where it has none), the form and the name of the variant of
+/// `TlsExtension`, the call that reads the content, and which sides read it. The rows stand in the order of the types'
+/// numbers.
 macro_rules! rows {
     ($then:ident $($words:tt)*) => {
         $then! {
@@ -134,30 +135,42 @@ macro_rules! rows {
 
 pub(crate) use rows;
 
+/// The extension type of a row.
+macro_rules! row_type {
+    ($number:literal) => {
+        TlsExtensionType($number)
+    };
+    ($name:ident) => {
+        TlsExtensionType::$name
+    };
+}
+
+pub(crate) use row_type;
+
 /// 1 for each row.
 macro_rules! one {
-    ($number:ident) => {
+    ($number:tt) => {
         1
     };
 }
 
 /// How many rows there are.
 macro_rules! count {
-    ([] $($number:ident => $form:ident($kind:ident, $read:ident), $sides:ident;)*) => {
+    ([] $($number:tt => $form:ident($kind:ident, $read:ident), $sides:ident;)*) => {
         0 $(+ one!($number))*
     };
 }
 
 /// The numbers of the rows.
 macro_rules! numbers {
-    ([] $($number:ident => $form:ident($kind:ident, $read:ident), $sides:ident;)*) => {
-        [$(TlsExtensionType::$number.0),*]
+    ([] $($number:tt => $form:ident($kind:ident, $read:ident), $sides:ident;)*) => {
+        [$(row_type!($number).0),*]
     };
 }
 
 /// The kinds of the rows, and the sides.
 macro_rules! kinds {
-    ([] $($number:ident => $(list($list:ident, $l:ident))? $(value($value:ident, $v:ident))?
+    ([] $($number:tt => $(list($list:ident, $l:ident))? $(value($value:ident, $v:ident))?
         $(empty($empty:ident, $e:ident))? $(fields($fields:ident, $f:ident))?, $sides:ident;)*) => {
         [$((
             $(Kind::List(ListKind::$list))? $(Kind::$value)? $(Kind::$empty)? $(Kind::$fields)?,

@@ -26,24 +26,24 @@ use Rattle.std.proofs.Common.{
 }
 use Rattle.tls_words.specs.Words.{run}
 use Rattle.tls_words.proofs.PatternLemmas.{both_and, and_both}
-use Rattle.tls_words.proofs.LetterLemmas.{is_yes, decided, is_in, in_contains, contains_in}
+use Rattle.tls_words.proofs.SymbolLemmas.{is_yes, decided, is_in, in_contains, contains_in}
 use Rattle.tls_words.proofs.MachineLemmas.{run_on}
-use Rattle.tls_flow.specs.Letters.{letter, Word, letters_of}
+use Rattle.tls_flow.specs.Symbols.{symbol, Word, symbols_of}
 use Rattle.tls_flow.specs.Grammar.{is_noise}
 use Rattle.tls_flow.specs.Table.{step, outcome_at, is_waiting, awaited_in}
 use Rattle.tls_flow.specs.Steps.{silence, follow}
 use Rattle.tls_flow.specs.Conversations.{IsAwaited}
 use Rattle.tls_flow.specs.declared.event.Event.{Event}
 use Rattle.tls_flow.specs.declared.flow.Flow.{Flow}
-use Rattle.tls_flow.specs.declared.letter.Letter.{Letter}
+use Rattle.tls_flow.specs.declared.symbol.Symbol.{Symbol}
 use Rattle.tls_flow.specs.declared.state.State.{State}
 use Rattle.tls_flow.specs.declared.state.State.TheVariants as state
 use Rattle.tls_flow.specs.declared.state.Outcome.{Outcome}
 use Rattle.tls_flow.specs.declared.state.Outcome.TheVariants as outcome
 use Rattle.tls_flow.specs.declared.table.TheConstants.{ROWS}
 use Rattle.tls_flow.specs.declared.table.Row.{Row}
-use Rattle.tls_flow.specs.contracts.letter.Kind.{the_type as kinds}
-use Rattle.tls_flow.specs.contracts.letter.Direction.{the_type as directions}
+use Rattle.tls_flow.specs.contracts.symbol.Kind.{the_type as kinds}
+use Rattle.tls_flow.specs.contracts.symbol.Direction.{the_type as directions}
 use Rattle.tls_flow.proofs.NumberLemmas.{
   state_number,
   kind_number,
@@ -51,20 +51,20 @@ use Rattle.tls_flow.proofs.NumberLemmas.{
   same_states,
   same_kinds,
   same_directions,
-  is_letter,
+  is_symbol,
   rows_at,
   next_of,
 }
-use Rattle.tls_flow.proofs.LetterLemmas.{same_kind, same_direction, of_parts, same_letter}
+use Rattle.tls_flow.proofs.SymbolLemmas.{same_kind, same_direction, of_parts, same_symbol}
 use Rattle.tls_flow.proofs.StepLemmas.{
   is_done,
   is_alive,
   waiting_is,
   not_true,
   is_some,
-  has_letter,
+  has_symbol,
   awaits,
-  letter_awaited,
+  symbol_awaited,
 }
 use Rattle.tls_flow.proofs.ConversationLemmas.{end_of, waiting_where, alive_to, alive_from, done_from}
 use Rattle.tls_flow.proofs.FlowLemmas.{state_of}
@@ -72,23 +72,23 @@ use denote.Enum.Bare.{Bare, sameb}
 use denote.Enum.Declared.{Declared}
 use lib.Dec.{eqb}
 
--- Of a list by rows: whether it has a letter is whether a row of the state has it.
+-- Of a list by rows: whether it has a symbol is whether a row of the state has it.
 decided_is : (D : Declared) (bare : Bare D.parts) (a b : D.D) (t : Bool) (e : sameb D a b ≡ t)
     → is_yes (decided D bare a b t e) ≡ t
 decided_is D bare a b true e = refl
 decided_is D bare a b false e = refl
 
-both_parts : (a b : Letter) (d : Dec (a.kind ≡ b.kind)) (e : Dec (a.direction ≡ b.direction))
+both_parts : (a b : Symbol) (d : Dec (a.kind ≡ b.kind)) (e : Dec (a.direction ≡ b.direction))
     → is_yes (of_parts a b d e) ≡ (is_yes d && is_yes e)
 both_parts a b (yes p) (yes q) = refl
 both_parts a b (no p) q = refl
 both_parts a b (yes p) (no q) = refl
 
-same_is : (r : Row) (l : Letter)
-    → is_yes (same_letter (letter r.kind r.direction) l)
-    ≡ is_letter (kind_number l.kind) (direction_number l.direction) r
+same_is : (r : Row) (l : Symbol)
+    → is_yes (same_symbol (symbol r.kind r.direction) l)
+    ≡ is_symbol (kind_number l.kind) (direction_number l.direction) r
 same_is r l =
-    both_parts (letter r.kind r.direction) l (same_kind r.kind l.kind) (same_direction r.direction l.direction)
+    both_parts (symbol r.kind r.direction) l (same_kind r.kind l.kind) (same_direction r.direction l.direction)
     ∙ ap (λ t. t && is_yes (same_direction r.direction l.direction))
     (decided_is kinds tt r.kind l.kind (eqb (kind_number r.kind) (kind_number l.kind)) (same_kinds r.kind l.kind))
     ∙ ap (λ t. eqb (kind_number r.kind) (kind_number l.kind) && t)
@@ -99,27 +99,27 @@ some_first : (t : Bool) (s : State) (n : Option State) → (t || is_some n) ≡ 
 some_first true s n = refl
 some_first false s n = refl
 
-in_first : (t : Bool) (r : Row) (rows : List Row) (xs : List Letter) (l : Letter)
-    → is_in same_letter xs l ≡ has_letter rows l
-    → is_in same_letter (if t then letter r.kind r.direction ∷ xs else xs) l
-    ≡ has_letter (if t then r ∷ rows else rows) l
+in_first : (t : Bool) (r : Row) (rows : List Row) (xs : List Symbol) (l : Symbol)
+    → is_in same_symbol xs l ≡ has_symbol rows l
+    → is_in same_symbol (if t then symbol r.kind r.direction ∷ xs else xs) l
+    ≡ has_symbol (if t then r ∷ rows else rows) l
 in_first true r rows xs l h =
-    ap (λ t. t || is_in same_letter xs l) (same_is r l)
-    ∙ ap (λ t. is_letter (kind_number l.kind) (direction_number l.direction) r || t) h
-    ∙ some_first (is_letter (kind_number l.kind) (direction_number l.direction) r) r.next (next_of rows l)
+    ap (λ t. t || is_in same_symbol xs l) (same_is r l)
+    ∙ ap (λ t. is_symbol (kind_number l.kind) (direction_number l.direction) r || t) h
+    ∙ some_first (is_symbol (kind_number l.kind) (direction_number l.direction) r) r.next (next_of rows l)
 in_first false r rows xs l h = h
 
-in_awaited : (rows : List Row) (q : State) (l : Letter)
-    → is_in same_letter (awaited_in rows q) l ≡ has_letter (rows_at rows (state_number q)) l
+in_awaited : (rows : List Row) (q : State) (l : Symbol)
+    → is_in same_symbol (awaited_in rows q) l ≡ has_symbol (rows_at rows (state_number q)) l
 in_awaited [] q l = refl
 in_awaited (r ∷ rows) q l =
-    ap (λ t. is_in same_letter (if t then letter r.kind r.direction ∷ awaited_in rows q else awaited_in rows q) l)
+    ap (λ t. is_in same_symbol (if t then symbol r.kind r.direction ∷ awaited_in rows q else awaited_in rows q) l)
     (same_states r.state q)
     ∙ in_first (eqb (state_number r.state) (state_number q)) r (rows_at rows (state_number q)) (awaited_in rows q) l
     (in_awaited rows q l)
 
-awaits_is : (q : State) (l : Letter) → is_in same_letter (awaited_in ROWS q) l ≡ awaits q l
-awaits_is q l = in_awaited ROWS q l ∙ letter_awaited q l
+awaits_is : (q : State) (l : Symbol) → is_in same_symbol (awaited_in ROWS q) l ≡ awaits q l
+awaits_is q l = in_awaited ROWS q l ∙ symbol_awaited q l
 
 false_not : (t : Bool) → t ≡ false → not t ≡ true
 false_not true h = cc
@@ -135,7 +135,7 @@ alive_if_done = elim [
   | _ ↦ λ h. cc
 ]
 
-module _ (w : Word) (l : Letter) where
+module _ (w : Word) (l : Symbol) where
   next_end : end_of (w ++ l ∷ []) ≡ step (end_of w) l
   next_end = run_on step state.Start w (l ∷ [])
 
@@ -158,14 +158,14 @@ module _ (w : Word) (l : Letter) where
       and_both _ _ (ap is_waiting ((waiting_where w).1 h.0))
       (and_both _ _ (false_not (is_noise l) h.1) (ap (λ q. is_alive (outcome_at q)) (sym next_end) ∙ alive))
 
-pub awaited_of_flow : (xs : List Letter) (f : Flow) (es : List Event) → xs ≡ awaited_in ROWS f.state
-    → f ≡ run follow silence es → (l : Letter) → Contains xs l ↔ IsAwaited l (letters_of es)
+pub awaited_of_flow : (xs : List Symbol) (f : Flow) (es : List Event) → xs ≡ awaited_in ROWS f.state
+    → f ≡ run follow silence es → (l : Symbol) → Contains xs l ↔ IsAwaited l (symbols_of es)
 awaited_of_flow xs f es rows comes l =
-    let at : f.state ≡ end_of (letters_of es) = ap (λ g. g.state) comes ∙ state_of silence es in
-    let ys : xs ≡ awaited_in ROWS (end_of (letters_of es)) = rows ∙ ap (awaited_in ROWS) at in
-    subst (λ zs. Contains zs l ↔ IsAwaited l (letters_of es)) (sym ys) (
-      λ h. awaited_to (letters_of es) l (sym (awaits_is (end_of (letters_of es)) l)
-          ∙ contains_in same_letter (awaited_in ROWS (end_of (letters_of es))) l h),
-      λ h. in_contains same_letter (awaited_in ROWS (end_of (letters_of es))) l
-          (awaits_is (end_of (letters_of es)) l ∙ awaited_from (letters_of es) l h),
+    let at : f.state ≡ end_of (symbols_of es) = ap (λ g. g.state) comes ∙ state_of silence es in
+    let ys : xs ≡ awaited_in ROWS (end_of (symbols_of es)) = rows ∙ ap (awaited_in ROWS) at in
+    subst (λ zs. Contains zs l ↔ IsAwaited l (symbols_of es)) (sym ys) (
+      λ h. awaited_to (symbols_of es) l (sym (awaits_is (end_of (symbols_of es)) l)
+          ∙ contains_in same_symbol (awaited_in ROWS (end_of (symbols_of es))) l h),
+      λ h. in_contains same_symbol (awaited_in ROWS (end_of (symbols_of es))) l
+          (awaits_is (end_of (symbols_of es)) l ∙ awaited_from (symbols_of es) l h),
     )

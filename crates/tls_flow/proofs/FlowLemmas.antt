@@ -1,4 +1,4 @@
--- Flows of events: where they stand is the run of their letters, and what stopped them stands among them.
+-- Flows of events: where they stand is the run of their symbols, and what stopped them stands among them.
 use Rattle.std.proofs.Common.{
   ◌≡◌,
   ◌↔◌,
@@ -33,7 +33,7 @@ use Rattle.std.proofs.Common.{
 }
 use Rattle.tls_words.specs.Words.{run}
 use Rattle.tls_words.proofs.MachineLemmas.{run_on}
-use Rattle.tls_flow.specs.Letters.{letters_of}
+use Rattle.tls_flow.specs.Symbols.{symbols_of}
 use Rattle.tls_flow.specs.Table.{step, outcome_at, is_failed, is_waiting}
 use Rattle.tls_flow.specs.Steps.{silence, follow, follow_by, stop_at, counted, moved}
 use Rattle.tls_flow.specs.Conversations.{IsUnderWay, HasHandshake, IsOutcome, IsStop}
@@ -47,22 +47,22 @@ use Rattle.tls_flow.proofs.ConversationLemmas.{end_of, done_from, done_to, waiti
 
 -- One event, by whether the flow waits.
 followed : (t : Bool) (f : Flow) (e : Event) → is_waiting (outcome_at f.state) ≡ t
-    → (follow_by t f e).state ≡ step f.state e.letter
+    → (follow_by t f e).state ≡ step f.state e.symbol
 followed true f e h = refl
-followed false f e h = sym (end_stays f.state e.letter h)
+followed false f e h = sym (end_stays f.state e.symbol h)
 
--- The state is that of the letters.
-pub state_of : (f : Flow) (es : List Event) → (run follow f es).state ≡ run step f.state (letters_of es)
+-- The state is that of the symbols.
+pub state_of : (f : Flow) (es : List Event) → (run follow f es).state ≡ run step f.state (symbols_of es)
 state_of f [] = refl
 state_of f (e ∷ es) = state_of (follow f e) es
-    ∙ ap (λ q. run step q (letters_of es)) (followed (is_waiting (outcome_at f.state)) f e refl)
+    ∙ ap (λ q. run step q (symbols_of es)) (followed (is_waiting (outcome_at f.state)) f e refl)
 
 pub told_of_flow : (es : List Event) (from end : Flow) → end ≡ run follow from es → from ≡ silence
-    → (o : Outcome) → (outcome_at end.state ≡ o) ↔ IsOutcome o (letters_of es)
+    → (o : Outcome) → (outcome_at end.state ≡ o) ↔ IsOutcome o (symbols_of es)
 told_of_flow es from end ends starts o =
-    let at : end.state ≡ end_of (letters_of es) =
+    let at : end.state ≡ end_of (symbols_of es) =
     ap (λ f. f.state) (ends ∙ ap (λ f. run follow f es) starts) ∙ state_of silence es in
-    subst (λ q. (outcome_at q ≡ o) ↔ IsOutcome o (letters_of es)) (sym at) (told_whole (letters_of es) o)
+    subst (λ q. (outcome_at q ≡ o) ↔ IsOutcome o (symbols_of es)) (sym at) (told_whole (symbols_of es) o)
 
 -- Behind an end the stop stays.
 kept_by : (t : Bool) (f : Flow) (e : Event) → t ≡ false → (follow_by t f e).stop ≡ f.stop
@@ -74,7 +74,7 @@ stop_stays f [] h = refl
 stop_stays f (e ∷ es) h =
     let still : is_waiting (outcome_at (follow f e).state) ≡ false
     = ap (λ q. is_waiting (outcome_at q)) (followed (is_waiting (outcome_at f.state)) f e refl
-    ∙ end_stays f.state e.letter h) ∙ h in
+    ∙ end_stays f.state e.symbol h) ∙ h in
     stop_stays (follow f e) es still ∙ kept_by (is_waiting (outcome_at f.state)) f e h
 
 stop_is : (o : Outcome) (f : Flow) (e : Event) → is_failed o ≡ true
@@ -97,7 +97,7 @@ failed_not = elim [
 
 -- A waiting flow after one event.
 move_is : (f : Flow) (e : Event) → is_waiting (outcome_at f.state) ≡ true
-    → follow f e ≡ moved (step f.state e.letter) f e
+    → follow f e ≡ moved (step f.state e.symbol) f e
 move_is f e h = ap (λ t. follow_by t f e) h
 
 -- What stopped a flow that waited: nothing, or an event behind a front with which it still waited.
@@ -106,21 +106,21 @@ Stopped f es =
     (u v : List Event) × (e : Event) × (es ≡ u ++ e ∷ v)
     × ((run follow f es).stop ≡ Some (record { event = e; place = (run follow f u).events }))
     × (is_waiting (outcome_at (run follow f u).state) ≡ true)
-    × (is_failed (outcome_at (step (run follow f u).state e.letter)) ≡ true)
+    × (is_failed (outcome_at (step (run follow f u).state e.symbol)) ≡ true)
     × (is_failed (outcome_at (run follow f es).state) ≡ true)
 
 abbrev NotStopped : Flow → List Event → Type 0
 NotStopped f es = ((run follow f es).stop ≡ None) × (is_failed (outcome_at (run follow f es).state) ≡ false)
 
 failed_at_once : (f : Flow) (e : Event) (es : List Event) → is_waiting (outcome_at f.state) ≡ true
-    → is_failed (outcome_at (step f.state e.letter)) ≡ true → Stopped f (e ∷ es)
+    → is_failed (outcome_at (step f.state e.symbol)) ≡ true → Stopped f (e ∷ es)
 failed_at_once f e es h t =
-    let m : follow f e ≡ moved (step f.state e.letter) f e = move_is f e h in
-    let q : (follow f e).state ≡ step f.state e.letter = ap (λ x. x.state) m in
+    let m : follow f e ≡ moved (step f.state e.symbol) f e = move_is f e h in
+    let q : (follow f e).state ≡ step f.state e.symbol = ap (λ x. x.state) m in
     let s : (follow f e).stop ≡ Some (record { event = e; place = f.events }) =
-    ap (λ x. x.stop) m ∙ stop_is (outcome_at (step f.state e.letter)) f e t in
+    ap (λ x. x.stop) m ∙ stop_is (outcome_at (step f.state e.symbol)) f e t in
     let w : is_waiting (outcome_at (follow f e).state) ≡ false =
-    ap (λ x. is_waiting (outcome_at x)) q ∙ (failed_not (outcome_at (step f.state e.letter)) t).0 in (
+    ap (λ x. is_waiting (outcome_at x)) q ∙ (failed_not (outcome_at (step f.state e.symbol)) t).0 in (
       [],
       es,
       e,
@@ -128,20 +128,20 @@ failed_at_once f e es h t =
       stop_stays (follow f e) es w ∙ s,
       h,
       t,
-      ap (λ x. is_failed (outcome_at x)) (state_of (follow f e) es ∙ run_stays (follow f e).state (letters_of es) w
+      ap (λ x. is_failed (outcome_at x)) (state_of (follow f e) es ∙ run_stays (follow f e).state (symbols_of es) w
           ∙ q) ∙ t,
     )
 
 -- The flow goes on behind an event that doesn't fail.
 goes_on : (f : Flow) (e : Event) (es : List Event) → is_waiting (outcome_at f.state) ≡ true → f.stop ≡ None
-    → is_failed (outcome_at (step f.state e.letter)) ≡ false
+    → is_failed (outcome_at (step f.state e.symbol)) ≡ false
     → (is_waiting (outcome_at (follow f e).state) ≡ true → (follow f e).stop ≡ None
     → NotStopped (follow f e) es ⊎ Stopped (follow f e) es)
     → NotStopped f (e ∷ es) ⊎ Stopped f (e ∷ es)
 goes_on f e es h n t rest =
-    let m : follow f e ≡ moved (step f.state e.letter) f e = move_is f e h in
-    let q : (follow f e).state ≡ step f.state e.letter = ap (λ x. x.state) m in
-    let none : (follow f e).stop ≡ None = ap (λ x. x.stop) m ∙ no_stop (outcome_at (step f.state e.letter)) f e t n in
+    let m : follow f e ≡ moved (step f.state e.symbol) f e = move_is f e h in
+    let q : (follow f e).state ≡ step f.state e.symbol = ap (λ x. x.state) m in
+    let none : (follow f e).stop ≡ None = ap (λ x. x.stop) m ∙ no_stop (outcome_at (step f.state e.symbol)) f e t n in
     elim (true_or_false (is_waiting (outcome_at (follow f e).state))) [
       | inl w ↦ elim (rest w none) [
         | inl k ↦ inl k
@@ -149,7 +149,7 @@ goes_on f e es h n t rest =
       ]
       | inr w ↦ inl (
         stop_stays (follow f e) es w ∙ none,
-        ap (λ x. is_failed (outcome_at x)) (state_of (follow f e) es ∙ run_stays (follow f e).state (letters_of es) w
+        ap (λ x. is_failed (outcome_at x)) (state_of (follow f e) es ∙ run_stays (follow f e).state (symbols_of es) w
             ∙ q) ∙ t,
       )
     ]
@@ -157,7 +157,7 @@ goes_on f e es h n t rest =
 stop_among : (f : Flow) (es : List Event) → is_waiting (outcome_at f.state) ≡ true → f.stop ≡ None
     → NotStopped f es ⊎ Stopped f es
 stop_among f [] h n = inl (n, not_failed (outcome_at f.state) h)
-stop_among f (e ∷ es) h n = elim (true_or_false (is_failed (outcome_at (step f.state e.letter)))) [
+stop_among f (e ∷ es) h n = elim (true_or_false (is_failed (outcome_at (step f.state e.symbol)))) [
   | inl t ↦ inr (failed_at_once f e es h t)
   | inr t ↦ goes_on f e es h n t (stop_among (follow f e) es)
 ]
@@ -185,20 +185,20 @@ events_of f (e ∷ es) h =
     ∙ ap (λ n. min (n + length es) (2 ^ 64 - 1)) c
     ∙ count_more f.events (length es) (2 ^ 64 - 1)
 
-letters_append : (u v : List Event) → letters_of (u ++ v) ≡ letters_of u ++ letters_of v
-letters_append [] v = refl
-letters_append (e ∷ u) v = ap (λ w. e.letter ∷ w) (letters_append u v)
+symbols_append : (u v : List Event) → symbols_of (u ++ v) ≡ symbols_of u ++ symbols_of v
+symbols_append [] v = refl
+symbols_append (e ∷ u) v = ap (λ w. e.symbol ∷ w) (symbols_append u v)
 
 -- Of a whole conversation.
 module _ (es : List Event) where
-  ends_at : (run follow silence es).state ≡ end_of (letters_of es)
+  ends_at : (run follow silence es).state ≡ end_of (symbols_of es)
   ends_at = state_of silence es
 
-  not_stopped : is_failed (outcome_at (end_of (letters_of es))) ≡ false
-      → HasHandshake (letters_of es) ⊎ IsUnderWay (letters_of es)
-  not_stopped t = elim (true_or_false (is_done (outcome_at (end_of (letters_of es))))) [
-    | inl d ↦ inl (done_to (letters_of es) d)
-    | inr d ↦ inr ((waiting_where (letters_of es)).0 (waits_if (outcome_at (end_of (letters_of es))) t d))
+  not_stopped : is_failed (outcome_at (end_of (symbols_of es))) ≡ false
+      → HasHandshake (symbols_of es) ⊎ IsUnderWay (symbols_of es)
+  not_stopped t = elim (true_or_false (is_done (outcome_at (end_of (symbols_of es))))) [
+    | inl d ↦ inl (done_to (symbols_of es) d)
+    | inr d ↦ inr ((waiting_where (symbols_of es)).0 (waits_if (outcome_at (end_of (symbols_of es))) t d))
   ]
     where
       waits_if : (o : Outcome) → is_failed o ≡ false → is_done o ≡ false → o ≡ outcome.Waiting
@@ -212,22 +212,22 @@ module _ (es : List Event) where
       ]
 
   failed_under_way : (u : List Event) (e : Event)
-      → is_failed (outcome_at (step (run follow silence u).state e.letter)) ≡ true
-      → ¬ IsUnderWay (letters_of (u ++ e ∷ []))
+      → is_failed (outcome_at (step (run follow silence u).state e.symbol)) ≡ true
+      → ¬ IsUnderWay (symbols_of (u ++ e ∷ []))
   failed_under_way u e t h =
-      let at : end_of (letters_of (u ++ e ∷ [])) ≡ step (run follow silence u).state e.letter
-      = ap end_of (letters_append u (e ∷ [])) ∙ run_on step state.Start (letters_of u) (e.letter ∷ [])
-      ∙ ap (λ q. step q e.letter) (sym (state_of silence u)) in
-      let waits : outcome_at (step (run follow silence u).state e.letter) ≡ outcome.Waiting =
-      ap outcome_at (sym at) ∙ (waiting_where (letters_of (u ++ e ∷ []))).1 h in
+      let at : end_of (symbols_of (u ++ e ∷ [])) ≡ step (run follow silence u).state e.symbol
+      = ap end_of (symbols_append u (e ∷ [])) ∙ run_on step state.Start (symbols_of u) (e.symbol ∷ [])
+      ∙ ap (λ q. step q e.symbol) (sym (state_of silence u)) in
+      let waits : outcome_at (step (run follow silence u).state e.symbol) ≡ outcome.Waiting =
+      ap outcome_at (sym at) ∙ (waiting_where (symbols_of (u ++ e ∷ []))).1 h in
       let k : is_failed outcome.Waiting ≡ true = subst (λ o. is_failed o ≡ true) waits t in
       cc
 
-  failed_not_done : is_failed (outcome_at (run follow silence es).state) ≡ true → ¬ HasHandshake (letters_of es)
+  failed_not_done : is_failed (outcome_at (run follow silence es).state) ≡ true → ¬ HasHandshake (symbols_of es)
   failed_not_done t h =
-      let d : is_done (outcome_at (end_of (letters_of es))) ≡ true = done_from (letters_of es) h in
-      let n : is_done (outcome_at (end_of (letters_of es))) ≡ false =
-      (failed_not (outcome_at (end_of (letters_of es))) (ap (λ q. is_failed (outcome_at q)) (sym ends_at) ∙ t)).1 in
+      let d : is_done (outcome_at (end_of (symbols_of es))) ≡ true = done_from (symbols_of es) h in
+      let n : is_done (outcome_at (end_of (symbols_of es))) ≡ false =
+      (failed_not (outcome_at (end_of (symbols_of es))) (ap (λ q. is_failed (outcome_at q)) (sym ends_at) ∙ t)).1 in
       let k : true ≡ false = sym d ∙ n in
       cc
 
@@ -239,7 +239,7 @@ module _ (es : List Event) where
       k.1,
       k.3,
       events_of silence k.0 (lit≤ tt) ∙ ap (λ n. min n (2 ^ 64 - 1)) (zero-add (length k.0)),
-      (waiting_where (letters_of k.0)).0 (ap outcome_at (sym (state_of silence k.0))
+      (waiting_where (symbols_of k.0)).0 (ap outcome_at (sym (state_of silence k.0))
           ∙ waiting_is (outcome_at (run follow silence k.0).state) k.5),
       failed_under_way k.0 k.2 k.6,
       failed_not_done k.7,

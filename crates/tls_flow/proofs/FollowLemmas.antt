@@ -21,14 +21,14 @@ use Rattle.std.proofs.Common.{
 use Rattle.std.specs.List.{list_all}
 use Rattle.tls_words.specs.Words.{Pattern, none, all, chain, Pattern-discrete}
 use Rattle.tls_words.proofs.PatternLemmas.{both_and, has_empty, has_word, behind, behind_all, begins_by, none_behind}
-use Rattle.tls_words.proofs.LetterLemmas.{is_yes, yes_is}
-use Rattle.tls_flow.specs.Letters.{letter, Word}
+use Rattle.tls_words.proofs.SymbolLemmas.{is_yes, yes_is}
+use Rattle.tls_flow.specs.Symbols.{symbol, Word}
 use Rattle.tls_flow.specs.Grammar.{full, resumed, tls13, is_noise}
 use Rattle.tls_flow.specs.Table.{step, outcome_at, is_waiting, unended_rule}
-use Rattle.tls_flow.specs.declared.letter.Letter.{Letter}
-use Rattle.tls_flow.specs.declared.letter.Kind.{Kind}
-use Rattle.tls_flow.specs.declared.letter.Kind.TheVariants as kind
-use Rattle.tls_flow.specs.declared.letter.Direction.TheVariants.{ToServer, FromServer}
+use Rattle.tls_flow.specs.declared.symbol.Symbol.{Symbol}
+use Rattle.tls_flow.specs.declared.symbol.Kind.{Kind}
+use Rattle.tls_flow.specs.declared.symbol.Kind.TheVariants as kind
+use Rattle.tls_flow.specs.declared.symbol.Direction.TheVariants.{ToServer, FromServer}
 use Rattle.tls_flow.specs.declared.state.State.{State}
 use Rattle.tls_flow.specs.declared.state.State.TheVariants as state
 use Rattle.tls_flow.specs.declared.state.Outcome.{Outcome}
@@ -36,11 +36,11 @@ use Rattle.tls_flow.specs.declared.state.Outcome.TheVariants as outcome
 use Rattle.tls_flow.specs.declared.table.Row.{Row}
 use Rattle.tls_flow.specs.declared.table.TheConstants.{ROWS}
 use Rattle.tls_flow.proofs.NumberLemmas.{AllStatesPass, state_passes, rows_of}
-use Rattle.tls_flow.proofs.LetterLemmas.{same_letter}
+use Rattle.tls_flow.proofs.SymbolLemmas.{same_symbol}
 use Rattle.tls_flow.proofs.StepLemmas.{
   true_or_false,
   is_alive,
-  has_letter,
+  has_symbol,
   GoesByRow,
   GoesByRule,
   goes,
@@ -51,84 +51,84 @@ use Rattle.tls_flow.proofs.StepLemmas.{
 
 -- A word that leads to a state, and to one that waits for nothing a word that no handshake begins with.
 abbrev after_hello : Word → Word
-after_hello w = letter kind.ClientHello ToServer ∷ w
+after_hello w = symbol kind.ClientHello ToServer ∷ w
 
 abbrev after_server_hello : Word → Word
-after_server_hello w = after_hello (letter kind.ServerHello FromServer ∷ w)
+after_server_hello w = after_hello (symbol kind.ServerHello FromServer ∷ w)
 
 abbrev after_certificate : Word → Word
-after_certificate w = after_server_hello (letter kind.Certificate FromServer ∷ w)
+after_certificate w = after_server_hello (symbol kind.Certificate FromServer ∷ w)
 
 abbrev after_request : Word → Word
-after_request w = after_certificate (letter kind.CertificateRequest FromServer ∷ w)
+after_request w = after_certificate (symbol kind.CertificateRequest FromServer ∷ w)
 
 abbrev after_change : Word → Word
 after_change w =
-    after_server_hello (letter kind.ServerDone FromServer ∷ letter kind.ClientKeyExchange ToServer
-    ∷ letter kind.ChangeCipherSpec ToServer ∷ w)
+    after_server_hello (symbol kind.ServerDone FromServer ∷ symbol kind.ClientKeyExchange ToServer
+    ∷ symbol kind.ChangeCipherSpec ToServer ∷ w)
 
 abbrev road : State → Word
 road state.Start = []
 road state.Hello = after_hello []
-road state.Verify = after_hello (letter kind.HelloVerifyRequest FromServer ∷ [])
+road state.Verify = after_hello (symbol kind.HelloVerifyRequest FromServer ∷ [])
 road state.VerifiedHello =
-    after_hello (letter kind.HelloVerifyRequest FromServer ∷ letter kind.ClientHello ToServer ∷ [])
-road state.ChangedHello = after_hello (letter kind.ChangeCipherSpec ToServer ∷ [])
-road state.EarlyHello = after_hello (letter kind.Encrypted ToServer ∷ [])
-road state.Retry = after_hello (letter kind.HelloRetryRequest FromServer ∷ [])
-road state.EarlyRetry = after_hello (letter kind.HelloRetryRequest FromServer ∷ letter kind.Encrypted ToServer ∷ [])
-road state.SecondHello = after_hello (letter kind.HelloRetryRequest FromServer ∷ letter kind.ClientHello ToServer ∷ [])
+    after_hello (symbol kind.HelloVerifyRequest FromServer ∷ symbol kind.ClientHello ToServer ∷ [])
+road state.ChangedHello = after_hello (symbol kind.ChangeCipherSpec ToServer ∷ [])
+road state.EarlyHello = after_hello (symbol kind.Encrypted ToServer ∷ [])
+road state.Retry = after_hello (symbol kind.HelloRetryRequest FromServer ∷ [])
+road state.EarlyRetry = after_hello (symbol kind.HelloRetryRequest FromServer ∷ symbol kind.Encrypted ToServer ∷ [])
+road state.SecondHello = after_hello (symbol kind.HelloRetryRequest FromServer ∷ symbol kind.ClientHello ToServer ∷ [])
 road state.EarlySecondHello = after_hello
-    (letter kind.HelloRetryRequest FromServer ∷ letter kind.Encrypted ToServer ∷ letter kind.ClientHello ToServer ∷ [])
+    (symbol kind.HelloRetryRequest FromServer ∷ symbol kind.Encrypted ToServer ∷ symbol kind.ClientHello ToServer ∷ [])
 road state.ServerHello = after_server_hello []
 road state.Certificate = after_certificate []
-road state.CertificateStatus = after_certificate (letter kind.CertificateStatus FromServer ∷ [])
-road state.CertifiedKeys = after_certificate (letter kind.ServerKeyExchange FromServer ∷ [])
-road state.Keys = after_server_hello (letter kind.ServerKeyExchange FromServer ∷ [])
+road state.CertificateStatus = after_certificate (symbol kind.CertificateStatus FromServer ∷ [])
+road state.CertifiedKeys = after_certificate (symbol kind.ServerKeyExchange FromServer ∷ [])
+road state.Keys = after_server_hello (symbol kind.ServerKeyExchange FromServer ∷ [])
 road state.Request = after_request []
-road state.RequestDone = after_request (letter kind.ServerDone FromServer ∷ [])
-road state.ClientCertificate = after_request (letter kind.ServerDone FromServer ∷ letter kind.Certificate ToServer ∷ [])
+road state.RequestDone = after_request (symbol kind.ServerDone FromServer ∷ [])
+road state.ClientCertificate = after_request (symbol kind.ServerDone FromServer ∷ symbol kind.Certificate ToServer ∷ [])
 road state.ClientKeys =
-    after_request (letter kind.ServerDone FromServer ∷ letter kind.Certificate ToServer
-    ∷ letter kind.ClientKeyExchange ToServer ∷ [])
-road state.Done = after_server_hello (letter kind.ServerDone FromServer ∷ [])
+    after_request (symbol kind.ServerDone FromServer ∷ symbol kind.Certificate ToServer
+    ∷ symbol kind.ClientKeyExchange ToServer ∷ [])
+road state.Done = after_server_hello (symbol kind.ServerDone FromServer ∷ [])
 road state.ClientDone = after_server_hello
-    (letter kind.ServerDone FromServer ∷ letter kind.ClientKeyExchange ToServer ∷ [])
+    (symbol kind.ServerDone FromServer ∷ symbol kind.ClientKeyExchange ToServer ∷ [])
 road state.ClientChange = after_change []
-road state.Ticket = after_change (letter kind.NewSessionTicket FromServer ∷ [])
-road state.ResumedTicket = after_server_hello (letter kind.NewSessionTicket FromServer ∷ [])
-road state.ServerChange = after_server_hello (letter kind.ChangeCipherSpec FromServer ∷ [])
-road state.Full = after_change (letter kind.ChangeCipherSpec FromServer ∷ [])
+road state.Ticket = after_change (symbol kind.NewSessionTicket FromServer ∷ [])
+road state.ResumedTicket = after_server_hello (symbol kind.NewSessionTicket FromServer ∷ [])
+road state.ServerChange = after_server_hello (symbol kind.ChangeCipherSpec FromServer ∷ [])
+road state.Full = after_change (symbol kind.ChangeCipherSpec FromServer ∷ [])
 road state.Resumed =
-    after_server_hello (letter kind.ChangeCipherSpec FromServer ∷ letter kind.ChangeCipherSpec ToServer ∷ [])
-road state.Tls13 = after_hello (letter kind.ServerHello13 FromServer ∷ [])
-road state.EarlyTls13 = after_hello (letter kind.Encrypted ToServer ∷ letter kind.ServerHello13 FromServer ∷ [])
+    after_server_hello (symbol kind.ChangeCipherSpec FromServer ∷ symbol kind.ChangeCipherSpec ToServer ∷ [])
+road state.Tls13 = after_hello (symbol kind.ServerHello13 FromServer ∷ [])
+road state.EarlyTls13 = after_hello (symbol kind.Encrypted ToServer ∷ symbol kind.ServerHello13 FromServer ∷ [])
 road state.RetriedTls13 =
-    after_hello (letter kind.HelloRetryRequest FromServer ∷ letter kind.ClientHello ToServer
-    ∷ letter kind.ServerHello13 FromServer ∷ [])
+    after_hello (symbol kind.HelloRetryRequest FromServer ∷ symbol kind.ClientHello ToServer
+    ∷ symbol kind.ServerHello13 FromServer ∷ [])
 road state.EarlyRetriedTls13 = after_hello
-    (letter kind.HelloRetryRequest FromServer ∷ letter kind.Encrypted ToServer ∷ letter kind.ClientHello ToServer
-    ∷ letter kind.ServerHello13 FromServer ∷ [])
-road state.BrokenOff = letter kind.Other ToServer ∷ []
-road state.Unknown = letter kind.Other ToServer ∷ []
-road state.NoHandshake = letter kind.Other ToServer ∷ []
+    (symbol kind.HelloRetryRequest FromServer ∷ symbol kind.Encrypted ToServer ∷ symbol kind.ClientHello ToServer
+    ∷ symbol kind.ServerHello13 FromServer ∷ [])
+road state.BrokenOff = symbol kind.Other ToServer ∷ []
+road state.Unknown = symbol kind.Other ToServer ∷ []
+road state.NoHandshake = symbol kind.Other ToServer ∷ []
 
 -- The handshakes that an outcome tells, if it tells of any.
-abbrev pub pattern_of : Outcome → Pattern Letter
+abbrev pub pattern_of : Outcome → Pattern Symbol
 pattern_of outcome.Full = full
 pattern_of outcome.Resumed = resumed
 pattern_of (outcome.Tls13 retried early) = tls13 retried early
 pattern_of _ = none
 
-abbrev pub waits : Pattern Letter → State → Pattern Letter
-waits p q = behind_all same_letter (chain p all) (road q)
+abbrev pub waits : Pattern Symbol → State → Pattern Symbol
+waits p q = behind_all same_symbol (chain p all) (road q)
 
-abbrev same_pattern : (p q : Pattern Letter) → Dec (p ≡ q)
-same_pattern = Pattern-discrete same_letter
+abbrev same_pattern : (p q : Pattern Symbol) → Dec (p ≡ q)
+same_pattern = Pattern-discrete same_symbol
 
--- A row leads to what is waited for behind its letter, as a test, which all rows pass for each form.
-abbrev row_test : Pattern Letter → Row → Bool
-row_test p r = is_yes (same_pattern (waits p r.next) (behind same_letter (waits p r.state) (letter r.kind r.direction)))
+-- A row leads to what is waited for behind its symbol, as a test, which all rows pass for each form.
+abbrev row_test : Pattern Symbol → Row → Bool
+row_test p r = is_yes (same_pattern (waits p r.next) (behind same_symbol (waits p r.state) (symbol r.kind r.direction)))
 
 abbrev RowsPass : Outcome → Type 0
 RowsPass o = list_all (row_test (pattern_of o)) ROWS ≡ true
@@ -159,18 +159,18 @@ is_it outcome.Resumed outcome.Resumed = true
 is_it (outcome.Tls13 a b) (outcome.Tls13 c d) = same_bool a c && same_bool b d
 is_it _ _ = false
 
--- What a form waits for at a state, as a test of each. Where the state waits, each word begins with a letter of its rows;
+-- What a form waits for at a state, as a test of each. Where the state waits, each word begins with a symbol of its rows;
 -- at an end it is every word or none. The empty word is there exactly where that handshake is done, and some word only
 -- where one is done or can still come.
-abbrev is_flat : Pattern Letter → Bool
+abbrev is_flat : Pattern Symbol → Bool
 is_flat none = true
 is_flat all = true
 is_flat _ = false
 
-abbrev begins_well : State → Pattern Letter → Bool
-begins_well q x = if is_waiting (outcome_at q) then begins_by (has_letter (rows_of q)) x else is_flat x
+abbrev begins_well : State → Pattern Symbol → Bool
+begins_well q x = if is_waiting (outcome_at q) then begins_by (has_symbol (rows_of q)) x else is_flat x
 
-abbrev pattern_test : Outcome → State → Pattern Letter → Bool
+abbrev pattern_test : Outcome → State → Pattern Symbol → Bool
 pattern_test o q x =
     begins_well q x && (same_bool (has_empty x) (is_it o (outcome_at q)) && (not (has_word x) || is_alive (outcome_at q)))
 
@@ -188,14 +188,14 @@ states_pass = elim [ outcome.Tls13 retried early ↦ tls13_states retried early 
 
 -- Behind a failure nothing can come.
 tls13_fails : (retried early : Bool)
-    → behind_all same_letter (chain (tls13 retried early) all) (letter kind.Other ToServer ∷ []) ≡ none
+    → behind_all same_symbol (chain (tls13 retried early) all) (symbol kind.Other ToServer ∷ []) ≡ none
 tls13_fails true true = refl
 tls13_fails true false = refl
 tls13_fails false true = refl
 tls13_fails false false = refl
 
 form_fails : (o : Outcome)
-    → behind_all same_letter (chain (pattern_of o) all) (letter kind.Other ToServer ∷ []) ≡ none
+    → behind_all same_symbol (chain (pattern_of o) all) (symbol kind.Other ToServer ∷ []) ≡ none
 form_fails = elim [ outcome.Tls13 retried early ↦ tls13_fails retried early | outcome.Full ↦ refl | _ ↦ refl ]
 
 fails_for_good : (o : Outcome) (q : State) (k : Kind) → waits (pattern_of o) (unended_rule q k false) ≡ none
@@ -219,47 +219,47 @@ module _ (o : Outcome) (q : State) where
       (not (has_word (waits (pattern_of o) q)) || is_alive (outcome_at q)) parts.1).1
 
 -- A step by a row, by the rule, and from an end.
-module _ (o : Outcome) (q : State) (l : Letter) where
+module _ (o : Outcome) (q : State) (l : Symbol) where
   abbrev Follows : State → Type 0
   Follows s =
       waits (pattern_of o) s
-      ≡ cond (is_noise l) (waits (pattern_of o) q) (behind same_letter (waits (pattern_of o) q) l)
+      ≡ cond (is_noise l) (waits (pattern_of o) q) (behind same_symbol (waits (pattern_of o) q) l)
 
   by_row : GoesByRow q l → Follows (step q l)
   by_row r =
       ap (waits (pattern_of o)) r.1
-      ∙ yes_is (same_pattern (waits (pattern_of o) r.0) (behind same_letter (waits (pattern_of o) q) l))
+      ∙ yes_is (same_pattern (waits (pattern_of o) r.0) (behind same_symbol (waits (pattern_of o) q) l))
       (r.3 (row_test (pattern_of o)) (rows_pass o))
-      ∙ ap (λ t. cond t (waits (pattern_of o) q) (behind same_letter (waits (pattern_of o) q) l))
+      ∙ ap (λ t. cond t (waits (pattern_of o) q) (behind same_symbol (waits (pattern_of o) q) l))
       (sym (row_speaks q l r))
 
-  begins_waiting : (t : Bool) (x : Pattern Letter) → t ≡ true
-      → (if t then begins_by (has_letter (rows_of q)) x else is_flat x) ≡ true
-      → begins_by (has_letter (rows_of q)) x ≡ true
+  begins_waiting : (t : Bool) (x : Pattern Symbol) → t ≡ true
+      → (if t then begins_by (has_symbol (rows_of q)) x else is_flat x) ≡ true
+      → begins_by (has_symbol (rows_of q)) x ≡ true
   begins_waiting true x h e = e
   begins_waiting false x h e = cc
 
-  flat_ended : (t : Bool) (x : Pattern Letter) → t ≡ false
-      → (if t then begins_by (has_letter (rows_of q)) x else is_flat x) ≡ true → is_flat x ≡ true
+  flat_ended : (t : Bool) (x : Pattern Symbol) → t ≡ false
+      → (if t then begins_by (has_symbol (rows_of q)) x else is_flat x) ≡ true → is_flat x ≡ true
   flat_ended true x h e = cc
   flat_ended false x h e = e
 
-  by_noise : (n : Bool) → behind same_letter (waits (pattern_of o) q) l ≡ none
+  by_noise : (n : Bool) → behind same_symbol (waits (pattern_of o) q) l ≡ none
       → waits (pattern_of o) (unended_rule q l.kind n)
-      ≡ cond n (waits (pattern_of o) q) (behind same_letter (waits (pattern_of o) q) l)
+      ≡ cond n (waits (pattern_of o) q) (behind same_symbol (waits (pattern_of o) q) l)
   by_noise true e = refl
   by_noise false e = fails_for_good o q l.kind ∙ sym e
 
   by_rule : is_waiting (outcome_at q) ≡ true → GoesByRule q l → Follows (step q l)
   by_rule h r =
       ap (waits (pattern_of o)) (r.0 ∙ rule_waiting q l h)
-      ∙ by_noise (is_noise l) (none_behind same_letter (has_letter (rows_of q)) l r.1 (waits (pattern_of o) q)
+      ∙ by_noise (is_noise l) (none_behind same_symbol (has_symbol (rows_of q)) l r.1 (waits (pattern_of o) q)
       (begins_waiting (is_waiting (outcome_at q)) (waits (pattern_of o) q) h (begins_at o q)))
 
-  flat_behind : (x : Pattern Letter) → is_flat x ≡ true → x ≡ behind same_letter x l
+  flat_behind : (x : Pattern Symbol) → is_flat x ≡ true → x ≡ behind same_symbol x l
   flat_behind = elim [ none ↦ λ h. refl | all ↦ λ h. refl | _ ↦ λ h. cc ]
 
-  flat_stays : (n : Bool) (x : Pattern Letter) → is_flat x ≡ true → x ≡ cond n x (behind same_letter x l)
+  flat_stays : (n : Bool) (x : Pattern Symbol) → is_flat x ≡ true → x ≡ cond n x (behind same_symbol x l)
   flat_stays true x h = refl
   flat_stays false x h = flat_behind x h
 

@@ -1,5 +1,5 @@
 pub mod NumberLemmas
-pub mod LetterLemmas
+pub mod SymbolLemmas
 pub mod StepLemmas
 pub mod RowLemmas
 pub mod FollowLemmas

@@ -18,20 +18,20 @@ use Rattle.std.proofs.Common.{
   ap,
 }
 use Rattle.std.specs.List.{list_all}
-use Rattle.tls_words.proofs.LetterLemmas.{decided, is_in, passes_in}
+use Rattle.tls_words.proofs.SymbolLemmas.{decided, is_in, passes_in}
 use Rattle.tls_flow.specs.Table.{next_after, row_or, rule, step}
-use Rattle.tls_flow.specs.declared.letter.Letter.{Letter}
-use Rattle.tls_flow.specs.declared.letter.Kind.{Kind}
-use Rattle.tls_flow.specs.declared.letter.Kind.TheVariants as kind
-use Rattle.tls_flow.specs.declared.letter.Direction.{Direction}
-use Rattle.tls_flow.specs.declared.letter.Direction.TheVariants.{ToServer, FromServer}
+use Rattle.tls_flow.specs.declared.symbol.Symbol.{Symbol}
+use Rattle.tls_flow.specs.declared.symbol.Kind.{Kind}
+use Rattle.tls_flow.specs.declared.symbol.Kind.TheVariants as kind
+use Rattle.tls_flow.specs.declared.symbol.Direction.{Direction}
+use Rattle.tls_flow.specs.declared.symbol.Direction.TheVariants.{ToServer, FromServer}
 use Rattle.tls_flow.specs.declared.state.State.{State}
 use Rattle.tls_flow.specs.declared.state.State.TheVariants as state
 use Rattle.tls_flow.specs.declared.table.Row.{Row}
 use Rattle.tls_flow.specs.declared.table.TheConstants.{ROWS}
 use Rattle.tls_flow.specs.contracts.state.State.{the_type as states}
-use Rattle.tls_flow.specs.contracts.letter.Kind.{the_type as kinds}
-use Rattle.tls_flow.specs.contracts.letter.Direction.{the_type as directions}
+use Rattle.tls_flow.specs.contracts.symbol.Kind.{the_type as kinds}
+use Rattle.tls_flow.specs.contracts.symbol.Direction.{the_type as directions}
 use denote.Enum.Bare.{sameb, same_true}
 use denote.Enum.Declared.{tag_of}
 use lib.Dec.{eqb}
@@ -144,9 +144,9 @@ AllStatesPass f = list_all f all_states ≡ true
 pub state_passes : (f : State → Bool) → AllStatesPass f → (q : State) → f q ≡ true
 state_passes f t q = passes_in same_state f all_states q t (state_in q)
 
--- The rows of a state, and where the first of them that has a letter leads.
-abbrev pub is_letter : ℕ → ℕ → Row → Bool
-is_letter k d r = eqb (kind_number r.kind) k && eqb (direction_number r.direction) d
+-- The rows of a state, and where the first of them that has a symbol leads.
+abbrev pub is_symbol : ℕ → ℕ → Row → Bool
+is_symbol k d r = eqb (kind_number r.kind) k && eqb (direction_number r.direction) d
 
 abbrev pub rows_at : List Row → ℕ → List Row
 rows_at [] q = []
@@ -154,17 +154,17 @@ rows_at (r ∷ rows) q = if eqb (state_number r.state) q then r ∷ rows_at rows
 
 abbrev next_by : List Row → ℕ → ℕ → Option State
 next_by [] k d = None
-next_by (r ∷ rows) k d = if is_letter k d r then Some r.next else next_by rows k d
+next_by (r ∷ rows) k d = if is_symbol k d r then Some r.next else next_by rows k d
 
 abbrev pub rows_of : State → List Row
 rows_of q = rows_at ROWS (state_number q)
 
-abbrev pub next_of : List Row → Letter → Option State
+abbrev pub next_of : List Row → Symbol → Option State
 next_of rows l = next_by rows (kind_number l.kind) (direction_number l.direction)
 
 same_row : (r : Row) (q : State) (k : Kind) (d : Direction)
     → (sameb states r.state q && (sameb kinds r.kind k && sameb directions r.direction d))
-    ≡ (eqb (state_number r.state) (state_number q) && is_letter (kind_number k) (direction_number d) r)
+    ≡ (eqb (state_number r.state) (state_number q) && is_symbol (kind_number k) (direction_number d) r)
 same_row r q k d =
     ap (λ t. t && (sameb kinds r.kind k && sameb directions r.direction d)) (same_states r.state q)
     ∙ ap (λ t. eqb (state_number r.state) (state_number q) && (t && sameb directions r.direction d))
@@ -173,8 +173,8 @@ same_row r q k d =
     (same_directions r.direction d)
 
 row_first : (t : Bool) (r : Row) (rows : List Row) (k d : ℕ) (n : Option State) → n ≡ next_by rows k d
-    → (if t && is_letter k d r then Some r.next else n) ≡ next_by (if t then r ∷ rows else rows) k d
-row_first true r rows k d n h = ap (λ o. if is_letter k d r then Some r.next else o) h
+    → (if t && is_symbol k d r then Some r.next else n) ≡ next_by (if t then r ∷ rows else rows) k d
+row_first true r rows k d n h = ap (λ o. if is_symbol k d r then Some r.next else o) h
 row_first false r rows k d n h = h
 
 next_among : (rows : List Row) (q : State) (k : Kind) (d : Direction)
@@ -185,12 +185,12 @@ next_among (r ∷ rows) q k d =
     ∙ row_first (eqb (state_number r.state) (state_number q)) r (rows_at rows (state_number q)) (kind_number k)
     (direction_number d) (next_after rows q k d) (next_among rows q k d)
 
-pub next_is : (q : State) (l : Letter) → next_after ROWS q l.kind l.direction ≡ next_of (rows_of q) l
+pub next_is : (q : State) (l : Symbol) → next_after ROWS q l.kind l.direction ≡ next_of (rows_of q) l
 next_is q l = next_among ROWS q l.kind l.direction
 
 -- The step by the rows of the state.
-abbrev pub step_by : List Row → State → Letter → State
+abbrev pub step_by : List Row → State → Symbol → State
 step_by rows q l = row_or (next_of rows l) (rule q l.kind l.direction)
 
-pub step_is : (q : State) (l : Letter) → step q l ≡ step_by (rows_of q) q l
+pub step_is : (q : State) (l : Symbol) → step q l ≡ step_by (rows_of q) q l
 step_is q l = ap (λ o. row_or o (rule q l.kind l.direction)) (next_is q l)

@@ -3,22 +3,22 @@ use Rattle.std.proofs.Common.{◌≡◌, List, Bool, true, ◌&&◌, slice_index
 use Rattle.std.specs.List.{list_all}
 use Rattle.tls_words.proofs.PatternLemmas.{and_both}
 use Rattle.tls_words.proofs.TableLemmas.{one_place}
-use Rattle.tls_flow.specs.Letters.{letter}
+use Rattle.tls_flow.specs.Symbols.{symbol}
 use Rattle.tls_flow.specs.Table.{IsOneRowEach, step}
-use Rattle.tls_flow.specs.declared.letter.Kind.{Kind}
-use Rattle.tls_flow.specs.declared.letter.Direction.{Direction}
+use Rattle.tls_flow.specs.declared.symbol.Kind.{Kind}
+use Rattle.tls_flow.specs.declared.symbol.Direction.{Direction}
 use Rattle.tls_flow.specs.declared.state.State.{State}
-use Rattle.tls_flow.specs.declared.letter.Letter.{Letter}
+use Rattle.tls_flow.specs.declared.symbol.Symbol.{Symbol}
 use Rattle.tls_flow.specs.declared.state.State.TheVariants as state
 use Rattle.tls_flow.specs.declared.table.Row.{Row}
 use Rattle.tls_flow.specs.declared.table.TheConstants.{ROWS, STEPS}
 use Rattle.tls_flow.specs.contracts.state.State.{the_type as states}
-use Rattle.tls_flow.specs.contracts.letter.Kind.{the_type as kinds}
-use Rattle.tls_flow.specs.contracts.letter.Direction.{the_type as directions}
+use Rattle.tls_flow.specs.contracts.symbol.Kind.{the_type as kinds}
+use Rattle.tls_flow.specs.contracts.symbol.Direction.{the_type as directions}
 use denote.Enum.Bare.{true_same}
 use denote.Enum.Declared.{tag_of}
 use lib.Dec.{eqb}
-use Rattle.tls_flow.proofs.LetterLemmas.{letters, passes}
+use Rattle.tls_flow.proofs.SymbolLemmas.{symbols, passes}
 use Rattle.tls_flow.proofs.NumberLemmas.{
   state_number,
   kind_number,
@@ -50,21 +50,21 @@ pub rows_are_one_each : IsOneRowEach ROWS
 rows_are_one_each i j r s at_i at_j e f g =
     one_place is_like ROWS refl i j r s at_i at_j (alike r s e f g) (alike s r (sym e) (sym f) (sym g))
 
--- The look-up of a letter at a state.
+-- The look-up of a symbol at a state.
 abbrev pub IsLookedUp : State → Kind → Direction → Type 0
 IsLookedUp q k d =
     (a : List (List State)) (b : List State) (s : State)
     → slice_index_or (slice_index_or (slice_index_or STEPS (tag_of states q) a) (tag_of kinds k) b)
-    (tag_of directions d) s ≡ step q (letter k d)
+    (tag_of directions d) s ≡ step q (symbol k d)
 
-abbrev entry : List (List State) → List State → State → Letter → State
+abbrev entry : List (List State) → List State → State → Symbol → State
 entry row b s l = slice_index_or (slice_index_or row (kind_number l.kind) b) (direction_number l.direction) s
 
-abbrev entry_test : State → List Row → List (List State) → List State → State → Letter → Bool
+abbrev entry_test : State → List Row → List (List State) → List State → State → Symbol → Bool
 entry_test q rows row b s l = eqb (state_number (entry row b s l)) (state_number (step_by rows q l))
 
 entries_pass : (q : State) (a : List (List State)) (b : List State) (s : State)
-    → list_all (entry_test q (rows_of q) (slice_index_or STEPS (state_number q) a) b s) letters ≡ true
+    → list_all (entry_test q (rows_of q) (slice_index_or STEPS (state_number q) a) b s) symbols ≡ true
 entries_pass = elim [ state.Start ↦ λ a b s. refl | _ ↦ λ a b s. refl ]
 
 pub looked_up : (q : State) (k : Kind) (d : Direction) → IsLookedUp q k d
@@ -75,7 +75,7 @@ looked_up q k d a b s =
     (kind_tag k)
     ∙ ap (λ n. slice_index_or (slice_index_or (slice_index_or STEPS (state_number q) a) (kind_number k) b) n s)
     (direction_tag d)
-    ∙ same_number (entry (slice_index_or STEPS (state_number q) a) b s (letter k d)) (step_by (rows_of q) q (letter k d))
-    (passes (entry_test q (rows_of q) (slice_index_or STEPS (state_number q) a) b s) (letter k d)
+    ∙ same_number (entry (slice_index_or STEPS (state_number q) a) b s (symbol k d)) (step_by (rows_of q) q (symbol k d))
+    (passes (entry_test q (rows_of q) (slice_index_or STEPS (state_number q) a) b s) (symbol k d)
     (entries_pass q a b s))
-    ∙ sym (step_is q (letter k d))
+    ∙ sym (step_is q (symbol k d))

@@ -1,4 +1,4 @@
--- A step goes by a row, or by the rule where no row has the letter; and what all rows have in common.
+-- A step goes by a row, or by the rule where no row has the symbol; and what all rows have in common.
 use Rattle.std.proofs.Common.{
   ◌≡◌,
   ◌⊎◌,
@@ -26,23 +26,23 @@ use Rattle.std.proofs.Common.{
 use Rattle.std.specs.List.{list_all}
 use Rattle.tls_words.specs.Words.{run}
 use Rattle.tls_words.proofs.PatternLemmas.{both_and}
-use Rattle.tls_flow.specs.Letters.{letter, Word}
+use Rattle.tls_flow.specs.Symbols.{symbol, Word}
 use Rattle.tls_flow.specs.Grammar.{is_noise, is_noise_of}
 use Rattle.tls_flow.specs.Table.{next_after, row_or, rule, rule_by, unended_rule, step, outcome_at, is_waiting}
-use Rattle.tls_flow.specs.declared.letter.Letter.{Letter}
-use Rattle.tls_flow.specs.declared.letter.Kind.{Kind}
-use Rattle.tls_flow.specs.declared.letter.Kind.TheVariants as kind
-use Rattle.tls_flow.specs.declared.letter.Direction.{Direction}
+use Rattle.tls_flow.specs.declared.symbol.Symbol.{Symbol}
+use Rattle.tls_flow.specs.declared.symbol.Kind.{Kind}
+use Rattle.tls_flow.specs.declared.symbol.Kind.TheVariants as kind
+use Rattle.tls_flow.specs.declared.symbol.Direction.{Direction}
 use Rattle.tls_flow.specs.declared.state.State.{State}
 use Rattle.tls_flow.specs.declared.state.Outcome.{Outcome}
 use Rattle.tls_flow.specs.declared.state.Outcome.TheVariants as outcome
 use Rattle.tls_flow.specs.declared.table.Row.{Row}
 use Rattle.tls_flow.specs.declared.table.TheConstants.{ROWS}
 use Rattle.tls_flow.specs.contracts.state.State.{the_type as states}
-use Rattle.tls_flow.specs.contracts.letter.Kind.{the_type as kinds}
-use Rattle.tls_flow.specs.contracts.letter.Direction.{the_type as directions}
+use Rattle.tls_flow.specs.contracts.symbol.Kind.{the_type as kinds}
+use Rattle.tls_flow.specs.contracts.symbol.Direction.{the_type as directions}
 use Rattle.tls_flow.proofs.NumberLemmas.{rows_of, next_of, next_is}
-use Rattle.tls_flow.proofs.LetterLemmas.{letter_is}
+use Rattle.tls_flow.proofs.SymbolLemmas.{symbol_is}
 use denote.Enum.Bare.{sameb, same_true}
 
 pub true_or_false : (t : Bool) → (t ≡ true) ⊎ (t ≡ false)
@@ -82,18 +82,18 @@ abbrev pub is_some : Option State → Bool
 is_some (Some s) = true
 is_some None = false
 
-abbrev pub has_letter : List Row → Letter → Bool
-has_letter rows l = is_some (next_of rows l)
+abbrev pub has_symbol : List Row → Symbol → Bool
+has_symbol rows l = is_some (next_of rows l)
 
-abbrev pub GoesByRow : State → Letter → Type 0
+abbrev pub GoesByRow : State → Symbol → Type 0
 GoesByRow q l =
-    (s : State) × (step q l ≡ s) × (has_letter (rows_of q) l ≡ true)
+    (s : State) × (step q l ≡ s) × (has_symbol (rows_of q) l ≡ true)
     × ((f : Row → Bool) → list_all f ROWS ≡ true → f (row q l.kind l.direction s) ≡ true)
 
-abbrev pub GoesByRule : State → Letter → Type 0
-GoesByRule q l = (step q l ≡ rule q l.kind l.direction) × (has_letter (rows_of q) l ≡ false)
+abbrev pub GoesByRule : State → Symbol → Type 0
+GoesByRule q l = (step q l ≡ rule q l.kind l.direction) × (has_symbol (rows_of q) l ≡ false)
 
-goes_by : (q : State) (l : Letter) (n : Option State) → next_after ROWS q l.kind l.direction ≡ n
+goes_by : (q : State) (l : Symbol) (n : Option State) → next_after ROWS q l.kind l.direction ≡ n
     → GoesByRow q l ⊎ GoesByRule q l
 goes_by q l (Some s) e = inl (
   s,
@@ -103,7 +103,7 @@ goes_by q l (Some s) e = inl (
 )
 goes_by q l None e = inr (ap (λ o. row_or o (rule q l.kind l.direction)) e, ap is_some (sym (next_is q l) ∙ e))
 
-pub goes : (q : State) (l : Letter) → GoesByRow q l ⊎ GoesByRule q l
+pub goes : (q : State) (l : Symbol) → GoesByRow q l ⊎ GoesByRule q l
 goes q l = goes_by q l (next_after ROWS q l.kind l.direction) refl
 
 -- Sorts of outcomes.
@@ -145,7 +145,7 @@ pub not_true : (t : Bool) → not t ≡ true → t ≡ false
 not_true true h = cc
 not_true false h = refl
 
-module _ (q : State) (l : Letter) (r : GoesByRow q l) where
+module _ (q : State) (l : Symbol) (r : GoesByRow q l) where
   parts : ((is_waiting (outcome_at q) && is_alive (outcome_at r.0)) ≡ true)
       × ((not (is_noise l) && not (is_stopping l.kind)) ≡ true)
   parts = both_and _ _ (r.3 row_test rows_pass)
@@ -166,7 +166,7 @@ module _ (q : State) (l : Letter) (r : GoesByRow q l) where
 rule_stays : (o : Outcome) (q : State) (k : Kind) (d : Direction) → is_waiting o ≡ false → rule_by o q k d ≡ q
 rule_stays = elim [ outcome.Waiting ↦ λ q k d h. cc | _ ↦ λ q k d h. refl ]
 
-pub end_stays : (q : State) (l : Letter) → is_waiting (outcome_at q) ≡ false → step q l ≡ q
+pub end_stays : (q : State) (l : Symbol) → is_waiting (outcome_at q) ≡ false → step q l ≡ q
 end_stays q l h = elim (goes q l) [
   | inl r ↦ let k : is_waiting (outcome_at q) ≡ true = row_waits q l r in absurd cc
   | inr r ↦ r.0 ∙ rule_stays (outcome_at q) q l.kind l.direction h
@@ -177,7 +177,7 @@ run_stays q [] h = refl
 run_stays q (l ∷ w) h = ap (λ r. run step r w) (end_stays q l h) ∙ run_stays q w h
 
 -- The rule at a state that waits.
-pub rule_waiting : (q : State) (l : Letter) → is_waiting (outcome_at q) ≡ true
+pub rule_waiting : (q : State) (l : Symbol) → is_waiting (outcome_at q) ≡ true
     → rule q l.kind l.direction ≡ unended_rule q l.kind (is_noise l)
 rule_waiting q l h = ap (λ o. rule_by o q l.kind l.direction) (waiting_is (outcome_at q) h)
 
@@ -213,11 +213,11 @@ rule_stops : (t n : Bool) (q : State) (k : Kind) → is_waiting (outcome_at q) �
 rule_stops t true q k h e = absurd (alive_not_stopped t (outcome_at q) (alive_if_waiting (outcome_at q) h) e)
 rule_stops t false q k h e = unended_stops t q k e
 
-pub stopped_by : (t : Bool) (q : State) (l : Letter) → is_waiting (outcome_at q) ≡ true
-    → outcome_at (step q l) ≡ stopped t → l ≡ letter (stopping t) l.direction
+pub stopped_by : (t : Bool) (q : State) (l : Symbol) → is_waiting (outcome_at q) ≡ true
+    → outcome_at (step q l) ≡ stopped t → l ≡ symbol (stopping t) l.direction
 stopped_by t q l h e = elim (goes q l) [
   | inl r ↦ absurd (alive_not_stopped t (outcome_at r.0) (row_lives q l r) (ap outcome_at (sym r.1) ∙ e))
-  | inr r ↦ letter_is l (letter (stopping t) l.direction)
+  | inr r ↦ symbol_is l (symbol (stopping t) l.direction)
       (rule_stops t (is_noise l) q l.kind h (ap outcome_at (sym (r.0 ∙ rule_waiting q l h)) ∙ e)) refl
 ]
 
@@ -239,14 +239,14 @@ rule_by_stopping : (t : Bool) (q : State) (d : Direction) (o : Outcome) → outc
 rule_by_stopping t q d = elim [ outcome.Waiting ↦ λ e. stops_waiting t q d | _ ↦ λ e. e ]
 
 pub stopping_stops : (t : Bool) (q : State) (d : Direction)
-    → outcome_at (step q (letter (stopping t) d)) ≡ stopped_if_waiting t (outcome_at q)
-stopping_stops t q d = elim (goes q (letter (stopping t) d)) [
-  | inl r ↦ let k : is_stopping (stopping t) ≡ false = row_goes_on q (letter (stopping t) d) r in
+    → outcome_at (step q (symbol (stopping t) d)) ≡ stopped_if_waiting t (outcome_at q)
+stopping_stops t q d = elim (goes q (symbol (stopping t) d)) [
+  | inl r ↦ let k : is_stopping (stopping t) ≡ false = row_goes_on q (symbol (stopping t) d) r in
       let m : is_stopping (stopping t) ≡ true = is_stopping_kind t in absurd cc
   | inr r ↦ ap outcome_at r.0 ∙ rule_by_stopping t q d (outcome_at q) refl
 ]
 
--- What a state waits for: the letters of its rows, by which a handshake comes or can still come.
+-- What a state waits for: the symbols of its rows, by which a handshake comes or can still come.
 unended_fails : (q : State) (k : Kind) → is_alive (outcome_at (unended_rule q k false)) ≡ false
 unended_fails q = elim [ kind.Fatal ↦ refl | kind.Unknown ↦ refl | _ ↦ refl ]
 
@@ -258,7 +258,7 @@ rule_awaits : (o : Outcome) (q : State) (k : Kind) (d : Direction)
     → (is_waiting o && (not (is_noise_of k d) && is_alive (outcome_at (rule_by o q k d)))) ≡ false
 rule_awaits = elim [ outcome.Waiting ↦ λ q k d. rule_fails q (is_noise_of k d) k | _ ↦ λ q k d. refl ]
 
-abbrev pub awaits : State → Letter → Bool
+abbrev pub awaits : State → Symbol → Bool
 awaits q l = is_waiting (outcome_at q) && (not (is_noise l) && is_alive (outcome_at (step q l)))
 
 all_three : (a b c : Bool) → a ≡ true → b ≡ false → c ≡ true → (a && (not b && c)) ≡ true
@@ -266,8 +266,8 @@ all_three true false c e f g = g
 all_three true true c e f g = cc
 all_three false b c e f g = cc
 
-pub letter_awaited : (q : State) (l : Letter) → has_letter (rows_of q) l ≡ awaits q l
-letter_awaited q l = elim (goes q l) [
+pub symbol_awaited : (q : State) (l : Symbol) → has_symbol (rows_of q) l ≡ awaits q l
+symbol_awaited q l = elim (goes q l) [
   | inl r ↦ r.2 ∙ sym (all_three (is_waiting (outcome_at q)) (is_noise l) (is_alive (outcome_at (step q l)))
       (row_waits q l r) (row_speaks q l r) (ap (λ s. is_alive (outcome_at s)) r.1 ∙ row_lives q l r))
   | inr r ↦ r.1 ∙ sym (ap (λ s. is_waiting (outcome_at q) && (not (is_noise l) && is_alive (outcome_at s))) r.0

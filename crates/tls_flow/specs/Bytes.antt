@@ -1,4 +1,4 @@
--- Handshake messages as letters by their bytes.
+-- Handshake messages as symbols by their bytes.
 use Rattle.std.specs.Prelude.{ℕ, Option, Some, None, Ok, Err, if◌then◌else◌, ◌==◌}
 use Rattle.std.specs.Option.{option_map}
 use Rattle.layouts.specs.Bytes.{Bytes}
@@ -10,8 +10,8 @@ use Rattle.tls_hs.specs.InPlace.{raw_handshake}
 use Rattle.tls_hs.specs.ServerHello as servers
 use Rattle.tls_flow.specs.Messages.{kind_of_handshake, kind_of_type}
 use Rattle.tls_flow.specs.declared.handshake.HandshakeMessage as rust
-use Rattle.tls_flow.specs.declared.letter.Kind.{Kind}
-use Rattle.tls_flow.specs.declared.letter.Kind.TheVariants as kind
+use Rattle.tls_flow.specs.declared.symbol.Kind.{Kind}
+use Rattle.tls_flow.specs.declared.symbol.Kind.TheVariants as kind
 
 -- A whole handshake message (RFC 8446, 4): its type, its body, and the ServerHello that it is, where that is read.
 pub record HandshakeMessage : Type 0 where

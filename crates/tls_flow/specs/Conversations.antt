@@ -1,12 +1,12 @@
 -- Where a conversation ends, told by the grammar.
 use Rattle.std.specs.Prelude.{◌≡◌, ℕ, List, ◌∷◌, ◌++◌, Option, None, Some, Bool, false, length, min, [], ◌⊎◌, ◌-◌, ◌^◌}
-use Rattle.tls_flow.specs.Letters.{letter, Word, letters_of}
+use Rattle.tls_flow.specs.Symbols.{symbol, Word, symbols_of}
 use Rattle.tls_words.specs.Words.{HasFront, MayBecome, without}
 use Rattle.tls_flow.specs.Grammar.{full, resumed, tls13, handshake, is_noise}
-use Rattle.tls_flow.specs.declared.letter.Kind.TheVariants.{Fatal, Unknown}
-use Rattle.tls_flow.specs.declared.letter.Kind.{Kind}
-use Rattle.tls_flow.specs.declared.letter.Direction.{Direction}
-use Rattle.tls_flow.specs.declared.letter.Letter.{Letter}
+use Rattle.tls_flow.specs.declared.symbol.Kind.TheVariants.{Fatal, Unknown}
+use Rattle.tls_flow.specs.declared.symbol.Kind.{Kind}
+use Rattle.tls_flow.specs.declared.symbol.Direction.{Direction}
+use Rattle.tls_flow.specs.declared.symbol.Symbol.{Symbol}
 use Rattle.tls_flow.specs.declared.event.Event.{Event}
 use Rattle.tls_flow.specs.declared.flow.Stop.{Stop}
 use Rattle.tls_flow.specs.declared.state.Outcome.{Outcome}
@@ -34,9 +34,9 @@ MayBecomeHandshake w = MayBecome (without is_noise) handshake w
 abbrev pub IsUnderWay : Word → Type 0
 IsUnderWay w = ¬ HasHandshake w × MayBecomeHandshake w
 
--- A letter of that kind stands in w, and in front of it a handshake was under way.
+-- A symbol of that kind stands in w, and in front of it a handshake was under way.
 abbrev pub IsStoppedBy : Kind → Word → Type 0
-IsStoppedBy k w = (u v : Word) × (d : Direction) × (w ≡ u ++ letter k d ∷ v) × IsUnderWay u
+IsStoppedBy k w = (u v : Word) × (d : Direction) × (w ≡ u ++ symbol k d ∷ v) × IsUnderWay u
 
 -- A fatal alert does so.
 abbrev pub IsBrokenOff : Word → Type 0
@@ -61,7 +61,7 @@ IsOutcome outcome.Unknown w = IsUnknown w
 IsOutcome outcome.NoHandshake w = IsNoHandshake w
 
 -- Behind w, which is under way, l is no noise, and a handshake comes by it or can still come.
-abbrev pub IsAwaited : Letter → Word → Type 0
+abbrev pub IsAwaited : Symbol → Word → Type 0
 IsAwaited l w = IsUnderWay w × (is_noise l ≡ false) × (HasHandshake (w ++ l ∷ []) ⊎ MayBecomeHandshake (w ++ l ∷ []))
 
 -- Where a conversation was under way up to an event, behind which it is neither that nor a handshake: that event, and the
@@ -69,9 +69,9 @@ IsAwaited l w = IsUnderWay w × (is_noise l ≡ false) × (HasHandshake (w ++ l 
 abbrev pub StopsAt : Stop → List Event → Type 0
 StopsAt s events =
     (u v : List Event) × (events ≡ u ++ s.event ∷ v) × (s.place ≡ min (length u) (2 ^ 64 - 1))
-    × IsUnderWay (letters_of u) × ¬ IsUnderWay (letters_of (u ++ s.event ∷ [])) × ¬ HasHandshake (letters_of events)
+    × IsUnderWay (symbols_of u) × ¬ IsUnderWay (symbols_of (u ++ s.event ∷ [])) × ¬ HasHandshake (symbols_of events)
 
 -- What is answered of it.
 abbrev pub IsStop : Option Stop → List Event → Type 0
 IsStop (Some s) events = StopsAt s events
-IsStop None events = HasHandshake (letters_of events) ⊎ IsUnderWay (letters_of events)
+IsStop None events = HasHandshake (symbols_of events) ⊎ IsUnderWay (symbols_of events)

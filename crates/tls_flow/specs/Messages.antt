@@ -1,4 +1,4 @@
--- Messages as letters, apart from where they lie in memory.
+-- Messages as symbols, apart from where they lie in memory.
 use Rattle.std.specs.Prelude.{
   ℕ,
   List,
@@ -27,12 +27,12 @@ use Rattle.tls_hs.specs.Handshake as handshakes
 use Rattle.tls_hs.specs.HandshakeText.{msg_type_of}
 use Rattle.tls_hs.specs.Message as messages
 use Rattle.tls_hs.specs.declared.message.TlsMessage.{TlsMessage}
-use Rattle.tls_flow.specs.Letters.{letter}
-use Rattle.tls_flow.specs.declared.letter.Letter.{Letter}
-use Rattle.tls_flow.specs.declared.letter.Kind.{Kind}
-use Rattle.tls_flow.specs.declared.letter.Kind.TheVariants as kind
-use Rattle.tls_flow.specs.declared.letter.Direction.{Direction}
-use Rattle.tls_flow.specs.declared.letter.Direction.TheVariants.{ToServer, FromServer}
+use Rattle.tls_flow.specs.Symbols.{symbol}
+use Rattle.tls_flow.specs.declared.symbol.Symbol.{Symbol}
+use Rattle.tls_flow.specs.declared.symbol.Kind.{Kind}
+use Rattle.tls_flow.specs.declared.symbol.Kind.TheVariants as kind
+use Rattle.tls_flow.specs.declared.symbol.Direction.{Direction}
+use Rattle.tls_flow.specs.declared.symbol.Direction.TheVariants.{ToServer, FromServer}
 
 -- The version that the server picks (RFC 8446, 4.2.1) is TLS 1.3, 0x0304, a draft of it, 0x7f and the draft's number, or DTLS 1.3, 0xfefc
 -- (RFC 9147, 5.4).
@@ -72,7 +72,6 @@ kind_of_type n =
     else if n == 2 then kind.ServerHello
     else if n == 3 then kind.HelloVerifyRequest
     else if n == 4 then kind.NewSessionTicket
-    else if n == 5 then kind.Other
     else if n == 6 then kind.HelloRetryRequest
     else if n == 8 then kind.Other
     else if n == 11 then kind.Certificate
@@ -81,10 +80,8 @@ kind_of_type n =
     else if n == 14 then kind.ServerDone
     else if n == 15 then kind.CertificateVerify
     else if n == 16 then kind.ClientKeyExchange
-    else if n == 20 then kind.Other
     else if n == 22 then kind.CertificateStatus
-    else if n == 24 then kind.Other
-    else if n == 67 then kind.Other
+    else if handshakes.is_read n then kind.Other
     else kind.Unknown
 
 -- That of its type, but for a ServerHello, of which draft 18 of TLS 1.3 has one of its own (draft-ietf-tls-tls13-18, 4.1.3).
@@ -112,9 +109,9 @@ abbrev pub direction : Bool → Direction
 direction true = ToServer
 direction false = FromServer
 
--- The letter of a message that was read from bytes, and whether it goes to the server.
-abbrev pub letter_of_viewed : messages.Message → Bool → Letter
-letter_of_viewed m to_server = letter (kind_of m) (direction to_server)
+-- The symbol of a message that was read from bytes, and whether it goes to the server.
+abbrev pub symbol_of_viewed : messages.Message → Bool → Symbol
+symbol_of_viewed m to_server = symbol (kind_of m) (direction to_server)
 
-abbrev pub letter_of : TlsMessage → Bool → Letter
-letter_of m to_server = letter_of_viewed (messages.view_message m) to_server
+abbrev pub symbol_of : TlsMessage → Bool → Symbol
+symbol_of m to_server = symbol_of_viewed (messages.view_message m) to_server

@@ -1,4 +1,4 @@
--- The letter of a handshake message is the same by its bytes and by what is read of them.
+-- The symbol of a handshake message is the same by its bytes and by what is read of them.
 use Rattle.std.specs.Prelude.{◌≡◌, [], Ok}
 use Rattle.layouts.specs.Bytes.{Bytes}
 use Rattle.layouts.specs.Reading.{reading}

@@ -26,7 +26,7 @@ moved q f e = record { state = q; events = counted f.events; stop = stop_at (out
 
 -- The flow after an event: behind an end it is counted only.
 abbrev pub follow_by : Bool → Flow → Event → Flow
-follow_by true f e = moved (step f.state e.letter) f e
+follow_by true f e = moved (step f.state e.symbol) f e
 follow_by false f e = record f { events = counted f.events }
 
 abbrev pub follow : Flow → Event → Flow

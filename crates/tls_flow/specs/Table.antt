@@ -15,21 +15,21 @@ use Rattle.std.specs.Prelude.{
   if◌then◌else◌,
   slice_get,
 }
-use Rattle.tls_flow.specs.declared.letter.Letter.{Letter}
-use Rattle.tls_flow.specs.Letters.{letter}
+use Rattle.tls_flow.specs.declared.symbol.Symbol.{Symbol}
+use Rattle.tls_flow.specs.Symbols.{symbol}
 use Rattle.tls_flow.specs.Grammar.{is_noise_of}
 use Rattle.tls_flow.specs.declared.state.State.{State}
 use Rattle.tls_flow.specs.declared.state.State.TheVariants as state
 use Rattle.tls_flow.specs.declared.state.Outcome.{Outcome}
 use Rattle.tls_flow.specs.declared.state.Outcome.TheVariants as outcome
-use Rattle.tls_flow.specs.declared.letter.Kind.{Kind}
-use Rattle.tls_flow.specs.declared.letter.Kind.TheVariants as kind
-use Rattle.tls_flow.specs.declared.letter.Direction.{Direction}
+use Rattle.tls_flow.specs.declared.symbol.Kind.{Kind}
+use Rattle.tls_flow.specs.declared.symbol.Kind.TheVariants as kind
+use Rattle.tls_flow.specs.declared.symbol.Direction.{Direction}
 use Rattle.tls_flow.specs.declared.table.Row.{Row}
 use Rattle.tls_flow.specs.declared.table.TheConstants.{ROWS}
 use Rattle.tls_flow.specs.contracts.state.State.{the_type as states}
-use Rattle.tls_flow.specs.contracts.letter.Kind.{the_type as kinds}
-use Rattle.tls_flow.specs.contracts.letter.Direction.{the_type as directions}
+use Rattle.tls_flow.specs.contracts.symbol.Kind.{the_type as kinds}
+use Rattle.tls_flow.specs.contracts.symbol.Direction.{the_type as directions}
 use denote.Enum.Bare.{sameb}
 
 -- Where the first row of this kind and direction leads.
@@ -44,11 +44,11 @@ next_after [] q k d = None
 next_after (r ∷ rows) q k d = if sameb states r.state q &&
     (sameb kinds r.kind k && sameb directions r.direction d) then Some r.next else next_after rows q k d
 
--- The letters of a state's rows: what it waits for.
-abbrev pub awaited_in : List Row → State → List Letter
+-- The symbols of a state's rows: what it waits for.
+abbrev pub awaited_in : List Row → State → List Symbol
 awaited_in [] q = []
 awaited_in (r ∷ rows) q =
-    if sameb states r.state q then letter r.kind r.direction ∷ awaited_in rows q else awaited_in rows q
+    if sameb states r.state q then symbol r.kind r.direction ∷ awaited_in rows q else awaited_in rows q
 
 -- No state, kind and direction stand in two rows.
 abbrev pub IsOneRowEach : List Row → Type 0
@@ -100,5 +100,5 @@ row_or (Some q) r = q
 row_or None r = r
 
 -- The state after a message.
-abbrev pub step : State → Letter → State
+abbrev pub step : State → Symbol → State
 step q l = row_or (next_after ROWS q l.kind l.direction) (rule q l.kind l.direction)

@@ -1,11 +1,12 @@
-//! Handshake messages as letters by their bytes, without memory.
+//! Handshake messages as symbols by their bytes, without memory.
 ghost use Rattle.std.specs.Prelude.{◌≡◌};
 ghost use Rattle.tls_flow.specs.Bytes.{kind_of_bytes, kind_of_body, kind_of_datagram_body};
 ghost use Rattle.tls_flow.specs.Messages.{kind_of_type};
 
 use crate::handshake::HandshakeMessage;
-use crate::letter::Kind;
+use crate::symbol::Kind;
 use tls_base::TlsHandshakeType;
+use tls_hs::TlsMessageHandshake;
 
 impl Kind {
     /// The kind of a handshake message by its type alone: of a ServerHello that of one below TLS 1.3.
@@ -26,11 +27,8 @@ impl Kind {
             TlsHandshakeType::CertificateVerify => Kind::CertificateVerify,
             TlsHandshakeType::ClientKeyExchange => Kind::ClientKeyExchange,
             TlsHandshakeType::CertificateStatus => Kind::CertificateStatus,
-            TlsHandshakeType::EndOfEarlyData
-            | TlsHandshakeType::EncryptedExtensions
-            | TlsHandshakeType::Finished
-            | TlsHandshakeType::KeyUpdate
-            | TlsHandshakeType::NextProtocol => Kind::Other,
+            TlsHandshakeType::EncryptedExtensions => Kind::Other,
+            _ if TlsMessageHandshake::is_read(msg_type) => Kind::Other,
             _ => Kind::Unknown,
         }
     }

@@ -1,11 +1,11 @@
 //! What a flow is told of a message.
 ghost use Rattle.std.specs.Prelude.{◌≡◌, Some, None};
 ghost use Rattle.tls_base.specs.Alert.{view_alert};
-ghost use Rattle.tls_flow.specs.Letters.{letter};
-ghost use Rattle.tls_flow.specs.Messages.{kind_of_alert, letter_of};
+ghost use Rattle.tls_flow.specs.Symbols.{symbol};
+ghost use Rattle.tls_flow.specs.Messages.{kind_of_alert, symbol_of};
 ghost use Rattle.tls_flow.specs.Bytes.{kind_of_bytes};
 
-use crate::letter::{Direction, Kind, Letter};
+use crate::symbol::{Direction, Kind, Symbol};
 use tls_base::{TlsAlertDescription, TlsMessageAlert};
 use tls_hs::TlsMessage;
 
@@ -13,7 +13,7 @@ use tls_hs::TlsMessage;
 #[derive(Clone, Copy, Debug, PartialEq)]
 pub struct Event {
     /// Its kind, and which side it goes to.
-    pub letter: Letter,
+    pub symbol: Symbol,
     /// What the alert says, where it is one.
     pub alert: Option<TlsAlertDescription>,
 }
@@ -22,11 +22,11 @@ impl Event {
     /// A message of that kind which is no alert, or an alert of which no more is known.
     #[inline]
     pub fn new(kind: Kind, direction: Direction) -> Event
-        ensures letter { result.letter ≡ letter kind direction }
+        ensures symbol { result.symbol ≡ symbol kind direction }
         ensures alert { result.alert ≡ None }
     {
         Event {
-            letter: Letter { kind, direction },
+            symbol: Symbol { kind, direction },
             alert: None,
         }
     }
@@ -34,11 +34,11 @@ impl Event {
     /// An alert in the clear.
     #[inline]
     pub fn of_alert(alert: &TlsMessageAlert, direction: Direction) -> Event
-        ensures letter { result.letter ≡ letter (kind_of_alert (view_alert alert.now)) direction }
+        ensures symbol { result.symbol ≡ symbol (kind_of_alert (view_alert alert.now)) direction }
         ensures alert { result.alert ≡ Some alert.now.code }
     {
         Event {
-            letter: Letter {
+            symbol: Symbol {
                 kind: Kind::of_alert(alert),
                 direction,
             },
@@ -50,7 +50,7 @@ impl Event {
     /// by its content too. [`Kind::Unknown`] where the type is none that is read, or a ServerHello is refused.
     #[inline]
     pub fn of_handshake(message: &[u8], direction: Direction) -> Event
-        ensures letter { result.letter ≡ letter (kind_of_bytes message.now) direction }
+        ensures symbol { result.symbol ≡ symbol (kind_of_bytes message.now) direction }
         ensures alert { result.alert ≡ None }
     {
         Event::new(Kind::of_bytes(message), direction)
@@ -60,7 +60,7 @@ impl Event {
     /// its sender says behind it is [`Kind::Encrypted`], whatever its bytes look like.
     #[inline]
     pub fn of(message: &TlsMessage<'_>, to_server: bool) -> Event
-        ensures { result.letter ≡ letter_of message.now to_server }
+        ensures { result.symbol ≡ symbol_of message.now to_server }
     {
         let direction = Direction::of(to_server);
         match message {

@@ -1,20 +1,20 @@
 //! A conversation that is followed.
 ghost use Rattle.std.specs.Prelude.{◌≡◌, ◌↔◌, List, Contains};
 ghost use Rattle.tls_flow.specs.Conversations.{IsOutcome, IsStop, IsAwaited};
-ghost use Rattle.tls_flow.specs.Letters.{letters_of};
+ghost use Rattle.tls_flow.specs.Symbols.{symbols_of};
 ghost use Rattle.tls_flow.specs.Steps.{silence, follow};
 ghost use Rattle.tls_flow.specs.Table.{outcome_at, awaited_in};
 ghost use Rattle.tls_words.specs.Words.{run as run_of};
 ghost use Rattle.tls_flow.specs.declared.event.Event.{Event};
-ghost use Rattle.tls_flow.specs.declared.letter.Letter.{Letter};
+ghost use Rattle.tls_flow.specs.declared.symbol.Symbol.{Symbol};
 ghost use Rattle.tls_flow.specs.declared.flow.Flow.{Flow};
 ghost use Rattle.tls_flow.specs.declared.state.Outcome.{Outcome};
 ghost use Rattle.tls_flow.specs.declared.table.TheConstants.{ROWS};
 
 use crate::event::Event;
-use crate::letter::Letter;
 use crate::state::{Outcome, State};
 use crate::step::{is_failed, is_waiting};
+use crate::symbol::Symbol;
 use crate::table::{awaited, next_state};
 
 /// The event that ended a handshake without success, as [`Outcome`] says.
@@ -85,12 +85,12 @@ impl Flow {
         self.events
     }
 
-    /// The letters that it waits for: those with which a handshake comes or can still come. Besides these, noise may come.
+    /// The symbols that it waits for: those with which a handshake comes or can still come. Besides these, noise may come.
     /// None where the outcome isn't [`Outcome::Waiting`].
-    pub fn awaited(&self) -> &'static [Letter]
+    pub fn awaited(&self) -> &'static [Symbol]
         ensures rows { result.now ≡ awaited_in ROWS self.now.state }
-        ensures told { (events : List Event) → self.now ≡ run_of follow silence events → (l : Letter)
-            → Contains result.now l ↔ IsAwaited l (letters_of events) }
+        ensures told { (events : List Event) → self.now ≡ run_of follow silence events → (l : Symbol)
+            → Contains result.now l ↔ IsAwaited l (symbols_of events) }
     {
         awaited(self.state)
     }
@@ -101,7 +101,7 @@ impl Flow {
         ensures { self.new ≡ follow self.old event }
     {
         if is_waiting(self.state) {
-            self.state = next_state(self.state, event.letter);
+            self.state = next_state(self.state, event.symbol);
             if is_failed(self.state) {
                 self.stop = Some(Stop {
                     event,
@@ -125,7 +125,7 @@ impl Flow {
     /// [`Flow::stop`] is the event that made it one of the last three, and how many came before it.
     pub fn run(&mut self, events: &[Event])
         ensures by_steps { self.new ≡ run_of follow self.old events.now }
-        ensures told { self.old ≡ silence → (o : Outcome) → (outcome_at self.new.state ≡ o) ↔ IsOutcome o (letters_of events.now) }
+        ensures told { self.old ≡ silence → (o : Outcome) → (outcome_at self.new.state ≡ o) ↔ IsOutcome o (symbols_of events.now) }
         ensures stopped { self.old ≡ silence → IsStop self.new.stop events.now }
     {
         for i in 0..events.len() {
@@ -136,8 +136,8 @@ impl Flow {
 
 /// The outcome of a whole conversation. Exactly one holds of each.
 pub fn outcome_of(events: &[Event]) -> Outcome
-    ensures told { IsOutcome result (letters_of events.now) }
-    ensures alone { (o : Outcome) → IsOutcome o (letters_of events.now) → o ≡ result }
+    ensures told { IsOutcome result (symbols_of events.now) }
+    ensures alone { (o : Outcome) → IsOutcome o (symbols_of events.now) → o ≡ result }
 {
     let mut flow = Flow::new();
     flow.run(events);

@@ -6,7 +6,7 @@ ghost use Rattle.tls_hs.specs.Handshake as handshakes;
 ghost use Rattle.layouts.specs.Reading.{reading};
 ghost use Rattle.tls_flow.specs.Bytes.{datagram_hello_in, datagram_message, draft_hello, kind_in_datagrams, kind_in_stream, kind_of_datagrams, kind_of_message, message_of, server_hello_in, stream_message, view_heard};
 
-use crate::letter::Kind;
+use crate::symbol::Kind;
 use layouts::InPlace;
 use tls_base::TlsHandshakeType;
 use tls_hs::parts::server_hello_any;

@@ -1,4 +1,4 @@
-//! What stands of letters. The function's contract is one law; its body is empty.
+//! What stands of symbols. The function's contract is one law; its body is empty.
 ghost use Rattle.layouts.specs.Bytes.{Bytes};
 ghost use Rattle.tls_hs.specs.Message.{Message};
 ghost use Rattle.tls_flow.specs.Read.{IsSameKind};

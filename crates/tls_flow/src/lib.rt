@@ -1,6 +1,6 @@
 //! Following a handshake as peers of TLS 1.0 to 1.3 and DTLS 1.0 to 1.2 speak it.
 //!
-//! A message and its direction are seen as a [`Letter`]. [`Flow`] keeps where a conversation stands, and its `run` is
+//! A message and its direction are seen as a [`Symbol`]. [`Flow`] keeps where a conversation stands, and its `run` is
 //! described by a grammar of handshakes, which knows no states. Nothing here takes memory.
 //!
 //! What a side says becomes an [`Event`]:
@@ -21,15 +21,15 @@ mod event;
 mod flow;
 mod handshake;
 pub mod laws;
-mod letter;
 mod message;
 mod state;
 mod step;
+mod symbol;
 mod table;
 
 pub use event::Event;
 pub use flow::{Flow, Stop, outcome_of};
 pub use handshake::{HandshakeMessage, ReadServerHello};
-pub use letter::{Direction, Kind, Letter};
-pub use message::{letter_of, picks_tls13};
+pub use message::{picks_tls13, symbol_of};
 pub use state::{Outcome, State};
+pub use symbol::{Direction, Kind, Symbol};

@@ -1,13 +1,13 @@
-//! Messages as letters.
+//! Messages as symbols.
 ghost use Rattle.std.specs.Prelude.{◌≡◌};
 ghost use Rattle.tls_base.specs.Alert.{view_alert};
 ghost use Rattle.tls_ext.specs.InPlace.{view_raw_extension};
 ghost use Rattle.tls_hs.specs.ServerHello.{view_server_hello};
 ghost use Rattle.tls_hs.specs.Handshake.{view_handshake};
 ghost use Rattle.tls_hs.specs.Message.{view_message};
-ghost use Rattle.tls_flow.specs.Messages.{is_tls13_version, picks_tls13 as picks, picks_in, kind_of_server_hello, kind_of_handshake, kind_of_alert, kind_of, direction, letter_of as letter_is};
+ghost use Rattle.tls_flow.specs.Messages.{is_tls13_version, picks_tls13 as picks, picks_in, kind_of_server_hello, kind_of_handshake, kind_of_alert, kind_of, direction, symbol_of as symbol_is};
 
-use crate::letter::{Direction, Kind, Letter};
+use crate::symbol::{Direction, Kind, Symbol};
 use layouts::Items;
 use tls_base::{TlsAlertDescription, TlsAlertSeverity, TlsExtensionType, TlsMessageAlert};
 use tls_ext::RawExtension;
@@ -116,12 +116,12 @@ impl Direction {
     }
 }
 
-/// The letter of a message in front of its sender's ChangeCipherSpec; `to_server` says that it goes to the server. What its
+/// The symbol of a message in front of its sender's ChangeCipherSpec; `to_server` says that it goes to the server. What its
 /// sender says behind it is [`Kind::Encrypted`], whatever its bytes look like.
-pub fn letter_of(message: &TlsMessage<'_>, to_server: bool) -> Letter
-    ensures { result ≡ letter_is message.now to_server }
+pub fn symbol_of(message: &TlsMessage<'_>, to_server: bool) -> Symbol
+    ensures { result ≡ symbol_is message.now to_server }
 {
-    Letter {
+    Symbol {
         kind: Kind::of(message),
         direction: Direction::of(to_server),
     }

@@ -2,8 +2,8 @@
 ghost use Rattle.std.specs.Prelude.{◌≡◌};
 ghost use Rattle.tls_flow.specs.Table.{IsOneRowEach, awaited_in, step};
 
-use crate::letter::{Direction, Kind, Letter};
 use crate::state::State;
+use crate::symbol::{Direction, Kind, Symbol};
 
 /// In `state`, a message of `kind` in `direction` leads to `next`.
 #[derive(Clone, Copy)]
@@ -173,7 +173,7 @@ macro_rules! count {
     };
 }
 
-/// Where a letter leads at a state, by the state's rows: the one that has it, and else a rule. Each letter that stands in a row has
+/// Where a symbol leads at a state, by the state's rows: the one that has it, and else a rule. Each symbol that stands in a row has
 /// a line here.
 macro_rules! entry {
     ($at:ident ClientHello ToServer; ClientHello ToServer => $next:ident; $($rows:tt)*) => {
@@ -256,14 +256,14 @@ macro_rules! entry {
     };
 }
 
-/// Where the letters of a kind lead at a state, from the server and to it.
+/// Where the symbols of a kind lead at a state, from the server and to it.
 macro_rules! of_kind {
     ($at:ident $kind:ident; $($rows:tt)*) => {
         [entry!($at $kind FromServer; $($rows)*), entry!($at $kind ToServer; $($rows)*)]
     };
 }
 
-/// Where all letters lead at a state, the kinds in the order of their declaration.
+/// Where all symbols lead at a state, the kinds in the order of their declaration.
 macro_rules! of_state {
     ($at:ident; $($rows:tt)*) => {
         [
@@ -311,11 +311,11 @@ macro_rules! steps {
     };
 }
 
-/// For each state an arm with the letters of its rows.
-macro_rules! letters {
+/// For each state an arm with the symbols of its rows.
+macro_rules! symbols {
     ([$at:ident] $($state:ident { $($kind:ident $direction:ident => $next:ident;)* })*) => {
         match $at {
-            $(State::$state => &[$(Letter { kind: Kind::$kind, direction: Direction::$direction }),*],)*
+            $(State::$state => &[$(Symbol { kind: Kind::$kind, direction: Direction::$direction }),*],)*
             State::Full | State::Resumed | State::Tls13 | State::EarlyTls13 | State::RetriedTls13
             | State::EarlyRetriedTls13 | State::BrokenOff | State::Unknown | State::NoHandshake => &[],
         }
@@ -332,7 +332,7 @@ const STATES: usize = 34;
 /// The table.
 static ROWS: [Row; COUNT] = transitions!(rows);
 
-/// The state after each letter at each state: a look-up here costs less than a search of rows.
+/// The state after each symbol at each state: a look-up here costs less than a search of rows.
 static STEPS: [[[State; 2]; KINDS]; STATES] = transitions!(steps);
 
 /// No state, kind and direction stand in two rows.
@@ -340,17 +340,17 @@ fn rows_are_distinct()
     ensures { IsOneRowEach ROWS }
 {}
 
-/// The state after a letter.
+/// The state after a symbol.
 #[inline]
-pub(crate) fn next_state(state: State, letter: Letter) -> State
-    ensures { result ≡ step state letter }
+pub(crate) fn next_state(state: State, symbol: Symbol) -> State
+    ensures { result ≡ step state symbol }
 {
-    STEPS[state as usize][letter.kind as usize][letter.direction as usize]
+    STEPS[state as usize][symbol.kind as usize][symbol.direction as usize]
 }
 
-/// The letters that the state waits for.
-pub(crate) fn awaited(state: State) -> &'static [Letter]
+/// The symbols that the state waits for.
+pub(crate) fn awaited(state: State) -> &'static [Symbol]
     ensures { result.now ≡ awaited_in ROWS state }
 {
-    transitions!(letters state)
+    transitions!(symbols state)
 }

@@ -11,7 +11,8 @@ use Rattle.layouts.specs.Layout.{Layout, done, number, block, left, maybe, chain
 use Rattle.layouts.specs.Meaning.{Spells}
 use Rattle.layouts.specs.declared.result.ErrorKind.TheVariants.{LengthValue, Verify}
 use Rattle.layouts.proofs.OneAnswerLemmas.{eqb_other}
-use Rattle.tls_hs.specs.Hello.{ClientHello, session_id, cipher_suites, compression_methods, client_hello}
+use Rattle.tls_hs.specs.Hello.{ClientHello, session_id, cipher_suites, compression_methods}
+use Rattle.tls_hs.specs.Hello.{client_hello, client_hello_with}
 use Rattle.layouts.specs.Text.{counted_text, numbers_text, held}
 use Rattle.tls_hs.specs.HandshakeText.{client_hello_text, FitsClientHello, InRangeClientHello, normal_id}
 use Rattle.tls_hs.specs.HandshakeText.{normal_client_hello}
@@ -183,21 +184,29 @@ hello_of version random id suites methods extensions = record {
   extensions = extensions;
 }
 
+-- what a ClientHello of TLS has in place of a cookie
+abbrev no_cookie : Layout (Option Bytes)
+no_cookie = done None
+
 -- what follows each field
-abbrev behind_methods : ℕ → Bytes → Option Bytes → List ℕ → List ℕ → Layout ClientHello
-behind_methods version random id suites methods =
-    chain (maybe (counted 2)) (λ e. done (hello_of version random id suites methods e))
+abbrev behind_methods : ℕ → Bytes → Option Bytes → Option Bytes → List ℕ → List ℕ → Layout (ClientHello × Option Bytes)
+behind_methods version random id cookie suites methods =
+    chain (maybe (counted 2)) (λ e. done (hello_of version random id suites methods e, cookie))
 
-abbrev behind_suites : ℕ → Bytes → Option Bytes → List ℕ → Layout ClientHello
-behind_suites version random id suites = chain compression_methods (behind_methods version random id suites)
+abbrev behind_suites : ℕ → Bytes → Option Bytes → Option Bytes → List ℕ → Layout (ClientHello × Option Bytes)
+behind_suites version random id cookie suites =
+    chain compression_methods (behind_methods version random id cookie suites)
 
-abbrev behind_id : ℕ → Bytes → Option Bytes → Layout ClientHello
-behind_id version random id = chain cipher_suites (behind_suites version random id)
+abbrev behind_cookie : ℕ → Bytes → Option Bytes → Option Bytes → Layout (ClientHello × Option Bytes)
+behind_cookie version random id cookie = chain cipher_suites (behind_suites version random id cookie)
 
-abbrev behind_random : ℕ → Bytes → Layout ClientHello
+abbrev behind_id : ℕ → Bytes → Option Bytes → Layout (ClientHello × Option Bytes)
+behind_id version random id = chain no_cookie (behind_cookie version random id)
+
+abbrev behind_random : ℕ → Bytes → Layout (ClientHello × Option Bytes)
 behind_random version random = chain session_id (behind_id version random)
 
-abbrev behind_version : ℕ → Layout ClientHello
+abbrev behind_version : ℕ → Layout (ClientHello × Option Bytes)
 behind_version version = chain (block 32) (behind_random version)
 
 nested : (a b c d e f : Bytes) → a ++ b ++ c ++ d ++ e ++ f ≡ a ++ (b ++ (c ++ (d ++ (e ++ f))))
@@ -217,10 +226,11 @@ text_nested h =
     (counted_text 2 (held h.extensions))
 
 nested_spelled : (h : ClientHello) (r : Bytes) → FitsClientHello h → InRangeClientHello h
-    → Spells client_hello (nested_text h ++ r) (normal_client_hello h) r []
-unfolding client_hello
+    → Spells (client_hello_with no_cookie) (nested_text h ++ r) (normal_client_hello h, None) r []
+unfolding client_hello_with
 nested_spelled h r fits range =
-    let v = normal_client_hello h in
+    let v : ClientHello × Option Bytes = (normal_client_hello h, None) in
+    let id = normal_id h.session_id in
     let e = counted_text 2 (held h.extensions) in
     let c = counted_text 1 (numbers_text 1 h.compression_methods) in
     let s = counted_text 2 (numbers_text 2 h.cipher_suites) in
@@ -230,23 +240,30 @@ nested_spelled h r fits range =
     (number_spelled 2 h.client_version _ range.version)
     (chain_spelled (block 32) (behind_random h.client_version) h.random (i ++ (s ++ (c ++ e))) r h.random v
     (fits.random, refl, refl)
-    (chain_spelled session_id (behind_id h.client_version h.random) i (s ++ (c ++ e)) r (normal_id h.session_id) v
+    (chain_spelled session_id (behind_id h.client_version h.random) i (s ++ (c ++ e)) r id v
     (session_id_spelled h.session_id _ fits.session_id)
-    (chain_spelled cipher_suites (behind_suites h.client_version h.random (normal_id h.session_id)) s (c ++ e) r
-    h.cipher_suites v
+    (joined no_cookie (behind_cookie h.client_version h.random id) ((s ++ (c ++ e)) ++ r) v r None ((s ++ (c ++ e)) ++ r)
+    (refl, refl, refl)
+    (chain_spelled cipher_suites (behind_suites h.client_version h.random id None) s (c ++ e) r h.cipher_suites v
     (suites_spelled h.cipher_suites _ range.suites fits.suites)
-    (chain_spelled compression_methods (behind_methods h.client_version h.random (normal_id h.session_id)
-    h.cipher_suites) c e r h.compression_methods v
+    (chain_spelled compression_methods (behind_methods h.client_version h.random id None h.cipher_suites) c e r
+    h.compression_methods v
     (methods_spelled h.compression_methods _ range.methods fits.methods)
-    (joined (maybe (counted 2)) (λ x. done (hello_of h.client_version h.random (normal_id h.session_id)
-    h.cipher_suites h.compression_methods x)) (e ++ r) v r (Some (held h.extensions)) r
-    (extensions_spelled (held h.extensions) r (omega (arith, fits.extensions))) (refl, refl, refl))))))
+    (joined (maybe (counted 2)) (λ x. done (
+      hello_of h.client_version h.random id h.cipher_suites
+          h.compression_methods x,
+      None,
+    )) (e ++ r) v r (Some (held h.extensions)) r
+    (extensions_spelled (held h.extensions) r (omega (arith, fits.extensions))) (refl, refl, refl)))))))
 
 pub client_hello_spelled : (h : ClientHello) (r : Bytes) → FitsClientHello h → InRangeClientHello h
     → Spells client_hello (client_hello_text h ++ r) (normal_client_hello h) r []
+unfolding client_hello
 client_hello_spelled h r fits range =
-    subst (λ t. Spells client_hello (t ++ r) (normal_client_hello h) r []) (sym (text_nested h))
-    (nested_spelled h r fits range)
+    let v : ClientHello × Option Bytes = (normal_client_hello h, None) in
+    joined (client_hello_with no_cookie) (λ x. done x.0) (client_hello_text h ++ r) (normal_client_hello h) r v r
+    (subst (λ t. Spells (client_hello_with no_cookie) (t ++ r) v r []) (sym (text_nested h))
+    (nested_spelled h r fits range)) (refl, refl, refl)
 
 pub extensions_whole : (b : Bytes) (e : Option Bytes) (r : Bytes) → IsSome e → Spells (maybe (counted 2)) b e r []
     → (length (held e) < 256 ^ 2) × (b ≡ counted_text 2 (held e) ++ r)
@@ -259,20 +276,22 @@ pub record Written (h : ClientHello) (b r : Bytes) : Type 0 where
   pub range : InRangeClientHello h
   pub is : b ≡ client_hello_text h ++ r
 
-pub client_hello_whole : (b : Bytes) (h : ClientHello) (r : Bytes) → IsSome h.extensions
-    → Spells client_hello b h r [] → Written h b r
-unfolding client_hello
-client_hello_whole b h r some spelled =
-    let p1 = parts (number 2) behind_version b h r spelled in
-    let p2 = parts (block 32) (behind_random p1.value) p1.middle h r p1.then in
-    let p3 = parts session_id (behind_id p1.value p2.value) p2.middle h r p2.then in
-    let p4 = parts cipher_suites (behind_suites p1.value p2.value p3.value) p3.middle h r p3.then in
-    let p5 = parts compression_methods (behind_methods p1.value p2.value p3.value p4.value) p4.middle h r p4.then in
-    let p6 = parts (maybe (counted 2)) (λ x. done (hello_of p1.value p2.value p3.value p4.value p5.value x)) p5.middle
-    h r p5.then in
-    let is : h ≡ hello_of p1.value p2.value p3.value p4.value p5.value p6.value = p6.then.0 in
+fields_whole : (b : Bytes) (v : ClientHello × Option Bytes) (r : Bytes) → IsSome v.0.extensions
+    → Spells (client_hello_with no_cookie) b v r [] → Written v.0 b r
+unfolding client_hello_with
+fields_whole b v r some spelled =
+    let p1 = parts (number 2) behind_version b v r spelled in
+    let p2 = parts (block 32) (behind_random p1.value) p1.middle v r p1.then in
+    let p3 = parts session_id (behind_id p1.value p2.value) p2.middle v r p2.then in
+    let p0 = parts no_cookie (behind_cookie p1.value p2.value p3.value) p3.middle v r p3.then in
+    let p4 = parts cipher_suites (behind_suites p1.value p2.value p3.value p0.value) p0.middle v r p0.then in
+    let p5 = parts compression_methods (behind_methods p1.value p2.value p3.value p0.value p4.value) p4.middle v r
+    p4.then in
+    let p6 = parts (maybe (counted 2)) (λ x. done (hello_of p1.value p2.value p3.value p4.value p5.value x, p0.value))
+    p5.middle v r p5.then in
+    let is : v.0 ≡ hello_of p1.value p2.value p3.value p4.value p5.value p6.value = ap (λ x. x.0) p6.then.0 in
     let i = session_id_whole p2.middle p3.value p3.middle p3.first in
-    let s = suites_whole p3.middle p4.value p4.middle p4.first in
+    let s = suites_whole p0.middle p4.value p4.middle p4.first in
     let c = methods_whole p4.middle p5.value p5.middle p5.first in
     let e = extensions_whole p5.middle p6.value p6.middle (subst (λ h. IsSome h.extensions) is some) p6.first in
     let e_text = counted_text 2 (held p6.value) in
@@ -282,7 +301,7 @@ client_hello_whole b h r some spelled =
     let text5 : p4.middle ≡ (c_text ++ e_text) ++ r = then_text p4.middle c_text p5.middle e_text r c.2
     (e.1 ∙ ap (λ x. e_text ++ x) p6.then.1) in
     let text4 : p3.middle ≡ (s_text ++ (c_text ++ e_text)) ++ r =
-    then_text p3.middle s_text p4.middle (c_text ++ e_text) r s.2 text5 in
+    then_text p3.middle s_text p4.middle (c_text ++ e_text) r (p0.first.1 ∙ s.2) text5 in
     let text3 : p2.middle ≡ (i_text ++ (s_text ++ (c_text ++ e_text))) ++ r =
     then_text p2.middle i_text p3.middle (s_text ++ (c_text ++ e_text)) r i.1 text4 in
     let text2 : p1.middle ≡ (p2.value ++ (i_text ++ (s_text ++ (c_text ++ e_text)))) ++ r =
@@ -303,6 +322,14 @@ client_hello_whole b h r some spelled =
       is = text1 ∙ ap (λ t. t ++ r) (sym (text_nested
           (hello_of p1.value p2.value p3.value p4.value p5.value p6.value)));
     })
+
+pub client_hello_whole : (b : Bytes) (h : ClientHello) (r : Bytes) → IsSome h.extensions
+    → Spells client_hello b h r [] → Written h b r
+unfolding client_hello
+client_hello_whole b h r some spelled =
+    let p = parts (client_hello_with no_cookie) (λ x. done x.0) b h r spelled in
+    subst (λ x. Written x b r) (sym p.then.0) (subst (λ m. Written p.value.0 b m) p.then.1
+    (fields_whole b p.value p.middle (subst (λ x. IsSome x.extensions) p.then.0 some) p.first))
 
 pub client_hello_back : (b r : Bytes) (h : ClientHello) → IsSome h.extensions → Spells client_hello b h r []
     → FitsClientHello h × InRangeClientHello h × (b ≡ client_hello_text h ++ r)

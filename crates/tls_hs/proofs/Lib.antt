@@ -4,3 +4,4 @@ pub mod ServerHelloTextLemmas
 pub mod MsgTypeLemmas
 pub mod HandshakeTextLemmas
 pub mod PlacesLemmas
+pub mod ListedLemmas

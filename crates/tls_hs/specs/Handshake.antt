@@ -1,7 +1,7 @@
 -- Handshake messages (RFC 5246, section 7.4), and of TLS 1.3 and its drafts those whose numbers are free there: types 5
 -- and 24 (RFC 8446, section 4), 6 (draft-ietf-tls-tls13-19, section 4.1.4) and 67 (draft-agl-tls-nextprotoneg-04,
 -- section 3). Types 4, 11 and 13 have a form of their own in TLS 1.3, which isn't read: they are read in that of TLS 1.2.
-use Rattle.std.specs.Prelude.{ℕ, List, ◌==◌, ◌&&◌, nat_le}
+use Rattle.std.specs.Prelude.{ℕ, List, Bool, true, false, not, ◌==◌, ◌&&◌, nat_le}
 use Rattle.layouts.specs.Bytes.{Bytes}
 use Rattle.layouts.specs.Layout.{Layout, done, refuse, number, block, look, ◌>>=◌, mapped, choose}
 use Rattle.layouts.specs.declared.result.ErrorKind.TheVariants.{Switch, Tag}
@@ -76,6 +76,10 @@ server_hello_of_draft_body = do
 unfoldable pub new_session_ticket_body : ℕ → Layout Handshake
 new_session_ticket_body length = mapped NewSessionTicket (session.new_session_ticket length)
 
+-- Of an EndOfEarlyData (RFC 8446, section 4.5) nothing is read.
+unfoldable pub end_of_early_data_body : Layout Handshake
+end_of_early_data_body = done EndOfEarlyData
+
 unfoldable pub hello_retry_request_body : Layout Handshake
 hello_retry_request_body = mapped HelloRetryRequest server.hello_retry_request
 
@@ -129,13 +133,22 @@ body_from_certificate msg_type length =
     choose (msg_type == 16) (client_key_exchange_body length) (
     body_from_finished msg_type length))))))
 
--- All types. Of an EndOfEarlyData (RFC 8446, section 4.5) nothing is read.
+-- All types.
 unfoldable pub handshake_body : ℕ → ℕ → Layout Handshake
 handshake_body msg_type length =
     choose (msg_type == 0) hello_request_body (
     choose (msg_type == 1) client_hello_body (
     choose (msg_type == 2) server_hello_body (
     choose (msg_type == 4) (new_session_ticket_body length) (
-    choose (msg_type == 5) (done EndOfEarlyData) (
+    choose (msg_type == 5) end_of_early_data_body (
     choose (msg_type == 6) hello_retry_request_body (
     body_from_certificate msg_type length))))))
+
+-- It is refused whatever stands there.
+abbrev pub is_refused : {A : Type 0} → Layout A → Bool
+is_refused (refuse kind) = true
+is_refused l = false
+
+-- Bodies of that type are read.
+unfoldable pub is_read : ℕ → Bool
+is_read msg_type = not (is_refused (handshake_body msg_type 0))

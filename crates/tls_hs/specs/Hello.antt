@@ -3,7 +3,7 @@ use Rattle.std.specs.Prelude.{ℕ, ◌/◌, ◌%◌, List, map, take, drop, leng
 use Rattle.std.specs.Prelude.{◌&&◌, if◌then◌else◌}
 use Rattle.std.specs.Option.{option_map}
 use Rattle.layouts.specs.Bytes.{Bytes, number_of}
-use Rattle.layouts.specs.Layout.{Layout, done, number, block, left, maybe, ◌>>=◌, ◌>>◌, test, counted, times}
+use Rattle.layouts.specs.Layout.{Layout, done, number, block, left, maybe, mapped, ◌>>=◌, ◌>>◌, test, counted, times}
 use Rattle.layouts.specs.declared.result.ErrorKind.TheVariants.{LengthValue, Verify}
 use Rattle.tls_hs.specs.declared.client_hello.TlsClientHelloContents.{TlsClientHelloContents}
 
@@ -53,23 +53,32 @@ compression_methods = do
   test (nat_le k n) LengthValue
   times k (number 1)
 
--- The body of a ClientHello; its extensions may be missing.
-unfoldable pub client_hello : Layout ClientHello
-client_hello = do
+-- The body of a ClientHello whose cookie has that layout, and the cookie: it stands behind the session id in DTLS, and there is
+-- none in TLS. Its extensions may be missing.
+unfoldable pub client_hello_with : Layout (Option Bytes) → Layout (ClientHello × Option Bytes)
+client_hello_with cookie_layout = do
   version ← number 2
   random ← block 32
   id ← session_id
+  cookie ← cookie_layout
   suites ← cipher_suites
   methods ← compression_methods
   extensions ← maybe (counted 2)
-  done (record {
-    client_version = version;
-    random = random;
-    session_id = id;
-    cipher_suites = suites;
-    compression_methods = methods;
-    extensions = extensions;
-  })
+  done (
+    record {
+      client_version = version;
+      random = random;
+      session_id = id;
+      cipher_suites = suites;
+      compression_methods = methods;
+      extensions = extensions;
+    },
+    cookie,
+  )
+
+-- The body of a ClientHello of TLS.
+unfoldable pub client_hello : Layout ClientHello
+client_hello = mapped (λ x. x.0) (client_hello_with (done None))
 
 -- uint32 gmt_unix_time: the first 4 bytes of a random as a number, 0 where there are fewer.
 abbrev pub random_time : Bytes → ℕ

@@ -1,5 +1,6 @@
 -- Handshake messages in place: what they say is what those with lists of their own say.
-use Rattle.std.specs.Prelude.{ℕ, List, Result, Ok, Err, length}
+use Rattle.std.specs.Prelude.{ℕ, List, Option, Result, Ok, Err, length}
+use Rattle.std.specs.Borrow.{Bor}
 use Rattle.std.specs.Option.{option_map}
 use Rattle.layouts.specs.Bytes.{Bytes}
 use Rattle.layouts.specs.Layout.{Layout, number, counted}
@@ -30,6 +31,10 @@ view_client_hello_in_place h = record {
   compression_methods = items_in (number 1) h.comp.bytes.now;
   extensions = option_map (λ x. x.now) h.ext;
 }
+
+-- The same with a cookie, where it has one.
+abbrev pub view_fields_in_place : ClientHelloView × Option (Bor (List ℕ)) → ClientHello × Option Bytes
+view_fields_in_place x = (view_client_hello_in_place x.0, option_map (λ c. c.now) x.1)
 
 abbrev pub view_certificate_request_in_place : CertificateRequestView → CertificateRequest
 view_certificate_request_in_place r = record {

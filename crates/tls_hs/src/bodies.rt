@@ -1,11 +1,9 @@
-//! The bodies of handshake messages (RFC 5246, section 7.4), each read as a message. Where a call takes `len`, it is the
-//! length of the body in bytes, whatever `i` holds.
+//! The bodies of handshake messages (RFC 5246, section 7.4), each read as a message; those of `session` stand there. Where a call takes
+//! `len`, it is the length of the body in bytes, whatever `i` holds.
 ghost use Rattle.layouts.specs.Answers.{Gives, GivesOrMemory};
 ghost use Rattle.tls_hs.specs.Handshake.{view_handshake, hello_request_body, client_hello_body, server_hello_body, server_hello_of_draft_body};
-ghost use Rattle.tls_hs.specs.Handshake.{new_session_ticket_body, hello_retry_request_body, certificate_body};
-ghost use Rattle.tls_hs.specs.Handshake.{server_key_exchange_body, certificate_request_body, server_done_body};
-ghost use Rattle.tls_hs.specs.Handshake.{certificate_verify_body, client_key_exchange_body, finished_body};
-ghost use Rattle.tls_hs.specs.Handshake.{certificate_status_body, next_protocol_body, key_update_body};
+ghost use Rattle.tls_hs.specs.Handshake.{end_of_early_data_body, hello_retry_request_body, certificate_body, certificate_request_body};
+ghost use Rattle.tls_hs.specs.Handshake.{server_done_body, certificate_verify_body, finished_body, certificate_status_body};
 
 use crate::certificate::{certificate, parse_tls_handshake_certificatestatus};
 use crate::certificate_request::parse_tls_handshake_certificaterequest;
@@ -14,11 +12,7 @@ use crate::handshake::TlsMessageHandshake;
 use crate::server_hello::{
     hello_retry_request, parse_tls_handshake_server_hello, server_hello_draft18,
 };
-use crate::session::{
-    TlsClientKeyExchangeContents, TlsServerKeyExchangeContents, new_session_ticket,
-    parse_tls_handshake_next_protocol,
-};
-use layouts::{ErrorKind, IResult, block, number1, refused};
+use layouts::{ErrorKind, IResult, block, refused};
 use std::alloc::Global;
 use tls_base::TlsVersion;
 
@@ -87,19 +81,13 @@ pub fn parse_tls_handshake_msg_server_hello_of_draft(
     }
 }
 
-/// Reads the body of a NewSessionTicket of `len` bytes in its form up to TLS 1.2 (RFC 5077, section 3.3): 4 bytes of hint,
-/// big-endian, and the `len - 4` that follow, the 2 bytes of the ticket's own length first.
-///
-/// `Error` of kind `Verify` where `len` is below 4; else `Incomplete` of the count of missing bytes.
-#[tactic(auto, using(layouts::proofs::OneAnswerLemmas::read_allowed), unfolding(crate::specs::Handshake::new_session_ticket_body))]
-pub fn parse_tls_handshake_msg_newsessionticket(
-    i: &[u8],
-    len: usize,
-) -> IResult<&[u8], TlsMessageHandshake>
-    ensures { Gives view_handshake (new_session_ticket_body len) i.now result }
+/// Reads the body of an EndOfEarlyData (RFC 8446, section 4.5): no bytes. It never refuses.
+#[tactic(auto, using(layouts::proofs::OneAnswerLemmas::read_allowed), unfolding(crate::specs::Handshake::end_of_early_data_body))]
+#[inline(always)]
+pub(crate) fn end_of_early_data(i: &[u8]) -> IResult<&[u8], TlsMessageHandshake>
+    ensures { Gives view_handshake end_of_early_data_body i.now result }
 {
-    let (i, ticket) = new_session_ticket(i, len)?;
-    Ok((i, TlsMessageHandshake::NewSessionTicket(ticket)))
+    Ok((i, TlsMessageHandshake::EndOfEarlyData))
 }
 
 /// Reads the body of a HelloRetryRequest of drafts of TLS 1.3 (draft-ietf-tls-tls13-19, section 4.1.4): 2 bytes of version,
@@ -124,21 +112,6 @@ pub fn parse_tls_handshake_msg_certificate(
 {
     let (i, certificate) = certificate(alloc, i)?;
     Ok((i, TlsMessageHandshake::Certificate(certificate)))
-}
-
-/// Reads the body of a ServerKeyExchange (RFC 5246, section 7.4.3): `len` bytes.
-///
-/// `Incomplete` of the count of missing bytes.
-#[tactic(auto, using(layouts::proofs::OneAnswerLemmas::read_allowed), unfolding(crate::specs::Handshake::server_key_exchange_body))]
-pub fn parse_tls_handshake_msg_serverkeyexchange(
-    i: &[u8],
-    len: usize,
-) -> IResult<&[u8], TlsMessageHandshake>
-    ensures { Gives view_handshake (server_key_exchange_body len) i.now result }
-{
-    let (i, parameters) = block(i, len)?;
-    let content = TlsServerKeyExchangeContents { parameters };
-    Ok((i, TlsMessageHandshake::ServerKeyExchange(content)))
 }
 
 /// Reads the body of a CertificateRequest in its form up to TLS 1.2 (RFC 5246, section 7.4.4): as
@@ -182,21 +155,6 @@ pub fn parse_tls_handshake_msg_certificateverify(
     Ok((i, TlsMessageHandshake::CertificateVerify(bytes)))
 }
 
-/// Reads the body of a ClientKeyExchange (RFC 5246, section 7.4.7): `len` bytes, which don't say which form they have.
-///
-/// `Incomplete` of the count of missing bytes.
-#[tactic(auto, using(layouts::proofs::OneAnswerLemmas::read_allowed), unfolding(crate::specs::Handshake::client_key_exchange_body))]
-pub fn parse_tls_handshake_msg_clientkeyexchange(
-    i: &[u8],
-    len: usize,
-) -> IResult<&[u8], TlsMessageHandshake>
-    ensures { Gives view_handshake (client_key_exchange_body len) i.now result }
-{
-    let (i, bytes) = block(i, len)?;
-    let content = TlsClientKeyExchangeContents::Unknown(bytes);
-    Ok((i, TlsMessageHandshake::ClientKeyExchange(content)))
-}
-
 /// Reads the body of a Finished (RFC 5246, section 7.4.9): `len` bytes.
 ///
 /// `Incomplete` of the count of missing bytes.
@@ -215,25 +173,4 @@ pub fn parse_tls_handshake_msg_certificatestatus(i: &[u8]) -> IResult<&[u8], Tls
 {
     let (i, status) = parse_tls_handshake_certificatestatus(i)?;
     Ok((i, TlsMessageHandshake::CertificateStatus(status)))
-}
-
-/// Reads the body of a NextProtocol (draft-agl-tls-nextprotoneg-04, section 3): as
-/// [`parse_tls_handshake_next_protocol`].
-#[tactic(auto, using(layouts::proofs::OneAnswerLemmas::read_allowed), unfolding(crate::specs::Handshake::next_protocol_body))]
-pub fn parse_tls_handshake_msg_next_protocol(i: &[u8]) -> IResult<&[u8], TlsMessageHandshake>
-    ensures { Gives view_handshake next_protocol_body i.now result }
-{
-    let (i, protocol) = parse_tls_handshake_next_protocol(i)?;
-    Ok((i, TlsMessageHandshake::NextProtocol(protocol)))
-}
-
-/// Reads the body of a KeyUpdate (RFC 8446, section 4.6.3): 1 byte, of which [`crate::KeyUpdateRequest`] names the values.
-///
-/// `Incomplete` of 1 where there is no byte.
-#[tactic(auto, using(layouts::proofs::OneAnswerLemmas::read_allowed), unfolding(crate::specs::Handshake::key_update_body))]
-pub fn parse_tls_handshake_msg_key_update(i: &[u8]) -> IResult<&[u8], TlsMessageHandshake>
-    ensures { Gives view_handshake key_update_body i.now result }
-{
-    let (i, update) = number1(i)?;
-    Ok((i, TlsMessageHandshake::KeyUpdate(update)))
 }

@@ -1,29 +1,107 @@
-//! Which handshake type has which body (RFC 5246, section 7.4): rows by the number of the type, in three functions of at most
-//! six rows each.
+//! Which handshake type has which body (RFC 5246, section 7.4): the table of messages, and the functions that read by it.
 ghost use Rattle.layouts.specs.Answers.{Gives, GivesOrMemory};
 ghost use Rattle.tls_hs.specs.Handshake.{view_handshake, handshake_body as handshake_body_layout};
 ghost use Rattle.tls_hs.specs.Handshake.{body_from_certificate as body_from_certificate_layout, body_from_finished as body_from_finished_layout};
 
-use crate::bodies::{
-    parse_tls_handshake_msg_certificate, parse_tls_handshake_msg_certificaterequest,
-    parse_tls_handshake_msg_certificatestatus, parse_tls_handshake_msg_certificateverify,
-    parse_tls_handshake_msg_client_hello, parse_tls_handshake_msg_clientkeyexchange,
-    parse_tls_handshake_msg_finished, parse_tls_handshake_msg_hello_request,
-    parse_tls_handshake_msg_hello_retry_request, parse_tls_handshake_msg_key_update,
-    parse_tls_handshake_msg_newsessionticket, parse_tls_handshake_msg_next_protocol,
-    parse_tls_handshake_msg_server_hello, parse_tls_handshake_msg_serverdone,
-    parse_tls_handshake_msg_serverkeyexchange,
-};
 use crate::handshake::TlsMessageHandshake;
+use crate::{bodies, session};
 use layouts::{ErrorKind, IResult, refused};
 use std::alloc::Global;
 use tls_base::TlsHandshakeType;
 
-/// What the row of the type answers, a type and its body in each; else `$other`.
+/// The table, told once: it hands its rows to the macro that it is passed, behind the words in brackets; `$part` picks the rows. A row has
+/// the form of the message; the name that the constant of `TlsHandshakeType` and the variant of `TlsMessageHandshake` share; and the call
+/// that reads the body as that message, from `i`, where it takes them with memory of `alloc` or as `len` bytes. The forms:
+///
+/// - `empty`: it holds nothing.
+/// - `value`: it holds one value that is copied.
+/// - `contents`: it holds a struct without lists.
+/// - `lists`: it holds a struct with lists; then `HandshakeView` has a variant of that name too, which the call in brackets reads.
+///
+/// The rows stand in the order of the types' numbers, in three parts of at most six rows each, as the definition has them.
+macro_rules! rows {
+    ($part:ident $then:ident $($words:tt)*) => {
+        $part! {
+            $then [$($words)*]
+            {
+                empty HelloRequest: bodies::parse_tls_handshake_msg_hello_request(i);
+                lists ClientHello(ClientHelloView::parse): bodies::parse_tls_handshake_msg_client_hello(alloc, i);
+                contents ServerHello: bodies::parse_tls_handshake_msg_server_hello(i);
+                contents NewSessionTicket: session::parse_tls_handshake_msg_newsessionticket(i, len);
+                empty EndOfEarlyData: bodies::end_of_early_data(i);
+                contents HelloRetryRequest: bodies::parse_tls_handshake_msg_hello_retry_request(i);
+            }
+            {
+                lists Certificate(certificates): bodies::parse_tls_handshake_msg_certificate(alloc, i);
+                contents ServerKeyExchange: session::parse_tls_handshake_msg_serverkeyexchange(i, len);
+                lists CertificateRequest(CertificateRequestView::parse): bodies::parse_tls_handshake_msg_certificaterequest(alloc, i);
+                value ServerDone: bodies::parse_tls_handshake_msg_serverdone(i, len);
+                value CertificateVerify: bodies::parse_tls_handshake_msg_certificateverify(i, len);
+                contents ClientKeyExchange: session::parse_tls_handshake_msg_clientkeyexchange(i, len);
+            }
+            {
+                value Finished: bodies::parse_tls_handshake_msg_finished(i, len);
+                contents CertificateStatus: bodies::parse_tls_handshake_msg_certificatestatus(i);
+                value KeyUpdate: session::parse_tls_handshake_msg_key_update(i);
+                contents NextProtocol: session::parse_tls_handshake_msg_next_protocol(i);
+            }
+        }
+    };
+}
+
+/// All rows.
+macro_rules! every_row {
+    ($then:ident $words:tt $({ $($row:tt)* })*) => {
+        $then! { $words $($($row)*)* }
+    };
+}
+
+/// The rows of the types below Certificate (11).
+macro_rules! first_rows {
+    ($then:ident $words:tt { $($row:tt)* } $certificate:tt $finished:tt) => {
+        $then! { $words $($row)* }
+    };
+}
+
+/// Those from Certificate (11) on.
+macro_rules! certificate_rows {
+    ($then:ident $words:tt $first:tt { $($row:tt)* } $finished:tt) => {
+        $then! { $words $($row)* }
+    };
+}
+
+/// Those from Finished (20) on.
+macro_rules! finished_rows {
+    ($then:ident $words:tt $first:tt $certificate:tt { $($row:tt)* }) => {
+        $then! { $words $($row)* }
+    };
+}
+
+/// The call of a row, on what the function has of what it takes.
+macro_rules! read_body {
+    ($module:ident::$read:ident(i), ($i:ident $len:ident $($alloc:ident)?)) => {
+        $module::$read($i)
+    };
+    ($module:ident::$read:ident(i, len), ($i:ident $len:ident $($alloc:ident)?)) => {
+        $module::$read($i, $len)
+    };
+    ($module:ident::$read:ident(alloc, i), ($i:ident $len:ident $alloc:ident)) => {
+        $module::$read($alloc, $i)
+    };
+}
+
+pub(crate) use certificate_rows;
+pub(crate) use every_row;
+pub(crate) use first_rows;
+pub(crate) use read_body;
+pub(crate) use rows;
+
+/// What the row of the type answers; `$other` where none of these rows has it.
 macro_rules! by_type {
-    ($msg_type:ident: $($type:ident => $body:expr;)* _ => $other:expr) => {
+    ([$msg_type:ident $given:tt => $other:expr]
+        $($form:ident $name:ident $(($view:path))?: $module:ident::$read:ident $arguments:tt;)*) => {
         match $msg_type {
-            $(TlsHandshakeType::$type => $body,)*
+            $(TlsHandshakeType::$name => read_body!($module::$read $arguments, $given),)*
             _ => $other,
         }
     };
@@ -41,13 +119,7 @@ pub(crate) fn body_from_finished(
 ) -> IResult<&[u8], TlsMessageHandshake>
     ensures { Gives view_handshake (body_from_finished_layout msg_type.0 len) i.now result }
 {
-    by_type! { msg_type:
-        Finished => parse_tls_handshake_msg_finished(i, len);
-        CertificateStatus => parse_tls_handshake_msg_certificatestatus(i);
-        KeyUpdate => parse_tls_handshake_msg_key_update(i);
-        NextProtocol => parse_tls_handshake_msg_next_protocol(i);
-        _ => refused(i, ErrorKind::Switch)
-    }
+    rows!(finished_rows by_type msg_type (i len) => refused(i, ErrorKind::Switch))
 }
 
 /// Reads the same where the type is Certificate (11) or above.
@@ -60,15 +132,7 @@ fn body_from_certificate(
 ) -> IResult<&[u8], TlsMessageHandshake>
     ensures { GivesOrMemory view_handshake (body_from_certificate_layout msg_type.0 len) i.now result }
 {
-    by_type! { msg_type:
-        Certificate => parse_tls_handshake_msg_certificate(alloc, i);
-        ServerKeyExchange => parse_tls_handshake_msg_serverkeyexchange(i, len);
-        CertificateRequest => parse_tls_handshake_msg_certificaterequest(alloc, i);
-        ServerDone => parse_tls_handshake_msg_serverdone(i, len);
-        CertificateVerify => parse_tls_handshake_msg_certificateverify(i, len);
-        ClientKeyExchange => parse_tls_handshake_msg_clientkeyexchange(i, len);
-        _ => body_from_finished(i, msg_type, len)
-    }
+    rows!(certificate_rows by_type msg_type (i len alloc) => body_from_finished(i, msg_type, len))
 }
 
 /// Reads the body of a message of the type `msg_type`, of `len` bytes, from the front of `i`.
@@ -83,13 +147,5 @@ pub(crate) fn handshake_body(
 ) -> IResult<&[u8], TlsMessageHandshake>
     ensures { GivesOrMemory view_handshake (handshake_body_layout msg_type.0 len) i.now result }
 {
-    by_type! { msg_type:
-        HelloRequest => parse_tls_handshake_msg_hello_request(i);
-        ClientHello => parse_tls_handshake_msg_client_hello(alloc, i);
-        ServerHello => parse_tls_handshake_msg_server_hello(i);
-        NewSessionTicket => parse_tls_handshake_msg_newsessionticket(i, len);
-        EndOfEarlyData => Ok((i, TlsMessageHandshake::EndOfEarlyData));
-        HelloRetryRequest => parse_tls_handshake_msg_hello_retry_request(i);
-        _ => body_from_certificate(alloc, i, msg_type, len)
-    }
+    rows!(first_rows by_type msg_type (i len alloc) => body_from_certificate(alloc, i, msg_type, len))
 }

@@ -6,10 +6,9 @@ ghost use Rattle.std.specs.Option.{option_map};
 ghost use Rattle.tls_hs.specs.Hello.{view_client_hello, client_hello};
 
 use crate::client_hello_trait::ClientHello;
-use crate::hello_fields::{
-    cipher_suites, compressions, random_bytes, random_time, session_id, suites,
-};
-use layouts::{IResult, OutOfMemory, block, maybe2};
+use crate::client_hello_view::ClientHelloView;
+use crate::hello_fields::{listed, random_bytes, random_time, suites};
+use layouts::{IResult, OutOfMemory};
 use std::alloc::Global;
 use tls_base::{CipherTable, TlsCipherSuite, TlsCipherSuiteID, TlsCompressionID, TlsVersion};
 
@@ -151,7 +150,6 @@ impl<'a> ClientHello<'a> for TlsClientHelloContents<'a> {
 /// - `OutOfMemory` where memory for a list runs out.
 ///
 /// Extensions that aren't whole are no refusal: `ext` is `None`, and they are the rest. No list has a least length here.
-#[tactic(auto, using(layouts::proofs::OneAnswerLemmas::read_allowed), unfolding(crate::specs::Hello::client_hello))]
 #[inline(always)]
 pub fn parse_tls_handshake_client_hello(
     alloc: Global,
@@ -159,20 +157,14 @@ pub fn parse_tls_handshake_client_hello(
 ) -> IResult<&[u8], TlsClientHelloContents>
     ensures { GivesOrMemory view_client_hello client_hello i.now result }
 {
-    let (i, version) = TlsVersion::parse(i)?;
-    let (i, random) = block(i, 32)?;
-    let (i, session_id) = session_id(i)?;
-    let (i, ciphers) = cipher_suites(alloc, i)?;
-    let (i, comp) = compressions(alloc, i)?;
-    // (by `extension_block` this call is inlined where the type is chosen, and each other message takes 5 to 8 instructions more)
-    let (i, ext) = maybe2(i)?;
+    let (i, view) = ClientHelloView::parse(i)?;
     let hello = TlsClientHelloContents {
-        version,
-        random,
-        session_id,
-        ciphers,
-        comp,
-        ext,
+        version: view.version,
+        random: view.random,
+        session_id: view.session_id,
+        ciphers: listed(alloc, view.ciphers)?,
+        comp: listed(alloc, view.comp)?,
+        ext: view.ext,
     };
     Ok((i, hello))
 }

@@ -1,12 +1,16 @@
 //! The ClientHello in place (RFC 5246, section 7.4.1.2).
+ghost use Rattle.std.specs.Prelude.{IfOk, None, Some};
+ghost use Rattle.std.specs.Option.{option_map};
 ghost use Rattle.layouts.specs.Answers.{Gives};
-ghost use Rattle.layouts.specs.Items.{items_in};
-ghost use Rattle.layouts.specs.Layout.{number};
-ghost use Rattle.tls_hs.specs.Hello.{cipher_suites as cipher_suites_layout, compression_methods, client_hello};
-ghost use Rattle.tls_hs.specs.InPlace.{view_client_hello_in_place};
+ghost use Rattle.layouts.specs.Layout.{choose, counted, done, mapped};
+ghost use Rattle.tls_hs.specs.Hello.{client_hello, client_hello_with};
+ghost use Rattle.tls_hs.specs.InPlace.{view_client_hello_in_place, view_fields_in_place};
+ghost use Rattle.tls_hs.specs.Places.{LiesAsClientHello};
 
-use crate::hello_fields::{extension_block, session_id};
-use layouts::{ErrorKind, IResult, Items, block, number1, number2, numbers_in_place, refused};
+use crate::hello_fields::{
+    cipher_suites_in_place, compressions_in_place, extension_block, session_id,
+};
+use layouts::{IResult, Items, block, counted1};
 use tls_base::{TlsCipherSuiteID, TlsCompressionID, TlsVersion};
 
 /// The body of a ClientHello (RFC 5246, section 7.4.1.2), as [`crate::TlsClientHelloContents`], but with its lists in place.
@@ -27,32 +31,51 @@ pub struct ClientHelloView<'a> {
     pub ext: Option<&'a [u8]>,
 }
 
-/// Reads cipher suites in place: as [`crate::parts::cipher_suites`], memory aside.
-#[tactic(auto, using(layouts::proofs::OneAnswerLemmas::read_allowed), unfolding(crate::specs::Hello::cipher_suites))]
+/// Reads the cookie of a ClientHello of DTLS (RFC 6347, section 4.2.1), 1 byte of length and so many bytes, where there is to be
+/// one: where `has_cookie`.
 #[inline(always)]
-pub fn cipher_suites_in_place(i: &[u8]) -> IResult<&[u8], Items<TlsCipherSuiteID>>
-    ensures { Gives (λ v. items_in (number 2) v.bytes.now) cipher_suites_layout i.now result }
+fn cookie_where(i: &[u8], has_cookie: bool) -> IResult<&[u8], Option<&[u8]>>
+    ensures { Gives (option_map (λ x. x.now)) (choose has_cookie (mapped Some (counted 1)) (done None)) i.now result }
 {
-    let (rest, k) = number2(i)?;
-    let k = k as usize;
-    if k % 2 != 0 || k > rest.len() {
-        return refused(i, ErrorKind::LengthValue);
+    if !has_cookie {
+        return Ok((i, None));
     }
-    numbers_in_place::<TlsCipherSuiteID>(rest, k / 2)
+    let (i, cookie) = counted1(i)?;
+    Ok((i, Some(cookie)))
 }
 
-/// Reads compression methods in place: as [`crate::parts::compressions`], memory aside.
-#[tactic(auto, using(layouts::proofs::OneAnswerLemmas::read_allowed), unfolding(crate::specs::Hello::compression_methods))]
+/// Reads the fields of a ClientHello (RFC 5246, section 7.4.1.2) in place, with a cookie behind the session id in one of DTLS: where
+/// `has_cookie`.
+///
+/// - `Incomplete` of the count of missing bytes, where they are missing in front of the extensions, but not in a list.
+/// - `Error` of kind `Verify` where the session id is longer than 32 bytes.
+/// - `Error` of kind `LengthValue` where the length of the suites is odd, or where that of the suites or of the methods
+///   is above the bytes that are left.
+#[tactic(auto, using(layouts::proofs::OneAnswerLemmas::read_allowed), unfolding(crate::specs::Hello::client_hello_with))]
 #[inline(always)]
-pub fn compressions_in_place(i: &[u8]) -> IResult<&[u8], Items<TlsCompressionID>>
-    ensures { Gives (λ v. items_in (number 1) v.bytes.now) compression_methods i.now result }
+pub fn client_hello_fields(
+    i: &[u8],
+    has_cookie: bool,
+) -> IResult<&[u8], (ClientHelloView, Option<&[u8]>)>
+    ensures gives { Gives view_fields_in_place (client_hello_with (choose has_cookie (mapped Some (counted 1)) (done None))) i.now result }
+    ensures lies { IfOk result (λ x. LiesAsClientHello i.now x.1.0 (option_map (λ c. c.now) x.1.1)) }
 {
-    let (rest, k) = number1(i)?;
-    let k = k as usize;
-    if k > rest.len() {
-        return refused(i, ErrorKind::LengthValue);
-    }
-    numbers_in_place::<TlsCompressionID>(rest, k)
+    let (i, version) = TlsVersion::parse(i)?;
+    let (i, random) = block(i, 32)?;
+    let (i, session_id) = session_id(i)?;
+    let (i, cookie) = cookie_where(i, has_cookie)?;
+    let (i, ciphers) = cipher_suites_in_place(i)?;
+    let (i, comp) = compressions_in_place(i)?;
+    let (i, ext) = extension_block(i);
+    let hello = ClientHelloView {
+        version,
+        random,
+        session_id,
+        ciphers,
+        comp,
+        ext,
+    };
+    Ok((i, (hello, cookie)))
 }
 
 impl<'a> ClientHelloView<'a> {
@@ -64,20 +87,7 @@ impl<'a> ClientHelloView<'a> {
     pub fn parse(i: &'a [u8]) -> IResult<&'a [u8], Self>
         ensures { Gives view_client_hello_in_place client_hello i.now result }
     {
-        let (i, version) = TlsVersion::parse(i)?;
-        let (i, random) = block(i, 32)?;
-        let (i, session_id) = session_id(i)?;
-        let (i, ciphers) = cipher_suites_in_place(i)?;
-        let (i, comp) = compressions_in_place(i)?;
-        let (i, ext) = extension_block(i);
-        let hello = ClientHelloView {
-            version,
-            random,
-            session_id,
-            ciphers,
-            comp,
-            ext,
-        };
+        let (i, (hello, _)) = client_hello_fields(i, false)?;
         Ok((i, hello))
     }
 }

@@ -1,8 +1,9 @@
 //! Handshake messages (RFC 5246, section 7.4).
 ghost use Rattle.std.specs.Prelude.{◌≡◌, IfOk};
-ghost use Rattle.tls_hs.specs.Handshake.{view_handshake};
+ghost use Rattle.tls_hs.specs.Handshake.{view_handshake, is_read as is_read_type};
 ghost use Rattle.tls_hs.specs.HandshakeText.{msg_type_of};
 
+use crate::body_by_type::{every_row, rows};
 use crate::certificate::{TlsCertificateContents, TlsCertificateStatusContents};
 use crate::certificate_request::TlsCertificateRequestContents;
 use crate::client_hello::TlsClientHelloContents;
@@ -56,6 +57,42 @@ pub enum TlsMessageHandshake<'a> {
     KeyUpdate(u8),
 }
 
+/// For each row of the table of messages the arm of its variant.
+macro_rules! type_of {
+    ([$message:ident] $($form:ident $name:ident $(($view:path))?: $module:ident::$read:ident $arguments:tt;)*) => {
+        match $message {
+            $(TlsMessageHandshake::$name { .. } => TlsHandshakeType::$name,)*
+            TlsMessageHandshake::ServerHelloV13Draft18(_) => TlsHandshakeType::ServerHello,
+        }
+    };
+}
+
+/// Whether a row has the type.
+macro_rules! has_row {
+    ([$msg_type:ident] $($form:ident $name:ident $(($view:path))?: $module:ident::$read:ident $arguments:tt;)*) => {
+        match $msg_type {
+            $(TlsHandshakeType::$name => true,)*
+            _ => false,
+        }
+    };
+}
+
+/// For each row the arm that copies its variant, by its form.
+macro_rules! copy_of {
+    ([$message:ident $alloc:ident] $($(empty $empty:ident)? $(value $value:ident)? $(contents $contents:ident)?
+        $(lists $lists:ident($view:path))?: $module:ident::$read:ident $arguments:tt;)*) => {
+        match $message {
+            $($(TlsMessageHandshake::$empty => TlsMessageHandshake::$empty,)?)*
+            $($(TlsMessageHandshake::$value(value) => TlsMessageHandshake::$value(*value),)?)*
+            $($(TlsMessageHandshake::$contents(contents) => TlsMessageHandshake::$contents(contents.clone()?),)?)*
+            $($(TlsMessageHandshake::$lists(lists) => TlsMessageHandshake::$lists(lists.try_clone($alloc)?),)?)*
+            TlsMessageHandshake::ServerHelloV13Draft18(hello) => {
+                TlsMessageHandshake::ServerHelloV13Draft18(hello.clone()?)
+            }
+        }
+    };
+}
+
 impl<'a> TlsMessageHandshake<'a> {
     /// The type that stands in front of its body (RFC 5246, section 7.4). The ServerHello of draft 18 of TLS 1.3 has that of a
     /// ServerHello.
@@ -63,24 +100,16 @@ impl<'a> TlsMessageHandshake<'a> {
     pub fn msg_type(&self) -> TlsHandshakeType
         ensures { result.0 ≡ msg_type_of (view_handshake self.now) }
     {
-        match self {
-            Self::HelloRequest => TlsHandshakeType::HelloRequest,
-            Self::ClientHello(_) => TlsHandshakeType::ClientHello,
-            Self::ServerHello(_) | Self::ServerHelloV13Draft18(_) => TlsHandshakeType::ServerHello,
-            Self::NewSessionTicket(_) => TlsHandshakeType::NewSessionTicket,
-            Self::EndOfEarlyData => TlsHandshakeType::EndOfEarlyData,
-            Self::HelloRetryRequest(_) => TlsHandshakeType::HelloRetryRequest,
-            Self::Certificate(_) => TlsHandshakeType::Certificate,
-            Self::ServerKeyExchange(_) => TlsHandshakeType::ServerKeyExchange,
-            Self::CertificateRequest(_) => TlsHandshakeType::CertificateRequest,
-            Self::ServerDone(_) => TlsHandshakeType::ServerDone,
-            Self::CertificateVerify(_) => TlsHandshakeType::CertificateVerify,
-            Self::ClientKeyExchange(_) => TlsHandshakeType::ClientKeyExchange,
-            Self::Finished(_) => TlsHandshakeType::Finished,
-            Self::CertificateStatus(_) => TlsHandshakeType::CertificateStatus,
-            Self::NextProtocol(_) => TlsHandshakeType::NextProtocol,
-            Self::KeyUpdate(_) => TlsHandshakeType::KeyUpdate,
-        }
+        rows!(every_row type_of self)
+    }
+
+    /// Whether bodies of that type are read; those of any other are refused as `Switch`.
+    #[tactic(auto, unfolding(crate::specs::Handshake::is_read, crate::specs::Handshake::handshake_body, crate::specs::Handshake::body_from_certificate, crate::specs::Handshake::body_from_finished, crate::specs::Handshake::hello_request_body, crate::specs::Handshake::client_hello_body, crate::specs::Handshake::server_hello_body, crate::specs::Handshake::new_session_ticket_body, crate::specs::Handshake::end_of_early_data_body, crate::specs::Handshake::hello_retry_request_body, crate::specs::Handshake::certificate_body, crate::specs::Handshake::server_key_exchange_body, crate::specs::Handshake::certificate_request_body, crate::specs::Handshake::server_done_body, crate::specs::Handshake::certificate_verify_body, crate::specs::Handshake::client_key_exchange_body, crate::specs::Handshake::finished_body, crate::specs::Handshake::certificate_status_body, crate::specs::Handshake::key_update_body, crate::specs::Handshake::next_protocol_body))]
+    #[inline]
+    pub fn is_read(msg_type: TlsHandshakeType) -> bool
+        ensures { result ≡ is_read_type msg_type.0 }
+    {
+        rows!(every_row has_row msg_type)
     }
 
     /// The same message again, with lists of its own.
@@ -89,25 +118,6 @@ impl<'a> TlsMessageHandshake<'a> {
     pub fn try_clone(&self, alloc: Global) -> Result<Self, OutOfMemory>
         ensures { IfOk result (λ m. view_handshake m ≡ view_handshake self.now) }
     {
-        let message = match self {
-            Self::HelloRequest => Self::HelloRequest,
-            Self::ClientHello(h) => { Self::ClientHello(h.try_clone(alloc)?) }
-            Self::ServerHello(h) => Self::ServerHello(h.clone()?),
-            Self::ServerHelloV13Draft18(h) => { Self::ServerHelloV13Draft18(h.clone()?) }
-            Self::NewSessionTicket(t) => { Self::NewSessionTicket(t.clone()?) }
-            Self::EndOfEarlyData => Self::EndOfEarlyData,
-            Self::HelloRetryRequest(r) => { Self::HelloRetryRequest(r.clone()?) }
-            Self::Certificate(c) => { Self::Certificate(c.try_clone(alloc)?) }
-            Self::ServerKeyExchange(k) => { Self::ServerKeyExchange(k.clone()?) }
-            Self::CertificateRequest(r) => { Self::CertificateRequest(r.try_clone(alloc)?) }
-            Self::ServerDone(b) => Self::ServerDone(b),
-            Self::CertificateVerify(b) => Self::CertificateVerify(b),
-            Self::ClientKeyExchange(k) => { Self::ClientKeyExchange(k.clone()?) }
-            Self::Finished(b) => Self::Finished(b),
-            Self::CertificateStatus(s) => { Self::CertificateStatus(s.clone()?) }
-            Self::NextProtocol(p) => Self::NextProtocol(p.clone()?),
-            Self::KeyUpdate(n) => Self::KeyUpdate(*n),
-        };
-        Ok(message)
+        Ok(rows!(every_row copy_of self alloc))
     }
 }

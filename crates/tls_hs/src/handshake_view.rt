@@ -7,17 +7,12 @@ ghost use Rattle.tls_hs.specs.Message as message;
 ghost use Rattle.tls_hs.specs.Message.{Message};
 ghost use Rattle.tls_hs.specs.InPlace.{view_handshake_in_place, view_raw_handshake, raw_handshake, as_other};
 
-use crate::bodies::{
-    parse_tls_handshake_msg_certificateverify, parse_tls_handshake_msg_clientkeyexchange,
-    parse_tls_handshake_msg_hello_request, parse_tls_handshake_msg_hello_retry_request,
-    parse_tls_handshake_msg_newsessionticket, parse_tls_handshake_msg_server_hello,
-    parse_tls_handshake_msg_serverdone, parse_tls_handshake_msg_serverkeyexchange,
-};
-use crate::body_by_type::body_from_finished;
+use crate::body_by_type::{body_from_finished, certificate_rows, first_rows, read_body, rows};
 use crate::certificate::RawCertificate;
 use crate::certificate_view::{CertificateRequestView, certificates};
 use crate::client_hello_view::ClientHelloView;
 use crate::handshake::TlsMessageHandshake;
+use crate::{bodies, session};
 use layouts::{IResult, InPlace, Items, block, counted3, number3};
 use tls_base::TlsHandshakeType;
 
@@ -106,6 +101,28 @@ fn other<'a>(
     }
 }
 
+/// What the row of the type reads in place; `$other` where none of these rows has it.
+macro_rules! in_place {
+    ([$msg_type:ident $i:ident $len:ident => $other:expr]
+        $($form:ident $name:ident $(($view:path))?: $module:ident::$read:ident $arguments:tt;)*) => {
+        match $msg_type {
+            $(TlsHandshakeType::$name => one_in_place!($form $name $(($view))?: $module::$read $arguments, $i $len),)*
+            _ => $other,
+        }
+    };
+}
+
+/// What a row reads in place: its lists by the call in brackets, any other message by the call that answers it.
+macro_rules! one_in_place {
+    (lists $name:ident($view:path): $module:ident::$read:ident $arguments:tt, $i:ident $len:ident) => {{
+        let (i, lists) = $view($i)?;
+        Ok((i, HandshakeView::$name(lists)))
+    }};
+    ($form:ident $name:ident: $module:ident::$read:ident $arguments:tt, $i:ident $len:ident) => {
+        other(read_body!($module::$read $arguments, ($i $len)))
+    };
+}
+
 /// Reads the body of a message of the type `msg_type`, of `len` bytes, where the type is Certificate (11) or above.
 ///
 /// `Error` of kind `Switch` where no body has this type; else what the body's own call refuses.
@@ -117,27 +134,7 @@ fn from_certificate(
 ) -> IResult<&[u8], HandshakeView>
     ensures { Gives view_handshake_in_place (body_from_certificate msg_type.0 len) i.now result }
 {
-    match msg_type {
-        TlsHandshakeType::Certificate => {
-            let (i, chain) = certificates(i)?;
-            Ok((i, HandshakeView::Certificate(chain)))
-        }
-        TlsHandshakeType::ServerKeyExchange => {
-            other(parse_tls_handshake_msg_serverkeyexchange(i, len))
-        }
-        TlsHandshakeType::CertificateRequest => {
-            let (i, request) = CertificateRequestView::parse(i)?;
-            Ok((i, HandshakeView::CertificateRequest(request)))
-        }
-        TlsHandshakeType::ServerDone => other(parse_tls_handshake_msg_serverdone(i, len)),
-        TlsHandshakeType::CertificateVerify => {
-            other(parse_tls_handshake_msg_certificateverify(i, len))
-        }
-        TlsHandshakeType::ClientKeyExchange => {
-            other(parse_tls_handshake_msg_clientkeyexchange(i, len))
-        }
-        _ => other(body_from_finished(i, msg_type, len)),
-    }
+    rows!(certificate_rows in_place msg_type i len => other(body_from_finished(i, msg_type, len)))
 }
 
 /// Reads the body of a message of the type `msg_type`, of `len` bytes, from the front of `i`.
@@ -148,22 +145,5 @@ fn from_certificate(
 fn body_in_place(i: &[u8], msg_type: TlsHandshakeType, len: usize) -> IResult<&[u8], HandshakeView>
     ensures { Gives view_handshake_in_place (handshake_body msg_type.0 len) i.now result }
 {
-    match msg_type {
-        TlsHandshakeType::HelloRequest => other(parse_tls_handshake_msg_hello_request(i)),
-        TlsHandshakeType::ClientHello => {
-            let (i, hello) = ClientHelloView::parse(i)?;
-            Ok((i, HandshakeView::ClientHello(hello)))
-        }
-        TlsHandshakeType::ServerHello => other(parse_tls_handshake_msg_server_hello(i)),
-        TlsHandshakeType::NewSessionTicket => {
-            other(parse_tls_handshake_msg_newsessionticket(i, len))
-        }
-        TlsHandshakeType::EndOfEarlyData => {
-            Ok((i, HandshakeView::Other(TlsMessageHandshake::EndOfEarlyData)))
-        }
-        TlsHandshakeType::HelloRetryRequest => {
-            other(parse_tls_handshake_msg_hello_retry_request(i))
-        }
-        _ => from_certificate(i, msg_type, len),
-    }
+    rows!(first_rows in_place msg_type i len => from_certificate(i, msg_type, len))
 }

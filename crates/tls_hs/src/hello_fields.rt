@@ -1,16 +1,20 @@
 //! Fields of hellos (RFC 5246, section 7.4.1), each read alone, and what is told of them.
-ghost use Rattle.std.specs.Prelude.{◌≡◌, map, IfOk, Ok};
+ghost use Rattle.std.specs.Prelude.{◌≡◌, ◌<◌, map, IfOk, Ok};
 ghost use Rattle.std.specs.Option.{option_map};
 ghost use Rattle.layouts.specs.Answers.{Gives, GivesOrMemory};
-ghost use Rattle.layouts.specs.Layout.{counted, maybe};
+ghost use Rattle.layouts.specs.Items.{items_in};
+ghost use Rattle.layouts.specs.Text.{held};
+ghost use Rattle.layouts.specs.Layout.{counted, maybe, number};
 ghost use Rattle.tls_base.specs.CipherTable.{suite_of_id};
 ghost use Rattle.tls_hs.specs.Hello.{session_id as session_id_layout, cipher_suites as cipher_suites_layout};
+ghost use Rattle.tls_hs.specs.Places.{Leads};
 ghost use Rattle.tls_hs.specs.Hello.{compression_methods, random_time as time_of, random_bytes as bytes_of};
 
 use layouts::{
-    ErrorKind, IResult, OutOfMemory, block, counted2, number1, number2, numbers, refused,
+    ErrorKind, IResult, Items, Number, OutOfMemory, block, counted2, number1, number2, numbers,
+    refused,
 };
-use std::alloc::Global;
+use std::alloc::{AllocError, Global};
 use tls_base::{CipherTable, TlsCipherSuite, TlsCipherSuiteID, TlsCompressionID};
 
 /// Reads a session id (RFC 5246, section 7.4.1.2): 1 byte of length, at most 32, and so many bytes; one of no bytes is `None`.
@@ -32,22 +36,75 @@ pub fn session_id(i: &[u8]) -> IResult<&[u8], Option<&[u8]>>
     }
 }
 
+/// What may be there, as bytes: none where it isn't.
+#[inline(always)]
+pub fn held_bytes(part: Option<&[u8]>) -> &[u8]
+    ensures { result.now ≡ held (option_map (λ x. x.now) part.entry) }
+{
+    match part {
+        Some(bytes) => bytes,
+        None => &[],
+    }
+}
+
+/// The numbers in place, as a list of their own. The room for them is asked for at once.
+///
+/// `AllocError` where memory for the list runs out.
+#[tactic(auto, using(layouts::proofs::OneAnswerLemmas::read_allowed, crate::proofs::ListedLemmas::listed))]
+#[inline(always)]
+pub fn listed<T: Number>(alloc: Global, items: Items<T>) -> Result<Vec<T>, AllocError>
+    requires { 0 < T.WIDTH }
+    ensures { IfOk result (λ v. map T.value v.items ≡ items_in (number T.WIDTH) items.entry.bytes.now) }
+{
+    let bytes = items.bytes();
+    match numbers::<T>(alloc, bytes, bytes.len() / T::WIDTH) {
+        Ok((_, list)) => Ok(list),
+        Err(_) => Err(AllocError),
+    }
+}
+
+/// Reads cipher suites in place: as [`crate::parts::cipher_suites`], memory aside.
+#[tactic(auto, using(layouts::proofs::OneAnswerLemmas::read_allowed, layouts::proofs::NumbersLemmas::numbers_in), unfolding(crate::specs::Hello::cipher_suites))]
+#[inline(always)]
+pub fn cipher_suites_in_place(i: &[u8]) -> IResult<&[u8], Items<TlsCipherSuiteID>>
+    ensures gives { Gives (λ v. items_in (number 2) v.bytes.now) cipher_suites_layout i.now result }
+    ensures leads { IfOk result (λ x. Leads 2 i.now x.1.bytes.now x.0.now) }
+{
+    let (after, k) = number2(i)?;
+    let k = k as usize;
+    if k % 2 != 0 || k > after.len() {
+        return refused(i, ErrorKind::LengthValue);
+    }
+    let (suites, rest) = after.split_at(2 * (k / 2));
+    Ok((rest, Items::new(suites)))
+}
+
+/// Reads compression methods in place: as [`crate::parts::compressions`], memory aside.
+#[tactic(auto, using(layouts::proofs::OneAnswerLemmas::read_allowed, layouts::proofs::NumbersLemmas::numbers_in), unfolding(crate::specs::Hello::compression_methods))]
+#[inline(always)]
+pub fn compressions_in_place(i: &[u8]) -> IResult<&[u8], Items<TlsCompressionID>>
+    ensures gives { Gives (λ v. items_in (number 1) v.bytes.now) compression_methods i.now result }
+    ensures leads { IfOk result (λ x. Leads 1 i.now x.1.bytes.now x.0.now) }
+{
+    let (after, k) = number1(i)?;
+    let k = k as usize;
+    if k > after.len() {
+        return refused(i, ErrorKind::LengthValue);
+    }
+    let (methods, rest) = after.split_at(k);
+    Ok((rest, Items::new(methods)))
+}
+
 /// Reads cipher suites (RFC 5246, section 7.4.1.2): 2 bytes of length, and so many bytes, 2 for each suite, big-endian.
 ///
 /// - `Incomplete` of the count of missing bytes, where the length isn't whole.
 /// - `Error` of kind `LengthValue` where the length is odd, or above the bytes that are left.
 /// - `OutOfMemory` where memory for the list runs out.
-#[tactic(auto, using(layouts::proofs::OneAnswerLemmas::read_allowed), unfolding(crate::specs::Hello::cipher_suites))]
-#[inline(always)]
 pub fn cipher_suites(alloc: Global, i: &[u8]) -> IResult<&[u8], Vec<TlsCipherSuiteID>>
     ensures { GivesOrMemory (λ v. map (λ x. x.0) v.items) cipher_suites_layout i.now result }
 {
-    let (rest, k) = number2(i)?;
-    let k = k as usize;
-    if k % 2 != 0 || k > rest.len() {
-        return refused(i, ErrorKind::LengthValue);
-    }
-    numbers::<TlsCipherSuiteID>(alloc, rest, k / 2)
+    let (rest, suites) = cipher_suites_in_place(i)?;
+    Ok((rest, listed(alloc, suites)?))
 }
 
 /// Reads compression methods (RFC 5246, section 7.4.1.2): 1 byte of length, and so many bytes, 1 for each method.
@@ -55,17 +112,11 @@ pub fn cipher_suites(alloc: Global, i: &[u8]) -> IResult<&[u8], Vec<TlsCipherSui
 /// - `Incomplete` of 1 where there is no length.
 /// - `Error` of kind `LengthValue` where the length is above the bytes that are left.
 /// - `OutOfMemory` where memory for the list runs out.
-#[tactic(auto, using(layouts::proofs::OneAnswerLemmas::read_allowed), unfolding(crate::specs::Hello::compression_methods))]
-#[inline(always)]
 pub fn compressions(alloc: Global, i: &[u8]) -> IResult<&[u8], Vec<TlsCompressionID>>
     ensures { GivesOrMemory (λ v. map (λ x. x.0) v.items) compression_methods i.now result }
 {
-    let (rest, k) = number1(i)?;
-    let k = k as usize;
-    if k > rest.len() {
-        return refused(i, ErrorKind::LengthValue);
-    }
-    numbers::<TlsCompressionID>(alloc, rest, k)
+    let (rest, methods) = compressions_in_place(i)?;
+    Ok((rest, listed(alloc, methods)?))
 }
 
 /// Reads the extensions at the end of a hello (RFC 5246, section 7.4.1.2): 2 bytes of length, and so many bytes; `None`, and

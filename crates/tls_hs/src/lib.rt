@@ -27,12 +27,10 @@ pub mod writer;
 pub use bodies::{
     parse_tls_handshake_msg_certificate, parse_tls_handshake_msg_certificaterequest,
     parse_tls_handshake_msg_certificatestatus, parse_tls_handshake_msg_certificateverify,
-    parse_tls_handshake_msg_client_hello, parse_tls_handshake_msg_clientkeyexchange,
-    parse_tls_handshake_msg_finished, parse_tls_handshake_msg_hello_request,
-    parse_tls_handshake_msg_hello_retry_request, parse_tls_handshake_msg_key_update,
-    parse_tls_handshake_msg_newsessionticket, parse_tls_handshake_msg_next_protocol,
+    parse_tls_handshake_msg_client_hello, parse_tls_handshake_msg_finished,
+    parse_tls_handshake_msg_hello_request, parse_tls_handshake_msg_hello_retry_request,
     parse_tls_handshake_msg_server_hello, parse_tls_handshake_msg_server_hello_of_draft,
-    parse_tls_handshake_msg_serverdone, parse_tls_handshake_msg_serverkeyexchange,
+    parse_tls_handshake_msg_serverdone,
 };
 pub use certificate::{
     RawCertificate, TlsCertificateContents, TlsCertificateStatusContents,
@@ -60,7 +58,10 @@ pub use server_hello::{
 };
 pub use session::{
     KeyUpdateRequest, TlsClientKeyExchangeContents, TlsNewSessionTicketContent,
-    TlsNextProtocolContent, TlsServerKeyExchangeContents, parse_tls_handshake_next_protocol,
+    TlsNextProtocolContent, TlsServerKeyExchangeContents,
+    parse_tls_handshake_msg_clientkeyexchange, parse_tls_handshake_msg_key_update,
+    parse_tls_handshake_msg_newsessionticket, parse_tls_handshake_msg_next_protocol,
+    parse_tls_handshake_msg_serverkeyexchange, parse_tls_handshake_next_protocol,
 };
 pub use writer::{
     gen_tls_clienthello, gen_tls_clientkeyexchange, gen_tls_finished, gen_tls_hellorequest,

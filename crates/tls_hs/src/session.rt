@@ -1,11 +1,15 @@
-//! Tickets, key exchanges and the choice of a protocol.
+//! Tickets, key exchanges, new keys, and the choice of a protocol, each also as a message. Where a call takes `len`, it is the length of the body in
+//! bytes, whatever `i` holds.
 #![tactic(auto, using(layouts::proofs::OneAnswerLemmas::read_allowed), unfolding(crate::specs::Session::new_session_ticket, crate::specs::Session::next_protocol))]
 
 ghost use Rattle.layouts.specs.Answers.{Gives};
 ghost use Rattle.tls_hs.specs.Session.{view_new_session_ticket, new_session_ticket as new_session_ticket_layout};
 ghost use Rattle.tls_hs.specs.Session.{view_next_protocol, next_protocol};
+ghost use Rattle.tls_hs.specs.Handshake.{view_handshake, new_session_ticket_body, server_key_exchange_body, client_key_exchange_body};
+ghost use Rattle.tls_hs.specs.Handshake.{key_update_body, next_protocol_body};
 
-use layouts::{ErrorKind, IResult, block, counted1, number4, refused};
+use crate::handshake::TlsMessageHandshake;
+use layouts::{ErrorKind, IResult, block, counted1, number1, number4, refused};
 use tls_base::ECPoint;
 
 /// The body of a NewSessionTicket up to TLS 1.2 (RFC 5077, section 3.3).
@@ -90,4 +94,70 @@ pub fn parse_tls_handshake_next_protocol(i: &[u8]) -> IResult<&[u8], TlsNextProt
         padding,
     };
     Ok((i, content))
+}
+
+/// Reads the body of a NewSessionTicket of `len` bytes in its form up to TLS 1.2 (RFC 5077, section 3.3): 4 bytes of hint,
+/// big-endian, and the `len - 4` that follow, the 2 bytes of the ticket's own length first.
+///
+/// `Error` of kind `Verify` where `len` is below 4; else `Incomplete` of the count of missing bytes.
+#[tactic(auto, using(layouts::proofs::OneAnswerLemmas::read_allowed), unfolding(crate::specs::Handshake::new_session_ticket_body))]
+pub fn parse_tls_handshake_msg_newsessionticket(
+    i: &[u8],
+    len: usize,
+) -> IResult<&[u8], TlsMessageHandshake>
+    ensures { Gives view_handshake (new_session_ticket_body len) i.now result }
+{
+    let (i, ticket) = new_session_ticket(i, len)?;
+    Ok((i, TlsMessageHandshake::NewSessionTicket(ticket)))
+}
+
+/// Reads the body of a ServerKeyExchange (RFC 5246, section 7.4.3): `len` bytes.
+///
+/// `Incomplete` of the count of missing bytes.
+#[tactic(auto, using(layouts::proofs::OneAnswerLemmas::read_allowed), unfolding(crate::specs::Handshake::server_key_exchange_body))]
+pub fn parse_tls_handshake_msg_serverkeyexchange(
+    i: &[u8],
+    len: usize,
+) -> IResult<&[u8], TlsMessageHandshake>
+    ensures { Gives view_handshake (server_key_exchange_body len) i.now result }
+{
+    let (i, parameters) = block(i, len)?;
+    let content = TlsServerKeyExchangeContents { parameters };
+    Ok((i, TlsMessageHandshake::ServerKeyExchange(content)))
+}
+
+/// Reads the body of a ClientKeyExchange (RFC 5246, section 7.4.7): `len` bytes, which don't say which form they have.
+///
+/// `Incomplete` of the count of missing bytes.
+#[tactic(auto, using(layouts::proofs::OneAnswerLemmas::read_allowed), unfolding(crate::specs::Handshake::client_key_exchange_body))]
+pub fn parse_tls_handshake_msg_clientkeyexchange(
+    i: &[u8],
+    len: usize,
+) -> IResult<&[u8], TlsMessageHandshake>
+    ensures { Gives view_handshake (client_key_exchange_body len) i.now result }
+{
+    let (i, bytes) = block(i, len)?;
+    let content = TlsClientKeyExchangeContents::Unknown(bytes);
+    Ok((i, TlsMessageHandshake::ClientKeyExchange(content)))
+}
+
+/// Reads the body of a KeyUpdate (RFC 8446, section 4.6.3): 1 byte, of which [`crate::KeyUpdateRequest`] names the values.
+///
+/// `Incomplete` of 1 where there is no byte.
+#[tactic(auto, using(layouts::proofs::OneAnswerLemmas::read_allowed), unfolding(crate::specs::Handshake::key_update_body))]
+pub fn parse_tls_handshake_msg_key_update(i: &[u8]) -> IResult<&[u8], TlsMessageHandshake>
+    ensures { Gives view_handshake key_update_body i.now result }
+{
+    let (i, update) = number1(i)?;
+    Ok((i, TlsMessageHandshake::KeyUpdate(update)))
+}
+
+/// Reads the body of a NextProtocol (draft-agl-tls-nextprotoneg-04, section 3): as
+/// [`parse_tls_handshake_next_protocol`].
+#[tactic(auto, using(layouts::proofs::OneAnswerLemmas::read_allowed), unfolding(crate::specs::Handshake::next_protocol_body))]
+pub fn parse_tls_handshake_msg_next_protocol(i: &[u8]) -> IResult<&[u8], TlsMessageHandshake>
+    ensures { Gives view_handshake next_protocol_body i.now result }
+{
+    let (i, protocol) = parse_tls_handshake_next_protocol(i)?;
+    Ok((i, TlsMessageHandshake::NextProtocol(protocol)))
 }

@@ -16,7 +16,7 @@ use tls_ext::{
     parse_tls_extension_encrypted_server_name, protocol_names, psk_key_exchange_modes,
     server_names, signature_algorithms, supported_groups,
 };
-use tls_facts::{DELEGATED_CREDENTIAL, ENCRYPTED_CLIENT_HELLO};
+use tls_summary::{DELEGATED_CREDENTIAL, ENCRYPTED_CLIENT_HELLO};
 
 /// The compress_certificate of RFC 8879, section 7.1, which the library has no name for.
 const COMPRESS_CERTIFICATE: TlsExtensionType = TlsExtensionType(27);

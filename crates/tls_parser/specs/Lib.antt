@@ -36,7 +36,7 @@ pub use Rattle.tls_hs.specs.Session
 pub use Rattle.tls_hs.specs.Handshake
 pub use Rattle.tls_hs.specs.HandshakeText
 pub use Rattle.tls_hs.specs.Message
-pub use Rattle.tls_states.specs.Letters
+pub use Rattle.tls_states.specs.Symbols
 pub use Rattle.tls_words.specs.Words
 pub use Rattle.tls_states.specs.Grammar
 pub use Rattle.tls_states.specs.Conversations

@@ -21,57 +21,15 @@ use Rattle.std.proofs.Common.{
 use Rattle.std.specs.Option.{option_map}
 use Rattle.layouts.specs.Bytes.{Bytes}
 use Rattle.layouts.specs.Items.{Tells}
-use Rattle.layouts.specs.Layout.{number, block, counted}
-use Rattle.layouts.specs.Meaning.{Allows, EndsWith}
 use Rattle.layouts.specs.Place.{bytes_at}
 use Rattle.layouts.specs.Reading.{reading, items_at}
 use Rattle.layouts.specs.Text.{held}
 use Rattle.layouts.specs.declared.places.Place.{Place}
-use Rattle.layouts.proofs.EndLemmas.{ends}
-use Rattle.tls_hs.specs.Hello.{ClientHello, client_hello, session_id, cipher_suites, compression_methods}
+use Rattle.tls_hs.specs.Hello.{ClientHello, client_hello}
 use Rattle.tls_ext.specs.InPlace.{host_name}
 use Rattle.tls_records.specs.InPlace.{body_of_type, host_name_of_record, name_in_body, name_in_hello, name_in_record}
 use Rattle.tls_records.specs.Record.{RawRecord, raw_record}
-use Rattle.tls_places.specs.Place.{EndsIn, Found, MayStand, Stands}
-use Rattle.tls_places.proofs.LastLemmas.{behind, counted_last, ends_in_after, maybe_last}
-
--- the extensions end a ClientHello
-pub extensions_last : (b r : Bytes) (v : ClientHello) → Allows client_hello b (Ok (v, r)) → EndsIn b v.extensions r
-unfolding Allows client_hello
-extensions_last b r v (
-  d,
-  (
-    version,
-    m1,
-    d1,
-    d2,
-    s1,
-    (
-      random,
-      m2,
-      d3,
-      d4,
-      s2,
-      (
-        id,
-        m3,
-        d5,
-        d6,
-        s3,
-        (suites, m4, d7, d8, s4, (methods, m5, d9, d10, s5, (ext, m6, d11, d12, s6, (is, last, e12), e11), e9), e7),
-        e5,
-      ),
-      e4,
-    ),
-    e2,
-  ),
-) =
-    let at : EndsWith b m5 = behind compression_methods b m4 methods m5 d9
-    (behind cipher_suites b m3 suites m4 d7 (behind session_id b m2 id m3 d5
-    (behind (block 32) b m1 random m2 d3 (ends (number 2) b version m1 d1 s1) s2) s3) s4) s5 in
-    subst (λ x. EndsIn b v.extensions x) last
-    (subst (λ x. EndsIn b x m6) (sym (ap (λ y. y.extensions) is))
-    (ends_in_after b m5 ext m6 at (maybe_last (counted 2) (counted_last 2) m5 ext m6 d11 s6)))
+use Rattle.tls_places.specs.Place.{Found, MayStand, Stands}
 
 pub stands_held : (b : Bytes) (p : Place) (x : Option Bytes) → MayStand b (Some p) x → Stands b p (held x)
 stands_held b p None s = absurd s

@@ -19,12 +19,15 @@ use Rattle.std.proofs.Common.{
   subst,
   refl,
   arith,
+  Option,
+  Some,
+  None,
+  unwrap_or,
 }
 use Rattle.std.proofs.lemmas.List.{
   append_assoc,
   length-append,
   drop_at,
-  take_at,
   length-drop,
   length-take-le,
   take-append-drop,
@@ -34,18 +37,11 @@ use Rattle.std.proofs.lemmas.List.{
 use Rattle.layouts.specs.Bytes.{Bytes}
 use Rattle.layouts.specs.Meaning.{EndsWith}
 use Rattle.layouts.specs.Place.{bytes_at}
+use Rattle.layouts.specs.Text.{held}
 use Rattle.layouts.specs.declared.places.Place.{Place}
 use Rattle.layouts.proofs.EndLemmas.{ends_after}
-use Rattle.tls_places.specs.Place.{Stands, IsEnd, Lies}
-
--- what begins behind so many bytes
-pub stands_behind : (o : ℕ) (b f x r : Bytes) → b ≡ f ++ (x ++ r) → length f ≡ o
-    → Stands b (record { offset = o; length = length x }) x
-stands_behind o b f x r e size =
-    let all : length b ≡ length f + (length x + length r) =
-    ap length e ∙ length-append f (x ++ r) ∙ ap (λ n. length f + n) (length-append x r) in
-    let dropped : drop o b ≡ x ++ r = ap (drop o) e ∙ drop_at f (x ++ r) o size in
-    record { is = ap (take (length x)) dropped ∙ take_at x r (length x) refl; within = omega (arith, all, size) }
+pub use Rattle.tls_hs.proofs.PlacesLemmas.{stands_behind}
+use Rattle.tls_places.specs.Place.{Stands, IsEnd, Lies, MayStand}
 
 -- what stands in front of the rest
 pub stands_before : (b x r : Bytes) → EndsWith b (x ++ r)
@@ -130,6 +126,14 @@ whole_is_end b = is_end b b ([], refl)
 pub none_stands : (b : Bytes) → length b ≤ 0 → Stands b (record { offset = 0; length = 0 }) b
 none_stands [] h = record { is = refl; within = omega arith }
 none_stands (x ∷ b) h = absurd (omega arith)
+
+-- what may be there, as bytes, of which there are none where it isn't
+pub held_there : (b : Bytes) (p : Option Place) (x : Option Bytes) → MayStand b p x
+    → Stands b (unwrap_or p (record { offset = 0; length = 0 })) (held x)
+held_there b (Some p) (Some x) s = s
+held_there b None None s = record { is = refl; within = omega arith }
+held_there b (Some p) None s = absurd s
+held_there b None (Some x) s = absurd s
 
 -- what stands at a place that lies within
 pub lies_stands : (b : Bytes) (p : Place) → Lies b p → Stands b p (bytes_at b p)

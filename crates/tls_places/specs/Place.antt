@@ -2,7 +2,6 @@
 use Rattle.std.specs.Prelude.{
   ◌≡◌,
   ℕ,
-  ◌+◌,
   ◌-◌,
   ◌≤◌,
   ◌++◌,
@@ -27,29 +26,7 @@ use Rattle.layouts.specs.Place.{bytes_at}
 use Rattle.layouts.specs.declared.places.Place.{Place}
 use Rattle.layouts.specs.declared.result.Error.{Error}
 use Rattle.layouts.specs.declared.result.Err.{Err as Failed}
-
--- The place lies within b.
-abbrev pub Lies : Bytes → Place → Type 0
-Lies b p = p.offset + p.length ≤ length b
-
--- The place of x, where it begins behind so many bytes.
-abbrev pub place_from : ℕ → Bytes → Place
-place_from o x = record { offset = o; length = length x }
-
--- x stands at the place p, which lies within b.
-pub record Stands (b : Bytes) (p : Place) (x : Bytes) : Type 0 where
-  pub is : bytes_at b p ≡ x
-  pub within : Lies b p
-
--- A part that may be missing stands at its place, or there is none of either.
-abbrev pub MayStand : Bytes → Option Place → Option Bytes → Type 0
-MayStand b (Some p) (Some x) = Stands b p x
-MayStand b None None = ⊤
-MayStand b p x = ⊥
-
--- What may be there begins behind so many bytes.
-abbrev pub MayBeginAt : Bytes → ℕ → Option Bytes → Type 0
-MayBeginAt b o v = (x : Bytes) → v ≡ Some x → Stands b (place_from o x) x
+pub use Rattle.tls_hs.specs.Places.{Lies, place_from, Stands, MayStand, MayBeginAt}
 
 -- r is the end of b: what is left behind as many bytes as b has more.
 pub record IsEnd (b r : Bytes) : Type 0 where

@@ -11,7 +11,7 @@ ghost use Rattle.tls_places.specs.Place.{IsWithin};
 
 use crate::find::host_name_place;
 use crate::frame::{Placed, frame_at};
-use crate::place::{bytes_at, held_before, outward};
+use crate::place::{bytes_at, outward};
 use crate::record::Record;
 use layouts::{Err, Error, Place};
 use tls_base::{TlsHandshakeType, TlsRecordType};
@@ -49,8 +49,8 @@ pub fn host_name_place_of_hello(body: &[u8]) -> Result<Option<Place>, Err<Error<
     ensures tells { Tells (option_map (bytes_there body.now)) (name_in_hello (reading client_hello body.now)) result }
     ensures within { IsWithin body.now result }
 {
-    let (rest, hello) = ClientHelloView::parse(body)?;
-    match held_before(body, hello.ext, rest) {
+    let (rest, (hello, places)) = ClientHelloView::parse_with_places(body)?;
+    match places.ext {
         Some(outer) => outward(body, outer, host_name_place(bytes_at(body, outer))),
         None => Ok(None),
     }

@@ -6,7 +6,7 @@ use Rattle.std.proofs.lemmas.List.Elements.{All-nil, All-cons}
 use Rattle.std.proofs.lemmas.Bool.{leb-true}
 use Rattle.std.specs.List.{All}
 use Rattle.layouts.specs.Bytes.{Bytes, AreBytes, bytes_of}
-use Rattle.layouts.specs.Layout.{Layout, number, times}
+use Rattle.layouts.specs.Layout.{Layout, done, number, times}
 use Rattle.layouts.specs.Meaning.{Answer, Allows, Spells}
 use Rattle.layouts.specs.Reading.{reading}
 use Rattle.layouts.specs.Text.{counted_text, numbers_text, held}
@@ -14,7 +14,8 @@ use Rattle.layouts.specs.declared.result.ErrorKind.TheVariants.{Verify}
 use Rattle.layouts.proofs.NumberLemmas as numbers
 use Rattle.layouts.proofs.OneAnswerLemmas as answers
 use Rattle.layouts.proofs.TextLemmas.{test_whole}
-use Rattle.tls_hs.specs.Hello.{ClientHello, session_id, cipher_suites, compression_methods, client_hello}
+use Rattle.tls_hs.specs.Hello.{ClientHello, session_id, cipher_suites, compression_methods}
+use Rattle.tls_hs.specs.Hello.{client_hello, client_hello_with}
 use Rattle.tls_hs.specs.Handshake as handshakes
 use Rattle.tls_hs.specs.HandshakeText.{client_hello_text, normal_id, handshake_text}
 use Rattle.tls_hs.specs.Message.{Message, Handshake, handshake}
@@ -80,9 +81,10 @@ unfolding compression_methods
 methods_read b xs r d (k, m1, d1, d2, s, (n, m2, d3, d4, t, (u, m3, d5, d6, v, w, e3), e2), e1) =
     omega (arith, s.0, times_count (number 1) k m3 xs r d6 w)
 
-client_hello_read : (b : Bytes) (h : ClientHello) (r d : Bytes) → Spells client_hello b h r d → IsReadHello h
-unfolding client_hello
-client_hello_read b h r d (
+fields_read : (l : Layout (Option Bytes)) (b : Bytes) (x : ClientHello × Option Bytes) (r d : Bytes)
+    → Spells (client_hello_with l) b x r d → IsReadHello x.0
+unfolding client_hello_with
+fields_read l b x r d (
   version,
   m1,
   a1,
@@ -100,7 +102,15 @@ client_hello_read b h r d (
       a3,
       b3,
       s3,
-      (suites, m4, a4, b4, s4, (methods, m5, a5, b5, s5, (ext, m6, a6, b6, s6, f, e6), e5), e4),
+      (
+        cookie,
+        m0,
+        a0,
+        b0,
+        s0,
+        (suites, m4, a4, b4, s4, (methods, m5, a5, b5, s5, (ext, m6, a6, b6, s6, f, e6), e5), e4),
+        e0,
+      ),
       e3,
     ),
     e2,
@@ -108,13 +118,18 @@ client_hello_read b h r d (
   e1,
 ) =
     let i = session_id_read m2 id m3 a3 s3 in
-    subst IsReadHello (sym f.0) (record {
+    subst IsReadHello (sym (ap (λ y. y.0) f.0)) (record {
       random = s2.0;
       session_id = i.0;
-      suites = suites_read m3 suites m4 a4 s4;
+      suites = suites_read m0 suites m4 a4 s4;
       methods = methods_read m4 methods m5 a5 s5;
       normal = i.1;
     })
+
+client_hello_read : (b : Bytes) (h : ClientHello) (r d : Bytes) → Spells client_hello b h r d → IsReadHello h
+unfolding client_hello
+client_hello_read b h r d (x, m1, d1, d2, s, f, e1) =
+    subst IsReadHello (sym f.0) (fields_read (done None) b x m1 d1 s)
 
 body_read : (n : ℕ) (w : Bytes) (h : ClientHello) (e d : Bytes)
     → Spells (handshakes.handshake_body 1 n) w (handshakes.ClientHello h) e d → IsReadHello h

@@ -1,8 +1,9 @@
 -- Hellos of DTLS (RFC 6347, section 4.2.1).
-use Rattle.std.specs.Prelude.{ℕ, map}
+use Rattle.std.specs.Prelude.{ℕ, map, Some}
 use Rattle.std.specs.Option.{option_map}
 use Rattle.layouts.specs.Bytes.{Bytes}
-use Rattle.layouts.specs.Layout.{Layout, done, number, block, maybe, ◌>>=◌, counted}
+use Rattle.layouts.specs.Layout.{Layout, done, number, mapped, ◌>>=◌, counted}
+use Rattle.layouts.specs.Text.{held}
 use Rattle.tls_hs.specs.Hello as hello
 use Rattle.tls_records.specs.declared.dtls.hello.DTLSClientHello.{DTLSClientHello}
 use Rattle.tls_records.specs.declared.dtls.hello.DTLSHelloVerifyRequest.{DTLSHelloVerifyRequest}
@@ -25,27 +26,10 @@ view_client_hello h = record {
   cookie = h.cookie.now;
 }
 
--- Its body; the cookie follows the session id, and extensions may be absent.
+-- Its body: that of TLS, with the cookie behind the session id.
 unfoldable pub client_hello : Layout ClientHello
-client_hello = do
-  version ← number 2
-  random ← block 32
-  id ← hello.session_id
-  cookie ← counted 1
-  suites ← hello.cipher_suites
-  methods ← hello.compression_methods
-  extensions ← maybe (counted 2)
-  done (record {
-    hello = record {
-      client_version = version;
-      random = random;
-      session_id = id;
-      cipher_suites = suites;
-      compression_methods = methods;
-      extensions = extensions;
-    };
-    cookie = cookie;
-  })
+client_hello =
+    mapped (λ x. record { hello = x.0; cookie = held x.1 }) (hello.client_hello_with (mapped Some (counted 1)))
 
 -- A HelloVerifyRequest, apart from where it lies in memory.
 pub record HelloVerifyRequest : Type 0 where

@@ -12,6 +12,10 @@ use Rattle.layouts.specs.declared.result.ErrorKind.TheVariants.{TooLarge}
 abbrev pub max_fragment_length : ℕ
 max_fragment_length = 16640
 
+-- The most bytes that the fragment of an encrypted record may have up to TLS 1.2, 2^14 + 2048 (RFC 5246, section 6.2.3).
+abbrev pub max_encrypted_length : ℕ
+max_encrypted_length = 18432
+
 -- A record whose fragment isn't read. The length is tested before any byte of the fragment is asked for.
 abbrev pub framed_raw_record : {H R : Type 0} → Layout H → (H → ℕ) → (H → Bytes → R) → Layout R
 framed_raw_record header length_in record_of = do

@@ -32,7 +32,7 @@ pub use plaintext_view::{
     server_name_of_record,
 };
 pub use record::{
-    MAX_RECORD_LEN, TlsEncrypted, TlsEncryptedContent, TlsRawRecord, TlsRecordHeader,
-    parse_tls_encrypted, parse_tls_raw_record, parse_tls_record_header,
+    MAX_ENCRYPTED_LEN, MAX_RECORD_LEN, TlsEncrypted, TlsEncryptedContent, TlsRawRecord,
+    TlsRecordHeader, parse_tls_encrypted, parse_tls_raw_record, parse_tls_record_header,
 };
 pub use writer::{Serialize, gen_tls_changecipherspec, gen_tls_message, gen_tls_plaintext};

@@ -16,6 +16,10 @@ use tls_base::{TlsRecordType, TlsVersion};
 /// here, and one of 16385 to 16640 that isn't encrypted is read.
 pub const MAX_RECORD_LEN: u16 = 16640;
 
+/// The most bytes that the fragment of an encrypted record may have up to TLS 1.2, and in DTLS: 2^14 + 2048 (RFC 5246, section 6.2.3).
+/// No reader of records takes more than [`MAX_RECORD_LEN`]; what joins the messages of a stream does.
+pub const MAX_ENCRYPTED_LEN: u16 = 18_432;
+
 /// The header of a record (RFC 5246, section 6.2.1), 5 bytes.
 #[derive(Clone, Copy, Debug, PartialEq)]
 pub struct TlsRecordHeader {

@@ -20,15 +20,15 @@ use Rattle.std.proofs.Common.{
 }
 use Rattle.tls_words.proofs.PatternLemmas.{has_empty, has_word}
 use Rattle.tls_words.proofs.MachineLemmas.{run_on, front_is_after, word_to_after, word_from_after}
-use Rattle.tls_states.specs.Letters.{Letter, letter, Word}
+use Rattle.tls_states.specs.Symbols.{Symbol, symbol, Word}
 use Rattle.tls_states.specs.Grammar.{handshake, clean}
 use Rattle.tls_states.specs.Steps.{step, or_invalid, next, run}
 use Rattle.tls_states.specs.Conversations.{HasHandshake, MayBecomeHandshake, IsBrokenOff}
-use Rattle.tls_states.specs.declared.letter.Kind.TheVariants.{Fatal}
-use Rattle.tls_states.specs.declared.letter.Direction.{Direction}
+use Rattle.tls_states.specs.declared.symbol.Kind.TheVariants.{Fatal}
+use Rattle.tls_states.specs.declared.symbol.Direction.{Direction}
 use Rattle.tls_states.specs.declared.state.TlsState.{TlsState}
 use Rattle.tls_states.specs.declared.state.TlsState.TheVariants as state
-use Rattle.tls_states.proofs.LetterLemmas.{same_letter}
+use Rattle.tls_states.proofs.SymbolLemmas.{same_symbol}
 use Rattle.tls_states.proofs.FollowLemmas.{
   waits,
   fits,
@@ -42,9 +42,9 @@ use Rattle.tls_states.proofs.FollowLemmas.{
   finished_by_fatal,
 }
 
-last_letter : (w : Word) → (w ≡ []) ⊎ ((u : Word) × (l : Letter) × (w ≡ u ++ l ∷ []))
-last_letter [] = inl refl
-last_letter (x ∷ w) = elim (last_letter w) [
+last_symbol : (w : Word) → (w ≡ []) ⊎ ((u : Word) × (l : Symbol) × (w ≡ u ++ l ∷ []))
+last_symbol [] = inl refl
+last_symbol (x ∷ w) = elim (last_symbol w) [
   | inl e ↦ inr ([], x, ap (λ y. x ∷ y) e)
   | inr h ↦ inr (x ∷ h.0, h.1, ap (λ y. x ∷ y) h.2)
 ]
@@ -73,7 +73,7 @@ alive_or_not = elim [
   | _ ↦ inl refl
 ]
 
-fatal_finishes : (q : TlsState) (d : Direction) → IsAlive q → ¬ (or_invalid (step q (letter Fatal d)) ≡ state.Invalid)
+fatal_finishes : (q : TlsState) (d : Direction) → IsAlive q → ¬ (or_invalid (step q (symbol Fatal d)) ≡ state.Invalid)
 fatal_finishes = elim [ state.None ↦ λ d h e. cc | _ ↦ λ d h e. cc ]
 
 module _ (w : Word) where
@@ -83,7 +83,7 @@ module _ (w : Word) where
       subst (λ q. fits q k.0 ≡ true) e k.1 in cc
 
   encrypted_is : (has_empty (waits (run state.None w)) ≡ true) ↔ HasHandshake w
-  encrypted_is = front_is_after is_noise turn same_letter next waits Fits next_fits next_waits state.None false refl
+  encrypted_is = front_is_after is_noise turn same_symbol next waits Fits next_fits next_waits state.None false refl
       clean clean_is handshake refl w
 
   encrypted_from : HasHandshake w → run state.None w ≡ state.SessionEncrypted
@@ -93,16 +93,16 @@ module _ (w : Word) where
   encrypted_to e = encrypted_is.0 (ap (λ q. has_empty (waits q)) e)
 
   alive_to : IsAlive (run state.None w) → HasHandshake w ⊎ MayBecomeHandshake w
-  alive_to t = word_to_after is_noise turn same_letter next waits Fits next_fits next_waits state.None false refl clean
+  alive_to t = word_to_after is_noise turn same_symbol next waits Fits next_fits next_waits state.None false refl clean
       clean_is handshake refl w (alive_at (run state.None w) ∙ t)
 
   alive_from : MayBecomeHandshake w → IsAlive (run state.None w)
   alive_from h = sym (alive_at (run state.None w))
-      ∙ word_from_after is_noise turn same_letter next waits Fits next_fits next_waits state.None false refl clean
+      ∙ word_from_after is_noise turn same_symbol next waits Fits next_fits next_waits state.None false refl clean
       clean_is handshake refl w h
 
--- The last letter's step.
-run_last : (u : Word) (l : Letter) (w : Word) → w ≡ u ++ l ∷ []
+-- The last symbol's step.
+run_last : (u : Word) (l : Symbol) (w : Word) → w ≡ u ++ l ∷ []
     → run state.None w ≡ or_invalid (step (run state.None u) l)
 run_last u l w e = ap (run state.None) e ∙ run_on next state.None u (l ∷ [])
 
@@ -110,23 +110,23 @@ invalid_to : (w : Word) → run state.None w ≡ state.Invalid → ¬ HasHandsha
 invalid_to w e = (
   λ h. let k : run state.None w ≡ state.SessionEncrypted = encrypted_from w h in cc,
   λ h. let k : IsAlive state.Invalid = subst IsAlive e (alive_from w h) in cc,
-  λ h. fatal_finishes (run state.None h.0) h.1 (alive_from h.0 h.3) (sym (run_last h.0 (letter Fatal h.1) w h.2) ∙ e),
+  λ h. fatal_finishes (run state.None h.0) h.1 (alive_from h.0 h.3) (sym (run_last h.0 (symbol Fatal h.1) w h.2) ∙ e),
 )
 
 -- A run that is finished was broken off.
 finished_to : (w : Word) → run state.None w ≡ state.Finished → HasHandshake w ⊎ IsBrokenOff w
-finished_to w e = elim (last_letter w) [
+finished_to w e = elim (last_symbol w) [
   | inl n ↦ let k : state.None ≡ state.Finished = subst (λ x. run state.None x ≡ state.Finished) n e in cc
   | inr x ↦ by_last x.0 x.1 x.2 (sym (run_last x.0 x.1 w x.2) ∙ e)
 ]
   where
-    by_last : (u : Word) (l : Letter) → w ≡ u ++ l ∷ [] → or_invalid (step (run state.None u) l) ≡ state.Finished
+    by_last : (u : Word) (l : Symbol) → w ≡ u ++ l ∷ [] → or_invalid (step (run state.None u) l) ≡ state.Finished
         → HasHandshake w ⊎ IsBrokenOff w
     by_last u l f s = elim (alive_or_not (run state.None u)) [
       | inl t ↦ elim (alive_to u t) [
         | inl h ↦ inl (h.0, h.1 ++ l ∷ [], f ∙ ap (λ x. x ++ l ∷ []) h.2 ∙ append_assoc h.0 h.1 (l ∷ []), h.3)
         | inr h ↦ let k : (after : Bool) × (fits (run state.None u) after ≡ true) =
-            run_fits state.None false u refl in let d : (d : Direction) × (l ≡ letter Fatal d) =
+            run_fits state.None false u refl in let d : (d : Direction) × (l ≡ symbol Fatal d) =
             finished_by_fatal (run state.None u) k.0 l k.1 s in inr (u, d.0, f ∙ ap (λ x. u ++ x ∷ []) d.1, h)
       ]
       | inr (inl a) ↦ absurd (no_alert u a)

@@ -1,13 +1,13 @@
--- What each state still waits for, by a word that leads to it, and what a letter does to that.
+-- What each state still waits for, by a word that leads to it, and what a symbol does to that.
 use Rattle.std.proofs.Common.{◌≡◌, List, [], ◌∷◌, filter, Bool, true, false, cond, not, ◌&&◌, ◌||◌, refl, ap}
 use Rattle.std.specs.List.{list_all}
 use Rattle.tls_words.specs.Words.{Pattern, all, chain, without_after, Pattern-discrete}
 use Rattle.tls_words.proofs.PatternLemmas.{behind, behind_all, both_and}
-use Rattle.tls_words.proofs.LetterLemmas.{is_yes, yes_is}
-use Rattle.tls_states.specs.Letters.{Letter, letter, Word}
+use Rattle.tls_words.proofs.SymbolLemmas.{is_yes, yes_is}
+use Rattle.tls_states.specs.Symbols.{Symbol, symbol, Word}
 use Rattle.tls_states.specs.Grammar.{handshake, is_warning, is_hello_request, is_client_hello, clean}
 use Rattle.tls_states.specs.Steps.{next, run}
-use Rattle.tls_states.specs.declared.letter.Kind.TheVariants.{
+use Rattle.tls_states.specs.declared.symbol.Kind.TheVariants.{
   HelloRequest,
   ClientHello,
   ClientHelloWithId,
@@ -26,54 +26,54 @@ use Rattle.tls_states.specs.declared.letter.Kind.TheVariants.{
   Fatal,
   Other,
 }
-use Rattle.tls_states.specs.declared.letter.Direction.{Direction}
-use Rattle.tls_states.specs.declared.letter.Direction.TheVariants.{ToServer, FromServer}
+use Rattle.tls_states.specs.declared.symbol.Direction.{Direction}
+use Rattle.tls_states.specs.declared.symbol.Direction.TheVariants.{ToServer, FromServer}
 use Rattle.tls_states.specs.declared.state.TlsState.{TlsState}
 use Rattle.tls_states.specs.declared.state.TlsState.TheVariants as state
-use Rattle.tls_states.proofs.LetterLemmas.{same_letter, letters, passes}
+use Rattle.tls_states.proofs.SymbolLemmas.{same_symbol, symbols, passes}
 
 -- A word that leads to a state, and to one that waits for nothing a word that no handshake begins with.
 abbrev after_hello : Word → Word
-after_hello w = letter ClientHello ToServer ∷ letter ServerHello FromServer ∷ w
+after_hello w = symbol ClientHello ToServer ∷ symbol ServerHello FromServer ∷ w
 
 abbrev after_certificate : Word → Word
-after_certificate w = after_hello (letter Certificate FromServer ∷ w)
+after_certificate w = after_hello (symbol Certificate FromServer ∷ w)
 
 abbrev after_request : Word → Word
-after_request w = after_certificate (letter CertificateRequest FromServer ∷ w)
+after_request w = after_certificate (symbol CertificateRequest FromServer ∷ w)
 
 abbrev road : TlsState → Word
 road state.None = []
-road state.ClientHello = letter ClientHello ToServer ∷ []
-road state.AskResumeSession = letter ClientHelloWithId ToServer ∷ []
-road state.ResumeSession = letter ClientHelloWithId ToServer ∷ letter ServerHello FromServer ∷ []
+road state.ClientHello = symbol ClientHello ToServer ∷ []
+road state.AskResumeSession = symbol ClientHelloWithId ToServer ∷ []
+road state.ResumeSession = symbol ClientHelloWithId ToServer ∷ symbol ServerHello FromServer ∷ []
 road state.ServerHello = after_hello []
 road state.Certificate = after_certificate []
-road state.CertificateSt = after_certificate (letter CertificateStatus FromServer ∷ [])
-road state.ServerKeyExchange = after_certificate (letter ServerKeyExchange FromServer ∷ [])
-road state.ServerHelloDone = after_certificate (letter ServerKeyExchange FromServer ∷ letter ServerDone FromServer ∷ [])
-road state.ClientKeyExchange = after_certificate (letter ServerDone FromServer ∷ letter ClientKeyExchange ToServer ∷ [])
-road state.ClientChangeCipherSpec = letter ClientHello ToServer ∷ letter ServerHelloV13Draft18 FromServer ∷ []
+road state.CertificateSt = after_certificate (symbol CertificateStatus FromServer ∷ [])
+road state.ServerKeyExchange = after_certificate (symbol ServerKeyExchange FromServer ∷ [])
+road state.ServerHelloDone = after_certificate (symbol ServerKeyExchange FromServer ∷ symbol ServerDone FromServer ∷ [])
+road state.ClientKeyExchange = after_certificate (symbol ServerDone FromServer ∷ symbol ClientKeyExchange ToServer ∷ [])
+road state.ClientChangeCipherSpec = symbol ClientHello ToServer ∷ symbol ServerHelloV13Draft18 FromServer ∷ []
 road state.CRCertRequest = after_request []
-road state.CRHelloDone = after_request (letter ServerDone FromServer ∷ [])
-road state.CRCert = after_request (letter ServerDone FromServer ∷ letter Certificate ToServer ∷ [])
+road state.CRHelloDone = after_request (symbol ServerDone FromServer ∷ [])
+road state.CRCert = after_request (symbol ServerDone FromServer ∷ symbol Certificate ToServer ∷ [])
 road state.CRClientKeyExchange = after_request
-    (letter ServerDone FromServer ∷ letter Certificate ToServer ∷ letter ClientKeyExchange ToServer ∷ [])
-road state.CRCertVerify = after_certificate (letter ServerDone FromServer ∷ letter ClientKeyExchange ToServer ∷ [])
-road state.NoCertSKE = after_hello (letter ServerKeyExchange FromServer ∷ [])
-road state.NoCertHelloDone = after_hello (letter ServerKeyExchange FromServer ∷ letter ServerDone FromServer ∷ [])
-road state.NoCertCKE = after_certificate (letter ServerDone FromServer ∷ letter ClientKeyExchange ToServer ∷ [])
-road state.PskHelloDone = after_certificate (letter ServerDone FromServer ∷ [])
-road state.PskCKE = after_certificate (letter ServerDone FromServer ∷ letter ClientKeyExchange ToServer ∷ [])
+    (symbol ServerDone FromServer ∷ symbol Certificate ToServer ∷ symbol ClientKeyExchange ToServer ∷ [])
+road state.CRCertVerify = after_certificate (symbol ServerDone FromServer ∷ symbol ClientKeyExchange ToServer ∷ [])
+road state.NoCertSKE = after_hello (symbol ServerKeyExchange FromServer ∷ [])
+road state.NoCertHelloDone = after_hello (symbol ServerKeyExchange FromServer ∷ symbol ServerDone FromServer ∷ [])
+road state.NoCertCKE = after_certificate (symbol ServerDone FromServer ∷ symbol ClientKeyExchange ToServer ∷ [])
+road state.PskHelloDone = after_certificate (symbol ServerDone FromServer ∷ [])
+road state.PskCKE = after_certificate (symbol ServerDone FromServer ∷ symbol ClientKeyExchange ToServer ∷ [])
 road state.SessionEncrypted =
-    letter ClientHello ToServer ∷ letter ServerHelloV13Draft18 FromServer ∷ letter ChangeCipherSpec FromServer ∷ []
-road state.Alert = letter Other ToServer ∷ []
-road state.Finished = letter Other ToServer ∷ []
-road state.Invalid = letter Other ToServer ∷ []
+    symbol ClientHello ToServer ∷ symbol ServerHelloV13Draft18 FromServer ∷ symbol ChangeCipherSpec FromServer ∷ []
+road state.Alert = symbol Other ToServer ∷ []
+road state.Finished = symbol Other ToServer ∷ []
+road state.Invalid = symbol Other ToServer ∷ []
 
 -- What a run at q still waits for: the rest of a handshake, and then any word.
-abbrev pub waits : TlsState → Pattern Letter
-waits q = behind_all same_letter (chain handshake all) (road q)
+abbrev pub waits : TlsState → Pattern Symbol
+waits q = behind_all same_symbol (chain handshake all) (road q)
 
 -- May a run be at q, where a ClientHello stood before or not.
 abbrev pub fits : TlsState → Bool → Bool
@@ -85,50 +85,50 @@ fits state.Invalid before = true
 fits q before = before
 
 -- Noise: an alert of severity 1, or a HelloRequest behind a ClientHello.
-abbrev pub is_noise : Bool → Letter → Bool
+abbrev pub is_noise : Bool → Symbol → Bool
 is_noise before l = is_warning l || (before && is_hello_request l)
 
 -- Whether a ClientHello stood before what follows l.
-abbrev pub turn : Bool → Letter → Bool
+abbrev pub turn : Bool → Symbol → Bool
 turn before l = before || is_client_hello l
 
 clean_after_hello : (w : Word)
     → without_after is_noise turn true w ≡ filter (λ x. not (is_hello_request x)) (filter (λ x. not (is_warning x)) w)
 clean_after_hello [] = refl
-clean_after_hello (letter Warning d ∷ w) = clean_after_hello w
-clean_after_hello (letter HelloRequest d ∷ w) = clean_after_hello w
-clean_after_hello (letter k d ∷ w) = ap (λ x. letter k d ∷ x) (clean_after_hello w)
+clean_after_hello (symbol Warning d ∷ w) = clean_after_hello w
+clean_after_hello (symbol HelloRequest d ∷ w) = clean_after_hello w
+clean_after_hello (symbol k d ∷ w) = ap (λ x. symbol k d ∷ x) (clean_after_hello w)
 
 pub clean_is : (w : Word) → without_after is_noise turn false w ≡ clean w
 clean_is [] = refl
-clean_is (letter Warning d ∷ w) = clean_is w
-clean_is (letter ClientHello d ∷ w) = ap (λ x. letter ClientHello d ∷ x) (clean_after_hello w)
-clean_is (letter ClientHelloWithId d ∷ w) = ap (λ x. letter ClientHelloWithId d ∷ x) (clean_after_hello w)
-clean_is (letter k d ∷ w) = ap (λ x. letter k d ∷ x) (clean_is w)
+clean_is (symbol Warning d ∷ w) = clean_is w
+clean_is (symbol ClientHello d ∷ w) = ap (λ x. symbol ClientHello d ∷ x) (clean_after_hello w)
+clean_is (symbol ClientHelloWithId d ∷ w) = ap (λ x. symbol ClientHelloWithId d ∷ x) (clean_after_hello w)
+clean_is (symbol k d ∷ w) = ap (λ x. symbol k d ∷ x) (clean_is w)
 
 abbrev is_finished : TlsState → Bool
 is_finished state.Finished = true
 is_finished _ = false
 
-abbrev is_fatal : Letter → Bool
-is_fatal (letter Fatal d) = true
+abbrev is_fatal : Symbol → Bool
+is_fatal (symbol Fatal d) = true
 is_fatal _ = false
 
--- What a message does to what is waited for, as a test, which all letters pass at all states.
-abbrev waits_next : Pattern Letter → Bool → Letter → Pattern Letter
-waits_next x before l = cond (is_noise before l) x (behind same_letter x l)
+-- What a message does to what is waited for, as a test, which all symbols pass at all states.
+abbrev waits_next : Pattern Symbol → Bool → Symbol → Pattern Symbol
+waits_next x before l = cond (is_noise before l) x (behind same_symbol x l)
 
-abbrev same_pattern : (p q : Pattern Letter) → Dec (p ≡ q)
-same_pattern = Pattern-discrete same_letter
+abbrev same_pattern : (p q : Pattern Symbol) → Dec (p ≡ q)
+same_pattern = Pattern-discrete same_symbol
 
-abbrev next_test : TlsState → Pattern Letter → Bool → Letter → Bool
+abbrev next_test : TlsState → Pattern Symbol → Bool → Symbol → Bool
 next_test q x before l =
     fits (next q l) (turn before l)
     && (is_yes (same_pattern (waits (next q l)) (waits_next x before l))
     && (not (is_finished (next q l)) || is_fatal l))
 
 abbrev tests_at : TlsState → Bool → Bool
-tests_at q before = list_all (next_test q (waits q) before) letters
+tests_at q before = list_all (next_test q (waits q) before) symbols
 
 tests_pass : (q : TlsState) → (not (fits q false) || tests_at q false) && (not (fits q true) || tests_at q true) ≡ true
 tests_pass = elim [ state.None ↦ refl | _ ↦ refl ]
@@ -147,7 +147,7 @@ tests_pass_at q true = (both_and (not (fits q false) || tests_at q false) (not (
 abbrev pub Fits : TlsState → Bool → Type 0
 Fits q before = fits q before ≡ true
 
-module _ (q : TlsState) (before : Bool) (l : Letter) (h : Fits q before) where
+module _ (q : TlsState) (before : Bool) (l : Symbol) (h : Fits q before) where
   next_passes : Fits (next q l) (turn before l)
       × ((is_yes (same_pattern (waits (next q l)) (waits_next (waits q) before l)) &&
       (not (is_finished (next q l)) || is_fatal l)) ≡ true)
@@ -157,7 +157,7 @@ module _ (q : TlsState) (before : Bool) (l : Letter) (h : Fits q before) where
   pub next_fits : Fits (next q l) (turn before l)
   next_fits = next_passes.0
 
-  pub next_waits : waits (next q l) ≡ cond (is_noise before l) (waits q) (behind same_letter (waits q) l)
+  pub next_waits : waits (next q l) ≡ cond (is_noise before l) (waits q) (behind same_symbol (waits q) l)
   next_waits = yes_is (same_pattern (waits (next q l)) (waits_next (waits q) before l)) (both_and _ _ next_passes.1).0
 
   only_fatal : is_finished (next q l) ≡ true → is_fatal l ≡ true
@@ -168,10 +168,10 @@ pub run_fits : (q : TlsState) (before : Bool) (w : Word) → Fits q before → (
 run_fits q before [] h = (before, h)
 run_fits q before (l ∷ w) h = run_fits (next q l) (turn before l) w (next_fits q before l h)
 
-fatal_letter : (l : Letter) → is_fatal l ≡ true → (d : Direction) × (l ≡ letter Fatal d)
-fatal_letter (letter Fatal d) h = (d, refl)
-fatal_letter _ h = cc
+fatal_symbol : (l : Symbol) → is_fatal l ≡ true → (d : Direction) × (l ≡ symbol Fatal d)
+fatal_symbol (symbol Fatal d) h = (d, refl)
+fatal_symbol _ h = cc
 
-pub finished_by_fatal : (q : TlsState) (before : Bool) (l : Letter) → Fits q before → next q l ≡ state.Finished
-    → (d : Direction) × (l ≡ letter Fatal d)
-finished_by_fatal q before l h e = fatal_letter l (only_fatal q before l h (ap is_finished e))
+pub finished_by_fatal : (q : TlsState) (before : Bool) (l : Symbol) → Fits q before → next q l ≡ state.Finished
+    → (d : Direction) × (l ≡ symbol Fatal d)
+finished_by_fatal q before l h e = fatal_symbol l (only_fatal q before l h (ap is_finished e))

@@ -1,4 +1,4 @@
-pub mod LetterLemmas
+pub mod SymbolLemmas
 pub mod RowLemmas
 pub mod FollowLemmas
 pub mod ConversationLemmas

@@ -21,22 +21,22 @@ use Rattle.std.proofs.Common.{
 use Rattle.tls_words.proofs.PatternLemmas.{and_both}
 use Rattle.tls_words.proofs.TableLemmas.{one_place}
 use Rattle.tls_states.specs.States.{IsOncePlaced}
-use Rattle.tls_states.specs.Letters.{letter}
+use Rattle.tls_states.specs.Symbols.{symbol}
 use Rattle.tls_states.specs.Steps.{step, rule}
 use Rattle.tls_states.specs.Table.{next_after, IsOneRowEach}
 use Rattle.tls_states.specs.declared.state.TlsState.{TlsState}
 use Rattle.tls_states.specs.declared.state.TlsState.TheVariants as state
 use Rattle.tls_states.specs.declared.state.StateChangeError.{StateChangeError}
-use Rattle.tls_states.specs.declared.letter.Kind.{Kind}
-use Rattle.tls_states.specs.declared.letter.Kind.TheVariants as kind
-use Rattle.tls_states.specs.declared.letter.Direction.{Direction}
-use Rattle.tls_states.specs.declared.letter.Direction.TheVariants.{ToServer, FromServer}
+use Rattle.tls_states.specs.declared.symbol.Kind.{Kind}
+use Rattle.tls_states.specs.declared.symbol.Kind.TheVariants as kind
+use Rattle.tls_states.specs.declared.symbol.Direction.{Direction}
+use Rattle.tls_states.specs.declared.symbol.Direction.TheVariants.{ToServer, FromServer}
 use Rattle.tls_states.specs.declared.table.Row.{Row}
 use Rattle.tls_states.specs.declared.table.TheConstants.{ROWS}
 use Rattle.tls_states.specs.declared.state.TheConstants.{STATES}
 use Rattle.tls_states.specs.contracts.state.TlsState.{the_type as states}
-use Rattle.tls_states.specs.contracts.letter.Kind.{the_type as kinds}
-use Rattle.tls_states.specs.contracts.letter.Direction.{the_type as directions}
+use Rattle.tls_states.specs.contracts.symbol.Kind.{the_type as kinds}
+use Rattle.tls_states.specs.contracts.symbol.Direction.{the_type as directions}
 use denote.Enum.Bare.{sameb, true_same}
 
 -- No state, kind and direction stand in two rows.
@@ -88,13 +88,13 @@ all_states = elim [
   | state.Invalid ↦ (24, lit< tt, refl)
 ]
 
--- A letter does what its row says, or else what a rule does.
+-- A symbol does what its row says, or else what a rule does.
 answered : Option TlsState → Result TlsState StateChangeError → Result TlsState StateChangeError
 answered (Some q) r = Ok q
 answered None r = r
 
 step_by_table : (q : TlsState) (k : Kind) (d : Direction)
-    → answered (next_after ROWS q k d) (rule q k) ≡ step q (letter k d)
+    → answered (next_after ROWS q k d) (rule q k) ≡ step q (symbol k d)
 unfolding answered
 step_by_table = elim [
   | state.None ↦ elim [
@@ -110,15 +110,15 @@ step_by_table = elim [
 ]
 
 stepped : (q : TlsState) (k : Kind) (d : Direction) (next : Option TlsState) (r : Result TlsState StateChangeError)
-    → next ≡ next_after ROWS q k d → r ≡ answered next (rule q k) → r ≡ step q (letter k d)
+    → next ≡ next_after ROWS q k d → r ≡ answered next (rule q k) → r ≡ step q (symbol k d)
 stepped q k d next r n is = is ∙ ap (λ x. answered x (rule q k)) n ∙ step_by_table q k d
 
 pub stepped_by_row : (q : TlsState) (k : Kind) (d : Direction) (next : TlsState) → Some next ≡ next_after ROWS q k d
-    → Ok next ≡ step q (letter k d)
+    → Ok next ≡ step q (symbol k d)
 unfolding answered
 stepped_by_row q k d next n = stepped q k d (Some next) (Ok next) n refl
 
 pub stepped_by_rule : (q : TlsState) (k : Kind) (d : Direction) (r : Result TlsState StateChangeError)
-    → None ≡ next_after ROWS q k d → r ≡ rule q k → r ≡ step q (letter k d)
+    → None ≡ next_after ROWS q k d → r ≡ rule q k → r ≡ step q (symbol k d)
 unfolding answered
 stepped_by_rule q k d r n is = stepped q k d None r n is

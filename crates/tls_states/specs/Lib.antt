@@ -1,4 +1,4 @@
-pub mod Letters
+pub mod Symbols
 pub mod Grammar
 pub mod Conversations
 pub mod Steps

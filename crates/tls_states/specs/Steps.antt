@@ -1,56 +1,56 @@
 -- The table of transitions.
 use Rattle.std.specs.Prelude.{◌≡◌, Result, Ok, Err}
 use Rattle.tls_words.specs.Words as words
-use Rattle.tls_states.specs.Letters.{Letter, letter, Word}
-use Rattle.tls_states.specs.declared.letter.Kind.{Kind}
-use Rattle.tls_states.specs.declared.letter.Kind.TheVariants as kind
-use Rattle.tls_states.specs.declared.letter.Direction.TheVariants.{ToServer, FromServer}
+use Rattle.tls_states.specs.Symbols.{Symbol, symbol, Word}
+use Rattle.tls_states.specs.declared.symbol.Kind.{Kind}
+use Rattle.tls_states.specs.declared.symbol.Kind.TheVariants as kind
+use Rattle.tls_states.specs.declared.symbol.Direction.TheVariants.{ToServer, FromServer}
 use Rattle.tls_states.specs.declared.state.TlsState.{TlsState}
 use Rattle.tls_states.specs.declared.state.TlsState.TheVariants as state
 use Rattle.tls_states.specs.declared.state.StateChangeError.{StateChangeError}
 use Rattle.tls_states.specs.declared.state.StateChangeError.TheVariants.{InvalidTransition}
 
--- The state after a letter: the code's table told a second time, with d for either direction.
-abbrev pub step : TlsState → Letter → Result TlsState StateChangeError
-step state.None (letter kind.ClientHello ToServer) = Ok state.ClientHello
-step state.None (letter kind.ClientHelloWithId ToServer) = Ok state.AskResumeSession
-step state.ClientHello (letter kind.ServerHello FromServer) = Ok state.ServerHello
-step state.ClientHello (letter kind.ServerHelloV13Draft18 FromServer) = Ok state.ClientChangeCipherSpec
-step state.AskResumeSession (letter kind.ChangeCipherSpec ToServer) = Ok state.AskResumeSession
-step state.AskResumeSession (letter kind.ServerHello FromServer) = Ok state.ResumeSession
-step state.ResumeSession (letter kind.Certificate FromServer) = Ok state.Certificate
-step state.ResumeSession (letter kind.ChangeCipherSpec d) = Ok state.ClientChangeCipherSpec
-step state.ServerHello (letter kind.Certificate FromServer) = Ok state.Certificate
-step state.ServerHello (letter kind.ServerKeyExchange FromServer) = Ok state.NoCertSKE
-step state.Certificate (letter kind.ServerKeyExchange FromServer) = Ok state.ServerKeyExchange
-step state.Certificate (letter kind.CertificateStatus FromServer) = Ok state.CertificateSt
-step state.Certificate (letter kind.CertificateRequest FromServer) = Ok state.CRCertRequest
-step state.Certificate (letter kind.ServerDone FromServer) = Ok state.PskHelloDone
-step state.CertificateSt (letter kind.ServerKeyExchange FromServer) = Ok state.ServerKeyExchange
-step state.ServerKeyExchange (letter kind.ServerDone FromServer) = Ok state.ServerHelloDone
-step state.ServerKeyExchange (letter kind.CertificateRequest FromServer) = Ok state.CRCertRequest
-step state.CRCertRequest (letter kind.ServerDone FromServer) = Ok state.CRHelloDone
-step state.CRHelloDone (letter kind.Certificate ToServer) = Ok state.CRCert
-step state.CRCert (letter kind.ClientKeyExchange ToServer) = Ok state.CRClientKeyExchange
-step state.CRClientKeyExchange (letter kind.CertificateVerify d) = Ok state.CRCertVerify
-step state.CRClientKeyExchange (letter kind.ChangeCipherSpec d) = Ok state.ClientChangeCipherSpec
-step state.NoCertSKE (letter kind.ServerDone FromServer) = Ok state.NoCertHelloDone
-step state.ServerHelloDone (letter kind.ClientKeyExchange ToServer) = Ok state.ClientKeyExchange
-step state.NoCertHelloDone (letter kind.ClientKeyExchange ToServer) = Ok state.NoCertCKE
-step state.PskHelloDone (letter kind.ClientKeyExchange ToServer) = Ok state.PskCKE
-step state.ClientKeyExchange (letter kind.ChangeCipherSpec d) = Ok state.ClientChangeCipherSpec
-step state.CRCertVerify (letter kind.ChangeCipherSpec d) = Ok state.ClientChangeCipherSpec
-step state.NoCertCKE (letter kind.ChangeCipherSpec d) = Ok state.ClientChangeCipherSpec
-step state.PskCKE (letter kind.ChangeCipherSpec d) = Ok state.ClientChangeCipherSpec
-step state.ClientChangeCipherSpec (letter kind.NewSessionTicket FromServer) = Ok state.ClientChangeCipherSpec
-step state.ClientChangeCipherSpec (letter kind.ChangeCipherSpec FromServer) = Ok state.SessionEncrypted
+-- The state after a symbol: the code's table told a second time, with d for either direction.
+abbrev pub step : TlsState → Symbol → Result TlsState StateChangeError
+step state.None (symbol kind.ClientHello ToServer) = Ok state.ClientHello
+step state.None (symbol kind.ClientHelloWithId ToServer) = Ok state.AskResumeSession
+step state.ClientHello (symbol kind.ServerHello FromServer) = Ok state.ServerHello
+step state.ClientHello (symbol kind.ServerHelloV13Draft18 FromServer) = Ok state.ClientChangeCipherSpec
+step state.AskResumeSession (symbol kind.ChangeCipherSpec ToServer) = Ok state.AskResumeSession
+step state.AskResumeSession (symbol kind.ServerHello FromServer) = Ok state.ResumeSession
+step state.ResumeSession (symbol kind.Certificate FromServer) = Ok state.Certificate
+step state.ResumeSession (symbol kind.ChangeCipherSpec d) = Ok state.ClientChangeCipherSpec
+step state.ServerHello (symbol kind.Certificate FromServer) = Ok state.Certificate
+step state.ServerHello (symbol kind.ServerKeyExchange FromServer) = Ok state.NoCertSKE
+step state.Certificate (symbol kind.ServerKeyExchange FromServer) = Ok state.ServerKeyExchange
+step state.Certificate (symbol kind.CertificateStatus FromServer) = Ok state.CertificateSt
+step state.Certificate (symbol kind.CertificateRequest FromServer) = Ok state.CRCertRequest
+step state.Certificate (symbol kind.ServerDone FromServer) = Ok state.PskHelloDone
+step state.CertificateSt (symbol kind.ServerKeyExchange FromServer) = Ok state.ServerKeyExchange
+step state.ServerKeyExchange (symbol kind.ServerDone FromServer) = Ok state.ServerHelloDone
+step state.ServerKeyExchange (symbol kind.CertificateRequest FromServer) = Ok state.CRCertRequest
+step state.CRCertRequest (symbol kind.ServerDone FromServer) = Ok state.CRHelloDone
+step state.CRHelloDone (symbol kind.Certificate ToServer) = Ok state.CRCert
+step state.CRCert (symbol kind.ClientKeyExchange ToServer) = Ok state.CRClientKeyExchange
+step state.CRClientKeyExchange (symbol kind.CertificateVerify d) = Ok state.CRCertVerify
+step state.CRClientKeyExchange (symbol kind.ChangeCipherSpec d) = Ok state.ClientChangeCipherSpec
+step state.NoCertSKE (symbol kind.ServerDone FromServer) = Ok state.NoCertHelloDone
+step state.ServerHelloDone (symbol kind.ClientKeyExchange ToServer) = Ok state.ClientKeyExchange
+step state.NoCertHelloDone (symbol kind.ClientKeyExchange ToServer) = Ok state.NoCertCKE
+step state.PskHelloDone (symbol kind.ClientKeyExchange ToServer) = Ok state.PskCKE
+step state.ClientKeyExchange (symbol kind.ChangeCipherSpec d) = Ok state.ClientChangeCipherSpec
+step state.CRCertVerify (symbol kind.ChangeCipherSpec d) = Ok state.ClientChangeCipherSpec
+step state.NoCertCKE (symbol kind.ChangeCipherSpec d) = Ok state.ClientChangeCipherSpec
+step state.PskCKE (symbol kind.ChangeCipherSpec d) = Ok state.ClientChangeCipherSpec
+step state.ClientChangeCipherSpec (symbol kind.NewSessionTicket FromServer) = Ok state.ClientChangeCipherSpec
+step state.ClientChangeCipherSpec (symbol kind.ChangeCipherSpec FromServer) = Ok state.SessionEncrypted
 step state.Invalid l = Ok state.Invalid
 step state.SessionEncrypted l = Ok state.SessionEncrypted
 step state.Finished l = Ok state.Invalid
-step state.None (letter kind.HelloRequest d) = Err InvalidTransition
-step q (letter kind.HelloRequest d) = Ok q
-step q (letter kind.Warning d) = Ok q
-step q (letter kind.Fatal d) = Ok state.Finished
+step state.None (symbol kind.HelloRequest d) = Err InvalidTransition
+step q (symbol kind.HelloRequest d) = Ok q
+step q (symbol kind.Warning d) = Ok q
+step q (symbol kind.Fatal d) = Ok state.Finished
 step q l = Err InvalidTransition
 
 -- What a kind of message does where the table has no row for it: the last lines of step.
@@ -69,7 +69,7 @@ abbrev pub or_invalid : Result TlsState StateChangeError → TlsState
 or_invalid (Ok q) = q
 or_invalid (Err e) = state.Invalid
 
-abbrev pub next : TlsState → Letter → TlsState
+abbrev pub next : TlsState → Symbol → TlsState
 next q l = or_invalid (step q l)
 
 -- The state after a conversation.

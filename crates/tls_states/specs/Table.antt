@@ -1,12 +1,12 @@
 -- What a table of transitions answers.
 use Rattle.std.specs.Prelude.{◌≡◌, ℕ, List, [], ◌∷◌, Option, Some, None, ◌&&◌, if◌then◌else◌, slice_get}
 use Rattle.tls_states.specs.declared.state.TlsState.{TlsState}
-use Rattle.tls_states.specs.declared.letter.Kind.{Kind}
-use Rattle.tls_states.specs.declared.letter.Direction.{Direction}
+use Rattle.tls_states.specs.declared.symbol.Kind.{Kind}
+use Rattle.tls_states.specs.declared.symbol.Direction.{Direction}
 use Rattle.tls_states.specs.declared.table.Row.{Row}
 use Rattle.tls_states.specs.contracts.state.TlsState.{the_type as states}
-use Rattle.tls_states.specs.contracts.letter.Kind.{the_type as kinds}
-use Rattle.tls_states.specs.contracts.letter.Direction.{the_type as directions}
+use Rattle.tls_states.specs.contracts.symbol.Kind.{the_type as kinds}
+use Rattle.tls_states.specs.contracts.symbol.Direction.{the_type as directions}
 use denote.Enum.Bare.{sameb}
 
 -- Where the first row of this kind and direction leads.

@@ -1,7 +1,7 @@
 //! A conversation that is followed.
 ghost use Rattle.std.specs.Prelude.{◌≡◌, ◌↔◌, ◌⊎◌, Ok};
 ghost use Rattle.tls_states.specs.Conversations.{HasHandshake, IsNoHandshake};
-ghost use Rattle.tls_states.specs.Letters.{borrowed_word, letter_of, word};
+ghost use Rattle.tls_states.specs.Symbols.{borrowed_word, symbol_of, word};
 ghost use Rattle.tls_states.specs.Steps.{step, run as run_of, IsUpdate};
 ghost use Rattle.tls_states.specs.declared.state.TlsState.{TlsState};
 ghost use Rattle.tls_states.specs.declared.state.TlsState.TheVariants as state;
@@ -46,7 +46,7 @@ impl ParseContext {
     /// So [`TlsState::SessionEncrypted`] and `Invalid` stay, without an error, and after [`TlsState::Finished`] comes
     /// `Invalid`.
     pub fn update(&mut self, msg: &TlsMessage<'_>, to_server: bool) -> Result<(), StateChangeError>
-        ensures step { IsUpdate (step self.old (letter_of msg.now to_server)) self.new result }
+        ensures step { IsUpdate (step self.old (symbol_of msg.now to_server)) self.new result }
         ensures encrypted_kept { self.old ≡ state.SessionEncrypted → (self.new ≡ state.SessionEncrypted) × (result ≡ Ok tt) }
         ensures invalid_kept { self.old ≡ state.Invalid → (self.new ≡ state.Invalid) × (result ≡ Ok tt) }
         ensures nothing_follows { self.old ≡ state.Finished → (self.new ≡ state.Invalid) × (result ≡ Ok tt) }

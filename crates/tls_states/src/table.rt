@@ -2,8 +2,8 @@
 ghost use Rattle.std.specs.Prelude.{◌≡◌};
 ghost use Rattle.tls_states.specs.Table.{IsOneRowEach, next_in as next_of, next_after as next_after_of};
 
-use crate::letter::{Direction, Kind};
 use crate::state::TlsState;
+use crate::symbol::{Direction, Kind};
 
 /// In `state`, a message of `kind` in `direction` leads to `next`.
 #[derive(Clone, Copy)]

@@ -1,10 +1,10 @@
 //! The step from a state to the next.
 ghost use Rattle.std.specs.Prelude.{◌≡◌};
-ghost use Rattle.tls_states.specs.Letters.{letter, letter_of};
+ghost use Rattle.tls_states.specs.Symbols.{symbol, symbol_of};
 ghost use Rattle.tls_states.specs.Steps.{step, rule};
 
-use crate::letter::{Direction, Kind};
 use crate::state::{StateChangeError, TlsState};
+use crate::symbol::{Direction, Kind};
 use crate::table::next_after;
 use tls_hs::TlsMessage;
 
@@ -22,14 +22,14 @@ fn by_rule(state: TlsState, kind: Kind) -> Result<TlsState, StateChangeError>
     }
 }
 
-/// The state after a letter.
+/// The state after a symbol.
 #[inline]
 fn next_state(
     state: TlsState,
     kind: Kind,
     direction: Direction,
 ) -> Result<TlsState, StateChangeError>
-    ensures { result ≡ step state (letter kind direction) }
+    ensures { result ≡ step state (symbol kind direction) }
 {
     match next_after(state, kind, direction) {
         Some(next) => Ok(next),
@@ -52,7 +52,7 @@ pub fn tls_state_transition(
     msg: &TlsMessage<'_>,
     to_server: bool,
 ) -> Result<TlsState, StateChangeError>
-    ensures { result ≡ step state (letter_of msg.now to_server) }
+    ensures { result ≡ step state (symbol_of msg.now to_server) }
 {
     next_state(state, Kind::of(msg), Direction::of(to_server))
 }

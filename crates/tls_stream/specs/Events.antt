@@ -25,6 +25,10 @@ use Rattle.tls_stream.specs.declared.direction.Direction.{Direction}
 use Rattle.tls_stream.specs.declared.stream.Stream.{Stream}
 use Rattle.tls_stream.specs.declared.fault.Fault.{Fault}
 
+-- How many bytes a message may have behind its header, where no other limit is asked for.
+abbrev pub default_limit : ℕ
+default_limit = 131072
+
 -- Nothing was read.
 abbrev pub silent : ℕ → Direction
 silent limit = record { stream = stream.silent limit; fault = None }

@@ -25,7 +25,7 @@ use Rattle.layouts.specs.Bytes.{Bytes}
 use Rattle.layouts.specs.declared.result.ErrorKind.{ErrorKind}
 use Rattle.layouts.specs.declared.result.ErrorKind.TheVariants.{TooLarge, Switch, Verify}
 use Rattle.tls_base.specs.Alert as alerts
-use Rattle.tls_records.specs.Framing.{max_fragment_length}
+use Rattle.tls_records.specs.Framing.{max_encrypted_length, max_fragment_length}
 use Rattle.tls_stream.specs.Frames.{Kind, Shape, up_to, body_length}
 use Rattle.tls_stream.specs.Records as frames
 use Rattle.tls_stream.specs.declared.fault.Fault.{Fault}
@@ -90,14 +90,14 @@ is_sealed s r = is_encrypted s (content_type r) || is_sealed_alert r
 
 -- Records with fragments of up to 2^14 + 2048 bytes (RFC 5246, section 6.2.3), as none but an encrypted one may have.
 abbrev pub wide_record : Shape
-wide_record = up_to frames.records 18432
+wide_record = up_to frames.records max_encrypted_length
 
 abbrev pub is_known : ℕ → Bool
 is_known kind = nat_le 20 kind && nat_le kind 24
 
 -- What refuses a record by its header.
 abbrev pub refusal : Bool → ℕ → ℕ → Option ErrorKind
-refusal true kind n = cond (nat_le n 18432) None (Some TooLarge)
+refusal true kind n = cond (nat_le n max_encrypted_length) None (Some TooLarge)
 refusal false kind n = cond (is_known kind) (cond (nat_le n max_fragment_length) None (Some TooLarge)) (Some Switch)
 
 -- What refuses the record that stands in front of these bytes.

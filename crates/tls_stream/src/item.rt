@@ -4,10 +4,7 @@ ghost use Rattle.tls_stream.specs.Item.{Standing, change_in, is_alert as is_aler
 
 use crate::event::Event;
 use layouts::ErrorKind;
-use tls_records::MAX_RECORD_LEN;
-
-/// The most bytes that a fragment may have where it is encrypted: 2^14 + 2048 (RFC 5246, section 6.2.3).
-pub const MAX_ENCRYPTED_LEN: usize = 18432;
+use tls_records::{MAX_ENCRYPTED_LEN, MAX_RECORD_LEN};
 
 /// What a record is to its direction.
 #[derive(Drop)]
@@ -25,7 +22,7 @@ pub fn refuse(is_encrypted: bool, kind: u8, len: usize) -> Option<ErrorKind>
     ensures { result ≡ refusal is_encrypted kind len }
 {
     if is_encrypted {
-        return if len <= MAX_ENCRYPTED_LEN {
+        return if len <= MAX_ENCRYPTED_LEN as usize {
             None
         } else {
             Some(ErrorKind::TooLarge)

@@ -10,9 +10,10 @@ ghost use Rattle.tls_stream.specs.declared.stream.Stream.{Stream};
 use crate::event::{Alerts, Event, message_event};
 use crate::fault::Fault;
 use crate::frame::{Frame, Messages, Records, frame_in_front, is_too_large};
-use crate::item::{Item, MAX_ENCRYPTED_LEN, is_sealed_alert, read_record, refuse};
+use crate::item::{Item, is_sealed_alert, read_record, refuse};
 use layouts::ErrorKind;
 use std::marker::Model;
+use tls_records::MAX_ENCRYPTED_LEN;
 
 /// What is to be done next with a direction.
 #[derive(Clone, Copy)]
@@ -105,7 +106,7 @@ impl<'a> StreamView<'a> {
     fn record(&self) -> Option<&'a [u8]>
         ensures { option_map (λ b. b.now) result ≡ frame_of (front wide_record self.now.held.unread) }
     {
-        frame_in_front::<Records>(MAX_ENCRYPTED_LEN, self.unread)
+        frame_in_front::<Records>(MAX_ENCRYPTED_LEN as usize, self.unread)
     }
 
     /// What refuses a record by its header.

@@ -3,7 +3,7 @@ use Rattle.std.specs.Prelude.{◌≡◌, List, []}
 use Rattle.std.specs.List.{flat_map}
 use Rattle.tls_parser.specs.Bytes.{Bytes}
 use Rattle.tls_stream.specs.Frames.{elements}
-use Rattle.tls_stream.specs.Events.{events, fed, silent}
+use Rattle.tls_stream.specs.Events.{default_limit, events, fed, silent}
 use Rattle.tls_stream.specs.Taken.{handshakes}
 use Rattle.tls_uses.specs.declared.conversation.Messages.{Messages}
 use Rattle.tls_uses.specs.declared.conversation.Piece.{Piece}
@@ -26,7 +26,7 @@ by_server pieces = flat_map of_server pieces
 
 -- The messages that a side's bytes say, each at most 131,072 bytes long behind its header.
 abbrev pub messages_in : Bytes → List Bytes
-messages_in bytes = handshakes (events (fed (silent 131072) bytes))
+messages_in bytes = handshakes (events (fed (silent default_limit) bytes))
 
 -- They are those of each side.
 abbrev pub AreMessagesOf : List Piece → Messages → Type 0

@@ -1,4 +1,4 @@
 pub mod PatternLemmas
 pub mod MachineLemmas
-pub mod LetterLemmas
+pub mod SymbolLemmas
 pub mod TableLemmas

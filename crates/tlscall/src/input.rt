@@ -51,7 +51,7 @@ impl<'t> Reading<'t> {
         }
     }
 
-    /// Ends the piece, and begins one with this mark.
+    /// FiveTuple the piece, and begins one with this mark.
     fn next(&mut self, alloc: Global, mark: char) -> Result<(), AllocError> {
         let bytes = std::mem::replace(&mut self.bytes, Vec::new(alloc));
         let (mark, name) = (std::mem::replace(&mut self.mark, mark), self.name);

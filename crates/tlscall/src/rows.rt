@@ -24,7 +24,7 @@ struct Reading<'t> {
 }
 
 impl<'t> Reading<'t> {
-    /// Ends the row that is being read: a name for an input, or calls, whose answers are compared.
+    /// FiveTuple the row that is being read: a name for an input, or calls, whose answers are compared.
     fn end_row(&mut self, alloc: Global, tally: &mut Tally) -> Result<(), Fault> {
         let words = std::mem::replace(&mut self.words, Vec::new(alloc));
         match words.as_slice() {

@@ -3,9 +3,9 @@ use connections::{Connection, Side};
 use log_connections::{Heard, Keeper, Pieces};
 use log_lines::{Chains, Party, Presented, Speech, Spoken, Summary};
 use std::alloc::{AllocError, Global};
+use tls_analyzer::Witness;
 use tls_conversations::Said;
 use tls_flow::{Direction, HandshakeMessage};
-use tls_talks::Witness;
 
 /// What is kept of a connection until it is printed.
 #[derive(Drop)]
@@ -95,7 +95,7 @@ pub fn summary(connection: &Connection<Listener>) -> Summary<'_> {
         last_time: connection.last_time,
         originator: party(connection, Side::Originator),
         responder: party(connection, Side::Responder),
-        facts: heard.facts(),
+        handshake: heard.handshake(),
         history: heard.history(),
         outcome: heard.outcome(),
         stop: heard.stop(),

@@ -119,7 +119,7 @@ fn log_each<R: Runtime + AllocGlobal + RandomSource, W: Write>(
     (exit, out)
 }
 
-/// Ends the log behind its last line, as long as lines can be written, and says how the whole run ended.
+/// FiveTuple the log behind its last line, as long as lines can be written, and says how the whole run ended.
 fn end_log<R: Runtime + AllocGlobal, W: Write>(
     rt: &R,
     style: &Style,

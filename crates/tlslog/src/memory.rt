@@ -2,7 +2,7 @@
 use crate::arguments::Refusal;
 use crate::listener::Listener;
 use clap::ArgMatches;
-use connections::{CONNECTION_COST, Connection, Ends};
+use connections::{CONNECTION_COST, Connection, FiveTuple};
 use ip_fragments::HELD_LIMIT;
 use log_connections::HEARD_COST;
 use std::mem::size_of;
@@ -15,7 +15,7 @@ const REST: usize = 8_388_608;
 
 // A connection with its entry in the table takes no more than it is accounted for: the entry has its ends, two links and a place in a map.
 const _: () = prove!(
-    size_of::<Connection<Listener>>() + size_of::<Ends>() + 192 <= CONNECTION_COST + HEARD_COST
+    size_of::<Connection<Listener>>() + size_of::<FiveTuple>() + 192 <= CONNECTION_COST + HEARD_COST
 );
 
 /// How many bytes a text names, as `512M`; with no letter it is a count of bytes.

@@ -1,9 +1,9 @@
 //! Where lines go.
-ghost use Rattle.std.specs.Prelude.{◌≡◌, ◌++◌, [], ◌∷◌, false, OnOk, string_bytes};
+ghost use Rattle.std.specs.Prelude.{◌≡◌, ◌++◌, [], ◌∷◌, false, OnOk};
 ghost use Rattle.std.specs.Io.KnownBytes.{Appends};
 ghost use Rattle.tlslog.specs.Output.{IsOfWriting, Tells};
 
-use std::alloc::{AllocError, AllocFailed};
+use std::alloc::AllocError;
 use std::io::{self, ErrorKind, Write};
 
 /// Why a line isn't written.
@@ -65,14 +65,16 @@ impl<W: Write> Output<W> {
     }
 
     /// Writes a line and the line break behind it, by one write where that takes all.
-    pub fn write_line(&mut self, line: String) -> Result<(), LineError>
+    pub fn write_line(&mut self, line: Vec<u8>) -> Result<(), LineError>
         ensures written { OnOk result (Appends (W.contents self.old.writer) (W.contents self.new.writer)
-            (string_bytes line ++ 10 ∷ [])) }
+            (line.items ++ 10 ∷ [])) }
         ensures told { Tells self.old.has_failed self.new.has_failed result }
     {
         let mut line = line;
-        line.push('\n')?;
-        match self.writer.write_all(line.as_bytes()) {
+        if line.push(b'\n').is_err() {
+            return Err(LineError::OutOfMemory);
+        }
+        match self.writer.write_all(line.as_slice()) {
             Ok(()) => Ok(()),
             Err(e) => {
                 self.has_failed = true;

@@ -42,7 +42,7 @@ fn print_row<W: Write>(
 ) -> Result<(), LineError>
     ensures { Tells out.old.has_failed out.new.has_failed result }
 {
-    let line = style.connection_text(alloc, places, summary)?;
+    let line = style.connection_line(alloc, places, summary)?;
     out.write_line(line)
 }
 
@@ -97,7 +97,7 @@ fn print_message<W: Write>(
 ) -> Result<(), LineError>
     ensures { Tells out.old.has_failed out.new.has_failed result }
 {
-    let line = style.message_text(alloc, places, summary, time, spoken)?;
+    let line = style.message_line(alloc, places, summary, time, spoken)?;
     out.write_line(line)
 }
 
@@ -132,7 +132,7 @@ fn print_certificate<W: Write>(
 ) -> Result<(), LineError>
     ensures { Tells out.old.has_failed out.new.has_failed result }
 {
-    let line = style.certificate_text(alloc, places, summary, time, presented)?;
+    let line = style.certificate_line(alloc, places, summary, time, presented)?;
     out.write_line(line)
 }
 

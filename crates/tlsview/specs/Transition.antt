@@ -1,7 +1,7 @@
 -- How the messages of records lead from a state to the next.
 use Rattle.std.specs.Prelude.{Bool, true, false, List, map}
 use Rattle.tls_hs.specs.Message as messages
-use Rattle.tls_states.specs.Letters.{letter_of_viewed}
+use Rattle.tls_states.specs.Symbols.{symbol_of_viewed}
 use Rattle.tls_states.specs.Steps.{run}
 use Rattle.tls_states.specs.declared.state.TlsState.{TlsState}
 use Rattle.tlsview.specs.declared.direction.Direction.{Direction}
@@ -13,7 +13,7 @@ goes_to_server FromServer = false
 
 -- the state after messages of one direction
 abbrev pub state_after : Direction → TlsState → List messages.Message → TlsState
-state_after d state ms = run state (map (λ m. letter_of_viewed m (goes_to_server d)) ms)
+state_after d state ms = run state (map (λ m. symbol_of_viewed m (goes_to_server d)) ms)
 
 -- the message behind which all records of its direction are encrypted
 abbrev pub changes_cipher : messages.Message → Bool

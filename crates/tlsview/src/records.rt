@@ -4,7 +4,7 @@ ghost use Rattle.std.specs.List.{list_any};
 ghost use Rattle.std.specs.String.{string_bytes};
 ghost use Rattle.tls_hs.specs.Message.{view_message};
 ghost use Rattle.tls_records.specs.Record.{view_raw_record};
-ghost use Rattle.tls_states.specs.Letters as letters;
+ghost use Rattle.tls_states.specs.Symbols as symbols;
 ghost use Rattle.tls_states.specs.Steps.{run};
 ghost use Rattle.tlsview.specs.Direction.{sign_of};
 ghost use Rattle.tlsview.specs.Shown.{AreShown, IsNextShown, IsRecordShown};
@@ -72,7 +72,7 @@ fn show_messages(
 
 /// Follows each message in turn.
 fn follow_messages(context: &mut ParseContext, to_server: bool, messages: &[TlsMessage])
-    ensures { context.new ≡ run context.old (map (λ m. letters.letter_of m to_server) messages.now) }
+    ensures { context.new ≡ run context.old (map (λ m. symbols.symbol_of m to_server) messages.now) }
 {
     for i in 0..messages.len() {
         let _ = context.update(&messages[i], to_server);

@@ -38,7 +38,7 @@ pub use Rattle.tls_hs.specs.HandshakeText
 pub use Rattle.tls_hs.specs.HandshakeWriter
 pub use Rattle.tls_hs.specs.Writable
 pub use Rattle.tls_words.specs.Words
-pub use Rattle.tls_states.specs.Letters
+pub use Rattle.tls_states.specs.Symbols
 pub use Rattle.tls_states.specs.Grammar
 pub use Rattle.tls_states.specs.Conversations
 pub use Rattle.tls_states.specs.Steps
@@ -66,7 +66,7 @@ pub use Rattle.tls_stream.specs.Messages as EventMessages
 pub use Rattle.tls_stream.specs.Stream
 pub use Rattle.tls_stream.specs.Events
 pub use Rattle.tls_stream.specs.Taken
-pub use Rattle.tls_flow.specs.Letters as FlowLetters
+pub use Rattle.tls_flow.specs.Symbols as FlowSymbols
 pub use Rattle.tls_flow.specs.Grammar as FlowGrammar
 pub use Rattle.tls_flow.specs.Conversations as FlowConversations
 pub use Rattle.tls_flow.specs.Table as FlowTable

@@ -30,12 +30,12 @@ use Rattle.tls_conversations.specs.Events.{chooses_tls13, event_of}
 use Rattle.tls_stream.specs.Item.{Event as Saying}
 use Rattle.layouts.specs.Bytes.{Bytes}
 use Rattle.tls_flow.specs.Conversations.{IsOutcome, IsStop}
-use Rattle.tls_flow.specs.Letters.{letters_of}
+use Rattle.tls_flow.specs.Symbols.{symbols_of}
 use Rattle.tls_flow.specs.Messages.{direction}
 use Rattle.tls_flow.specs.Steps.{follow, silence}
 use Rattle.tls_flow.specs.Table.{is_failed, is_waiting, outcome_at}
 use Rattle.tls_flow.specs.declared.event.Event.{Event}
-use Rattle.tls_flow.specs.declared.letter.Direction.{Direction}
+use Rattle.tls_flow.specs.declared.symbol.Direction.{Direction}
 use Rattle.tls_flow.specs.declared.state.Outcome.{Outcome}
 use Rattle.tls_flow.proofs.FlowLemmas.{stopped_of_flow, told_of_flow}
 use Rattle.tls_words.specs.Words.{run}
@@ -119,7 +119,7 @@ known_or true chooses = refl
 known_or false chooses = refl
 
 abbrev chosen_by : Event → Bool
-chosen_by e = chooses_tls13 e.letter.kind e.letter.direction
+chosen_by e = chooses_tls13 e.symbol.kind e.symbol.direction
 
 -- d is c behind the event e, by which v was said.
 module _ (c d : Conversation) (e : Event) (limit : d.limit ≡ c.limit)
@@ -223,7 +223,7 @@ module _ (t : Bool) (b b' : Bytes) (c m d : Conversation) (s : Side) (h : Heard)
 
 -- How it stands, by its events.
 pub outcome_with : (es : List Event) (c : Conversation) (o : Outcome) → AreEvents es c
-    → o ≡ outcome_at (state_in c.course.flow) → IsOutcome o (letters_of es)
+    → o ≡ outcome_at (state_in c.course.flow) → IsOutcome o (symbols_of es)
 outcome_with es c o are is = (told_of_flow es silence (flow_of c.course) are refl o).0 (sym is)
 
 pub stop_with : (es : List Event) (c : Conversation) → AreEvents es c

@@ -64,7 +64,7 @@ module _ (q : State) (n : ℕ) (s : FlowStop) (e : Event) where
   by_waiting : (t stopped : Bool) → is_waiting (outcome_at q) ≡ t → is_some (from_state t).stop ≡ stopped
       → flow_at (from_state t).state (counted n) (cond stopped (event_stop e n) s) ≡ from_flow t
   by_waiting true stopped under_way is =
-      let next : State = step q e.letter in
+      let next : State = step q e.symbol in
       ap (λ o. record { state = next; events = counted n; stop = o })
       (stops (is_failed (outcome_at next)) stopped (event_stop e 0) (event_stop e n) s (flow_at q n s).stop is
       (ap (λ t. cond t (Some s) None) (not_failed (outcome_at q) under_way)))

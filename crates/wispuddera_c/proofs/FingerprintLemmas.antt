@@ -6,7 +6,7 @@ use Rattle.std.proofs.lemmas.List.{length-drop}
 use Rattle.tls_ext.specs.InPlace.{extension_type}
 use Rattle.layouts.specs.Bytes.{Bytes, number_of}
 use Rattle.layouts.specs.Framed.{framed}
-use Rattle.layouts.specs.Layout.{Layout, done, number, chain, counted, maybe, times}
+use Rattle.layouts.specs.Layout.{Layout, done, number, chain, counted, mapped, maybe, times}
 use Rattle.layouts.specs.Meaning.{Allows, Answer, Lacks, Spells}
 use Rattle.layouts.specs.Reading.{reading, items_at, number_at, split_at, with_items, ◌and_then◌}
 use Rattle.layouts.specs.Text.{held}
@@ -14,7 +14,7 @@ use Rattle.layouts.proofs.LeavesLemmas.{Leaves, leaves}
 use Rattle.tls_fingerprints.specs.Hellos.{types_in}
 use Rattle.tls_fingerprints.specs.Ja4.{IsTooLong}
 use Rattle.tls_fingerprints.specs.Numbers.{is_grease, without_grease}
-use Rattle.tls_hs.specs.Hello.{ClientHello, cipher_suites, client_hello}
+use Rattle.tls_hs.specs.Hello.{ClientHello, cipher_suites, client_hello, client_hello_with}
 use Rattle.tls_records.specs.DtlsHello as dtls
 use Rattle.wispuddera_c.specs.Fingerprint.{client_of}
 
@@ -51,23 +51,10 @@ record Bounds (h : ClientHello) : Type 0 where
   suites : length h.cipher_suites ≤ 32767
   extensions : length (held h.extensions) ≤ 65535
 
-hello_bounds : (b : Bytes) (h : ClientHello) (r d : Bytes) → Spells client_hello b h r d → Bounds h
-unfolding client_hello
-hello_bounds b h r d s =
-    let s1 = s.5 in
-    let s2 = s1.5 in
-    let s3 = s2.5 in
-    let s4 = s3.5 in
-    let s5 = s4.5 in
-    let is = s5.5.0 in
-    subst Bounds (sym is) (record {
-      suites = suites_bound s2.1 s3.0 s3.1 s3.2 s3.4;
-      extensions = maybe_bound s4.1 s5.0 s5.1 s5.2 s5.4;
-    })
-
-dtls_hello_bounds : (b : Bytes) (h : dtls.ClientHello) (r d : Bytes) → Spells dtls.client_hello b h r d → Bounds h.hello
-unfolding dtls.client_hello
-dtls_hello_bounds b h r d s =
+fields_bounds : (l : Layout (Option Bytes)) (b : Bytes) (x : ClientHello × Option Bytes) (r d : Bytes)
+    → Spells (client_hello_with l) b x r d → Bounds x.0
+unfolding client_hello_with
+fields_bounds l b x r d s =
     let s1 = s.5 in
     let s2 = s1.5 in
     let s3 = s2.5 in
@@ -75,10 +62,19 @@ dtls_hello_bounds b h r d s =
     let s5 = s4.5 in
     let s6 = s5.5 in
     let is = s6.5.0 in
-    subst (λ (x : dtls.ClientHello). Bounds x.hello) (sym is) (record {
+    subst (λ (y : ClientHello × Option Bytes). Bounds y.0) (sym is) (record {
       suites = suites_bound s3.1 s4.0 s4.1 s4.2 s4.4;
       extensions = maybe_bound s5.1 s6.0 s6.1 s6.2 s6.4;
     })
+
+hello_bounds : (b : Bytes) (h : ClientHello) (r d : Bytes) → Spells client_hello b h r d → Bounds h
+unfolding client_hello
+hello_bounds b h r d s = subst Bounds (sym s.5.0) (fields_bounds (done None) b s.0 s.1 s.2 s.4)
+
+dtls_hello_bounds : (b : Bytes) (h : dtls.ClientHello) (r d : Bytes) → Spells dtls.client_hello b h r d → Bounds h.hello
+unfolding dtls.client_hello
+dtls_hello_bounds b h r d s = subst (λ (x : dtls.ClientHello). Bounds x.hello) (sym s.5.0)
+    (fields_bounds (mapped Some (counted 1)) b s.0 s.1 s.2 s.4)
 
 -- what is read takes at least two bytes
 abbrev TakesTwo : {A : Type 0} → ℕ → Answer A → Type 0

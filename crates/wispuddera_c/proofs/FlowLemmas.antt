@@ -13,7 +13,7 @@ use Rattle.tls_words.proofs.MachineLemmas.{run_on}
 use Rattle.wispuddera_c.specs.declared.flow.Flow.{Flow}
 use Rattle.wispuddera_c.specs.declared.outcome.Event.{Event}
 use Rattle.wispuddera_c.specs.Flow.{state_at, followed, IsBehind}
-use Rattle.wispuddera_c.specs.Outcome.{letter_of, event_of, word_of}
+use Rattle.wispuddera_c.specs.Outcome.{symbol_of, event_of, word_of}
 use Rattle.wispuddera_c.proofs.OutcomeLemmas.{event_is, outcome_holds}
 
 same_held : {A : Type 0} (x y : A) → Some x ≡ Some y → x ≡ y
@@ -21,7 +21,7 @@ same_held x y e = cc
 
 same_by : (t : Bool) (f g : Followed) (e : FlowEvent) → f.state ≡ g.state
     → (follow_by t f e).state ≡ (follow_by t g e).state
-same_by true f g e same = ap (λ q. step q e.letter) same
+same_by true f g e same = ap (λ q. step q e.symbol) same
 same_by false f g e same = same
 
 same_state : (f g : Followed) (e : FlowEvent) → f.state ≡ g.state → (follow f e).state ≡ (follow g e).state
@@ -35,11 +35,11 @@ one_more es d = ap (run follow silence) (map-append event_of es (d ∷ []))
     ∙ run_on follow silence (map event_of es) (event_of d ∷ [])
 
 pub steps : (es : List Event) (d : Event) (e : FlowEvent) (q : State) (c n : Flow) (f g : Followed)
-    → state_at c.state ≡ Some q → f.state ≡ q → g ≡ follow f e → e.letter ≡ letter_of d → e.alert ≡ None
+    → state_at c.state ≡ Some q → f.state ≡ q → g ≡ follow f e → e.symbol ≡ symbol_of d → e.alert ≡ None
     → state_at n.state ≡ Some g.state → IsBehind es c → IsBehind (es ++ d ∷ []) n
-steps es d e q c n f g known at moved letters alerts told behind =
+steps es d e q c n f g known at moved symbols alerts told behind =
     let here : f.state ≡ (followed es).state = at ∙ same_held q (followed es).state (sym known ∙ behind) in
-    let same : e ≡ event_of d = event_is e (letter_of d) letters alerts in
+    let same : e ≡ event_of d = event_is e (symbol_of d) symbols alerts in
     told ∙ ap Some (ap (λ h. h.state) moved ∙ same_state f (followed es) e here
     ∙ ap (λ x. (follow (followed es) x).state) same ∙ sym (ap (λ h. h.state) (one_more es d)))
 

@@ -89,7 +89,7 @@ use Rattle.tls_stream.specs.Stream.{
 use Rattle.tls_stream.specs.declared.stream.Stream.{Stream}
 use Rattle.tls_stream.specs.declared.fault.Fault.{Fault}
 use Rattle.tls_stream.specs.declared.view.Next.TheVariants as next
-use Rattle.tls_flow.specs.declared.letter.Direction.{Direction}
+use Rattle.tls_flow.specs.declared.symbol.Direction.{Direction}
 use Rattle.tls_stream.proofs.ItemLemmas.{has_header}
 use Rattle.tls_stream.proofs.SourceLemmas.{source_front, source_taken}
 use Rattle.tls_stream.proofs.StreamLemmas.{first_event, record_length, some_front}

@@ -8,7 +8,7 @@ use Rattle.tls_flow.specs.declared.flow.Stop.{Stop as FlowStop}
 use Rattle.tls_flow.specs.declared.state.State.{State}
 use Rattle.tls_flow.specs.declared.state.State.TheVariants as state
 use Rattle.wispuddera_c.specs.Flow.{state_at}
-use Rattle.wispuddera_c.specs.Outcome.{letter_of}
+use Rattle.wispuddera_c.specs.Outcome.{symbol_of}
 use Rattle.wispuddera_c.specs.declared.course.Course.{Course}
 use Rattle.wispuddera_c.specs.declared.course.Stop.{Stop}
 use Rattle.wispuddera_c.specs.declared.flow.Flow.{Flow}
@@ -21,7 +21,7 @@ abbrev pub alert_in : Stop → Option TlsAlertDescription
 alert_in s = if s.is_alert then Some (record { 0 = s.alert }) else None
 
 abbrev pub stop_of : Stop → FlowStop
-stop_of s = record { event = record { letter = letter_of s.event; alert = alert_in s }; place = s.events_before }
+stop_of s = record { event = record { symbol = symbol_of s.event; alert = alert_in s }; place = s.events_before }
 
 -- What stopped it, where it is stopped.
 abbrev pub stop_in : State → Stop → Option FlowStop

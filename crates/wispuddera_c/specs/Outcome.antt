@@ -1,11 +1,11 @@
 -- The events of a conversation, and how it stands, in C's numbers.
 use Rattle.std.specs.Prelude.{ℕ, List, map, None, ◌==◌, if◌then◌else◌, true, false}
-use Rattle.tls_flow.specs.Letters.{letter, Word}
+use Rattle.tls_flow.specs.Symbols.{symbol, Word}
 use Rattle.tls_flow.specs.Messages.{direction}
 use Rattle.tls_flow.specs.declared.event.Event.{Event as FlowEvent}
-use Rattle.tls_flow.specs.declared.letter.Letter.{Letter}
-use Rattle.tls_flow.specs.declared.letter.Kind.{Kind}
-use Rattle.tls_flow.specs.declared.letter.Kind.TheVariants as kind
+use Rattle.tls_flow.specs.declared.symbol.Symbol.{Symbol}
+use Rattle.tls_flow.specs.declared.symbol.Kind.{Kind}
+use Rattle.tls_flow.specs.declared.symbol.Kind.TheVariants as kind
 use Rattle.tls_flow.specs.declared.state.Outcome.{Outcome}
 use Rattle.tls_flow.specs.declared.state.Outcome.TheVariants as outcome
 use Rattle.wispuddera_c.specs.declared.outcome.Event.{Event}
@@ -35,15 +35,15 @@ kind_of_number n =
     else if n == 20 then kind.Other
     else kind.Unknown
 
-abbrev pub letter_of : Event → Letter
-letter_of e = letter (kind_of_number e.kind) (direction e.to_server)
+abbrev pub symbol_of : Event → Symbol
+symbol_of e = symbol (kind_of_number e.kind) (direction e.to_server)
 
 abbrev pub event_of : Event → FlowEvent
-event_of e = record { letter = letter_of e; alert = None }
+event_of e = record { symbol = symbol_of e; alert = None }
 
 -- The word of a conversation's events.
 abbrev pub word_of : List Event → Word
-word_of events = map letter_of events
+word_of events = map symbol_of events
 
 abbrev pub outcome_number : Outcome → ℕ
 outcome_number outcome.Waiting = 0

@@ -11,7 +11,7 @@ use Rattle.layouts.specs.Framed.{Framed}
 use Rattle.layouts.specs.Meaning.{Answer, Refusal}
 use Rattle.layouts.specs.Reading.{reading}
 use Rattle.layouts.specs.Text.{held}
-use Rattle.tls_flow.specs.declared.letter.Direction.{Direction}
+use Rattle.tls_flow.specs.declared.symbol.Direction.{Direction}
 use Rattle.tls_hs.specs.InPlace.{raw_handshake}
 use Rattle.tls_hs.specs.ServerHello.{ServerHello, server_hello}
 use Rattle.wispuddera_c.specs.Outcome.{kind_of_number}
@@ -72,7 +72,7 @@ takes_session v = false
 pub record Tells (side : Direction) (b : Bytes) (c : Said) (v : Saying) : Type 0 where
   pub form : c.form ≡ form_number v
   pub fault : c.fault ≡ fault_in v
-  pub kind : kind_of_number c.kind ≡ (event_of side v).letter.kind
+  pub kind : kind_of_number c.kind ≡ (event_of side v).symbol.kind
   pub content : (x : Bytes) × StandsAt b c.content x × IsSaidBy v x
 
 -- What is heard is the event v of a side, whose bytes stand in b.

@@ -10,7 +10,7 @@ use Rattle.tls_stream.specs.Item.{Event as Saying}
 use Rattle.tls_stream.specs.Stream.{Source, OfMessage, OfRecord}
 use Rattle.tls_stream.specs.declared.stream.Stream.{Stream}
 use Rattle.layouts.specs.Bytes.{Bytes}
-use Rattle.tls_flow.specs.declared.letter.Direction.{Direction}
+use Rattle.tls_flow.specs.declared.symbol.Direction.{Direction}
 use Rattle.wispuddera_c.specs.Said.{Shows}
 use Rattle.wispuddera_c.specs.declared.said.Heard.{Heard}
 use Rattle.wispuddera_c.specs.declared.side.Known.{Known}

@@ -4,7 +4,7 @@ ghost use Rattle.tls_conversations.specs.Conversations.{IsBegun};
 ghost use Rattle.tls_conversations.specs.Events.{chooses_tls13 as chooses};
 ghost use Rattle.layouts.specs.Bytes.{Bytes};
 ghost use Rattle.tls_flow.specs.Conversations.{IsOutcome};
-ghost use Rattle.tls_flow.specs.Letters.{letters_of};
+ghost use Rattle.tls_flow.specs.Symbols.{symbols_of};
 ghost use Rattle.tls_flow.specs.Steps.{follow as follow_by};
 ghost use Rattle.tls_flow.specs.Table.{is_failed, is_waiting, outcome_at};
 ghost use Rattle.tls_flow.specs.declared.event.Event.{Event as FlowEvent};
@@ -73,7 +73,7 @@ impl Conversation {
     fn follow(&mut self, event: FlowEvent, takes_session: bool)
         ensures sides { (self.new.client ≡ self.old.client) × (self.new.server ≡ self.old.server) }
         ensures limit { self.new.limit ≡ self.old.limit }
-        ensures tls13 { self.new.is_tls13 ≡ (self.old.is_tls13 || chooses event.letter.kind event.letter.direction) }
+        ensures tls13 { self.new.is_tls13 ≡ (self.old.is_tls13 || chooses event.symbol.kind event.symbol.direction) }
         ensures flow { flow_of self.new.course ≡ follow_by (flow_of self.old.course) event }
         ensures session { self.new.has_session
             ≡ (if is_waiting (outcome_at (state_in self.old.course.flow)) then takes_session else self.old.has_session) }
@@ -103,10 +103,10 @@ fn is_under_way(outcome: Outcome) -> bool
 
 /// Whether the server chooses TLS 1.3 by an event.
 fn chooses_tls13(event: FlowEvent) -> bool
-    ensures { result ≡ chooses event.letter.kind event.letter.direction }
+    ensures { result ≡ chooses event.symbol.kind event.symbol.direction }
 {
     matches!(
-        (event.letter.direction, event.letter.kind),
+        (event.symbol.direction, event.symbol.kind),
         (
             Direction::FromServer,
             Kind::ServerHello13 | Kind::HelloRetryRequest
@@ -200,7 +200,7 @@ pub extern "C" fn wispuddera_conversation_next(
 #[unsafe(no_mangle)]
 pub extern "C" fn wispuddera_conversation_outcome(conversation: &Conversation) -> u32
     ensures { (events : List FlowEvent) → AreEvents events conversation.now
-        → (o : Outcome) × (result ≡ outcome_number o) × IsOutcome o (letters_of events) }
+        → (o : Outcome) × (result ≡ outcome_number o) × IsOutcome o (symbols_of events) }
 {
     number_of_outcome(conversation.course.state().outcome())
 }

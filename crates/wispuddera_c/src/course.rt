@@ -63,8 +63,8 @@ fn stop_at(event: FlowEvent, events_before: u64) -> Stop
     Stop {
         events_before,
         event: Event {
-            kind: number_of(event.letter.kind),
-            to_server: goes_to_server(event.letter.direction),
+            kind: number_of(event.symbol.kind),
+            to_server: goes_to_server(event.symbol.direction),
         },
         is_alert: event.alert.is_some(),
         alert: alert_of(event.alert),

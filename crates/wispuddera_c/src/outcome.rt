@@ -8,7 +8,7 @@ ghost use Rattle.tls_flow.specs.Messages.{kind_of_alert};
 ghost use Rattle.tls_flow.specs.Steps.{follow, silence};
 ghost use Rattle.tls_flow.specs.declared.state.Outcome.{Outcome};
 ghost use Rattle.tls_words.specs.Words.{run};
-ghost use Rattle.wispuddera_c.specs.Outcome.{event_of, kind_of_number, letter_of, outcome_number, word_of};
+ghost use Rattle.wispuddera_c.specs.Outcome.{event_of, kind_of_number, symbol_of, outcome_number, word_of};
 
 use tls_base::{TlsAlertDescription, TlsAlertSeverity, TlsHandshakeType, TlsMessageAlert};
 use tls_flow::{Direction, Event as FlowEvent, Flow, Kind, Outcome};
@@ -154,7 +154,7 @@ pub extern "C" fn wispuddera_event_of_alert(level: u8, description: u8) -> u8
 /// The event that the flow follows.
 #[inline(always)]
 pub fn followed_event(event: Event) -> FlowEvent
-    ensures letter { result.letter ≡ letter_of event }
+    ensures symbol { result.symbol ≡ symbol_of event }
     ensures alert { result.alert ≡ None }
 {
     FlowEvent::new(kind_of(event.kind), Direction::of(event.to_server))

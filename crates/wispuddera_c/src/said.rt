@@ -152,7 +152,7 @@ pub fn heard_of(event: &Saying<'_>, content: Place, side: Direction) -> Heard
             content,
             fault: 0,
             form: form_of(event),
-            kind: number_of(followed.letter.kind),
+            kind: number_of(followed.symbol.kind),
         },
         event: followed,
         takes_session: takes_up(event),

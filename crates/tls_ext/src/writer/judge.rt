@@ -32,31 +32,7 @@ fn content_len(extension: &TlsExtension) -> Result<usize, GenError>
         TlsExtension::SNI(names) => Ok(2 + names_len(names)),
         TlsExtension::MaxFragmentLength(_) => Ok(1),
         TlsExtension::EllipticCurves(groups) => Ok(2 + 2 * groups.len().min(TOO_LONG)),
-        TlsExtension::StatusRequest(_)
-        | TlsExtension::EcPointFormats(_)
-        | TlsExtension::SignatureAlgorithms(_)
-        | TlsExtension::Heartbeat(_)
-        | TlsExtension::ALPN(_)
-        | TlsExtension::SignedCertificateTimestamp(_)
-        | TlsExtension::Padding(_)
-        | TlsExtension::EncryptThenMac
-        | TlsExtension::ExtendedMasterSecret
-        | TlsExtension::RecordSizeLimit(_)
-        | TlsExtension::SessionTicket(_)
-        | TlsExtension::KeyShareOld(_)
-        | TlsExtension::PreSharedKey(_)
-        | TlsExtension::EarlyData(_)
-        | TlsExtension::SupportedVersions(_)
-        | TlsExtension::Cookie(_)
-        | TlsExtension::PskExchangeModes(_)
-        | TlsExtension::OidFilters(_)
-        | TlsExtension::PostHandshakeAuth
-        | TlsExtension::KeyShare(_)
-        | TlsExtension::NextProtocolNegotiation
-        | TlsExtension::RenegotiationInfo(_)
-        | TlsExtension::EncryptedServerName { .. }
-        | TlsExtension::Grease(_, _)
-        | TlsExtension::Unknown(_, _) => Err(GenError::NotYetImplemented),
+        _ => Err(GenError::NotYetImplemented),
     }
 }
 

@@ -1,18 +1,17 @@
 //! Hellos of DTLS.
-#![tactic(auto, using(layouts::proofs::OneAnswerLemmas::read_allowed), unfolding(crate::specs::DtlsHello::client_hello, crate::specs::DtlsHello::hello_verify_request))]
+#![tactic(auto, using(layouts::proofs::OneAnswerLemmas::read_allowed), unfolding(crate::specs::DtlsHello::hello_verify_request))]
 
 ghost use Rattle.layouts.specs.Answers.{Gives, GivesOrMemory};
 ghost use Rattle.tls_records.specs.DtlsHello.{view_client_hello, client_hello as client_hello_layout};
 ghost use Rattle.tls_records.specs.DtlsHello.{view_hello_verify_request};
 ghost use Rattle.tls_records.specs.DtlsHello.{hello_verify_request as hello_verify_request_layout};
 
-use layouts::{IResult, OutOfMemory, block, counted1};
+use crate::dtls::hello_view::DTLSClientHelloView;
+use layouts::{IResult, OutOfMemory, counted1};
 use std::alloc::Global;
 use tls_base::{CipherTable, TlsCipherSuite, TlsCipherSuiteID, TlsCompressionID, TlsVersion};
 use tls_hs::ClientHello;
-use tls_hs::parts::{
-    cipher_suites, compressions, extension_block, random_bytes, random_time, session_id, suites,
-};
+use tls_hs::parts::{listed, random_bytes, random_time, suites};
 
 /// The body of a ClientHello of DTLS (RFC 6347, section 4.2.1).
 #[derive(Debug, PartialEq, Drop)]
@@ -98,21 +97,15 @@ pub struct DTLSHelloVerifyRequest<'a> {
 pub(crate) fn client_hello(alloc: Global, i: &[u8]) -> IResult<&[u8], DTLSClientHello>
     ensures { GivesOrMemory view_client_hello client_hello_layout i.now result }
 {
-    let (i, version) = TlsVersion::parse(i)?;
-    let (i, random) = block(i, 32)?;
-    let (i, session_id) = session_id(i)?;
-    let (i, cookie) = counted1(i)?;
-    let (i, ciphers) = cipher_suites(alloc, i)?;
-    let (i, comp) = compressions(alloc, i)?;
-    let (i, ext) = extension_block(i);
+    let (i, view) = DTLSClientHelloView::parse(i)?;
     let hello = DTLSClientHello {
-        version,
-        random,
-        session_id,
-        cookie,
-        ciphers,
-        comp,
-        ext,
+        version: view.version,
+        random: view.random,
+        session_id: view.session_id,
+        cookie: view.cookie,
+        ciphers: listed(alloc, view.ciphers)?,
+        comp: listed(alloc, view.comp)?,
+        ext: view.ext,
     };
     Ok((i, hello))
 }

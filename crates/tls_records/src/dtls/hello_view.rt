@@ -1,11 +1,15 @@
 //! The ClientHello of DTLS in place (RFC 6347, section 4.2.1).
+ghost use Rattle.std.specs.Prelude.{◌≡◌};
+ghost use Rattle.std.specs.Option.{option_map};
 ghost use Rattle.layouts.specs.Answers.{Gives};
+ghost use Rattle.layouts.specs.Text.{held};
 ghost use Rattle.tls_records.specs.DtlsHello.{client_hello};
 ghost use Rattle.tls_records.specs.DtlsInPlace.{view_client_hello_in_place};
 
-use layouts::{IResult, Items, block, counted1};
+use layouts::{IResult, Items};
 use tls_base::{TlsCipherSuiteID, TlsCompressionID, TlsVersion};
-use tls_hs::parts::{cipher_suites_in_place, compressions_in_place, extension_block, session_id};
+use tls_hs::ClientHelloView;
+use tls_hs::parts::{client_hello_fields, held_bytes};
 
 /// The body of a ClientHello of DTLS (RFC 6347, section 4.2.1), as [`crate::DTLSClientHello`], but with its lists in place.
 #[derive(Clone, Copy, Debug, PartialEq)]
@@ -27,6 +31,28 @@ pub struct DTLSClientHelloView<'a> {
 }
 
 impl<'a> DTLSClientHelloView<'a> {
+    /// The hello of the fields that TLS has too, with that cookie; of no bytes where it is `None`.
+    #[inline(always)]
+    pub fn with_cookie(hello: ClientHelloView<'a>, cookie: Option<&'a [u8]>) -> Self
+        ensures version { result.version ≡ hello.entry.version }
+        ensures random { result.random ≡ hello.entry.random }
+        ensures session_id { result.session_id ≡ hello.entry.session_id }
+        ensures cookie { result.cookie.now ≡ held (option_map (λ x. x.now) cookie.entry) }
+        ensures ciphers { result.ciphers ≡ hello.entry.ciphers }
+        ensures comp { result.comp ≡ hello.entry.comp }
+        ensures ext { result.ext ≡ hello.entry.ext }
+    {
+        DTLSClientHelloView {
+            version: hello.version,
+            random: hello.random,
+            session_id: hello.session_id,
+            cookie: held_bytes(cookie),
+            ciphers: hello.ciphers,
+            comp: hello.comp,
+            ext: hello.ext,
+        }
+    }
+
     /// Reads the body of a ClientHello of DTLS: as that of TLS, with a cookie after 1 byte of length in front of the cipher suites.
     ///
     /// All of the body is judged but what stands in the extensions. It refuses what [`crate::parse_dtls_message_handshake`] refuses
@@ -36,22 +62,7 @@ impl<'a> DTLSClientHelloView<'a> {
     pub fn parse(i: &'a [u8]) -> IResult<&'a [u8], Self>
         ensures { Gives view_client_hello_in_place client_hello i.now result }
     {
-        let (i, version) = TlsVersion::parse(i)?;
-        let (i, random) = block(i, 32)?;
-        let (i, session_id) = session_id(i)?;
-        let (i, cookie) = counted1(i)?;
-        let (i, ciphers) = cipher_suites_in_place(i)?;
-        let (i, comp) = compressions_in_place(i)?;
-        let (i, ext) = extension_block(i);
-        let hello = DTLSClientHelloView {
-            version,
-            random,
-            session_id,
-            cookie,
-            ciphers,
-            comp,
-            ext,
-        };
-        Ok((i, hello))
+        let (i, (hello, cookie)) = client_hello_fields(i, true)?;
+        Ok((i, DTLSClientHelloView::with_cookie(hello, cookie)))
     }
 }

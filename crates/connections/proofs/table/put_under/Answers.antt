@@ -4,4 +4,4 @@ use Rattle.connections.proofs.table.put_under.Goals as goal
 
 pub returns-clause-put : goal.returns-clause-put
 returns-clause-put g c = rw c.in_ok-put.ensures.entries
-    (put_first c.args.ends c.args.table.now c.args.value (omega (arith, c.requires)))
+    (put_first c.args.five_tuple c.args.table.now c.args.value (omega (arith, c.requires)))

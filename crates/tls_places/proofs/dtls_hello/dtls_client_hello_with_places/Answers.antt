@@ -1,30 +1,28 @@
-use Rattle.layouts.specs.Layout.{number, block}
-use Rattle.layouts.specs.Meaning.{EndsWith}
-use Rattle.layouts.proofs.PlaceLemmas.{ends_here, ends_read}
-use Rattle.tls_hs.specs.Hello.{session_id}
-use Rattle.tls_places.proofs.HelloLemmas.{block_ends, id_ends, extensions_end}
+use Rattle.std.proofs.Common.{sym, subst}
+use Rattle.std.specs.Option.{option_map}
+use Rattle.layouts.specs.Text.{held}
+use Rattle.tls_hs.specs.Places.{HelloStandsWithin}
+use Rattle.tls_places.specs.Place.{Stands, MayStand}
+use Rattle.tls_places.proofs.PlaceLemmas.{held_there}
 use Rattle.tls_places.proofs.dtls_hello.dtls_client_hello_with_places.Goals as goal
 
 pub returns-clause-places : goal.returns-clause-places
 returns-clause-places c =
     let w = c.args.whole.now in
-    let first : EndsWith w c.in_ok-i.i.now =
-    ends_read (number 2) w w c.in_ok-i.version.0 c.in_ok-i.i.now (ends_here w) c.in_ok-i.ensures.allowed in
-    let second : EndsWith w c.in_ok-i-2.i.now =
-    ends_read (block 32) w c.in_ok-i.i.now c.in_ok-i-2.random.now c.in_ok-i-2.i.now first c.in_ok-i-2.ensures.allowed in
-    let third : EndsWith w c.in_ok-i-3.i.now =
-    ends_read session_id w c.in_ok-i-2.i.now _ c.in_ok-i-3.i.now second c.in_ok-i-3.ensures.allowed in
-    let fourth : EndsWith w c.in_ok-i-4.i.now = c.in_ok-i-4.ensures.ends third in
-    let fifth : EndsWith w c.in_ok-i-5.i.now = c.in_ok-i-5.ensures.ends fourth in
-    let sixth : EndsWith w c.in_ok-i-6.i.now = c.in_ok-i-6.ensures.ends fifth in
+    let p = c.client_hello_places_in-cookie_place.result.0 in
+    let is = c.with_cookie.ensures in
+    let s : HelloStandsWithin w c.in_ok-rest.hello p =
+    c.client_hello_places_in-cookie_place.ensures.places c.in_ok-rest.ensures.lies in
+    let said = held (option_map (λ x. x.now) c.in_ok-rest.cookie) in
+    let cookie : Stands w c.unwrap_or.result said =
+    subst (λ q. Stands w q said) (sym c.unwrap_or.ensures)
+    (held_there w c.client_hello_places_in-cookie_place.result.1 (option_map (λ x. x.now) c.in_ok-rest.cookie)
+    (c.client_hello_places_in-cookie_place.ensures.cookie c.in_ok-rest.ensures.lies)) in
     record {
-      random = c.place_before-random_place.ensures
-          (block_ends 32 w c.in_ok-i.i.now c.in_ok-i-2.random.now c.in_ok-i-2.i.now first c.in_ok-i-2.ensures.allowed);
-      session_id = c.held_before-id_place.ensures
-          (id_ends w c.in_ok-i-2.i.now _ c.in_ok-i-3.i.now second c.in_ok-i-3.ensures.allowed);
-      cookie = c.in_ok-i-4.ensures.stands third;
-      cipher_suites = c.in_ok-i-5.ensures.stands fourth;
-      compression_methods = c.in_ok-i-6.ensures.stands fifth;
-      extensions = c.held_before-ext_place.ensures
-          (extensions_end w c.in_ok-i-6.i.now _ c.in_ok-i-7.i.now sixth c.in_ok-i-7.ensures.allowed);
+      random = subst (λ x. Stands w p.random x.now) (sym is.random) s.random;
+      session_id = subst (λ x. MayStand w p.session_id (option_map (λ y. y.now) x)) (sym is.session_id) s.session_id;
+      cookie = subst (λ x. Stands w c.unwrap_or.result x) (sym is.cookie) cookie;
+      cipher_suites = subst (λ x. Stands w p.ciphers x.bytes.now) (sym is.ciphers) s.cipher_suites;
+      compression_methods = subst (λ x. Stands w p.comp x.bytes.now) (sym is.comp) s.compression_methods;
+      extensions = subst (λ x. MayStand w p.ext (option_map (λ y. y.now) x)) (sym is.ext) s.extensions;
     }

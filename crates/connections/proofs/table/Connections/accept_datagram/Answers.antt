@@ -1,4 +1,4 @@
-use Rattle.connections.specs.Datagram.{ends_of_datagram}
+use Rattle.connections.specs.Datagram.{five_tuple_of_datagram}
 use Rattle.connections.specs.Table.{TakesDatagram}
 use Rattle.connections.proofs.MemoryLemmas.{accounted_first, accounted_written}
 use Rattle.connections.proofs.TableLemmas.{put_in, put_new}
@@ -6,28 +6,28 @@ use Rattle.connections.proofs.table.Connections.accept_datagram.Goals as goal
 
 pub returns-in-Some-clause-put : goal.returns-in-Some-clause-put
 returns-in-Some-clause-put g c =
-    let d = c.args.datagram.now in let e = ends_of_datagram d in let xs = c.self.inside.live.entries in
-    rw (c.between-ends.ensures, ← c.self.view_is)
+    let d = c.args.datagram.now in let e = five_tuple_of_datagram d in let xs = c.self.inside.live.entries in
+    rw (c.between-five_tuple.ensures, ← c.self.view_is)
     (put_in e (TakesDatagram d) xs c.take_datagram.new.self c.in-Some.exchange.now
-    (rw c.between-ends.ensures at c.in-Some.ensures.value) c.take_datagram.ensures.taken)
+    (rw c.between-five_tuple.ensures at c.in-Some.ensures.value) c.take_datagram.ensures.taken)
 
 pub returns-clause-put : goal.returns-clause-put
 returns-clause-put g c =
-    let d = c.args.datagram.now in let e = ends_of_datagram d in let xs = c.self.inside.live.entries in
+    let d = c.args.datagram.now in let e = five_tuple_of_datagram d in let xs = c.self.inside.live.entries in
     rw (← c.self.view_is) (put_new e (TakesDatagram d) xs c.of_datagram-exchange.result c.put_under.new.table.entries
-    (rw c.between-ends.ensures at c.in_default.ensures.value)
-    (c.of_datagram-exchange.ensures.begun, c.of_datagram-exchange.ensures.waits) (rw c.between-ends.ensures at c.in_ok-put_under.ensures.put))
+    (rw c.between-five_tuple.ensures at c.in_default.ensures.value)
+    (c.of_datagram-exchange.ensures.begun, c.of_datagram-exchange.ensures.waits) (rw c.between-five_tuple.ensures at c.in_ok-put_under.ensures.put))
 
 pub returns-in-Some-clause-accounted : goal.returns-in-Some-clause-accounted
 returns-in-Some-clause-accounted g c =
-    rw (c.between-ends.ensures, ← c.self.view_is)
-    (accounted_written (ends_of_datagram c.args.datagram.now)
+    rw (c.between-five_tuple.ensures, ← c.self.view_is)
+    (accounted_written (five_tuple_of_datagram c.args.datagram.now)
     (record { live = c.self.inside.live.entries; closed = c.self.inside.closed.entries; held = c.self.inside.held })
-    c.in-Some.exchange.now c.take_datagram.new.self (rw c.between-ends.ensures at c.in-Some.ensures.value) c.take_datagram.ensures.weight)
+    c.in-Some.exchange.now c.take_datagram.new.self (rw c.between-five_tuple.ensures at c.in-Some.ensures.value) c.take_datagram.ensures.weight)
 
 pub returns-clause-accounted : goal.returns-clause-accounted
 returns-clause-accounted g c =
     rw (c.in_ok-put_under.ensures.put, ← c.self.view_is)
-    (accounted_first c.between-ends.result
+    (accounted_first c.between-five_tuple.result
     (record { live = c.self.inside.live.entries; closed = c.self.inside.closed.entries; held = c.self.inside.held })
     c.of_datagram-exchange.result c.self.inside.closed.entries c.in_default.ensures.value c.of_datagram-exchange.ensures.weight)

@@ -4,6 +4,6 @@ use Rattle.connections.proofs.table.Connections.accept_kept.Goals as goal
 pub returns-in-Some : goal.returns-in-Some
 returns-in-Some g c =
     rw (← c.self.view_is)
-    (accounted_written c.between-ends.result
+    (accounted_written c.between-five_tuple.result
     (record { live = c.self.inside.live.entries; closed = c.self.inside.closed.entries; held = c.self.inside.held })
     c.in-Some.connection.now c.accept_kept.new.self c.in-Some.ensures.value c.accept_kept.ensures)

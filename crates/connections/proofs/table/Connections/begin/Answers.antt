@@ -13,7 +13,7 @@ returns-clause-begun g c =
 pub returns-clause-accounted : goal.returns-clause-accounted
 returns-clause-accounted g c =
     rw (c.in_ok-put_under.ensures.put, ← c.self.view_is)
-    (λ h. accounted_first c.args.ends
+    (λ h. accounted_first c.args.five_tuple
     (record { live = c.self.inside.live.entries; closed = c.self.inside.closed.entries; held = c.self.inside.held })
     c.accept.new.self c.pop.new.self.entries (sym h)
     (c.accept.ensures.weight ∙ ap (λ x. x.weight) c.of_segment-connection.ensures.0))

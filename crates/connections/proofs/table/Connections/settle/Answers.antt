@@ -5,7 +5,7 @@ use Rattle.connections.proofs.table.Connections.settle.Goals as goal
 pub returns-clause-settled : goal.returns-clause-settled
 returns-clause-settled g c =
     rw (← c.self.view_is)
-    (settled_at c.args.ends.now
+    (settled_at c.args.five_tuple.now
     (record { live = c.self.inside.live.entries; closed = c.self.inside.closed.entries; held = c.self.inside.held })
     c.in-Some.connection.now c.settle.new.self (c.saturating_sub-others.result + c.settle.new.self.weight) c.in-Some.ensures.value
     c.settle.ensures.settled
@@ -14,7 +14,7 @@ returns-clause-settled g c =
 pub returns-clause-accounted : goal.returns-clause-accounted
 returns-clause-accounted g c =
     rw (← c.self.view_is)
-    (accounted_settled c.args.ends.now
+    (accounted_settled c.args.five_tuple.now
     (record { live = c.self.inside.live.entries; closed = c.self.inside.closed.entries; held = c.self.inside.held })
     c.in-Some.connection.now c.settle.new.self (c.saturating_sub-others.result + c.settle.new.self.weight) c.in-Some.ensures.value
     (ap (λ x. x + c.settle.new.self.weight) c.saturating_sub-others.ensures))

@@ -1,20 +1,20 @@
 use Rattle.std.proofs.Common.{ap}
-use Rattle.connections.specs.Segment.{ends_of}
+use Rattle.connections.specs.Segment.{five_tuple_of}
 use Rattle.connections.proofs.MemoryLemmas.{accounted_with}
 use Rattle.connections.proofs.TableLemmas.{counts_at}
 use Rattle.connections.proofs.table.Connections.wait.Goals as goal
 
 pub returns-in-Some-clause-drops : goal.returns-in-Some-clause-drops
 returns-in-Some-clause-drops g c =
-    rw (c.between-ends.ensures, ← c.self.view_is)
-    (counts_at (ends_of c.args.segment.now)
+    rw (c.between-five_tuple.ensures, ← c.self.view_is)
+    (counts_at (five_tuple_of c.args.segment.now)
     (record { live = c.self.inside.live.entries; closed = c.self.inside.closed.entries; held = c.self.inside.held })
-    c.in-Some.connection.now c.wait.new.self (rw c.between-ends.ensures at c.in-Some.ensures.value) c.wait.ensures)
+    c.in-Some.connection.now c.wait.new.self (rw c.between-five_tuple.ensures at c.in-Some.ensures.value) c.wait.ensures)
 
 pub returns-in-Some-clause-accounted : goal.returns-in-Some-clause-accounted
 returns-in-Some-clause-accounted g c =
-    rw (c.between-ends.ensures, ← c.self.view_is)
-    (accounted_with (ends_of c.args.segment.now)
+    rw (c.between-five_tuple.ensures, ← c.self.view_is)
+    (accounted_with (five_tuple_of c.args.segment.now)
     (record { live = c.self.inside.live.entries; closed = c.self.inside.closed.entries; held = c.self.inside.held })
-    c.in-Some.connection.now c.wait.new.self (rw c.between-ends.ensures at c.in-Some.ensures.value)
+    c.in-Some.connection.now c.wait.new.self (rw c.between-five_tuple.ensures at c.in-Some.ensures.value)
     (ap (λ x. x.weight) c.wait.ensures))

@@ -1,6 +1,6 @@
 use Rattle.std.proofs.Common.{◌≡◌, arith, rules}
 use Rattle.std.proofs.lemmas.Grind.{common_steps}
-use Rattle.tls_states.specs.Letters.{word}
+use Rattle.tls_states.specs.Symbols.{word}
 use Rattle.tls_states.specs.Steps.{run}
 use Rattle.tls_states.proofs.ConversationLemmas.{encrypted_where, invalid_where}
 use Rattle.tls_states.proofs.context.ParseContext.run.Goals as goal

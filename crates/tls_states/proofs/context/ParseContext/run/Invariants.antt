@@ -1,5 +1,5 @@
 use Rattle.std.proofs.Common.{◌≡◌, drop}
-use Rattle.tls_states.specs.Letters.{word}
+use Rattle.tls_states.specs.Symbols.{word}
 use Rattle.tls_states.specs.Steps.{run}
 use Rattle.tls_states.proofs.context.ParseContext.run.Given as goal
 

@@ -1,6 +1,6 @@
 use Rattle.std.proofs.Common.{◌≡◌, arith, rules}
 use Rattle.std.proofs.lemmas.Grind.{common_steps}
-use Rattle.tls_states.specs.Letters.{borrowed_word}
+use Rattle.tls_states.specs.Symbols.{borrowed_word}
 use Rattle.tls_states.specs.Steps.{run}
 use Rattle.tls_states.proofs.ConversationLemmas.{encrypted_where, invalid_where}
 use Rattle.tls_states.proofs.context.ParseContext.run_borrowed.Goals as goal

@@ -1,5 +1,5 @@
 use Rattle.std.proofs.Common.{◌≡◌, drop}
-use Rattle.tls_states.specs.Letters.{borrowed_word}
+use Rattle.tls_states.specs.Symbols.{borrowed_word}
 use Rattle.tls_states.specs.Steps.{run}
 use Rattle.tls_states.proofs.context.ParseContext.run_borrowed.Given as goal
 

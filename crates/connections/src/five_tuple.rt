@@ -1,0 +1,125 @@
+//! The two ends of a connection.
+ghost use Rattle.std.specs.Prelude.{◌≡◌, ◌++◌, nat_eq};
+ghost use Rattle.std.specs.Ordering.{eq_of_both, on};
+ghost use Rattle.std.specs.contracts.net.ip_addr.IpAddrEq.TheImpl.Laws.{laws-law as same_addresses};
+ghost use Rattle.std.specs.Cmp.Lexicographic.{pointwise};
+ghost use Rattle.std.proofs.Common.{rules};
+ghost use Rattle.std.specs.Cmp.Rules.{comparing, hashing};
+ghost use Rattle.connections.specs.Address.{is_address};
+
+use crate::words::{address_bits, block, both_bits, port_bits};
+use std::hash::{Hash, Hasher};
+use std::net::IpAddr;
+
+/// What carries a connection.
+#[derive(Clone, Copy, Debug, PartialEq, Eq)]
+pub enum Protocol {
+    /// TCP (RFC 9293).
+    Tcp,
+    /// UDP (RFC 768).
+    Udp,
+}
+
+/// One end of a connection.
+#[derive(Clone, Copy, Debug, PartialOrd, Ord)]
+pub struct End {
+    /// Its address.
+    pub address: IpAddr,
+    /// Its port.
+    pub port: u16,
+}
+
+/// Whether two rows of four octets are the same.
+fn same_octets(one: [u8; 4], other: [u8; 4]) -> bool
+    ensures { result ≡ pointwise nat_eq one other }
+{
+    let [a, b, c, d] = one;
+    let [e, f, g, h] = other;
+    a == e && b == f && c == g && d == h
+}
+
+/// Whether two addresses are the same: the four octets of IPv4 are compared at once, and in no loop.
+fn same_address(one: &IpAddr, other: &IpAddr) -> bool
+    ensures { result ≡ is_address one.now other.now }
+{
+    match (one, other) {
+        (IpAddr::V4(four), IpAddr::V4(others)) => same_octets(four.octets(), others.octets()),
+        _ => *one == *other,
+    }
+}
+
+// Each packet's ends are compared several times.
+impl PartialEq for End {
+    ghost eq = { eq_of_both (on (λ e. e.address) is_address) (on (λ e. e.port) nat_eq) };
+
+    ghost laws = { Prim.search (same_addresses, comparing, rules) };
+
+    fn eq(&self, other: &End) -> bool {
+        self.port == other.port && same_address(&self.address, &other.address)
+    }
+}
+
+impl Eq for End {
+    ghost laws = { Prim.search (same_addresses, comparing, rules) };
+}
+
+/// Between whom packets go, and in which network: both directions have the same.
+#[derive(Clone, Copy, Debug, PartialEq, Eq)]
+pub struct FiveTuple {
+    network: u64,
+    protocol: Protocol,
+    lower: End,
+    upper: End,
+}
+
+impl FiveTuple {
+    ghost use Rattle.connections.specs.FiveTuple.{five_tuple_between};
+
+    /// Those of the packets that the two send each other by that protocol, in the network of that number.
+    pub fn between(network: u64, protocol: Protocol, one: End, other: End) -> FiveTuple
+        ensures { result ≡ five_tuple_between network protocol one other }
+    {
+        if one <= other {
+            FiveTuple {
+                network,
+                protocol,
+                lower: one,
+                upper: other,
+            }
+        } else {
+            FiveTuple {
+                network,
+                protocol,
+                lower: other,
+                upper: one,
+            }
+        }
+    }
+}
+
+// In whole words, of which a hash is made fastest: one block of two where both addresses are of IPv4, and networks aren't told apart.
+impl Hash for FiveTuple {
+    ghost use Rattle.connections.specs.FiveTuple.{ends_fed, network_fed, ports_number};
+
+    ghost hash_input = { λ e. ends_fed e.lower.address e.upper.address (ports_number e.lower.port e.upper.port e.protocol) ++ network_fed e.network };
+
+    ghost respects_eq = { Prim.search (hashing, rules) };
+
+    fn hash<H: Hasher>(&self, state: &mut H) {
+        let ports = port_bits(self.lower.port, self.upper.port, self.protocol);
+        match (self.lower.address, self.upper.address) {
+            (IpAddr::V4(lower), IpAddr::V4(upper)) => {
+                let addresses = both_bits(lower.to_bits(), upper.to_bits());
+                block(addresses, ports).hash(state);
+            }
+            (lower, upper) => {
+                address_bits(lower).hash(state);
+                address_bits(upper).hash(state);
+                ports.hash(state);
+            }
+        }
+        if self.network != 0 {
+            self.network.hash(state);
+        }
+    }
+}

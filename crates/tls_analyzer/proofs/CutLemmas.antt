@@ -1,0 +1,334 @@
+-- A piece that is cut in two says what it says whole.
+use Rattle.std.proofs.Common.{
+  ◌≡◌,
+  ℕ,
+  suc,
+  ◌+◌,
+  ◌-◌,
+  ◌^◌,
+  ◌<◌,
+  ◌≤◌,
+  ◌⊎◌,
+  inl,
+  inr,
+  List,
+  [],
+  ◌∷◌,
+  ◌++◌,
+  length,
+  take,
+  get_or,
+  Bool,
+  true,
+  false,
+  not,
+  ◌||◌,
+  ◌&&◌,
+  Option,
+  Some,
+  None,
+  refl,
+  sym,
+  ◌∙◌,
+  ap,
+  subst,
+  arith,
+  append_assoc,
+  length-append,
+}
+use Rattle.std.specs.Borrow.{Bor}
+use Rattle.std.proofs.Math.Seq.{take-suc}
+use Rattle.std.proofs.lemmas.List.{map-append, take_all}
+use Rattle.layouts.specs.Bytes.{Bytes}
+use Rattle.tls_stream.specs.Item.{Event as Said}
+use Rattle.tls_stream.specs.Events.{events, fed, with_more}
+use Rattle.tls_stream.specs.Stream as stream
+use Rattle.tls_stream.specs.declared.fault.Fault.{Fault}
+use Rattle.tls_stream.proofs.DirectionLemmas.{fed_twice}
+use Rattle.tls_flow.specs.Steps.{follow}
+use Rattle.tls_flow.specs.declared.event.Event.{Event}
+use Rattle.tls_flow.specs.declared.symbol.Direction.{Direction as Side}
+use Rattle.tls_flow.specs.declared.symbol.Direction.TheVariants.{ToServer, FromServer}
+use Rattle.tls_conversations.specs.Conversations.{IsBehind, IsPast, IsFedBy, IsToldIf, ear, other, tells, views}
+use Rattle.tls_conversations.specs.Ears.{IsFirst, SaysAs, says, says_by, told}
+use Rattle.tls_conversations.specs.Events.{chooses_tls13, event_of}
+use Rattle.tls_conversations.specs.declared.conversation.Conversation.{Conversation}
+use Rattle.tls_conversations.specs.declared.ear.Ear.{Ear}
+use Rattle.tls_conversations.specs.declared.ear.Standing.{Standing}
+use Rattle.tls_conversations.specs.declared.ear.Standing.TheVariants.{Speaks, AtFault, Over}
+use Rattle.tls_analyzer.specs.History.{history, letter_of, with_letter}
+use Rattle.tls_analyzer.specs.Noting.{has_sealed, is_sealed, known}
+use Rattle.tls_analyzer.specs.Hearing.{AreHeard, IsHeard, known_of, onto, turns}
+use Rattle.tls_analyzer.specs.declared.hearer.Hearer.{Hearer}
+use Rattle.tls_analyzer.proofs.KnownLemmas.{known_on}
+
+-- The side with a further piece.
+abbrev pub with_piece : Ear → Bytes → Ear
+with_piece e q = record e { direction = fed e.direction q }
+
+says_further : (e : Ear) (q t : Bytes) → says (with_piece e q) t ≡ says e (q ++ t)
+says_further e q t = go e.standing
+  where
+    go : (s : Standing) → says_by s (fed e.direction q) t ≡ says_by s e.direction (q ++ t)
+    go Speaks = ap events (fed_twice e.direction q t)
+    go (AtFault f) = refl
+    go Over = refl
+
+told_further : (e : Ear) (q : Bytes) → told (with_piece e q) ≡ with_piece (told e) q
+told_further e q = ap (λ x. record e { direction = record e.direction { stream = x } }) (go e.direction.fault)
+  where
+    go : (f : Option Fault) → stream.told_tls13 (with_more f e.direction.stream q) ≡ with_more f (stream.told_tls13
+        e.direction.stream) q
+    go (Some f) = refl
+    go None = refl
+
+told_if_further : (b : Bool) (e f : Ear) (q : Bytes) → IsToldIf b e f → IsToldIf b (with_piece e q) (with_piece f q)
+told_if_further true e f q same = λ t.
+    ap (λ x. says x t) (told_further e q) ∙ says_further (told e) q t ∙ same (q ++ t) ∙ sym (says_further f q t)
+told_if_further false e f q same = λ t. says_further e q t ∙ same (q ++ t) ∙ sym (says_further f q t)
+
+first_further : (e f : Ear) (v : Said) (q : Bytes) → IsFirst e v f → IsFirst (with_piece e q) v (with_piece f q)
+first_further e f v q first t = says_further e q t ∙ first (q ++ t) ∙ ap (λ vs. v ∷ vs) (sym (says_further f q t))
+
+-- The conversation with a further piece of that side.
+abbrev pub further : Conversation → Side → Bytes → Conversation
+further c ToServer q = record c { client = with_piece c.client q }
+further c FromServer q = record c { server = with_piece c.server q }
+
+behind_further : (c d : Conversation) (s : Side) (v : Said) (q : Bytes) → IsBehind c s v d
+    → IsBehind (further c s q) s v (further d s q)
+behind_further c d ToServer v q behind = record {
+  side = (
+    with_piece behind.side.0 q,
+    first_further c.client behind.side.0 v q behind.side.1,
+    told_if_further (tells c (event_of ToServer v)) behind.side.0 d.client q behind.side.2,
+  );
+  other = behind.other;
+  is_tls13 = behind.is_tls13;
+  flow = behind.flow;
+}
+behind_further c d FromServer v q behind = record {
+  side = (
+    with_piece behind.side.0 q,
+    first_further c.server behind.side.0 v q behind.side.1,
+    told_if_further (tells c (event_of FromServer v)) behind.side.0 d.server q behind.side.2,
+  );
+  other = behind.other;
+  is_tls13 = behind.is_tls13;
+  flow = behind.flow;
+}
+
+pub past_further : (c d : Conversation) (s : Side) (vs : List Said) (q : Bytes) → IsPast c s vs d
+    → IsPast (further c s q) s vs (further d s q)
+past_further c d s [] q past = ap (λ x. further x s q) past
+past_further c d s (v ∷ vs) q past =
+    (further past.0 s q, past_further c past.0 s vs q past.1, behind_further past.0 d s v q past.2)
+
+past_on : (c m d : Conversation) (s : Side) (vs ws : List Said) → IsPast c s vs m → IsPast m s ws d
+    → IsPast c s (ws ++ vs) d
+past_on c m d s vs [] first last = subst (λ x. IsPast c s vs x) (sym last) first
+past_on c m d s vs (w ∷ ws) first last = (last.0, past_on c m last.0 s vs ws first last.1, last.2)
+
+-- They say the same whatever comes of that side, and are the same but for that.
+record IsAlike (s : Side) (c d : Conversation) : Type 0 where
+  side : SaysAs (ear c s) (ear d s)
+  other : ear c (other s) ≡ ear d (other s)
+  is_tls13 : c.is_tls13 ≡ d.is_tls13
+  flow : c.flow ≡ d.flow
+
+told_alike : (b : Bool) (e f g : Ear) → IsToldIf b e f → SaysAs f g → IsToldIf b e g
+told_alike true e f g same alike = λ t. same t ∙ alike t
+told_alike false e f g same alike = λ t. same t ∙ alike t
+
+tells_alike : (c d : Conversation) (e : Event) → c.is_tls13 ≡ d.is_tls13 → tells d e ≡ tells c e
+tells_alike c d e same = ap (λ b. not b && chooses_tls13 e.symbol.kind e.symbol.direction) (sym same)
+
+behind_last : (c m d : Conversation) (s : Side) (v : Said) → IsBehind c s v m → IsAlike s m d → IsBehind c s v d
+behind_last c m d s v behind alike = record {
+  side = (
+    behind.side.0,
+    behind.side.1,
+    told_alike (tells c (event_of s v)) behind.side.0 (ear m s) (ear d s) behind.side.2 alike.side,
+  );
+  other = subst (λ x. IsToldIf (tells c (event_of s v)) (ear c (other s)) x) alike.other behind.other;
+  is_tls13 = sym alike.is_tls13 ∙ behind.is_tls13;
+  flow = sym alike.flow ∙ behind.flow;
+}
+
+behind_first : (c m d : Conversation) (s : Side) (v : Said) → IsAlike s c m → IsBehind m s v d → IsBehind c s v d
+behind_first c m d s v alike behind =
+    let same : tells m (event_of s v) ≡ tells c (event_of s v) = tells_alike c m (event_of s v) alike.is_tls13 in
+    record {
+      side = (
+        behind.side.0,
+        λ t. alike.side t ∙ behind.side.1 t,
+        subst (λ b. IsToldIf b behind.side.0 (ear d s)) same behind.side.2,
+      );
+      other = subst (λ x. IsToldIf (tells c (event_of s v)) x (ear d (other s))) (sym alike.other)
+          (subst (λ b. IsToldIf b (ear m (other s)) (ear d (other s))) same behind.other);
+      is_tls13 = behind.is_tls13 ∙ ap (λ b. b || tells m (event_of s v)) (sym alike.is_tls13)
+          ∙ ap (λ b. c.is_tls13 || b) same;
+      flow = behind.flow ∙ ap (λ x. follow x (event_of s v)) (sym alike.flow);
+    }
+
+past_first : (c m d : Conversation) (s : Side) (v : Said) (vs : List Said) → IsAlike s c m → IsPast m s (v ∷ vs) d
+    → IsPast c s (v ∷ vs) d
+past_first c m d s v [] alike past =
+    (c, refl, behind_first c m d s v alike (subst (λ x. IsBehind x s v d) past.1 past.2))
+past_first c m d s v (w ∷ ws) alike past = (past.0, past_first c m past.0 s w ws alike past.1, past.2)
+
+-- A conversation that was fed says what it says with the piece.
+fed_alike : (c d : Conversation) (s : Side) (q : Bytes) → IsFedBy c s q d → IsAlike s (further c s q) d
+fed_alike c d ToServer q fed = record {
+  side = λ t. says_further c.client q t ∙ fed.side t;
+  other = sym fed.other;
+  is_tls13 = sym fed.is_tls13;
+  flow = sym fed.flow;
+}
+fed_alike c d FromServer q fed = record {
+  side = λ t. says_further c.server q t ∙ fed.side t;
+  other = sym fed.other;
+  is_tls13 = sym fed.is_tls13;
+  flow = sym fed.flow;
+}
+
+pub fed_further : (c d : Conversation) (s : Side) (p q : Bytes) → IsFedBy c s p d → IsFedBy c s (p ++ q) (further d s q)
+fed_further c d ToServer p q fed = record {
+  side = λ t. ap (says c.client) (append_assoc p q t) ∙ fed.side (q ++ t) ∙ sym (says_further d.client q t);
+  other = fed.other;
+  is_tls13 = fed.is_tls13;
+  flow = fed.flow;
+}
+fed_further c d FromServer p q fed = record {
+  side = λ t. ap (says c.server) (append_assoc p q t) ∙ fed.side (q ++ t) ∙ sym (says_further d.server q t);
+  other = fed.other;
+  is_tls13 = fed.is_tls13;
+  flow = fed.flow;
+}
+
+fed_on : (c m d : Conversation) (s : Side) (p q : Bytes) → IsFedBy c s p m → IsFedBy m s q d → IsFedBy c s (p ++ q) d
+fed_on c m d s p q first last = record {
+  side = λ t. ap (says (ear c s)) (append_assoc p q t) ∙ first.side (q ++ t) ∙ last.side t;
+  other = last.other ∙ first.other;
+  is_tls13 = last.is_tls13 ∙ first.is_tls13;
+  flow = last.flow ∙ first.flow;
+}
+
+-- What is said by two pieces is said by both at once.
+pub record IsJoined (c : Conversation) (s : Side) (p : Bytes) (vs : List Said) (d : Conversation) : Type 0 where
+  pub begun : Conversation
+  pub fed : IsFedBy c s p begun
+  pub past : IsPast begun s vs d
+
+pub joined : (c a m b d : Conversation) (s : Side) (p q : Bytes) (vs ws : List Said) → IsFedBy c s p a
+    → IsPast a s vs m → IsFedBy m s q b
+    → IsPast b s ws d → IsJoined c s (p ++ q) (ws ++ vs) d
+joined c a m b d s p q vs (w ∷ ws) fed past fed_again past_again = record {
+  begun = further a s q;
+  fed = fed_further c a s p q fed;
+  past = past_on (further a s q) (further m s q) d s vs (w ∷ ws) (past_further a m s vs q past)
+      (past_first (further m s q) b d s w ws (fed_alike m b s q fed_again) past_again);
+}
+joined c a m b d s p q [] [] fed past fed_again past_again = record {
+  begun = b;
+  fed = fed_on c m b s p q (subst (λ x. IsFedBy c s p x) (sym past) fed) fed_again;
+  past = past_again;
+}
+joined c a m b d s p q (v ∷ vs) [] fed past fed_again past_again = record {
+  begun = further a s q;
+  fed = fed_further c a s p q fed;
+  past = subst (λ x. IsPast (further a s q) s (v ∷ vs) x) (sym past_again) (
+    further past.0 s q,
+    past_further a past.0 s vs q past.1,
+    behind_last (further past.0 s q) (further m s q) b s v (behind_further past.0 m s v q past.2) (fed_alike m b s q
+        fed_again),
+  );
+}
+
+pub history_on : (s : Side) (h : List ℕ) (vs ws : List Said) → history s (history s h vs) ws ≡ history s h (ws ++ vs)
+history_on s h vs [] = refl
+history_on s h vs (w ∷ ws) = ap (λ g. with_letter s g (letter_of w)) (history_on s h vs ws)
+
+or_false : (b : Bool) → b ≡ (b || false)
+or_false true = refl
+or_false false = refl
+
+or_on : (a b c : Bool) → ((a || b) || c) ≡ (a || (b || c))
+or_on true b c = refl
+or_on false b c = refl
+
+pub sealed_on : (vs ws : List Said) → has_sealed (ws ++ vs) ≡ (has_sealed vs || has_sealed ws)
+sealed_on vs [] = or_false (has_sealed vs)
+sealed_on vs (w ∷ ws) = ap (λ b. b || is_sealed w) (sealed_on vs ws)
+    ∙ or_on (has_sealed vs) (has_sealed ws) (is_sealed w)
+
+pub longer : (vs ws : List Said) (n : ℕ) → n ≤ length ws → n ≤ length (ws ++ vs)
+longer vs ws n few = let e : length (ws ++ vs) ≡ length ws + length vs = length-append ws vs in omega (arith, few, e)
+
+all_on : {P : Type 0} (vs ws : List Said) (n : ℕ) → P ⊎ (n ≤ length ws) → P ⊎ (n ≤ length (ws ++ vs))
+all_on vs ws n (inl p) = inl p
+all_on vs ws n (inr few) = inr (longer vs ws n few)
+
+-- Two pieces of a side are heard as one.
+pub both_heard : (h m i : Hearer) (s : Side) (p q : Bytes) (a b : Bool) → IsHeard h s p m a → IsHeard m s q i b
+    → IsHeard h s (p ++ q) i (a || b)
+both_heard h m i s p q a b first last =
+    let whole = joined h.conversation first.begun m.conversation last.begun i.conversation s p q first.said last.said
+    first.fed first.past
+    last.fed last.past in
+    record {
+      begun = whole.begun;
+      said = last.said ++ first.said;
+      fed = whole.fed;
+      past = whole.past;
+      known = last.known ∙ ap (λ k. known s k last.said) first.known
+          ∙ known_on s (known_of h) first.said last.said;
+      history = last.history ∙ ap (λ g. history s g last.said) first.history
+          ∙ history_on s h.history.items first.said last.said;
+      all = all_on first.said last.said (2 ^ 64 - 1) last.all;
+      sealed = ap (λ x. x || b) first.sealed ∙ ap (λ x. has_sealed first.said || x) last.sealed
+          ∙ sym (sealed_on first.said last.said);
+    }
+
+-- A piece in front of turns.
+onto_heard : (h m i : Hearer) (p : Side × Bytes) (a : Bool) (ts : List (Side × Bytes)) → IsHeard h p.0 p.1 m a
+    → AreHeard m ts i
+    → AreHeard h (onto p ts) i
+onto_heard h m i p a [] first rest = (m, a, first, rest)
+onto_heard h m i (ToServer, p) a ((ToServer, q) ∷ ts) first rest =
+    (rest.0, a || rest.1, both_heard h m rest.0 ToServer p q a rest.1 first rest.2, rest.3)
+onto_heard h m i (FromServer, p) a ((FromServer, q) ∷ ts) first rest =
+    (rest.0, a || rest.1, both_heard h m rest.0 FromServer p q a rest.1 first rest.2, rest.3)
+onto_heard h m i (ToServer, p) a ((FromServer, q) ∷ ts) first rest = (m, a, first, rest)
+onto_heard h m i (FromServer, p) a ((ToServer, q) ∷ ts) first rest = (m, a, first, rest)
+
+-- What is heard of pieces is heard of their turns.
+pub turns_heard : (h i : Hearer) (ps : List (Side × Bytes)) → AreHeard h ps i → AreHeard h (turns ps) i
+turns_heard h i [] heard = heard
+turns_heard h i (p ∷ ps) heard = onto_heard h heard.0 i p heard.1 (turns ps) heard.2 (turns_heard heard.0 i ps heard.3)
+
+-- One piece more.
+pub one_more : (h m i : Hearer) (ps : List (Side × Bytes)) (s : Side) (p : Bytes) (a : Bool) → AreHeard h ps m
+    → IsHeard m s p i a
+    → AreHeard h (ps ++ (s, p) ∷ []) i
+one_more h m i [] s p a heard last = (i, a, subst (λ x. IsHeard x s p i a) heard last, refl)
+one_more h m i (q ∷ ps) s p a heard last = (heard.0, heard.1, heard.2, one_more heard.0 m i ps s p a heard.3 last)
+
+pub piece_heard : (h m i : Hearer) (pieces : List (Side × Bor (List ℕ))) (n : ℕ) (q : Side × Bor (List ℕ)) (a : Bool)
+    → n < length pieces
+    → AreHeard h (views (take n pieces)) m → IsHeard m (get_or pieces n q).0 (get_or pieces n q).1.now i a
+    → AreHeard h (views (take (n + 1) pieces)) i
+piece_heard h m i pieces n q a within heard last =
+    let one : n + 1 ≡ suc n = omega arith in
+    let next : views (take (n + 1) pieces) ≡ views (take n pieces) ++ ((get_or pieces n q).0, (get_or pieces n q).1.now)
+    ∷ []
+    = ap (λ k. views (take k pieces)) one ∙ ap views (take-suc pieces n q within)
+    ∙ map-append (λ (p : Side × Bor (List ℕ)). (p.0, p.1.now)) (take n pieces) (get_or pieces n q ∷ []) in
+    subst (λ ps. AreHeard h ps i) (sym next)
+    (one_more h m i (views (take n pieces)) (get_or pieces n q).0 (get_or pieces n q).1.now a heard last)
+
+pub all_heard : (h i : Hearer) (pieces : List (Side × Bor (List ℕ))) (n : ℕ) → length pieces ≤ n
+    → AreHeard h (views (take n pieces)) i
+    → AreHeard h (turns (views pieces)) i
+all_heard h i pieces n all heard =
+    turns_heard h i (views pieces) (subst (λ ps. AreHeard h (views ps) i) (take_all n pieces all) heard)

@@ -1,0 +1,12 @@
+mod KnownLemmas
+mod CutLemmas
+mod HearerLemmas
+mod AnalyzerLemmas
+mod FollowLemmas
+mod FirstLemmas
+mod TurnLemmas
+mod HelloLemmas
+mod DatagramLemmas
+mod RecordLemmas
+mod ChangeLemmas
+mod HeardLemmas

@@ -1,0 +1,10 @@
+-- what is still to be said, said behind what is known now, is what all of it comes to
+use Rattle.std.proofs.Common.{◌≡◌, drop}
+use Rattle.dtls_stream.specs.Messages.{view_events}
+use Rattle.tls_analyzer.specs.Datagrams.{said_all, told_of}
+use Rattle.tls_analyzer.proofs.account.Account.add_all.Given as goal
+
+abbrev pub invariant-loop-event : goal.invariant-loop-event
+invariant-loop-event g l =
+    said_all l.side (told_of l.fn.self l.fn.progress) (view_events l.events)
+    ≡ said_all l.side (told_of l.self l.progress) (view_events (drop l.event-index l.events))

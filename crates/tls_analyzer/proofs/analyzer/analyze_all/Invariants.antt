@@ -1,0 +1,9 @@
+-- the pieces so far were heard, from a beginning on
+use Rattle.std.proofs.Common.{take}
+use Rattle.tls_conversations.specs.Conversations.{views}
+use Rattle.tls_analyzer.specs.Analyzers.{AreHeardOn, IsNew}
+use Rattle.tls_analyzer.specs.declared.analyzer.Analyzer.{Analyzer}
+use Rattle.tls_analyzer.proofs.analyzer.analyze_all.Given as goal
+
+abbrev pub invariant-loop-side : goal.invariant-loop-side
+invariant-loop-side l = (t : Analyzer) × IsNew t × AreHeardOn t (views (take l.side-index l.pieces)) l.analyzer

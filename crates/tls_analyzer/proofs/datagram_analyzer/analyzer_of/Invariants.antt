@@ -1,0 +1,10 @@
+-- what is still to come, heard behind what came, is all of it
+use Rattle.std.proofs.Common.{◌≡◌, drop}
+use Rattle.tls_conversations.specs.Conversations.{views}
+use Rattle.tls_analyzer.specs.Datagrams.{IsKnown, Analyzer, heard_all, untold}
+use Rattle.tls_analyzer.proofs.datagram_analyzer.analyzer_of.Given as goal
+
+abbrev pub invariant-loop-side : goal.invariant-loop-side
+invariant-loop-side l =
+    (k : Analyzer) × IsKnown k l.analyzer × (heard_all k (views (drop l.side-index l.datagrams)) ≡ heard_all untold (views
+    l.datagrams))

@@ -1,0 +1,9 @@
+pub mod Noting
+pub mod History
+pub mod Hearing
+pub mod Ends
+pub mod Datagrams
+pub mod Another
+pub mod Analyzers
+pub mod Records
+pub mod DatagramRecords

@@ -1,0 +1,50 @@
+-- What a connection's events say of it, in all.
+use Rattle.std.specs.Prelude.{Bool, true, false, ◌||◌, if◌then◌else◌, List, [], ◌∷◌, Option}
+use Rattle.tls_stream.specs.Item.{Event as Said, Handshake, Alert, ApplicationData, Encrypted}
+use Rattle.tls_flow.specs.declared.symbol.Direction.{Direction as Side}
+use Rattle.tls_flow.specs.Steps.{follow}
+use Rattle.tls_flow.specs.declared.event.Event.{Event}
+use Rattle.tls_flow.specs.declared.flow.Flow.{Flow}
+use Rattle.tls_flow.specs.Bytes.{HandshakeMessage}
+use Rattle.tls_conversations.specs.Events.{event_of, message_in}
+use Rattle.tls_summary.specs.HandshakeSummary.{HandshakeSummary, is_stray, of_alert, of_message_if}
+
+-- One step: what an event of that side adds, where m is the handshake message that it is.
+abbrev pub noted_with : Side → HandshakeSummary → Said → Option HandshakeMessage → HandshakeSummary
+noted_with s f (Handshake b) m = of_message_if s m f
+noted_with s f (Alert a) m = of_alert a.description f
+noted_with s f _ m = f
+
+abbrev pub noted : Side → HandshakeSummary → Said → HandshakeSummary
+noted s f v = noted_with s f v (message_in v)
+
+-- The handshake behind an event of that side, by what was known in front of it: a hello that is none of the handshake is no step of it.
+abbrev pub stepped : Side → Flow → HandshakeSummary → Event → Flow
+stepped s w f e = if is_stray s e.symbol.kind f then w else follow w e
+
+abbrev pub followed : Side → Flow → HandshakeSummary → Said → Flow
+followed s w f v = stepped s w f (event_of s v)
+
+-- What is known of a connection: where its handshake stands, and what both sides said.
+pub record Known : Type 0 where
+  pub flow : Flow
+  pub handshake : HandshakeSummary
+
+abbrev pub known_by : Side → Known → Said → Known
+known_by s k v = record { flow = followed s k.flow k.handshake v; handshake = noted s k.handshake v }
+
+-- What is known behind these events of that side, the latest of them in front.
+abbrev pub known : Side → Known → List Said → Known
+known s k [] = k
+known s k (v ∷ vs) = known_by s (known s k vs) v
+
+-- Whether what follows in its direction can't be read.
+abbrev pub is_sealed : Said → Bool
+is_sealed (Encrypted r) = true
+is_sealed (ApplicationData b) = true
+is_sealed _ = false
+
+-- Whether one of these is so.
+abbrev pub has_sealed : List Said → Bool
+has_sealed [] = false
+has_sealed (v ∷ vs) = has_sealed vs || is_sealed v

@@ -1,0 +1,320 @@
+//! What a connection says, as far as it is TLS.
+ghost use Rattle.std.specs.Prelude.{◌≡◌, ◌++◌, [], IfOk, OnOk};
+ghost use Rattle.ssl2_hello.specs.ClientHello.{view_client_hello as view_ssl2_hello};
+ghost use Rattle.tls_conversations.specs.Conversations.{ear, views};
+ghost use Rattle.tls_conversations.specs.Ears.{IsReady, front_of};
+ghost use Rattle.tls_summary.specs.HandshakeSummary.{view_summary};
+ghost use Rattle.tls_flow.specs.Table.{outcome_at};
+ghost use Rattle.tls_analyzer.specs.Ends.{is_established as established_by, is_resumed as resumed_by};
+ghost use Rattle.tls_analyzer.specs.Analyzers.{IsFirstHeard, IsHeardAsNone, IsHeardInSsl2, IsHeardOn, IsNew, IsNext, IsTaken, IsAnalyzerOf, Waits, hearing as hearing_of, is_over as is_over_in, waiting as waiting_of, with_hearing};
+
+use crate::capacity::of_handshake;
+use crate::ends;
+use crate::hearer::Hearer;
+use crate::witness::{Nobody, Witness};
+use ssl2_hello::Ssl2ClientHello;
+use std::alloc::{AllocError, Global};
+use std::mem;
+use tls_conversations::{Direction, Outcome, Stop};
+use tls_detection::{HEADER_LEN, begins_tls};
+use tls_summary::HandshakeSummary;
+
+/// How a side is heard.
+#[derive(Clone, Copy, Debug, PartialEq, Eq)]
+pub(crate) enum Hearing {
+    /// Too few bytes came to tell whether it speaks TLS.
+    Unknown,
+    /// It speaks in the clear.
+    Clear,
+    /// It said an encrypted record.
+    Encrypted,
+    /// It doesn't speak TLS.
+    Other,
+}
+
+/// What both sides of a connection say, and whether they speak TLS.
+#[derive(Drop)]
+pub struct Analyzer {
+    hearer: Hearer,
+    is_tls: bool,
+    client: Hearing,
+    server: Hearing,
+    // The first bytes of each side, while they are too few to tell whether it speaks TLS.
+    client_first: Vec<u8>,
+    server_first: Vec<u8>,
+}
+
+impl Analyzer {
+    /// One of which nothing came. It takes no memory.
+    pub fn new(alloc: Global) -> Analyzer
+        ensures { IsNew result }
+    {
+        Analyzer {
+            hearer: Hearer::new(alloc),
+            is_tls: false,
+            client: Hearing::Unknown,
+            server: Hearing::Unknown,
+            client_first: Vec::new(alloc),
+            server_first: Vec::new(alloc),
+        }
+    }
+
+    /// How many bytes of memory is taken by what was said, at most, besides the analyzer itself and the buffers of its conversation, whose room is at most
+    /// twice as many bytes as were heard.
+    pub fn capacity(&self) -> usize {
+        of_handshake(&self.hearer.handshake)
+            .saturating_add(self.hearer.history.capacity())
+            .saturating_add(self.client_first.capacity())
+            .saturating_add(self.server_first.capacity())
+    }
+
+    /// Whether a side's first bytes are those of TLS.
+    pub fn is_tls(&self) -> bool
+        ensures { result ≡ self.now.is_tls }
+    {
+        self.is_tls
+    }
+
+    /// What was said.
+    pub fn handshake(&self) -> &HandshakeSummary
+        ensures { result.now ≡ self.now.hearer.handshake }
+    {
+        &self.hearer.handshake
+    }
+
+    /// A letter for each event, as Zeek's ssl_history has it: those of the client in upper case, in the order of the capture, of messages that
+    /// can be read, up to [`HISTORY_LIMIT`](crate::HISTORY_LIMIT).
+    pub fn history(&self) -> &[u8]
+        ensures { result.now ≡ self.now.hearer.history.items }
+    {
+        self.hearer.history.as_slice()
+    }
+
+    /// How the handshake stands.
+    pub fn outcome(&self) -> Outcome
+        ensures { result ≡ outcome_at self.now.hearer.flow.state }
+    {
+        self.hearer.flow.outcome()
+    }
+
+    /// The event that ended the handshake without success, if one did.
+    pub fn stop(&self) -> Option<Stop>
+        ensures { result ≡ self.now.hearer.flow.stop }
+    {
+        self.hearer.flow.stop()
+    }
+
+    /// Whether the part of the handshake that can be read came to its end. In TLS 1.3 that is the ServerHello: what follows is
+    /// encrypted.
+    pub fn is_established(&self) -> bool
+        ensures { result ≡ established_by (outcome_at self.now.hearer.flow.state) }
+    {
+        ends::is_established(self.outcome())
+    }
+
+    /// Whether a session, or a key known before, was taken up.
+    pub fn is_resumed(&self) -> bool
+        ensures { result ≡ resumed_by (outcome_at self.now.hearer.flow.state) (view_summary self.now.hearer.handshake) }
+    {
+        ends::is_resumed(self.outcome(), &self.hearer.handshake)
+    }
+
+    fn hearing(&self, side: Direction) -> Hearing
+        ensures { result ≡ hearing_of self.now side }
+    {
+        match side {
+            Direction::ToServer => self.client,
+            Direction::FromServer => self.server,
+        }
+    }
+
+    fn set_hearing(&mut self, side: Direction, hearing: Hearing)
+        ensures { self.new ≡ with_hearing self.old side hearing }
+    {
+        match side {
+            Direction::ToServer => self.client = hearing,
+            Direction::FromServer => self.server = hearing,
+        }
+    }
+
+    /// Whether the side is heard no further: it doesn't speak TLS, or it is encrypted and the handshake ended.
+    pub fn is_over(&self, side: Direction) -> bool
+        ensures { result ≡ is_over_in self.now side }
+    {
+        match self.hearing(side) {
+            Hearing::Unknown | Hearing::Clear => false,
+            Hearing::Encrypted => !matches!(self.outcome(), Outcome::Waiting),
+            Hearing::Other => true,
+        }
+    }
+
+    /// The bytes of a side that wait.
+    fn waiting(&self, side: Direction) -> &[u8]
+        ensures { result.now ≡ (waiting_of self.now side).items }
+    {
+        match side {
+            Direction::ToServer => self.client_first.as_slice(),
+            Direction::FromServer => self.server_first.as_slice(),
+        }
+    }
+
+    /// Puts bytes behind those that wait.
+    fn wait(&mut self, side: Direction, bytes: &[u8]) -> Result<(), AllocError>
+        ensures { OnOk result (Waits self.old side ((waiting_of self.old side).items ++ bytes.now) self.new) }
+    {
+        match side {
+            Direction::ToServer => self.client_first.extend_from_slice(bytes),
+            Direction::FromServer => self.server_first.extend_from_slice(bytes),
+        }
+    }
+
+    /// Takes those that wait.
+    fn take_waiting(&mut self, alloc: Global, side: Direction) -> Vec<u8>
+        ensures value { result ≡ waiting_of self.old side }
+        ensures taken { Waits self.old side [] self.new }
+    {
+        match side {
+            Direction::ToServer => mem::replace(&mut self.client_first, Vec::new(alloc)),
+            Direction::FromServer => mem::replace(&mut self.server_first, Vec::new(alloc)),
+        }
+    }
+
+    /// Follows and notes what the side says next, and takes it off: true. False where it says no more for now.
+    fn take_next<W: Witness>(
+        &mut self,
+        alloc: Global,
+        side: Direction,
+        witness: &mut W,
+    ) -> Result<bool, AllocError>
+        ensures taken { IfOk result (λ taken. IsTaken (front_of (ear self.old.hearer.conversation side)) self.old side taken self.new) }
+        ensures ready { OnOk result (IsReady (ear self.old.hearer.conversation side) → IsReady (ear self.new.hearer.conversation side)) }
+    {
+        match self.hearer.take_next(alloc, side, witness)? {
+            Some(true) => {
+                self.set_hearing(side, Hearing::Encrypted);
+                Ok(true)
+            }
+            Some(false) => Ok(true),
+            None => Ok(false),
+        }
+    }
+
+    /// Hears a piece of a side, up to what it says last before it is over.
+    fn follow<W: Witness>(
+        &mut self,
+        alloc: Global,
+        side: Direction,
+        piece: &[u8],
+        witness: &mut W,
+    ) -> Result<(), AllocError>
+        ensures { OnOk result (IsNext self.old side piece.now self.new) }
+    {
+        if self.is_over(side) {
+            return Ok(());
+        }
+        self.hearer.feed(side, piece)?;
+        for _ in 0..u64::MAX {
+            if self.is_over(side) || !self.take_next(alloc, side, witness)? {
+                break;
+            }
+        }
+        Ok(())
+    }
+
+    /// Hears the first bytes of a side, which tell whether it speaks TLS.
+    fn hear_first<W: Witness>(
+        &mut self,
+        alloc: Global,
+        side: Direction,
+        bytes: &[u8],
+        witness: &mut W,
+    ) -> Result<(), AllocError>
+        ensures { OnOk result (IsFirstHeard self.old side (waiting_of self.old side).items bytes.now self.new) }
+    {
+        let missing = HEADER_LEN.saturating_sub(self.waiting(side).len());
+        if bytes.len() < missing {
+            return self.wait(side, bytes);
+        }
+        let (front, rest) = bytes.split_at(missing);
+        let mut first = self.take_waiting(alloc, side);
+        first.extend_from_slice(front)?;
+        if begins_tls(first.as_slice()) {
+            self.is_tls = true;
+            self.set_hearing(side, Hearing::Clear);
+            self.follow(alloc, side, first.as_slice(), witness)?;
+            return self.follow(alloc, side, rest, witness);
+        }
+        self.follow(alloc, side, first.as_slice(), witness)?;
+        self.set_hearing(side, Hearing::Other);
+        Ok(())
+    }
+
+    /// Hears a ClientHello in SSL 2.0's form (RFC 5246, appendix E.2), with which a side begins: what it says behind it is TLS.
+    ///
+    /// `AllocError` where it could not be held. The analyzer is then of no further use.
+    pub fn hear_ssl2(
+        &mut self,
+        alloc: Global,
+        side: Direction,
+        hello: &Ssl2ClientHello<'_>,
+    ) -> Result<(), AllocError>
+        ensures { OnOk result (IsHeardInSsl2 self.old side (view_ssl2_hello hello.now) self.new) }
+    {
+        self.hearer.hear_ssl2(alloc, side, hello)?;
+        self.is_tls = true;
+        self.set_hearing(side, Hearing::Clear);
+        Ok(())
+    }
+
+    /// Takes a side that has said nothing yet for one that doesn't speak TLS: what is heard of it is a fault, as of 5 bytes that are no header of a
+    /// record, and nothing more.
+    ///
+    /// `AllocError` where it could not be held. The analyzer is then of no further use.
+    pub fn hear_none(&mut self, alloc: Global, side: Direction) -> Result<(), AllocError>
+        ensures { OnOk result (IsHeardAsNone self.old side self.new) }
+    {
+        self.follow(alloc, side, &[0, 0, 0, 0, 0], &mut Nobody)?;
+        self.set_hearing(side, Hearing::Other);
+        Ok(())
+    }
+
+    /// Hears the bytes that a side says next. The first wait until 5 are there, which tell whether it speaks TLS: of a side that doesn't, no
+    /// more than these are heard, as what they are: a fault. Of a side that is over nothing is heard, from the event on by which it is.
+    ///
+    /// `AllocError` where they could not be held. The analyzer is then of no further use.
+    pub fn hear(&mut self, alloc: Global, side: Direction, bytes: &[u8]) -> Result<(), AllocError>
+        ensures { OnOk result (IsHeardOn self.old side bytes.now self.new) }
+    {
+        self.hear_with(alloc, side, bytes, &mut Nobody)
+    }
+
+    /// The same, and each event that is heard is heard by the witness, too.
+    pub fn hear_with<W: Witness>(
+        &mut self,
+        alloc: Global,
+        side: Direction,
+        bytes: &[u8],
+        witness: &mut W,
+    ) -> Result<(), AllocError>
+        ensures { OnOk result (IsHeardOn self.old side bytes.now self.new) }
+    {
+        if self.hearing(side) == Hearing::Unknown {
+            return self.hear_first(alloc, side, bytes, witness);
+        }
+        self.follow(alloc, side, bytes, witness)
+    }
+}
+
+/// The analyzer to which these pieces come, one after the other, each of the side that speaks. It is that of the turns that they make, in which
+/// a side's pieces up to the other side's next are joined: however they are cut, and the records in them.
+///
+/// `AllocError` where a piece, or what it says, could not be held.
+pub fn analyze_all(alloc: Global, pieces: &[(Direction, &[u8])]) -> Result<Analyzer, AllocError>
+    ensures { IfOk result (λ t. IsAnalyzerOf (views pieces.now) t) }
+{
+    let mut analyzer = Analyzer::new(alloc);
+    for (side, piece) in pieces {
+        analyzer.hear(alloc, *side, piece)?;
+    }
+    Ok(analyzer)
+}

@@ -1,0 +1,61 @@
+//! How much memory is taken by what is known of a connection.
+
+use std::mem::size_of;
+use tls_summary::{CertificateSummary, ClientParts, HandshakeSummary, ServerParts};
+
+/// How many bytes of memory optional bytes take.
+fn of_bytes(bytes: &Option<Vec<u8>>) -> usize {
+    match bytes {
+        Some(bytes) => bytes.capacity(),
+        None => 0,
+    }
+}
+
+/// The same of what is kept of a chain.
+fn of_chain(chain: &Option<Vec<CertificateSummary>>) -> usize {
+    match chain {
+        Some(certificates) => {
+            certificates
+                .capacity()
+                .saturating_mul(size_of::<CertificateSummary>())
+        }
+        None => 0,
+    }
+}
+
+/// Of a ClientHello.
+fn of_client(client: &Option<ClientParts>) -> usize {
+    let Some(client) = client else {
+        return 0;
+    };
+    client
+        .random
+        .capacity()
+        .saturating_add(of_bytes(&client.session_id))
+        .saturating_add(client.ciphers.capacity())
+        .saturating_add(client.compressions.capacity())
+        .saturating_add(of_bytes(&client.ext))
+}
+
+/// Of a ServerHello.
+fn of_server(server: &Option<ServerParts>) -> usize {
+    let Some(server) = server else {
+        return 0;
+    };
+    server
+        .random
+        .capacity()
+        .saturating_add(of_bytes(&server.session_id))
+        .saturating_add(of_bytes(&server.ext))
+}
+
+/// Of all that is known of a connection.
+pub(crate) fn of_handshake(handshake: &HandshakeSummary) -> usize {
+    of_client(&handshake.client)
+        .saturating_add(of_server(&handshake.server))
+        .saturating_add(of_chain(&handshake.client_certificates))
+        .saturating_add(of_chain(&handshake.server_certificates))
+        .saturating_add(of_bytes(&handshake.client_certificate))
+        .saturating_add(of_bytes(&handshake.server_certificate))
+        .saturating_add(of_bytes(&handshake.ssl2_cipher_specs))
+}

@@ -1,0 +1,70 @@
+//! The records of a stream, counted.
+ghost use Rattle.std.specs.Prelude.{◌≡◌, ◌≤◌, ◌<◌};
+ghost use Rattle.tls_analyzer.specs.Records.{no_records, with_byte, with_bytes};
+
+use tls_detection::HEADER_LEN;
+
+/// How many records a stream has, of which no byte is kept.
+#[derive(Clone, Copy, Debug, PartialEq, Eq)]
+pub struct Records {
+    count: u64,
+    // How many bytes of a header came, and the last of them.
+    came: u8,
+    last: u8,
+    // How many bytes of a fragment are left.
+    left: u16,
+}
+
+impl Records {
+    /// Those of a stream of which nothing came.
+    pub fn new() -> Records
+        ensures { result ≡ no_records }
+    {
+        Records {
+            count: 0,
+            came: 0,
+            last: 0,
+            left: 0,
+        }
+    }
+
+    /// How many there are, of which the header came.
+    pub fn count(&self) -> u64
+        ensures { result ≡ self.now.count }
+    {
+        self.count
+    }
+
+    /// One byte of a header.
+    fn add_to_header(&mut self, byte: u8)
+        requires { self.old.left ≡ 0 }
+        ensures { self.new ≡ with_byte byte self.old }
+    {
+        if usize::from(self.came) + 1 < HEADER_LEN {
+            self.came += 1;
+            self.last = byte;
+            return;
+        }
+        self.count = self.count.saturating_add(1);
+        self.left = u16::from(self.last) * 256 + u16::from(byte);
+        self.came = 0;
+        self.last = 0;
+    }
+
+    /// Counts the records whose headers end in the bytes that come next.
+    pub fn add(&mut self, bytes: &[u8])
+        ensures { self.new ≡ with_bytes bytes.now self.old }
+    {
+        let mut i = 0;
+        while i < bytes.len() {
+            if self.left == 0 {
+                self.add_to_header(bytes[i]);
+                i += 1;
+            } else {
+                let passed = (bytes.len() - i).min(usize::from(self.left));
+                self.left -= passed as u16;
+                i += passed;
+            }
+        }
+    }
+}

@@ -1,0 +1,5 @@
+pub mod Exchange
+pub mod Hellos
+pub mod Parts
+pub mod HandshakeSummary
+pub mod Told

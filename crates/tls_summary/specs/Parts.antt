@@ -1,0 +1,58 @@
+-- What is kept of the hellos and the certificates of a connection.
+use Rattle.std.specs.Prelude.{List, [], ◌∷◌, map, length, Option, Some, None, Ok, Err}
+use Rattle.std.specs.Option.{option_map}
+use Rattle.sha2.specs.Sha256.{sha256}
+use Rattle.layouts.specs.Bytes.{Bytes}
+use Rattle.layouts.specs.Layout.{number}
+use Rattle.layouts.specs.Items.{items_in}
+use Rattle.layouts.specs.Meaning.{Answer, Broken, Lacks}
+use Rattle.layouts.specs.Reading.{reading}
+use Rattle.tls_hs.specs.Hello as hello
+use Rattle.tls_hs.specs.ServerHello as server
+use Rattle.x509.specs.Certificate.{Certificate, certificate}
+use Rattle.tls_summary.specs.declared.parts.ClientParts.{ClientParts}
+use Rattle.tls_summary.specs.declared.parts.ServerParts.{ServerParts}
+use Rattle.tls_summary.specs.declared.parts.CertificateSummary.{CertificateSummary}
+use Rattle.tls_summary.specs.declared.parts.CertificateFault.{CertificateFault}
+use Rattle.tls_summary.specs.declared.parts.CertificateFault.TheVariants as fault
+
+-- The ClientHello whose parts these are.
+abbrev pub view_client : ClientParts → hello.ClientHello
+view_client p = record {
+  client_version = p.version.0;
+  random = p.random.items;
+  session_id = option_map (λ v. v.items) p.session_id;
+  cipher_suites = items_in (number 2) p.ciphers.items;
+  compression_methods = items_in (number 1) p.compressions.items;
+  extensions = option_map (λ v. v.items) p.ext;
+}
+
+-- The ServerHello whose parts these are.
+abbrev pub view_server : ServerParts → server.ServerHello
+view_server p = record {
+  server_version = p.version.0;
+  random = p.random.items;
+  session_id = option_map (λ v. v.items) p.session_id;
+  cipher_suite = p.cipher.0;
+  compression_method = p.compression.0;
+  extensions = option_map (λ v. v.items) p.ext;
+}
+
+-- Why a certificate isn't read (RFC 5280, section 4.1): nothing stands behind its last field.
+abbrev pub fault_by : Answer Certificate → Option CertificateFault
+fault_by (Ok (c, [])) = None
+fault_by (Ok (c, n ∷ b)) = Some fault.Trailing
+fault_by (Err (Lacks n)) = Some fault.Incomplete
+fault_by (Err (Broken k)) = Some (fault.Broken k)
+
+abbrev pub summary_of_certificate : Bytes → CertificateSummary
+summary_of_certificate b = record { length = length b; sha256 = sha256 b; fault = fault_by (reading certificate b) }
+
+-- The length and the SHA-256 of each certificate, in their order, and why it isn't read.
+abbrev pub summaries_of_all : List Bytes → List CertificateSummary
+summaries_of_all chain = map summary_of_certificate chain
+
+-- The first of a chain, which is its sender's own.
+abbrev pub first_of : List Bytes → Option Bytes
+first_of [] = None
+first_of (b ∷ chain) = Some b

@@ -1,0 +1,54 @@
+//! The group that a ServerKeyExchange names.
+ghost use Rattle.std.specs.Prelude.{◌≡◌};
+ghost use Rattle.std.specs.Option.{option_map};
+ghost use Rattle.layouts.specs.Answers.{Gives, answer_of};
+ghost use Rattle.tls_base.specs.KeyExchange.{view_ec_parameters};
+ghost use Rattle.tls_summary.specs.Exchange.{curve_by, hinted_parameters as hinted_layout, named};
+
+use layouts::{IResult, counted2};
+use tls_base::{
+    ECParameters, ECParametersContent, KeyExchange, NamedGroup, TlsCipherSuiteID,
+    parse_ec_parameters,
+};
+
+/// Reads a hint, and the parameters of the curve behind it (RFC 5489, section 2).
+#[tactic(auto, using(layouts::proofs::OneAnswerLemmas::read_allowed), unfolding(crate::specs::Exchange::hinted_parameters))]
+fn hinted_parameters(i: &[u8]) -> IResult<&[u8], ECParameters>
+    ensures { Gives view_ec_parameters hinted_layout i.now result }
+{
+    let (i, _) = counted2(i)?;
+    parse_ec_parameters(i)
+}
+
+/// The group that parameters name.
+fn named_group(answer: IResult<&[u8], ECParameters>) -> Option<NamedGroup>
+    ensures { option_map (λ g. g.0) result ≡ named (answer_of view_ec_parameters answer.entry) }
+{
+    match answer {
+        Ok((_, parameters)) => match parameters.params_content {
+            ECParametersContent::NamedGroup(group) => Some(group),
+            ECParametersContent::ExplicitPrime(_) => None,
+        },
+        Err(_) => None,
+    }
+}
+
+/// The curve that a ServerKeyExchange names behind the suite that was chosen; where the suite has none, the one that was known.
+pub(crate) fn curve_of(
+    suite: TlsCipherSuiteID,
+    body: &[u8],
+    known: Option<NamedGroup>,
+) -> Option<NamedGroup>
+    ensures { option_map (λ g. g.0) result ≡ curve_by suite.0 body.now (option_map (λ g. g.0) known) }
+{
+    match KeyExchange::of(suite) {
+        Some(exchange) if exchange.is_over_curves() => {
+            if exchange.has_identity {
+                named_group(hinted_parameters(body))
+            } else {
+                named_group(parse_ec_parameters(body))
+            }
+        }
+        _ => known,
+    }
+}

@@ -1,5 +1,0 @@
-use Rattle.tls_talks.proofs.HelloLemmas.{heard_keeps}
-use Rattle.tls_talks.proofs.laws.hellos_stand.Goals as goal
-
-pub returns : goal.returns
-returns c = heard_keeps

@@ -1,5 +1,0 @@
-use Rattle.tls_talks.proofs.FollowLemmas.{IsOn}
-use Rattle.tls_talks.proofs.talk.Talk.follow.Given as goal
-
-abbrev pub invariant-loop : goal.invariant-loop
-invariant-loop g l = IsOn l.fn.self l.side l.piece l.self l.counter

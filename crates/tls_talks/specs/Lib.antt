@@ -1,9 +1,0 @@
-pub mod Noting
-pub mod History
-pub mod Hearing
-pub mod Ends
-pub mod Datagrams
-pub mod Another
-pub mod Talks
-pub mod Records
-pub mod DatagramRecords
