@@ -1,6 +1,5 @@
--- Which content an extension of each type has, for each side that reads (RFC 8446, section 4.2). The numbers, contents and
--- sides of the rows are written apart from those of the code, and the two are proved to say the same. Of the code's table
--- the kinds alone are taken.
+-- Which content an extension of each type has, for each side that reads (RFC 8446, section 4.2). This table is written
+-- apart from that of the code: the two are proved to say the same.
 use Rattle.std.specs.Prelude.{ℕ, List, [], ◌∷◌, Bool, true, false, bit_and, ◌==◌, ◌&&◌}
 use Rattle.tls_base.specs.ExtensionNumbers as extension_number
 use Rattle.layouts.specs.Layout.{Layout, number, list, ◌>>=◌, choose, counted_window}
@@ -10,12 +9,10 @@ use Rattle.tls_ext.specs.Content as content
 use Rattle.tls_ext.specs.Content.{opaque_content}
 use Rattle.tls_ext.specs.declared.kind.Side.{Side}
 use Rattle.tls_ext.specs.declared.kind.Side.TheVariants.{General, Client, Server}
-use Rattle.tls_ext.specs.declared.kind.Sides.{Sides}
 use Rattle.tls_ext.specs.declared.kind.ListKind.{ListKind}
 use Rattle.tls_ext.specs.declared.kind.ListKind.TheVariants as list_kind
 use Rattle.tls_ext.specs.declared.kind.Kind.{Kind}
 use Rattle.tls_ext.specs.declared.kind.Kind.TheVariants as kind
-use Rattle.tls_ext.specs.declared.kind.TheConstants.{KINDS}
 
 -- Which sides read a kind: the general one reads any message, the client's a ClientHello, the server's a ServerHello.
 abbrev pub all_sides : Side → Bool
@@ -89,13 +86,44 @@ in_front r others side n = choose (n == r.extension_type && r.read_by side) r.la
 abbrev pub unknown_content : Contents
 unknown_content side n = opaque_content (ext.unknown n)
 
-abbrev pub contents : List (Kind × Sides) → Contents
+abbrev pub contents : List Kind → Contents
 contents [] = unknown_content
-contents (k ∷ ks) = in_front (kind_row k.0) (contents ks)
+contents (k ∷ ks) = in_front (kind_row k) (contents ks)
 
--- The rows of all kinds.
+-- The kinds that are read, by their numbers.
+abbrev pub kinds : List Kind
+kinds =
+    kind.List list_kind.SNI
+    ∷ kind.MaxFragmentLength
+    ∷ kind.StatusRequest
+    ∷ kind.List list_kind.EllipticCurves
+    ∷ kind.EcPointFormats
+    ∷ kind.List list_kind.SignatureAlgorithms
+    ∷ kind.Heartbeat
+    ∷ kind.List list_kind.ALPN
+    ∷ kind.SignedCertificateTimestamp
+    ∷ kind.Padding
+    ∷ kind.EncryptThenMac
+    ∷ kind.ExtendedMasterSecret
+    ∷ kind.RecordSizeLimit
+    ∷ kind.SessionTicket
+    ∷ kind.KeyShareOld
+    ∷ kind.PreSharedKey
+    ∷ kind.EarlyData
+    ∷ kind.List list_kind.SupportedVersions
+    ∷ kind.Cookie
+    ∷ kind.List list_kind.PskExchangeModes
+    ∷ kind.List list_kind.OidFilters
+    ∷ kind.PostHandshakeAuth
+    ∷ kind.KeyShare
+    ∷ kind.NextProtocolNegotiation
+    ∷ kind.RenegotiationInfo
+    ∷ kind.EncryptedServerName
+    ∷ []
+
+-- Their rows.
 unfoldable pub registered : Contents
-registered = contents KINDS
+registered = contents kinds
 
 -- A number that is kept free so that peers ignore what they don't know: each of its bytes ends in the hexadecimal digit
 -- a. These are 256 numbers: RFC 8701, section 2, has the sixteen of them whose two bytes are equal.
