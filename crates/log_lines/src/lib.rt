@@ -9,6 +9,7 @@ mod cell;
 mod certificates;
 mod chains;
 mod columns;
+mod fields;
 mod hellos;
 mod line;
 mod lists;
@@ -23,6 +24,7 @@ mod suites;
 mod summary;
 mod suricata;
 mod text;
+mod told;
 mod zeek;
 
 pub use chains::{Chains, Presented};

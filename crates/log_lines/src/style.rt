@@ -1,7 +1,8 @@
 //! What is printed, and how.
 use crate::cell::{Cell, Row};
 use crate::chains::Presented;
-use crate::columns::{Column, DETAILS, FIELDS, PARTS};
+use crate::columns::{Column, DETAILS, PARTS};
+use crate::fields::FIELDS;
 use crate::line::{json_line, row_of};
 use crate::objects::{LINE_LEN, json_bytes, json_text};
 use crate::presented::certificate_row;
