@@ -152,10 +152,7 @@ fn sent_cell<'a>(sender: Sender<'_>, field: &Sent) -> Result<Option<Cell<'a>>, A
 }
 
 /// The tunnels that a connection came in; nothing where it came in none.
-fn tunnels_cell<'a>(
-    alloc: Global,
-    tunnels: &[Tunnel],
-) -> Result<Option<Cell<'a>>, AllocError> {
+fn tunnels_cell<'a>(alloc: Global, tunnels: &[Tunnel]) -> Result<Option<Cell<'a>>, AllocError> {
     let mut names = Vec::new(alloc);
     for tunnel in tunnels {
         add_text(

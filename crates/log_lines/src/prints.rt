@@ -114,9 +114,6 @@ fn ja4_cell<'a>(told: &Told<'_>) -> Result<Option<Cell<'a>>, AllocError> {
 }
 
 /// A fingerprint; nothing where there was no such hello.
-pub fn print_cell<'a>(
-    told: &mut Told<'a>,
-    field: &Print,
-) -> Result<Option<Cell<'a>>, AllocError> {
+pub fn print_cell<'a>(told: &mut Told<'a>, field: &Print) -> Result<Option<Cell<'a>>, AllocError> {
     rows!(cells [Print told field])
 }

@@ -120,10 +120,7 @@ fn fingerprint_cell<'a>(
 }
 
 /// A time of the certificate, without its time zone, which is UTC.
-fn date_cell<'a>(
-    told: &mut Told<'_>,
-    field: Certified,
-) -> Result<Option<Cell<'a>>, AllocError> {
+fn date_cell<'a>(told: &mut Told<'_>, field: Certified) -> Result<Option<Cell<'a>>, AllocError> {
     match cell_of(told, &Field::ServerCertificate(field))? {
         Some(Cell::Text(Text::Owned(mut text))) => {
             text.pop();
