@@ -11,6 +11,7 @@ mod chains;
 mod columns;
 mod fields;
 mod hellos;
+mod json;
 mod line;
 mod lists;
 mod names;
