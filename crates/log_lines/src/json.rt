@@ -27,8 +27,7 @@ fn are_plain(bytes: &[u8; 16]) -> bool {
     let all = u8x16::from_array(*bytes);
     (all.simd_eq(u8x16::splat(b'"'))
         | all.simd_eq(u8x16::splat(b'\\'))
-        | all.simd_lt(u8x16::splat(b' ')))
-    .to_bitmask()
+        | all.simd_lt(u8x16::splat(b' '))).to_bitmask()
         == 0
 }
 

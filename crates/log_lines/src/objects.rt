@@ -23,12 +23,7 @@ impl From<AllocError> for Refusal {
 }
 
 /// A name in that case.
-fn name_text(
-    alloc: Global,
-    name: &str,
-    case: Case,
-    kind: NameKind,
-) -> Result<String, AllocError> {
+fn name_text(alloc: Global, name: &str, case: Case, kind: NameKind) -> Result<String, AllocError> {
     let mut text = String::new(alloc);
     case.append(kind, name, &mut text)?;
     Ok(text)
