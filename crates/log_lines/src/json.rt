@@ -31,17 +31,24 @@ fn are_plain(bytes: &[u8; 16]) -> bool {
         == 0
 }
 
-/// Whether nothing in a text is escaped.
-fn is_plain(text: &[u8]) -> bool {
-    let mut rest = text;
-    while let Some((front, behind)) = rest.split_first_chunk::<16>() {
-        if !are_plain(front) {
+/// The same of fewer.
+fn are_few_plain(bytes: &[u8]) -> bool {
+    for byte in bytes {
+        if *byte == b'"' || *byte == b'\\' || *byte < b' ' {
             return false;
         }
-        rest = behind;
     }
-    for byte in rest {
-        if *byte == b'"' || *byte == b'\\' || *byte < b' ' {
+    true
+}
+
+/// Whether nothing in a text is escaped.
+fn is_plain(text: &[u8]) -> bool {
+    for piece in text.chunks(16) {
+        let is_so = match piece.first_chunk::<16>() {
+            Some(whole) => are_plain(whole),
+            None => are_few_plain(piece),
+        };
+        if !is_so {
             return false;
         }
     }

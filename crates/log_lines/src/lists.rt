@@ -177,6 +177,7 @@ impl Texts<'_> {
 impl TakesTexts for Json {
     type Error = AllocError;
 
+    #[inline(always)]
     fn take_text(&mut self, text: &Text<'_>) -> Result<(), AllocError> {
         text.write_json(self)
     }

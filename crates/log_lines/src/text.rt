@@ -149,6 +149,8 @@ fn write_scheme_json(scheme: u16, out: &mut Json) -> Result<(), AllocError> {
 }
 
 impl WriteJson for Text<'_> {
+    // Inlined, so that a list of one kind is written by a loop of its own.
+    #[inline(always)]
     fn write_json(&self, out: &mut Json) -> Result<(), AllocError> {
         match self {
             Text::Name(name) => out.plain(name.as_bytes()),

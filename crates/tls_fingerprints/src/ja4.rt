@@ -131,6 +131,17 @@ fn rising_text(alloc: Global, numbers: Vec<u16>) -> Result<Vec<u8>, AllocError>
     Ok(text)
 }
 
+/// Adds `_` and the algorithms; nothing where there are none.
+fn push_algorithms(text: &mut Vec<u8>, algorithms: &[u16]) -> Result<(), AllocError>
+    ensures { OnOk result (text.new.items ≡ with_algorithms text.old.items algorithms.now) }
+{
+    if algorithms.is_empty() {
+        return Ok(());
+    }
+    text.push(b'_')?;
+    push_hex_list(text, algorithms)
+}
+
 /// Adds the second and the third part, each behind `_`.
 fn add_parts(text: &mut String, second: &str, third: &str) -> Result<(), AllocError>
     ensures { OnOk result (string_bytes text.new ≡ join_with_byte 95 (string_bytes text.old ∷ second.now ∷ third.now ∷ [])) }
@@ -192,10 +203,7 @@ impl ClientHelloParts<'_> {
         leave_told(&mut types);
         let mut text = rising_text(alloc, types)?;
         let algorithms = kept(alloc, algorithms(self.ext))?;
-        if !algorithms.is_empty() {
-            text.push(b'_')?;
-            push_hex_list(&mut text, algorithms.as_slice())?;
-        }
+        push_algorithms(&mut text, algorithms.as_slice())?;
         Ok(text)
     }
 
