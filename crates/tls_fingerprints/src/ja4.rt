@@ -11,6 +11,7 @@ ghost use Rattle.tls_fingerprints.specs.Numbers.{hex_list, rising, without_greas
 ghost use Rattle.tls_fingerprints.specs.Ja4.{ends_text, ja4_front_with, ja4_of, ja4_suites_of, ja4_text_of, ja4_types_of, letter_of, other_types, protocol_text, short_digest as short_digest_of, two_digits, version_text as version_text_of, with_algorithms};
 
 use crate::hellos::{ClientHelloParts, Transport};
+use crate::known::KnownDigests;
 use crate::numbers::{add_hex_list, hex_digit, kept, kept_types, push_hex_list, rise};
 use layouts::Items;
 use sha2::{Digest, Sha256};
@@ -109,7 +110,7 @@ fn leave_told(types: &mut Vec<u16>)
 }
 
 /// The first 6 bytes of the SHA-256 of a text, in hexadecimal; zeros of an empty text.
-fn short_digest(alloc: Global, text: &[u8]) -> Result<String, AllocError>
+pub(crate) fn short_digest(alloc: Global, text: &[u8]) -> Result<String, AllocError>
     ensures { IfOk result (λ digits. string_bytes digits ≡ short_digest_of text.now) }
 {
     if text.is_empty() {
@@ -257,13 +258,26 @@ impl ClientHelloParts<'_> {
     pub fn ja4(&self, alloc: Global, transport: Transport) -> Result<String, AllocError>
         ensures { IfOk result (λ text. string_bytes text ≡ ja4_of transport (view_client self.now)) }
     {
+        self.ja4_with(alloc, transport, &mut KnownDigests::new(alloc))
+    }
+
+    /// The same, in which digests that are known aren't made again.
+    ///
+    /// `AllocError` where it could not be held.
+    pub fn ja4_with(
+        &self,
+        alloc: Global,
+        transport: Transport,
+        known: &mut KnownDigests,
+    ) -> Result<String, AllocError>
+        ensures { IfOk result (λ text. string_bytes text ≡ ja4_of transport (view_client self.now)) }
+    {
         let (suites, types) = (self.kept_suites(alloc)?, self.kept_types(alloc)?);
         let mut text = self.ja4_front(alloc, transport, suites.len(), types.len())?;
-        let suites = rising_text(alloc, suites)?;
-        let suites = short_digest(alloc, suites.as_slice())?;
-        let types = self.types_text(alloc, types)?;
-        let types = short_digest(alloc, types.as_slice())?;
-        add_parts(&mut text, suites.as_str(), types.as_str())?;
+        text.push('_')?;
+        known.add_digits(alloc, &mut text, rising_text(alloc, suites)?)?;
+        text.push('_')?;
+        known.add_digits(alloc, &mut text, self.types_text(alloc, types)?)?;
         Ok(text)
     }
 }
