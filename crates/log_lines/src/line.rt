@@ -8,7 +8,7 @@ use crate::lists::{Numbers, Texts, some_numbers, some_texts};
 use crate::names::{REASONS, outcome_name, reason_name, tunnel_name};
 use crate::objects::{LINE_LEN, Object};
 use crate::prints::print_cell;
-use crate::suites::Suites;
+use crate::style::Style;
 use crate::summary::Summary;
 use crate::text::{
     Text, add_text, name_cell, name_or_number, some_escaped, some_group, some_mark, some_name,
@@ -200,11 +200,11 @@ pub fn cell_of<'a>(told: &mut Told<'a>, field: &Field) -> Result<Option<Cell<'a>
 /// The line of a connection, with the fields at these places of [`FIELDS`].
 pub fn row_of<'a>(
     alloc: Global,
-    suites: &'a Suites,
+    style: &'a Style,
     places: &[usize],
     summary: &'a Summary<'a>,
 ) -> Result<Row<'a>, AllocError> {
-    let mut told = Told::new(alloc, suites, summary);
+    let mut told = Told::new(alloc, style, summary);
     let mut cells = Vec::with_capacity(alloc, places.len())?;
     for place in places {
         if let Some((name, _, field)) = FIELDS.get(*place) {
@@ -218,11 +218,11 @@ pub fn row_of<'a>(
 /// The same as an object of JSON, in which what is missing is left out. Each field is written as soon as it is told.
 pub fn json_line<'a>(
     alloc: Global,
-    suites: &'a Suites,
+    style: &'a Style,
     places: &[usize],
     summary: &'a Summary<'a>,
 ) -> Result<Vec<u8>, AllocError> {
-    let mut told = Told::new(alloc, suites, summary);
+    let mut told = Told::new(alloc, style, summary);
     let mut line = Object::new(alloc, LINE_LEN)?;
     for place in places {
         if let Some((name, _, field)) = FIELDS.get(*place) {

@@ -107,9 +107,12 @@ fn text_cell<'a>(text: Option<String>) -> Option<Cell<'a>> {
 /// JA4; nothing where there was no ClientHello.
 fn ja4_cell<'a>(told: &Told<'_>) -> Result<Option<Cell<'a>>, AllocError> {
     let transport = transport(told.summary.protocol);
-    match client_parts(told.handshake) {
-        Some(client) => some_text(client.ja4(told.alloc, transport)),
-        None => Ok(None),
+    let Some(client) = client_parts(told.handshake) else {
+        return Ok(None);
+    };
+    match told.digests.try_borrow_mut() {
+        Ok(mut known) => some_text(client.ja4_with(told.alloc, transport, &mut known)),
+        Err(_) => some_text(client.ja4(told.alloc, transport)),
     }
 }
 

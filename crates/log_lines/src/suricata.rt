@@ -7,7 +7,7 @@ use crate::line::{cell_of, end_cell, microseconds};
 use crate::lists::Texts;
 use crate::names::suricata_version;
 use crate::objects::{LINE_LEN, json_bytes};
-use crate::suites::Suites;
+use crate::style::Style;
 use crate::summary::Summary;
 use crate::text::{Text, add_text, hexadecimal, name_cell, name_or_number, some_mark, some_text};
 use crate::told::{Moment, Told};
@@ -249,10 +249,10 @@ fn tls_row<'a>(alloc: Global, told: &mut Told<'a>) -> Result<Row<'a>, AllocError
 /// The event of a connection, without a line break.
 pub fn line<'a>(
     alloc: Global,
-    suites: &'a Suites,
+    style: &'a Style,
     summary: &'a Summary<'a>,
 ) -> Result<Vec<u8>, AllocError> {
-    let mut told = Told::new(alloc, suites, summary);
+    let mut told = Told::new(alloc, style, summary);
     let event = Event {
         front: front_row(alloc, summary)?,
         tls: tls_row(alloc, &mut told)?,

@@ -1,9 +1,12 @@
 //! What the fields of a connection's line are told from.
 use crate::certificates::certificate_of;
+use crate::style::Style;
 use crate::suites::Suites;
 use crate::summary::{Party, Summary};
 use connections::{Protocol, Side};
 use std::alloc::Global;
+use std::cell::RefCell;
+use tls_fingerprints::KnownDigests;
 use tls_summary::HandshakeSummary;
 use x509::Certificate;
 
@@ -43,6 +46,8 @@ pub struct Told<'a> {
     pub alloc: Global,
     /// The names of cipher suites.
     pub suites: &'a Suites,
+    /// Digests that were made for lines in front.
+    pub digests: &'a RefCell<KnownDigests>,
     /// The connection.
     pub summary: &'a Summary<'a>,
     /// What both sides' messages say.
@@ -56,12 +61,13 @@ pub struct Told<'a> {
 }
 
 impl<'a> Told<'a> {
-    /// That connection, by the names of these suites.
-    pub fn new(alloc: Global, suites: &'a Suites, summary: &'a Summary<'a>) -> Told<'a> {
+    /// That connection, as it is told in this style.
+    pub fn new(alloc: Global, style: &'a Style, summary: &'a Summary<'a>) -> Told<'a> {
         let handshake = summary.handshake;
         Told {
             alloc,
-            suites,
+            suites: &style.suites,
+            digests: &style.digests,
             summary,
             handshake,
             server: certificate_of(handshake.server_certificate.as_deref()),

@@ -9,6 +9,9 @@ use std::alloc::{AllocError, Global};
 /// So many texts are kept at most: a network's programs have no more, for the most part.
 const MOST: usize = 64;
 
+/// No longer text is kept, so that hellos can't take much memory by theirs.
+const LONGEST: usize = 1024;
+
 /// A text, and the digits of its digest.
 #[derive(Drop)]
 struct Digested {
@@ -43,8 +46,11 @@ impl KnownDigests {
         None
     }
 
-    /// Keeps one more; where there are as many as are kept, it stands alone.
+    /// Keeps one more, if it is short enough; where there are as many as are kept, it stands alone.
     fn keep(&mut self, one: Digested) -> Result<(), AllocError> {
+        if one.text.len() > LONGEST {
+            return Ok(());
+        }
         if self.all.len() >= MOST {
             self.all.clear();
         }
