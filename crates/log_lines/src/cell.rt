@@ -1,5 +1,5 @@
 //! What stands in a line.
-use crate::json::{Json, WriteJson};
+use crate::json_writer::{Json, WriteJson};
 use crate::lists::{Numbers, Texts};
 use crate::names::{kind_name, sender_name};
 use crate::speech::Body;

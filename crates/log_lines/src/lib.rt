@@ -11,7 +11,7 @@ mod chains;
 mod columns;
 mod fields;
 mod hellos;
-mod json;
+mod json_writer;
 mod line;
 mod lists;
 mod names;

@@ -1,6 +1,6 @@
 //! Lists in a line. They are walked where they are written.
 use crate::cell::Cell;
-use crate::json::{Json, WriteJson};
+use crate::json_writer::{Json, WriteJson};
 use crate::suites::Suites;
 use crate::text::{Text, extension, group, version};
 use layouts::{Counted1, InPlace, Items};

@@ -1,5 +1,5 @@
 //! Objects of lines as JSON, and what messages say in it.
-use crate::json::{Json, WriteJson};
+use crate::json_writer::{Json, WriteJson};
 use serde::{Case, NameKind, Serializer};
 use std::alloc::{AllocError, Global};
 use std::fmt::Display;

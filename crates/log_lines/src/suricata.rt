@@ -2,7 +2,7 @@
 use crate::cell::{Cell, PrintCell, Row};
 use crate::columns::Certified;
 use crate::fields::{End, Field, Named, Offer, Print};
-use crate::json::{Json, WriteJson};
+use crate::json_writer::{Json, WriteJson};
 use crate::line::{cell_of, end_cell, microseconds};
 use crate::lists::Texts;
 use crate::names::suricata_version;
