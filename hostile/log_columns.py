@@ -1,18 +1,23 @@
-"""The fields of the log, by the tables of crates/log_lines/src/columns.rt: name, type, what says it, and the text of each."""
+"""The fields of the log, by the tables of crates/log_lines/src/fields.rt and columns.rt: name, type and the text of each."""
 
 from __future__ import annotations
 
 import re
+from collections.abc import Iterator
 from pathlib import Path
 from typing import NamedTuple
 
 CRATE = Path(__file__).resolve().parent.parent / "crates/log_lines/src"
-COLUMNS, ZEEK = CRATE / "columns.rt", CRATE / "zeek.rt"
+FIELDS, COLUMNS, ZEEK = CRATE / "fields.rt", CRATE / "columns.rt", CRATE / "zeek.rt"
 # What a row's lines begin with where they say something else than what the field is.
 LABELS = ("RFC", "Zeek", "absent")
 ABOVE = "as above"
 TABLE = re.compile(r"^pub static (\w+): &\[Column<\w+>\] = columns! \{\n(.*?)^\};\n", re.M | re.S)
-ROW = re.compile(r'    "([^"]+)": (\w+) = (.+);')
+ROW = re.compile(r'"([^"]+)": (\w+) = .+;')
+# Of the fields of a connection: the blocks of rows, and a row, which has two names where each side has the field.
+BLOCKS = re.compile(r"^macro_rules! rows \{\n.*?^ {12}\$\(\$words\)\*\n(.*?)^ {8}\}\n", re.M | re.S)
+BLOCK = re.compile(r"^ {12}\w+ \{\n(.*?)^ {12}\}\n", re.M | re.S)
+FIELD = re.compile(r'"([^"]+)"(?:, "([^"]+)")?: (\w+) = \w+(?: => \|\w+\| .+)?;')
 
 
 class Wrong(Exception):
@@ -22,7 +27,6 @@ class Wrong(Exception):
 class Column(NamedTuple):
     name: str
     kind: str  # the variant of Type
-    field: str  # the expression of what says it
     said: dict[str, str]  # "is", and of LABELS those that it has; none where the row above tells it
 
 
@@ -45,26 +49,59 @@ def said(name: str, lines: list[str]) -> dict[str, str]:
     return told
 
 
+def texts_and_rows(table: str) -> Iterator[tuple[list[str], str]]:
+    """The rows of a table, each with the lines of its text in front."""
+    lines, row = [], ""
+    for line in map(str.strip, table.splitlines()):
+        if line.startswith("/// ") and not row:
+            lines.append(line[4:])
+        else:
+            row = f"{row} {line}".strip()
+        if row.endswith(";"):
+            yield lines, row
+            lines, row = [], ""
+    if lines or row:
+        raise Wrong(f"neither a row nor its text: {row or lines}")
+
+
+def matched(pattern: re.Pattern[str], row: str) -> re.Match[str]:
+    found = pattern.fullmatch(row)
+    if not found:
+        raise Wrong(f"no row: {row}")
+    return found
+
+
 def columns(table: str) -> list[Column]:
     """The rows of a table."""
-    found, lines = [], []
-    for line in table.splitlines():
-        row = ROW.fullmatch(line)
-        if row:
-            found.append(Column(*row.groups(), said(row[1], lines)))
-            lines = []
-        elif line.startswith("    /// "):
-            lines.append(line[8:])
-        else:
-            raise Wrong(f"neither a row nor its text: {line}")
-    if not found[0].said:
-        raise Wrong(f"nothing stands above {found[0].name}")
+    found = []
+    for lines, row in texts_and_rows(table):
+        name, kind = matched(ROW, row).groups()
+        found.append(Column(name, kind, said(name, lines)))
+    return found
+
+
+def fields(blocks: str) -> list[Column]:
+    """The rows of all blocks. A row of what each side has makes two columns."""
+    if BLOCK.sub("", blocks):
+        raise Wrong(f"no block of rows: {BLOCK.sub('', blocks)}")
+    found = []
+    for block in BLOCK.findall(blocks):
+        for lines, row in texts_and_rows(block):
+            name, responders, kind = matched(FIELD, row).groups()
+            found.append(Column(name, kind, said(name, lines)))
+            if responders:
+                found.append(Column(responders, kind, {}))
     return found
 
 
 def tables() -> dict[str, list[Column]]:
     """FIELDS of a connection, PARTS of a message, DETAILS of a certificate, each by its name."""
-    return {name: columns(body) for name, body in TABLE.findall(COLUMNS.read_text())}
+    found = {"FIELDS": fields(BLOCKS.findall(FIELDS.read_text())[0])}
+    found |= {name: columns(body) for name, body in TABLE.findall(COLUMNS.read_text())}
+    for table in found.values():
+        if not table[0].said:
+            raise Wrong(f"nothing stands above {table[0].name}")
+    return found
 
 
 def groups(table: list[Column]) -> list[list[Column]]:

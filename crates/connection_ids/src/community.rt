@@ -13,6 +13,9 @@ use sha1::Sha1;
 use std::alloc::{AllocError, Global};
 use std::net::IpAddr;
 
+/// How long an identifier is.
+const ID_LEN: usize = 30;
+
 /// An address as a number.
 fn address_bits(address: IpAddr) -> u128
     ensures { result ≡ address_number address }
@@ -78,7 +81,8 @@ pub fn community_id(
     ensures { IfOk result (λ text. string_bytes text ≡ community_id_of protocol one other) }
 {
     let digits = STANDARD.encode(alloc, &digest(protocol, one, other))?;
-    let mut text = String::from_str(alloc, "1:")?;
+    let mut text = String::with_capacity(alloc, ID_LEN)?;
+    text.push_str("1:")?;
     text.push_str(digits.as_str())?;
     Ok(text)
 }

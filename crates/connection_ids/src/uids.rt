@@ -16,6 +16,9 @@ use std::net::IpAddr;
 /// How many digits an identifier has.
 const DIGITS: u32 = 17;
 
+/// How long it is.
+const UID_LEN: usize = 18;
+
 /// Adds an address to what is hashed.
 fn add_address(hasher: &mut Sha256, address: IpAddr)
     ensures { (m : List ℕ) → Holds256 hasher.old m → Holds256 hasher.new (m ++ address_bytes address) }
@@ -114,7 +117,8 @@ pub fn uid(
     ensures { IfOk result (λ text. string_bytes text ≡ uid_of protocol originator responder microseconds) }
 {
     let digest = digest(protocol, originator, responder, microseconds);
-    let mut text = String::from_str(alloc, "C")?;
+    let mut text = String::with_capacity(alloc, UID_LEN)?;
+    text.push('C')?;
     add_digits(&mut text, DIGITS, front_number(&digest))?;
     Ok(text)
 }

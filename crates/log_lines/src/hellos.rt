@@ -1,10 +1,11 @@
 //! What both hellos and the certificates say, as fields.
 use crate::cell::Cell;
 use crate::certificates::fault_name;
-use crate::columns::{Answer, Chain, Offer};
+use crate::fields::{Answer, Chain, Offer, rows};
 use crate::lists::{Numbers, Texts, some_numbers, some_texts};
 use crate::suites::Suites;
 use crate::text::{Text, add_text, some_digits, some_group, some_mark, some_version};
+use crate::told::Told;
 use std::alloc::{AllocError, Global};
 use tls_summary::{CertificateSummary, HandshakeSummary};
 use x509::Certificate;
@@ -31,36 +32,8 @@ fn client_suites<'a>(suites: &'a Suites, handshake: &'a HandshakeSummary) -> Tex
 }
 
 /// What the client offers.
-pub fn offer_cell<'a>(
-    suites: &'a Suites,
-    handshake: &'a HandshakeSummary,
-    field: &Offer,
-) -> Option<Cell<'a>> {
-    match field {
-        Offer::Version => some_version(handshake.client_version()),
-        Offer::Versions => some_texts(Texts::Versions(handshake.client_versions())),
-        Offer::SessionId => some_digits(handshake.client_session_id()),
-        Offer::Ciphers => some_texts(client_suites(suites, handshake)),
-        Offer::Ssl2Hello => some_mark(handshake.ssl2_cipher_specs.is_some()),
-        Offer::Compressions => some_numbers(Numbers::Codes(
-            handshake.client_compressions().bytes(),
-        )),
-        Offer::ExtensionTypes => some_texts(Texts::Types(handshake.client_extension_types())),
-        Offer::Groups => some_texts(Texts::Groups(handshake.client_groups())),
-        Offer::PointFormats => some_numbers(Numbers::Codes(handshake.client_point_formats())),
-        Offer::SignatureAlgorithms => {
-            some_texts(Texts::Schemes(handshake.client_signature_algorithms()))
-        }
-        Offer::Protocols => some_texts(Texts::Protocols(handshake.client_protocols())),
-        Offer::KeyShareGroups => some_texts(Texts::Shares(handshake.client_key_shares().bytes())),
-        Offer::PskModes => some_numbers(Numbers::Codes(handshake.client_psk_modes())),
-        Offer::Psk => some_mark(handshake.offers_pre_shared_key()),
-        Offer::EarlyData => some_mark(handshake.offers_early_data()),
-        Offer::Ticket => some_mark(handshake.offers_ticket()),
-        Offer::Cookie => some_mark(handshake.has_cookie()),
-        Offer::EncryptedClientHello => some_mark(handshake.offers_encrypted_client_hello()),
-        Offer::DelegatedCredentials => some_mark(handshake.offers_delegated_credentials()),
-    }
+pub fn offer_cell<'a>(told: &Told<'a>, field: &Offer) -> Option<Cell<'a>> {
+    rows!(cells [Offer told field])
 }
 
 /// The code of the compression method that the server chose.
@@ -84,17 +57,8 @@ fn timestamps<'a>(handshake: &HandshakeSummary) -> Option<Cell<'a>> {
 }
 
 /// What the server answers.
-pub fn answer_cell<'a>(handshake: &'a HandshakeSummary, field: &Answer) -> Option<Cell<'a>> {
-    match field {
-        Answer::Version => some_version(handshake.server_version()),
-        Answer::SessionId => some_digits(handshake.server_session_id()),
-        Answer::Compression => compression(handshake),
-        Answer::ExtensionTypes => some_texts(Texts::Types(handshake.server_extension_types())),
-        Answer::KeyShareGroup => some_group(handshake.server_key_share()),
-        Answer::Timestamps => timestamps(handshake),
-        Answer::Ticket => some_mark(handshake.has_ticket),
-        Answer::Status => some_mark(handshake.has_status),
-    }
+pub fn answer_cell<'a>(told: &Told<'a>, field: &Answer) -> Option<Cell<'a>> {
+    rows!(cells [Answer told field])
 }
 
 /// How many certificates a chain has; nothing where there was none.
@@ -111,6 +75,16 @@ fn certificates(chain: &Option<Vec<CertificateSummary>>) -> &[CertificateSummary
         Some(chain) => chain.as_slice(),
         None => &[],
     }
+}
+
+/// The certificates that the server sent.
+fn server_chain<'a>(told: &Told<'a>) -> &'a [CertificateSummary] {
+    certificates(&told.handshake.server_certificates)
+}
+
+/// The same of the client.
+fn client_chain<'a>(told: &Told<'a>) -> &'a [CertificateSummary] {
+    certificates(&told.handshake.client_certificates)
 }
 
 /// Which certificates of a chain aren't read, and why, as `0:verify`; nothing where all are.
@@ -140,27 +114,7 @@ fn match_cell<'a>(
     }
 }
 
-/// The certificates of both sides, of which the server's own is given where it is read. The lengths and fingerprints of an empty chain are missing.
-pub fn chain_cell<'a>(
-    alloc: Global,
-    handshake: &'a HandshakeSummary,
-    own: &Option<Certificate<'_>>,
-    field: &Chain,
-) -> Result<Option<Cell<'a>>, AllocError> {
-    let (server, client) = (
-        &handshake.server_certificates,
-        &handshake.client_certificates,
-    );
-    match field {
-        Chain::ServerCount => Ok(count_cell(server)),
-        Chain::ServerLengths => Ok(some_numbers(Numbers::Lengths(certificates(server)))),
-        Chain::ServerPrints => Ok(some_texts(Texts::Prints(certificates(server)))),
-        Chain::Requested => Ok(some_mark(handshake.requests_certificate)),
-        Chain::ClientCount => Ok(count_cell(client)),
-        Chain::ClientLengths => Ok(some_numbers(Numbers::Lengths(certificates(client)))),
-        Chain::ClientPrints => Ok(some_texts(Texts::Prints(certificates(client)))),
-        Chain::NameMatches => Ok(match_cell(handshake, own)),
-        Chain::ServerFaults => faults_cell(alloc, certificates(server)),
-        Chain::ClientFaults => faults_cell(alloc, certificates(client)),
-    }
+/// The certificates of both sides. The lengths and fingerprints of an empty chain are missing.
+pub fn chain_cell<'a>(told: &Told<'a>, field: &Chain) -> Result<Option<Cell<'a>>, AllocError> {
+    rows!(cells [Chain told field])
 }

@@ -9,7 +9,9 @@ mod cell;
 mod certificates;
 mod chains;
 mod columns;
+mod fields;
 mod hellos;
+mod json_writer;
 mod line;
 mod lists;
 mod names;
@@ -23,6 +25,7 @@ mod suites;
 mod summary;
 mod suricata;
 mod text;
+mod told;
 mod zeek;
 
 pub use chains::{Chains, Presented};

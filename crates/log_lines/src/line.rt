@@ -1,24 +1,25 @@
 //! The line of a connection.
 use crate::cell::{Cell, Row, Seconds};
-use crate::certificates::{certificate_of, certified_cell};
-use crate::columns::{Carried, Certified, Course, End, FIELDS, Field, Named, Sent};
+use crate::certificates::certified_cell;
+use crate::columns::Certified;
+use crate::fields::{Carried, Course, End, FIELDS, Field, Named, Sent, rows};
 use crate::hellos::{answer_cell, chain_cell, offer_cell, other_names_cell};
 use crate::lists::{Numbers, Texts, some_numbers, some_texts};
 use crate::names::{REASONS, outcome_name, reason_name, tunnel_name};
 use crate::objects::{LINE_LEN, Object};
-use crate::prints::{KeptTexts, print_cell};
-use crate::suites::Suites;
-use crate::summary::{Party, Summary};
+use crate::prints::print_cell;
+use crate::style::Style;
+use crate::summary::Summary;
 use crate::text::{
     Text, add_text, name_cell, name_or_number, some_escaped, some_group, some_mark, some_name,
     some_text, some_version,
 };
+use crate::told::{Moment, Sender, Told};
 use connection_ids::{community_id, uid};
-use connections::{Dropped, Protocol, Side};
+use connections::{Dropped, Protocol};
 use std::alloc::{AllocError, Global};
 use tls_base::TlsAlertDescription;
 use tls_flow::Stop;
-use tls_summary::HandshakeSummary;
 use tunnels::Tunnel;
 use x509::Certificate;
 
@@ -35,9 +36,10 @@ fn seconds<'a>(nanoseconds: u64) -> Cell<'a> {
 }
 
 /// The identifier of a connection, by its ends and its first packet.
-fn uid_cell<'a>(alloc: Global, summary: &Summary<'_>) -> Result<Option<Cell<'a>>, AllocError> {
+fn uid_cell<'a>(moment: Moment<'_>) -> Result<Option<Cell<'a>>, AllocError> {
+    let summary = moment.summary;
     some_text(uid(
-        alloc,
+        moment.alloc,
         summary.protocol,
         summary.originator.end,
         summary.responder.end,
@@ -46,12 +48,10 @@ fn uid_cell<'a>(alloc: Global, summary: &Summary<'_>) -> Result<Option<Cell<'a>>
 }
 
 /// The Community ID of a connection.
-fn community_id_cell<'a>(
-    alloc: Global,
-    summary: &Summary<'_>,
-) -> Result<Option<Cell<'a>>, AllocError> {
+fn community_id_cell<'a>(moment: Moment<'_>) -> Result<Option<Cell<'a>>, AllocError> {
+    let summary = moment.summary;
     some_text(community_id(
-        alloc,
+        moment.alloc,
         summary.protocol,
         summary.originator.end,
         summary.responder.end,
@@ -76,27 +76,15 @@ fn port_cell<'a>(end: connections::End) -> Option<Cell<'a>> {
     Some(Cell::Number(u64::from(end.port)))
 }
 
+/// How long a connection took.
+fn duration_cell<'a>(summary: &Summary<'_>) -> Option<Cell<'a>> {
+    let duration = summary.last_time.saturating_sub(summary.first_time);
+    Some(seconds(duration))
+}
+
 /// Who talks, over what, and when: a connection's first packet, or a message that came at this time.
-pub fn end_cell<'a>(
-    alloc: Global,
-    summary: &Summary<'_>,
-    time: u64,
-    field: &End,
-) -> Result<Option<Cell<'a>>, AllocError> {
-    match field {
-        End::Time => Ok(Some(seconds(time))),
-        End::Uid => uid_cell(alloc, summary),
-        End::Originator => Ok(address_cell(summary.originator.end)),
-        End::OriginatorPort => Ok(port_cell(summary.originator.end)),
-        End::Responder => Ok(address_cell(summary.responder.end)),
-        End::ResponderPort => Ok(port_cell(summary.responder.end)),
-        End::Protocol => Ok(Some(name_cell(proto_name(summary.protocol)))),
-        End::CommunityId => community_id_cell(alloc, summary),
-        End::Duration => {
-            let duration = summary.last_time.saturating_sub(summary.first_time);
-            Ok(Some(seconds(duration)))
-        }
-    }
+pub fn end_cell<'a>(moment: Moment<'_>, field: &End) -> Result<Option<Cell<'a>>, AllocError> {
+    rows!(cells [End moment field])
 }
 
 fn stop_cell<'a>(stop: Option<Stop>) -> Option<Cell<'a>> {
@@ -111,21 +99,8 @@ fn some_alert<'a>(alert: Option<TlsAlertDescription>) -> Option<Cell<'a>> {
 }
 
 /// What was chosen, asked for and said, by name.
-fn named_cell<'a>(
-    alloc: Global,
-    suites: &'a Suites,
-    handshake: &'a HandshakeSummary,
-    field: &Named,
-) -> Result<Option<Cell<'a>>, AllocError> {
-    match field {
-        Named::Version => Ok(some_version(handshake.version())),
-        Named::Cipher => Ok(suites.some_text(handshake.cipher())),
-        Named::Curve => Ok(some_group(handshake.curve())),
-        Named::ServerName => Ok(some_escaped(handshake.server_name())),
-        Named::OtherServerNames => other_names_cell(alloc, handshake),
-        Named::NextProtocol => Ok(some_escaped(handshake.next_protocol())),
-        Named::LastAlert => Ok(some_alert(handshake.last_alert)),
-    }
+fn named_cell<'a>(told: &Told<'a>, field: &Named) -> Result<Option<Cell<'a>>, AllocError> {
+    rows!(cells [Named told field])
 }
 
 /// The letters of a connection's events; nothing where none was heard.
@@ -137,17 +112,8 @@ fn history_cell(letters: &[u8]) -> Option<Cell<'_>> {
 }
 
 /// What a connection came to.
-fn course_cell<'a>(summary: &Summary<'a>, field: &Course) -> Option<Cell<'a>> {
-    match field {
-        Course::Resumed => Some(Cell::Mark(summary.is_resumed)),
-        Course::Established => Some(Cell::Mark(summary.is_established)),
-        Course::Outcome => Some(name_cell(outcome_name(summary.outcome))),
-        Course::Stop => stop_cell(summary.stop),
-        Course::Gap => some_name(summary.gap()),
-        Course::EndedEarly => some_mark(summary.is_ended_early),
-        Course::Retried => some_mark(summary.handshake.is_retried),
-        Course::History => history_cell(summary.history),
-    }
+fn course_cell<'a>(told: &Told<'a>, field: &Course) -> Option<Cell<'a>> {
+    rows!(cells [Course told field])
 }
 
 /// A count, where there is something to count.
@@ -173,76 +139,33 @@ fn reasons_cell<'a>(alloc: Global, dropped: &Dropped) -> Result<Option<Cell<'a>>
 }
 
 /// How many bytes a side sent: over TCP by the numbers of its segments.
-fn bytes_of(summary: &Summary<'_>, party: &Party<'_>) -> u64 {
-    match summary.protocol {
-        Protocol::Tcp => party.stream.length(),
-        Protocol::Udp => party.sent.bytes,
+fn bytes_of(sender: Sender<'_>) -> u64 {
+    match sender.protocol {
+        Protocol::Tcp => sender.party.stream.length(),
+        Protocol::Udp => sender.party.sent.bytes,
     }
 }
 
 /// What a side sent.
-fn sent_cell<'a>(
-    alloc: Global,
-    summary: &Summary<'_>,
-    side: Side,
-    field: &Sent,
-) -> Result<Option<Cell<'a>>, AllocError> {
-    let party = summary.party(side);
-    match field {
-        Sent::Packets => Ok(Some(Cell::Number(party.sent.packets))),
-        Sent::Bytes => Ok(Some(Cell::Number(bytes_of(summary, party)))),
-        Sent::Records => Ok(Some(Cell::Number(party.records))),
-        Sent::Repeated => Ok(some_count(party.stream.repeated())),
-        Sent::Disagreeing => Ok(some_count(party.stream.disagreeing())),
-        Sent::Dropped => Ok(some_count(party.dropped.packets)),
-        Sent::DroppedFor => reasons_cell(alloc, &party.dropped),
-        Sent::Preamble => Ok(some_count(party.preamble)),
-    }
+fn sent_cell<'a>(sender: Sender<'_>, field: &Sent) -> Result<Option<Cell<'a>>, AllocError> {
+    rows!(cells [Sent sender field])
 }
 
-/// What a connection came in; nothing where it came in no tunnel.
-fn carried_cell<'a>(
-    alloc: Global,
-    tunnels: &'a [Tunnel],
-    field: &Carried,
-) -> Result<Option<Cell<'a>>, AllocError> {
-    match field {
-        Carried::Tunnels => {
-            let mut names = Vec::new(alloc);
-            for tunnel in tunnels {
-                add_text(
-                    &mut names,
-                    String::from_str(alloc, tunnel_name(tunnel.kind)),
-                )?;
-            }
-            Ok(some_texts(Texts::Owned(names)))
-        }
-        Carried::TunnelIds => Ok(some_numbers(Numbers::Ids(tunnels))),
+/// The tunnels that a connection came in; nothing where it came in none.
+fn tunnels_cell<'a>(alloc: Global, tunnels: &[Tunnel]) -> Result<Option<Cell<'a>>, AllocError> {
+    let mut names = Vec::new(alloc);
+    for tunnel in tunnels {
+        add_text(
+            &mut names,
+            String::from_str(alloc, tunnel_name(tunnel.kind)),
+        )?;
     }
+    Ok(some_texts(Texts::Owned(names)))
 }
 
-/// A connection, the certificates of both sides' own, if they are read, and texts that further fields may have.
-#[derive(Drop)]
-pub struct Told<'a> {
-    suites: &'a Suites,
-    pub summary: &'a Summary<'a>,
-    pub server: Option<Certificate<'a>>,
-    client: Option<Certificate<'a>>,
-    kept: KeptTexts,
-}
-
-impl<'a> Told<'a> {
-    /// That connection, by the names of these suites.
-    pub fn new(suites: &'a Suites, summary: &'a Summary<'a>) -> Told<'a> {
-        let handshake = summary.handshake;
-        Told {
-            suites,
-            summary,
-            server: certificate_of(handshake.server_certificate.as_deref()),
-            client: certificate_of(handshake.client_certificate.as_deref()),
-            kept: KeptTexts::new(),
-        }
-    }
+/// What a connection came in.
+fn carried_cell<'a>(told: &Told<'a>, field: &Carried) -> Result<Option<Cell<'a>>, AllocError> {
+    rows!(cells [Carried told field])
 }
 
 /// What one field says of a certificate, if there is one.
@@ -258,45 +181,34 @@ fn own_cell<'a>(
 }
 
 /// What one field says of a connection; nothing where it is missing.
-pub fn cell_of<'a>(
-    alloc: Global,
-    told: &mut Told<'a>,
-    field: &Field,
-) -> Result<Option<Cell<'a>>, AllocError> {
-    let (suites, summary, handshake) = (told.suites, told.summary, told.summary.handshake);
+pub fn cell_of<'a>(told: &mut Told<'a>, field: &Field) -> Result<Option<Cell<'a>>, AllocError> {
     match field {
-        Field::End(field) => end_cell(alloc, summary, summary.first_time, field),
-        Field::Named(field) => named_cell(alloc, suites, handshake, field),
-        Field::Course(field) => Ok(course_cell(summary, field)),
-        Field::Offer(field) => Ok(offer_cell(suites, handshake, field)),
-        Field::Answer(field) => Ok(answer_cell(handshake, field)),
-        Field::Chain(field) => chain_cell(alloc, handshake, &told.server, field),
-        Field::ServerCertificate(field) => own_cell(alloc, &told.server, field),
-        Field::ClientCertificate(field) => own_cell(alloc, &told.client, field),
-        Field::Print(field) => print_cell(
-            alloc,
-            handshake,
-            summary.protocol,
-            &mut told.kept,
-            field,
-        ),
-        Field::Sent(side, field) => sent_cell(alloc, summary, *side, field),
-        Field::Carried(field) => carried_cell(alloc, summary.tunnels, field),
+        Field::End(field) => end_cell(told.first_moment(), field),
+        Field::Named(field) => named_cell(told, field),
+        Field::Course(field) => Ok(course_cell(told, field)),
+        Field::Offer(field) => Ok(offer_cell(told, field)),
+        Field::Answer(field) => Ok(answer_cell(told, field)),
+        Field::Chain(field) => chain_cell(told, field),
+        Field::ServerCertificate(field) => own_cell(told.alloc, &told.server, field),
+        Field::ClientCertificate(field) => own_cell(told.alloc, &told.client, field),
+        Field::Print(field) => print_cell(told, field),
+        Field::Sent(side, field) => sent_cell(told.sender(*side), field),
+        Field::Carried(field) => carried_cell(told, field),
     }
 }
 
 /// The line of a connection, with the fields at these places of [`FIELDS`].
 pub fn row_of<'a>(
     alloc: Global,
-    suites: &'a Suites,
+    style: &'a Style,
     places: &[usize],
     summary: &'a Summary<'a>,
 ) -> Result<Row<'a>, AllocError> {
-    let mut told = Told::new(suites, summary);
+    let mut told = Told::new(alloc, style, summary);
     let mut cells = Vec::with_capacity(alloc, places.len())?;
     for place in places {
         if let Some((name, _, field)) = FIELDS.get(*place) {
-            let cell = cell_of(alloc, &mut told, field)?;
+            let cell = cell_of(&mut told, field)?;
             cells.push((*name, cell))?;
         }
     }
@@ -306,15 +218,15 @@ pub fn row_of<'a>(
 /// The same as an object of JSON, in which what is missing is left out. Each field is written as soon as it is told.
 pub fn json_line<'a>(
     alloc: Global,
-    suites: &'a Suites,
+    style: &'a Style,
     places: &[usize],
     summary: &'a Summary<'a>,
 ) -> Result<Vec<u8>, AllocError> {
-    let mut told = Told::new(suites, summary);
+    let mut told = Told::new(alloc, style, summary);
     let mut line = Object::new(alloc, LINE_LEN)?;
     for place in places {
         if let Some((name, _, field)) = FIELDS.get(*place) {
-            if let Some(cell) = cell_of(alloc, &mut told, field)? {
+            if let Some(cell) = cell_of(&mut told, field)? {
                 line.add(name, &cell)?;
             }
         }

@@ -1,19 +1,19 @@
-//! Values as JSON.
-use json::Writer;
-use serde::{Case, NameKind, Serialize, Serializer};
+//! Objects of lines as JSON, and what messages say in it.
+use crate::json_writer::{Json, WriteJson};
+use serde::{Case, NameKind, Serializer};
 use std::alloc::{AllocError, Global};
-use std::fmt::{Display, Write};
+use std::fmt::Display;
 
 /// Most lines of JSON are no longer than so many bytes.
 pub const LINE_LEN: usize = 4096;
 
 /// Why a value isn't written.
 #[derive(Clone, Copy)]
-enum Refusal {
+pub enum Refusal {
     /// Memory ran out.
     OutOfMemory,
-    /// It is of a kind that no line has: a number of 128 bits, an object within another's braces, or one with keys that are no names.
-    NotOfLines,
+    /// It is of a kind that no message has: a number of 128 bits or of single precision, an object within another's braces, or one with keys that are no names.
+    NotOfMessages,
 }
 
 impl From<AllocError> for Refusal {
@@ -22,187 +22,134 @@ impl From<AllocError> for Refusal {
     }
 }
 
-/// Writes values of lines as JSON, as `serde_json` does. Its refusal is small, since each call hands it on by value.
-#[derive(Drop)]
-struct Json {
-    out: Writer,
-    // Room for a text that is put together.
-    room: String,
+/// A name in that case.
+fn name_text(alloc: Global, name: &str, case: Case, kind: NameKind) -> Result<String, AllocError> {
+    let mut text = String::new(alloc);
+    case.append(kind, name, &mut text)?;
+    Ok(text)
 }
 
-impl Json {
-    /// A name in that case: the key of a field, or a text.
-    fn name(
-        &mut self,
-        name: &str,
-        case: Case,
-        kind: NameKind,
-        is_key: bool,
-    ) -> Result<(), Refusal> {
-        self.room.clear();
-        case.append(kind, name, &mut self.room)?;
-        if is_key {
-            self.out.key(self.room.as_str())?;
-        } else {
-            self.out.string(self.room.as_str())?;
-        }
-        Ok(())
-    }
-}
-
+/// Writes messages, as `serde_json` does. The refusal is small, since each call hands it on by value.
 impl Serializer for Json {
     type Error = Refusal;
 
     fn bool(&mut self, v: bool) -> Result<(), Refusal> {
-        self.out.boolean(v)?;
+        self.boolean(v)?;
         Ok(())
     }
 
     fn i64(&mut self, v: i64) -> Result<(), Refusal> {
-        self.out.i64(v)?;
+        self.number(v)?;
         Ok(())
     }
 
     fn u64(&mut self, v: u64) -> Result<(), Refusal> {
-        self.out.u64(v)?;
+        self.number(v)?;
         Ok(())
     }
 
     fn i128(&mut self, _v: i128) -> Result<(), Refusal> {
-        Err(Refusal::NotOfLines)
+        Err(Refusal::NotOfMessages)
     }
 
     fn u128(&mut self, _v: u128) -> Result<(), Refusal> {
-        Err(Refusal::NotOfLines)
+        Err(Refusal::NotOfMessages)
     }
 
-    fn f32(&mut self, v: f32) -> Result<(), Refusal> {
-        if v.is_finite() {
-            self.out.float_with_plus(v)?;
-        } else {
-            self.out.null()?;
-        }
-        Ok(())
+    fn f32(&mut self, _v: f32) -> Result<(), Refusal> {
+        Err(Refusal::NotOfMessages)
     }
 
     fn f64(&mut self, v: f64) -> Result<(), Refusal> {
-        if v.is_finite() {
-            self.out.float_with_plus(v)?;
-        } else {
-            self.out.null()?;
-        }
+        self.float(v)?;
         Ok(())
     }
 
     fn char(&mut self, v: char) -> Result<(), Refusal> {
-        self.room.clear();
-        self.room.push(v)?;
-        self.out.string(self.room.as_str())?;
+        self.shown(&v)?;
         Ok(())
     }
 
     fn str(&mut self, v: &str) -> Result<(), Refusal> {
-        self.out.string(v)?;
+        self.string(v)?;
         Ok(())
     }
 
     fn bytes(&mut self, v: &[u8]) -> Result<(), Refusal> {
-        self.out.begin_array()?;
+        self.begin_array()?;
         for byte in v {
-            self.out.u64(u64::from(*byte))?;
+            self.number(*byte)?;
         }
-        self.out.end_array()?;
+        self.end_array()?;
         Ok(())
     }
 
     fn unit(&mut self) -> Result<(), Refusal> {
-        self.out.null()?;
+        self.null()?;
         Ok(())
     }
 
     fn str_cased(&mut self, name: &str, case: Case) -> Result<(), Refusal> {
-        self.name(name, case, NameKind::Variant, false)
+        let text = name_text(self.alloc, name, case, NameKind::Variant)?;
+        self.string(text.as_str())?;
+        Ok(())
     }
 
     fn begin_seq(&mut self, _len: Option<usize>) -> Result<(), Refusal> {
-        self.out.begin_array()?;
+        self.begin_array()?;
         Ok(())
     }
 
     fn end_seq(&mut self) -> Result<(), Refusal> {
-        self.out.end_array()?;
+        self.end_array()?;
         Ok(())
     }
 
     fn begin_map(&mut self, _len: Option<usize>) -> Result<(), Refusal> {
-        self.out.begin_object()?;
+        self.begin_object()?;
         Ok(())
     }
 
     fn end_map(&mut self) -> Result<(), Refusal> {
-        self.out.end_object()?;
+        self.end_object()?;
         Ok(())
     }
 
     fn key_cased(&mut self, name: &str, case: Case) -> Result<(), Refusal> {
         if let Case::AsIs = case {
-            self.out.key(name)?;
+            Json::key(self, name)?;
             return Ok(());
         }
-        self.name(name, case, NameKind::Field, true)
+        let text = name_text(self.alloc, name, case, NameKind::Field)?;
+        Json::key(self, text.as_str())?;
+        Ok(())
     }
 
     fn variant_key(&mut self, name: &str, case: Case) -> Result<(), Refusal> {
-        self.name(name, case, NameKind::Variant, true)
+        let text = name_text(self.alloc, name, case, NameKind::Variant)?;
+        Json::key(self, text.as_str())?;
+        Ok(())
     }
 
     fn begin_key(&mut self) -> Result<(), Refusal> {
-        Err(Refusal::NotOfLines)
+        Err(Refusal::NotOfMessages)
     }
 
     fn end_key(&mut self) -> Result<(), Refusal> {
-        Err(Refusal::NotOfLines)
+        Err(Refusal::NotOfMessages)
     }
 
     fn flatten_next(&mut self) -> Result<(), Refusal> {
-        Err(Refusal::NotOfLines)
+        Err(Refusal::NotOfMessages)
     }
 
     fn custom(&self, _message: &str) -> Refusal {
-        Refusal::NotOfLines
+        Refusal::NotOfMessages
     }
 
     fn collect_str<T: Display>(&mut self, value: &T) -> Result<(), Refusal> {
-        self.room.clear();
-        if write!(self.room, "{value}").is_err() {
-            return Err(Refusal::OutOfMemory);
-        }
-        self.out.string(self.room.as_str())?;
+        self.shown(value)?;
         Ok(())
-    }
-}
-
-/// What failed for memory alone: a line has no value of another kind.
-fn in_memory<T: Drop>(written: Result<T, Refusal>) -> Result<T, AllocError> {
-    match written {
-        Ok(value) => Ok(value),
-        Err(_) => Err(AllocError),
-    }
-}
-
-impl Json {
-    /// One that wrote nothing, in which so many bytes have room at first.
-    fn new(alloc: Global, room: usize) -> Result<Json, AllocError> {
-        Ok(Json {
-            out: Writer::new(Vec::with_capacity(alloc, room)?),
-            room: String::new(alloc),
-        })
-    }
-
-    /// What was written.
-    fn into_bytes(self) -> Vec<u8> {
-        let Json { out, .. } = self;
-        out.into_inner()
     }
 }
 
@@ -216,37 +163,37 @@ impl Object {
     /// One without fields, in which so many bytes have room at first.
     pub fn new(alloc: Global, room: usize) -> Result<Object, AllocError> {
         let mut json = Json::new(alloc, room)?;
-        in_memory(json.begin_map(None))?;
+        json.begin_object()?;
         Ok(Object { json })
     }
 
-    /// Adds a field.
-    pub fn add<T: Serialize>(&mut self, name: &str, value: &T) -> Result<(), AllocError> {
-        in_memory(self.json.key(name))?;
-        in_memory(value.serialize(&mut self.json))
+    /// Adds a field by its name.
+    pub fn add<T: WriteJson>(&mut self, name: &str, value: &T) -> Result<(), AllocError> {
+        self.json.name(name)?;
+        value.write_json(&mut self.json)
     }
 
     /// The object as JSON.
     pub fn into_bytes(self) -> Result<Vec<u8>, AllocError> {
         let mut json = self.json;
-        in_memory(json.end_map())?;
+        json.end_object()?;
         Ok(json.into_bytes())
     }
 }
 
 /// A value as JSON, in which so many bytes have room at first.
-pub fn json_bytes<T: Serialize>(
+pub fn json_bytes<T: WriteJson>(
     alloc: Global,
     value: &T,
     room: usize,
 ) -> Result<Vec<u8>, AllocError> {
     let mut json = Json::new(alloc, room)?;
-    in_memory(value.serialize(&mut json))?;
+    value.write_json(&mut json)?;
     Ok(json.into_bytes())
 }
 
 /// The same as text.
-pub fn json_text<T: Serialize>(
+pub fn json_text<T: WriteJson>(
     alloc: Global,
     value: &T,
     room: usize,

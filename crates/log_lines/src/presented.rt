@@ -7,6 +7,7 @@ use crate::line::end_cell;
 use crate::names::sender_name;
 use crate::summary::Summary;
 use crate::text::{hexadecimal, name_cell, some_mark, some_text};
+use crate::told::Moment;
 use sha2::{Digest, Sha256};
 use std::alloc::{AllocError, Global};
 use tls_flow::Direction;
@@ -21,16 +22,15 @@ fn fault_cell(bytes: &[u8]) -> Option<Cell<'static>> {
 
 /// What one field says of a certificate that came at this time.
 fn detail_cell(
-    alloc: Global,
-    summary: &Summary<'_>,
-    time: u64,
+    moment: Moment<'_>,
     presented: &Presented,
     certificate: &Option<Certificate<'_>>,
     detail: &Detail,
 ) -> Result<Option<Cell<'static>>, AllocError> {
+    let alloc = moment.alloc;
     let bytes = presented.bytes.as_slice();
     match detail {
-        Detail::End(field) => end_cell(alloc, summary, time, field),
+        Detail::End(field) => end_cell(moment, field),
         Detail::Side => Ok(Some(name_cell(sender_name(presented.direction)))),
         Detail::Place => Ok(Some(Cell::Number(presented.place))),
         Detail::Print => some_text(hexadecimal(alloc, Sha256::digest(bytes).as_slice())),
@@ -57,11 +57,16 @@ pub fn certificate_row(
     time: u64,
     presented: &Presented,
 ) -> Result<Row<'static>, AllocError> {
+    let moment = Moment {
+        alloc,
+        summary,
+        time,
+    };
     let certificate = certificate_of(Some(presented.bytes.as_slice()));
     let mut cells = Vec::with_capacity(alloc, places.len())?;
     for place in places {
         if let Some((name, _, detail)) = DETAILS.get(*place) {
-            let cell = detail_cell(alloc, summary, time, presented, &certificate, detail)?;
+            let cell = detail_cell(moment, presented, &certificate, detail)?;
             cells.push((*name, cell))?;
         }
     }

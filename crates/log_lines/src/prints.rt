@@ -1,7 +1,8 @@
 //! Fingerprints of hellos, as fields.
 use crate::cell::Cell;
-use crate::columns::Print;
+use crate::fields::{Print, rows};
 use crate::text::{Text, some_text};
+use crate::told::Told;
 use connections::Protocol;
 use layouts::Items;
 use std::alloc::{AllocError, Global};
@@ -50,49 +51,24 @@ fn transport(protocol: Protocol) -> Transport {
     }
 }
 
-/// The texts of JA3 and of JA3S, from the fields of their digests to those of the texts themselves.
-#[derive(Drop)]
-pub struct KeptTexts {
-    ja3: Option<String>,
-    ja3s: Option<String>,
-}
-
-impl KeptTexts {
-    /// None yet.
-    pub fn new() -> KeptTexts {
-        KeptTexts {
-            ja3: None,
-            ja3s: None,
-        }
-    }
-}
-
 /// The text of JA3, or that which was kept; `None` where there was no ClientHello.
-fn ja3_text(
-    alloc: Global,
-    handshake: &HandshakeSummary,
-    kept: &mut KeptTexts,
-) -> Result<Option<String>, AllocError> {
-    if kept.ja3.is_some() {
-        return Ok(kept.ja3.take());
+fn ja3_text(told: &mut Told<'_>) -> Result<Option<String>, AllocError> {
+    if told.kept.ja3.is_some() {
+        return Ok(told.kept.ja3.take());
     }
-    match client_parts(handshake) {
-        Some(client) => Ok(Some(client.ja3_text(alloc)?)),
+    match client_parts(told.handshake) {
+        Some(client) => Ok(Some(client.ja3_text(told.alloc)?)),
         None => Ok(None),
     }
 }
 
 /// The same of JA3S, and of the ServerHello.
-fn ja3s_text(
-    alloc: Global,
-    handshake: &HandshakeSummary,
-    kept: &mut KeptTexts,
-) -> Result<Option<String>, AllocError> {
-    if kept.ja3s.is_some() {
-        return Ok(kept.ja3s.take());
+fn ja3s_text(told: &mut Told<'_>) -> Result<Option<String>, AllocError> {
+    if told.kept.ja3s.is_some() {
+        return Ok(told.kept.ja3s.take());
     }
-    match server_parts(handshake) {
-        Some(server) => Ok(Some(server.ja3s_text(alloc)?)),
+    match server_parts(told.handshake) {
+        Some(server) => Ok(Some(server.ja3s_text(told.alloc)?)),
         None => Ok(None),
     }
 }
@@ -111,42 +87,36 @@ fn digest_cell<'a>(
     Ok(Some(Cell::Text(Text::Owned(digest))))
 }
 
+/// JA3.
+fn ja3_cell<'a>(told: &mut Told<'a>) -> Result<Option<Cell<'a>>, AllocError> {
+    let text = ja3_text(told)?;
+    digest_cell(told.alloc, text, &mut told.kept.ja3)
+}
+
+/// JA3S.
+fn ja3s_cell<'a>(told: &mut Told<'a>) -> Result<Option<Cell<'a>>, AllocError> {
+    let text = ja3s_text(told)?;
+    digest_cell(told.alloc, text, &mut told.kept.ja3s)
+}
+
 /// A text as it is; nothing where there is none.
 fn text_cell<'a>(text: Option<String>) -> Option<Cell<'a>> {
     Some(Cell::Text(Text::Owned(text?)))
 }
 
 /// JA4; nothing where there was no ClientHello.
-fn ja4_cell<'a>(
-    alloc: Global,
-    handshake: &'a HandshakeSummary,
-    transport: Transport,
-) -> Result<Option<Cell<'a>>, AllocError> {
-    match client_parts(handshake) {
-        Some(client) => some_text(client.ja4(alloc, transport)),
-        None => Ok(None),
+fn ja4_cell<'a>(told: &Told<'_>) -> Result<Option<Cell<'a>>, AllocError> {
+    let transport = transport(told.summary.protocol);
+    let Some(client) = client_parts(told.handshake) else {
+        return Ok(None);
+    };
+    match told.digests.try_borrow_mut() {
+        Ok(mut known) => some_text(client.ja4_with(told.alloc, transport, &mut known)),
+        Err(_) => some_text(client.ja4(told.alloc, transport)),
     }
 }
 
 /// A fingerprint; nothing where there was no such hello.
-pub fn print_cell<'a>(
-    alloc: Global,
-    handshake: &'a HandshakeSummary,
-    protocol: Protocol,
-    kept: &mut KeptTexts,
-    field: &Print,
-) -> Result<Option<Cell<'a>>, AllocError> {
-    match field {
-        Print::Ja3 => {
-            let text = ja3_text(alloc, handshake, kept)?;
-            digest_cell(alloc, text, &mut kept.ja3)
-        }
-        Print::Ja3Text => Ok(text_cell(ja3_text(alloc, handshake, kept)?)),
-        Print::Ja3s => {
-            let text = ja3s_text(alloc, handshake, kept)?;
-            digest_cell(alloc, text, &mut kept.ja3s)
-        }
-        Print::Ja3sText => Ok(text_cell(ja3s_text(alloc, handshake, kept)?)),
-        Print::Ja4 => ja4_cell(alloc, handshake, transport(protocol)),
-    }
+pub fn print_cell<'a>(told: &mut Told<'a>, field: &Print) -> Result<Option<Cell<'a>>, AllocError> {
+    rows!(cells [Print told field])
 }

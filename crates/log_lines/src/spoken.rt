@@ -6,18 +6,17 @@ use crate::names::sender_name;
 use crate::speech::Spoken;
 use crate::summary::Summary;
 use crate::text::{name_cell, some_name};
+use crate::told::Moment;
 use std::alloc::{AllocError, Global};
 
 /// What one field says of a message that was whole at this time. Its fields are taken out, since they stand in one field alone.
 fn part_cell(
-    alloc: Global,
-    summary: &Summary<'_>,
-    time: u64,
+    moment: Moment<'_>,
     spoken: &mut Spoken,
     part: &Part,
 ) -> Result<Option<Cell<'static>>, AllocError> {
     match part {
-        Part::End(field) => end_cell(alloc, summary, time, field),
+        Part::End(field) => end_cell(moment, field),
         Part::Side => Ok(Some(name_cell(sender_name(spoken.direction)))),
         Part::Place => Ok(Some(Cell::Number(spoken.place))),
         Part::ContentType => Ok(Some(Cell::Number(u64::from(spoken.word.content_type.0)))),
@@ -37,11 +36,16 @@ pub fn message_row(
     time: u64,
     spoken: Spoken,
 ) -> Result<Row<'static>, AllocError> {
+    let moment = Moment {
+        alloc,
+        summary,
+        time,
+    };
     let mut spoken = spoken;
     let mut cells = Vec::with_capacity(alloc, places.len())?;
     for place in places {
         if let Some((name, _, part)) = PARTS.get(*place) {
-            let cell = part_cell(alloc, summary, time, &mut spoken, part)?;
+            let cell = part_cell(moment, &mut spoken, part)?;
             cells.push((*name, cell))?;
         }
     }

@@ -1,7 +1,8 @@
 //! What is printed, and how.
 use crate::cell::{Cell, Row};
 use crate::chains::Presented;
-use crate::columns::{Column, DETAILS, FIELDS, PARTS};
+use crate::columns::{Column, DETAILS, PARTS};
+use crate::fields::FIELDS;
 use crate::line::{json_line, row_of};
 use crate::objects::{LINE_LEN, json_bytes, json_text};
 use crate::presented::certificate_row;
@@ -13,7 +14,9 @@ use crate::text::add_text;
 use crate::{suricata, zeek};
 use csv::WriterBuilder;
 use std::alloc::{AllocError, Global};
+use std::cell::RefCell;
 use std::fmt::{self, Display, Formatter};
+use tls_fingerprints::KnownDigests;
 
 /// How a line is written.
 #[derive(Drop)]
@@ -59,6 +62,8 @@ pub struct Style {
     pub lines: Lines,
     /// The names of cipher suites.
     pub suites: Suites,
+    /// Digests of JA4 that were made for lines. A line takes them out while it tells of JA4.
+    pub digests: RefCell<KnownDigests>,
 }
 
 /// Why no such lines can be printed.
@@ -295,6 +300,7 @@ impl Style {
             format,
             lines: Lines::new(alloc, kind, names)?,
             suites,
+            digests: RefCell::new(KnownDigests::new(alloc)),
         })
     }
 
@@ -332,10 +338,10 @@ impl Style {
         summary: &Summary<'_>,
     ) -> Result<Vec<u8>, AllocError> {
         match self.format {
-            Format::Suricata => suricata::line(alloc, &self.suites, summary),
-            Format::Json => json_line(alloc, &self.suites, places, summary),
+            Format::Suricata => suricata::line(alloc, self, summary),
+            Format::Json => json_line(alloc, self, places, summary),
             Format::Csv | Format::Zeek => {
-                let row = row_of(alloc, &self.suites, places, summary)?;
+                let row = row_of(alloc, self, places, summary)?;
                 self.line(alloc, &row)
             }
         }

@@ -1,16 +1,18 @@
 //! Connections as Suricata's eve.json has them (docs.suricata.io, "EVE JSON Format", event type TLS).
 use crate::cell::{Cell, PrintCell, Row};
-use crate::columns::{Certified, End, Field, Named, Offer, Print};
-use crate::line::{Told, cell_of, end_cell, microseconds};
+use crate::columns::Certified;
+use crate::fields::{End, Field, Named, Offer, Print};
+use crate::json_writer::{Json, WriteJson};
+use crate::line::{cell_of, end_cell, microseconds};
 use crate::lists::Texts;
 use crate::names::suricata_version;
 use crate::objects::{LINE_LEN, json_bytes};
-use crate::suites::Suites;
+use crate::style::Style;
 use crate::summary::Summary;
 use crate::text::{Text, add_text, hexadecimal, name_cell, name_or_number, some_mark, some_text};
+use crate::told::{Moment, Told};
 use connection_ids::flow_id;
 use connections::Protocol;
-use serde::{Described, Serialize, Serializer};
 use sha1::Sha1;
 use std::alloc::{AllocError, Global};
 use tls_summary::HandshakeSummary;
@@ -62,15 +64,13 @@ struct Event<'a> {
     tls: Row<'a>,
 }
 
-impl Described for Event<'_> {}
-
-impl Serialize for Event<'_> {
-    fn serialize<S: Serializer>(&self, out: &mut S) -> Result<(), S::Error> {
-        out.begin_map(None)?;
-        self.front.serialize_fields(out)?;
-        out.key("tls")?;
-        self.tls.serialize(out)?;
-        out.end_map()
+impl WriteJson for Event<'_> {
+    fn write_json(&self, out: &mut Json) -> Result<(), AllocError> {
+        out.begin_object()?;
+        self.front.write_fields(out)?;
+        out.name("tls")?;
+        self.tls.write_json(out)?;
+        out.end_object()
     }
 }
 
@@ -118,12 +118,8 @@ fn fingerprint_cell<'a>(
 }
 
 /// A time of the certificate, without its time zone, which is UTC.
-fn date_cell<'a>(
-    alloc: Global,
-    told: &mut Told<'_>,
-    field: Certified,
-) -> Result<Option<Cell<'a>>, AllocError> {
-    match cell_of(alloc, told, &Field::ServerCertificate(field))? {
+fn date_cell<'a>(told: &mut Told<'_>, field: Certified) -> Result<Option<Cell<'a>>, AllocError> {
+    match cell_of(told, &Field::ServerCertificate(field))? {
         Some(Cell::Text(Text::Owned(mut text))) => {
             text.pop();
             Ok(Some(Cell::Text(Text::Owned(text))))
@@ -139,8 +135,8 @@ fn print_cell<'a>(
     hash: Print,
     string: Print,
 ) -> Result<Option<Cell<'a>>, AllocError> {
-    let hash = cell_of(alloc, told, &Field::Print(hash))?;
-    let string = cell_of(alloc, told, &Field::Print(string))?;
+    let hash = cell_of(told, &Field::Print(hash))?;
+    let string = cell_of(told, &Field::Print(string))?;
     match (hash, string) {
         (Some(Cell::Text(Text::Owned(hash))), Some(Cell::Text(Text::Owned(string)))) => {
             let print = Box::new(alloc, PrintCell { hash, string })?;
@@ -171,13 +167,13 @@ fn said_cell<'a>(
 ) -> Result<Option<Cell<'a>>, AllocError> {
     let summary = told.summary;
     match said {
-        Said::Same(field) => cell_of(alloc, told, field),
+        Said::Same(field) => cell_of(told, field),
         Said::Version => Ok(version_cell(summary.handshake)),
         Said::Resumed => Ok(some_mark(summary.is_resumed)),
         Said::Serial => serial_cell(alloc, told),
         Said::Fingerprint => fingerprint_cell(alloc, summary.handshake),
-        Said::NotBefore => date_cell(alloc, told, Certified::NotBefore),
-        Said::NotAfter => date_cell(alloc, told, Certified::NotAfter),
+        Said::NotBefore => date_cell(told, Certified::NotBefore),
+        Said::NotAfter => date_cell(told, Certified::NotAfter),
         Said::Ja3 => print_cell(alloc, told, Print::Ja3, Print::Ja3Text),
         Said::Ja3s => print_cell(alloc, told, Print::Ja3s, Print::Ja3sText),
         Said::Chosen => chosen_cell(alloc, summary.handshake),
@@ -215,15 +211,20 @@ fn flow_number(summary: &Summary<'_>) -> u64 {
 /// What any event has.
 fn front_row(alloc: Global, summary: &Summary<'_>) -> Result<Row<'static>, AllocError> {
     let time = summary.first_time;
+    let moment = Moment {
+        alloc,
+        summary,
+        time,
+    };
     let mut cells = Vec::with_capacity(alloc, 9)?;
     cells.push(("timestamp", timestamp_cell(alloc, time)?))?;
     cells.push(("flow_id", Some(Cell::Number(flow_number(summary)))))?;
     cells.push(("event_type", Some(name_cell("tls"))))?;
     for (name, end) in FRONT {
-        cells.push((*name, end_cell(alloc, summary, time, end)?))?;
+        cells.push((*name, end_cell(moment, end)?))?;
     }
     cells.push(("proto", Some(name_cell(proto_name(summary.protocol)))))?;
-    let community_id = end_cell(alloc, summary, time, &End::CommunityId)?;
+    let community_id = end_cell(moment, &End::CommunityId)?;
     cells.push(("community_id", community_id))?;
     Ok(Row { cells })
 }
@@ -248,10 +249,10 @@ fn tls_row<'a>(alloc: Global, told: &mut Told<'a>) -> Result<Row<'a>, AllocError
 /// The event of a connection, without a line break.
 pub fn line<'a>(
     alloc: Global,
-    suites: &'a Suites,
+    style: &'a Style,
     summary: &'a Summary<'a>,
 ) -> Result<Vec<u8>, AllocError> {
-    let mut told = Told::new(suites, summary);
+    let mut told = Told::new(alloc, style, summary);
     let event = Event {
         front: front_row(alloc, summary)?,
         tls: tls_row(alloc, &mut told)?,

@@ -218,21 +218,16 @@ fn plain_text(alloc: Global, cell: &Cell<'_>) -> Result<String, AllocError> {
 }
 
 /// Adds what a field says; what has fields of its own as JSON.
-fn add_cell(alloc: Global, line: &mut String, cell: &Option<Cell<'_>>) -> Result<(), AllocError> {
+fn add_cell(alloc: Global, line: &mut String, cell: &Cell<'_>) -> Result<(), AllocError> {
     match cell {
-        None => line.push_str(UNSET),
-        Some(Cell::Text(text)) => add_shown(alloc, line, text, false),
-        Some(Cell::Texts(texts)) => add_texts(alloc, line, texts),
-        Some(Cell::Numbers(numbers)) => add_numbers(alloc, line, *numbers),
-        Some(Cell::Stop(_) | Cell::Message(_) | Cell::Print(_)) => {
-            add_text(
-                alloc,
-                line,
-                json_text(alloc, cell, LINE_LEN)?.as_str(),
-                false,
-            )
+        Cell::Text(text) => add_shown(alloc, line, text, false),
+        Cell::Texts(texts) => add_texts(alloc, line, texts),
+        Cell::Numbers(numbers) => add_numbers(alloc, line, *numbers),
+        Cell::Stop(_) | Cell::Message(_) | Cell::Print(_) => {
+            let json = json_text(alloc, cell, LINE_LEN)?;
+            add_text(alloc, line, json.as_str(), false)
         }
-        Some(other) => line.push_str(plain_text(alloc, other)?.as_str()),
+        other => line.push_str(plain_text(alloc, other)?.as_str()),
     }
 }
 
@@ -244,7 +239,10 @@ pub fn line(alloc: Global, row: &Row<'_>) -> Result<String, AllocError> {
         if !is_first {
             line.push('\t')?;
         }
-        add_cell(alloc, &mut line, cell)?;
+        match cell {
+            Some(cell) => add_cell(alloc, &mut line, cell)?,
+            None => line.push_str(UNSET)?,
+        }
         is_first = false;
     }
     Ok(line)

@@ -7,9 +7,9 @@ ghost use Rattle.layouts.specs.Items.{items_in};
 ghost use Rattle.layouts.specs.Layout.{number};
 ghost use Rattle.tls_ext.specs.InPlace.{extension_type};
 ghost use Rattle.tls_fingerprints.specs.Ja4.{with_algorithms};
-ghost use Rattle.tls_fingerprints.specs.Numbers.{behind_others, dashed, has_any, lead_byte, four_digits as four_digits_of, hex_list, without_grease};
+ghost use Rattle.tls_fingerprints.specs.Numbers.{behind_others, dashed, has_any, lead_byte, hex_list, without_grease};
 
-use crate::numbers::{hex_digit, is_grease};
+use crate::numbers::{four_digits, is_grease, led_digits};
 use itoa::{Buffer, Integer};
 use layouts::Items;
 use md5::{Digest as Md5Digest, Md5};
@@ -76,31 +76,6 @@ pub(crate) fn feed_dashed(text: &mut Md5, numbers: &[u8])
     for n in others {
         feed_next(text, false, *n);
     }
-}
-
-/// The four hexadecimal digits of a number.
-fn four_digits(n: u16) -> [u8; 4]
-    ensures { result ≡ four_digits_of n }
-{
-    [
-        hex_digit((n / 4096) as u8) as u8,
-        hex_digit((n / 256 % 16) as u8) as u8,
-        hex_digit((n / 16 % 16) as u8) as u8,
-        hex_digit((n % 16) as u8) as u8,
-    ]
-}
-
-/// The same behind a byte.
-fn led_digits(lead: u8, n: u16) -> [u8; 5]
-    ensures { result ≡ lead ∷ four_digits_of n }
-{
-    [
-        lead,
-        hex_digit((n / 4096) as u8) as u8,
-        hex_digit((n / 256 % 16) as u8) as u8,
-        hex_digit((n / 16 % 16) as u8) as u8,
-        hex_digit((n % 16) as u8) as u8,
-    ]
 }
 
 /// Adds numbers by their four hexadecimal digits, with `,` between each two.

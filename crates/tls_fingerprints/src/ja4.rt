@@ -5,12 +5,14 @@ ghost use Rattle.std.specs.String.{string_bytes};
 ghost use Rattle.std.specs.Option.{option_map};
 ghost use Rattle.layouts.specs.Text.{held};
 ghost use Rattle.tls_ext.specs.InPlace.{protocol_names};
-ghost use Rattle.tls_ext.specs.Offered.{known};
-ghost use Rattle.tls_fingerprints.specs.Hellos.{view_client};
-ghost use Rattle.tls_fingerprints.specs.Ja4.{ends_text, ja4_front_of, ja4_of, ja4_suites_of, ja4_text_of, ja4_types_of, letter_of, other_types, protocol_text, short_digest as short_digest_of, two_digits, version_text as version_text_of};
+ghost use Rattle.tls_ext.specs.Offered.{algorithms_in, known};
+ghost use Rattle.tls_fingerprints.specs.Hellos.{types_in, view_client};
+ghost use Rattle.tls_fingerprints.specs.Numbers.{hex_list, rising, without_grease};
+ghost use Rattle.tls_fingerprints.specs.Ja4.{ends_text, ja4_front_with, ja4_of, ja4_suites_of, ja4_text_of, ja4_types_of, letter_of, other_types, protocol_text, short_digest as short_digest_of, two_digits, version_text as version_text_of, with_algorithms};
 
 use crate::hellos::{ClientHelloParts, Transport};
-use crate::numbers::{add_hex_list, hex_digit, kept, kept_types, rise};
+use crate::known::KnownDigests;
+use crate::numbers::{add_hex_list, hex_digit, kept, kept_types, push_hex_list, rise};
 use layouts::Items;
 use sha2::{Digest, Sha256};
 use std::alloc::{AllocError, Global};
@@ -108,15 +110,37 @@ fn leave_told(types: &mut Vec<u16>)
 }
 
 /// The first 6 bytes of the SHA-256 of a text, in hexadecimal; zeros of an empty text.
-fn short_digest(alloc: Global, text: &str) -> Result<String, AllocError>
+pub(crate) fn short_digest(alloc: Global, text: &[u8]) -> Result<String, AllocError>
     ensures { IfOk result (λ digits. string_bytes digits ≡ short_digest_of text.now) }
 {
     if text.is_empty() {
         return String::from_str(alloc, "000000000000");
     }
-    let digest = Sha256::digest(text.as_bytes());
+    let digest = Sha256::digest(text);
     let (front, _) = digest.split_at(6);
     hex::encode(alloc, front)
+}
+
+/// The numbers in rising order, as a part is made of them.
+fn rising_text(alloc: Global, numbers: Vec<u16>) -> Result<Vec<u8>, AllocError>
+    ensures { IfOk result (λ text. text.items ≡ hex_list (rising numbers.items)) }
+{
+    let mut numbers = numbers;
+    rise(&mut numbers);
+    let mut text = Vec::with_capacity(alloc, TEXT_LEN)?;
+    push_hex_list(&mut text, numbers.as_slice())?;
+    Ok(text)
+}
+
+/// Adds `_` and the algorithms; nothing where there are none.
+fn push_algorithms(text: &mut Vec<u8>, algorithms: &[u16]) -> Result<(), AllocError>
+    ensures { OnOk result (text.new.items ≡ with_algorithms text.old.items algorithms.now) }
+{
+    if algorithms.is_empty() {
+        return Ok(());
+    }
+    text.push(b'_')?;
+    push_hex_list(text, algorithms)
 }
 
 /// Adds the second and the third part, each behind `_`.
@@ -130,16 +154,20 @@ fn add_parts(text: &mut String, second: &str, third: &str) -> Result<(), AllocEr
 }
 
 impl ClientHelloParts<'_> {
-    /// The first part.
-    fn ja4_front(&self, alloc: Global, transport: Transport) -> Result<String, AllocError>
-        ensures { IfOk result (λ text. string_bytes text ≡ ja4_front_of transport (view_client self.now)) }
+    /// The first part, of so many suites and types of extensions.
+    fn ja4_front(
+        &self,
+        alloc: Global,
+        transport: Transport,
+        suites: usize,
+        types: usize,
+    ) -> Result<String, AllocError>
+        ensures { IfOk result (λ text. string_bytes text ≡ ja4_front_with transport (view_client self.now) suites types) }
     {
         let version = match best_version(self.version, self.ext) {
             Ok(version) => version,
             Err(_) => None,
         };
-        let suites = kept(alloc, Items::new(self.ciphers.bytes()))?;
-        let types = kept_types(alloc, extension_types(self.ext))?;
         let mut text = String::with_capacity(alloc, JA4_LEN)?;
         text.push_str(transport.letter())?;
         text.push_str(version_text(version))?;
@@ -147,28 +175,55 @@ impl ClientHelloParts<'_> {
             Some(_) => 'd',
             None => 'i',
         })?;
-        add_two_digits(&mut text, suites.len())?;
-        add_two_digits(&mut text, types.len())?;
+        add_two_digits(&mut text, suites)?;
+        add_two_digits(&mut text, types)?;
         add_protocol(&mut text, self.ext)?;
         Ok(text)
     }
 
-    /// What the second part is made of.
+    /// The suites that count.
+    fn kept_suites(&self, alloc: Global) -> Result<Vec<u16>, AllocError>
+        ensures { IfOk result (λ v. v.items ≡ without_grease (view_client self.now).suites) }
+    {
+        kept(alloc, Items::new(self.ciphers.bytes()))
+    }
+
+    /// The types of extensions that count.
+    fn kept_types(&self, alloc: Global) -> Result<Vec<u16>, AllocError>
+        ensures { IfOk result (λ v. v.items ≡ without_grease (types_in (view_client self.now).extensions)) }
+    {
+        kept_types(alloc, extension_types(self.ext))
+    }
+
+    /// What the third part is made of, of the types that count.
+    fn types_text(&self, alloc: Global, types: Vec<u16>) -> Result<Vec<u8>, AllocError>
+        ensures { IfOk result (λ text. text.items ≡ with_algorithms (hex_list (rising (other_types types.items)))
+            (without_grease (algorithms_in (view_client self.now).extensions))) }
+    {
+        let mut types = types;
+        leave_told(&mut types);
+        let mut text = rising_text(alloc, types)?;
+        let algorithms = kept(alloc, algorithms(self.ext))?;
+        push_algorithms(&mut text, algorithms.as_slice())?;
+        Ok(text)
+    }
+
+    /// What the second part is made of, as a text that is shown.
     fn ja4_suites(&self, alloc: Global) -> Result<String, AllocError>
         ensures { IfOk result (λ text. string_bytes text ≡ ja4_suites_of (view_client self.now)) }
     {
-        let mut suites = kept(alloc, Items::new(self.ciphers.bytes()))?;
+        let mut suites = self.kept_suites(alloc)?;
         rise(&mut suites);
         let mut text = String::with_capacity(alloc, TEXT_LEN)?;
         add_hex_list(&mut text, suites.as_slice())?;
         Ok(text)
     }
 
-    /// What the third part is made of.
+    /// What the third part is made of, as a text that is shown.
     fn ja4_types(&self, alloc: Global) -> Result<String, AllocError>
         ensures { IfOk result (λ text. string_bytes text ≡ ja4_types_of (view_client self.now)) }
     {
-        let mut types = kept_types(alloc, extension_types(self.ext))?;
+        let mut types = self.kept_types(alloc)?;
         leave_told(&mut types);
         rise(&mut types);
         let algorithms = kept(alloc, algorithms(self.ext))?;
@@ -187,7 +242,8 @@ impl ClientHelloParts<'_> {
     pub fn ja4_text(&self, alloc: Global, transport: Transport) -> Result<String, AllocError>
         ensures { IfOk result (λ text. string_bytes text ≡ ja4_text_of transport (view_client self.now)) }
     {
-        let mut text = self.ja4_front(alloc, transport)?;
+        let (suites, types) = (self.kept_suites(alloc)?, self.kept_types(alloc)?);
+        let mut text = self.ja4_front(alloc, transport, suites.len(), types.len())?;
         let suites = self.ja4_suites(alloc)?;
         let types = self.ja4_types(alloc)?;
         add_parts(&mut text, suites.as_str(), types.as_str())?;
@@ -202,12 +258,26 @@ impl ClientHelloParts<'_> {
     pub fn ja4(&self, alloc: Global, transport: Transport) -> Result<String, AllocError>
         ensures { IfOk result (λ text. string_bytes text ≡ ja4_of transport (view_client self.now)) }
     {
-        let mut text = self.ja4_front(alloc, transport)?;
-        let suites = self.ja4_suites(alloc)?;
-        let suites = short_digest(alloc, suites.as_str())?;
-        let types = self.ja4_types(alloc)?;
-        let types = short_digest(alloc, types.as_str())?;
-        add_parts(&mut text, suites.as_str(), types.as_str())?;
+        self.ja4_with(alloc, transport, &mut KnownDigests::new(alloc))
+    }
+
+    /// The same, in which digests that are known aren't made again.
+    ///
+    /// `AllocError` where it could not be held.
+    pub fn ja4_with(
+        &self,
+        alloc: Global,
+        transport: Transport,
+        known: &mut KnownDigests,
+    ) -> Result<String, AllocError>
+        ensures { IfOk result (λ text. string_bytes text ≡ ja4_of transport (view_client self.now)) }
+    {
+        let (suites, types) = (self.kept_suites(alloc)?, self.kept_types(alloc)?);
+        let mut text = self.ja4_front(alloc, transport, suites.len(), types.len())?;
+        text.push('_')?;
+        known.add_digits(alloc, &mut text, rising_text(alloc, suites)?)?;
+        text.push('_')?;
+        known.add_digits(alloc, &mut text, self.types_text(alloc, types)?)?;
         Ok(text)
     }
 }

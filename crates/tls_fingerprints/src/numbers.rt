@@ -5,7 +5,7 @@ ghost use Rattle.std.specs.String.{string_bytes};
 ghost use Rattle.layouts.specs.Items.{items_in};
 ghost use Rattle.layouts.specs.Layout.{number};
 ghost use Rattle.tls_ext.specs.InPlace.{extension_type};
-ghost use Rattle.tls_fingerprints.specs.Numbers.{four_digits, hex_digit as hex_digit_of, hex_list, is_grease as is_grease_number, rising, without_grease};
+ghost use Rattle.tls_fingerprints.specs.Numbers.{four_digits as four_digits_of, hex_digit as hex_digit_of, hex_list, is_grease as is_grease_number, rising, without_grease};
 
 use itoa::{Buffer, Integer};
 use layouts::Items;
@@ -95,9 +95,49 @@ pub(crate) fn hex_digit(digit: u8) -> char
     }
 }
 
+/// The four hexadecimal digits of a number.
+pub(crate) fn four_digits(n: u16) -> [u8; 4]
+    ensures { result ≡ four_digits_of n }
+{
+    [
+        hex_digit((n / 4096) as u8) as u8,
+        hex_digit((n / 256 % 16) as u8) as u8,
+        hex_digit((n / 16 % 16) as u8) as u8,
+        hex_digit((n % 16) as u8) as u8,
+    ]
+}
+
+/// The same behind a byte.
+pub(crate) fn led_digits(lead: u8, n: u16) -> [u8; 5]
+    ensures { result ≡ lead ∷ four_digits_of n }
+{
+    [
+        lead,
+        hex_digit((n / 4096) as u8) as u8,
+        hex_digit((n / 256 % 16) as u8) as u8,
+        hex_digit((n / 16 % 16) as u8) as u8,
+        hex_digit((n % 16) as u8) as u8,
+    ]
+}
+
+/// Adds numbers by their four hexadecimal digits, with `,` between each two, to a text that is digested. Such a text is made of bytes, which are copied five at a time.
+#[tactic(auto, using(crate::proofs::JoinLemmas::each_next))]
+pub(crate) fn push_hex_list(text: &mut Vec<u8>, numbers: &[u16]) -> Result<(), AllocError>
+    ensures { OnOk result (text.new.items ≡ text.old.items ++ hex_list numbers.now) }
+{
+    let Some((first, others)) = numbers.split_first() else {
+        return Ok(());
+    };
+    text.extend_from_slice(&four_digits(*first))?;
+    for n in others {
+        text.extend_from_slice(&led_digits(b',', *n))?;
+    }
+    Ok(())
+}
+
 /// Adds a number by its four hexadecimal digits.
 fn add_four_digits(text: &mut String, n: u16) -> Result<(), AllocError>
-    ensures { OnOk result (string_bytes text.new ≡ string_bytes text.old ++ four_digits n) }
+    ensures { OnOk result (string_bytes text.new ≡ string_bytes text.old ++ four_digits_of n) }
 {
     text.push(hex_digit((n / 4096) as u8))?;
     text.push(hex_digit((n / 256 % 16) as u8))?;
