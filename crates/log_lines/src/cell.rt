@@ -1,11 +1,9 @@
 //! What stands in a line.
-use crate::json_writer::{Json, WriteJson};
 use crate::lists::{Numbers, Texts};
 use crate::names::{kind_name, sender_name};
 use crate::speech::Body;
 use crate::text::Text;
-use serde::Serialize;
-use std::alloc::AllocError;
+use serde::{Described, Serialize, Serializer};
 use std::num::nearest_u64_to_f64;
 use tls_flow::Stop;
 
@@ -16,30 +14,22 @@ pub struct Seconds {
     pub microseconds: u64,
 }
 
-impl WriteJson for Seconds {
-    fn write_json(&self, out: &mut Json) -> Result<(), AllocError> {
-        out.float(nearest_u64_to_f64(self.microseconds) / 1_000_000.0)
+impl Described for Seconds {}
+
+impl Serialize for Seconds {
+    fn serialize<S: Serializer>(&self, out: &mut S) -> Result<(), S::Error> {
+        let seconds = nearest_u64_to_f64(self.microseconds) / 1_000_000.0;
+        seconds.serialize(out)
     }
 }
 
 /// A fingerprint, as Suricata has it.
-#[derive(Drop)]
+#[derive(Drop, Serialize)]
 pub struct PrintCell {
     /// The fingerprint.
     pub hash: String,
     /// The text of which it is the digest.
     pub string: String,
-}
-
-impl WriteJson for PrintCell {
-    fn write_json(&self, out: &mut Json) -> Result<(), AllocError> {
-        out.begin_object()?;
-        out.name("hash")?;
-        out.string(self.hash.as_str())?;
-        out.name("string")?;
-        out.string(self.string.as_str())?;
-        out.end_object()
-    }
 }
 
 /// What a field says. It is small, since each call hands it on by value: what is in a connection is lent, and what is large and held here is boxed.
@@ -68,41 +58,32 @@ pub enum Cell<'a> {
 }
 
 /// The kind of message, who sent it, and how many messages of both sides stand in front of it.
-impl WriteJson for Stop {
-    fn write_json(&self, out: &mut Json) -> Result<(), AllocError> {
-        out.begin_object()?;
-        out.name("message")?;
-        out.string(kind_name(self.event.symbol.kind))?;
-        out.name("sender")?;
-        out.string(sender_name(self.event.symbol.direction))?;
-        out.name("messages_before")?;
-        out.number(self.place)?;
-        out.end_object()
-    }
+fn serialize_stop<S: Serializer>(stop: Stop, out: &mut S) -> Result<(), S::Error> {
+    out.begin_map(None)?;
+    out.key("message")?;
+    out.str(kind_name(stop.event.symbol.kind))?;
+    out.key("sender")?;
+    out.str(sender_name(stop.event.symbol.direction))?;
+    out.key("messages_before")?;
+    out.u64(stop.place)?;
+    out.end_map()
 }
 
-impl WriteJson for Body {
-    fn write_json(&self, out: &mut Json) -> Result<(), AllocError> {
-        match self.serialize(out) {
-            Ok(()) => Ok(()),
-            Err(_) => Err(AllocError),
-        }
-    }
-}
+impl Described for Cell<'_> {}
 
-impl WriteJson for Cell<'_> {
-    fn write_json(&self, out: &mut Json) -> Result<(), AllocError> {
+impl Serialize for Cell<'_> {
+    fn serialize<S: Serializer>(&self, out: &mut S) -> Result<(), S::Error> {
         match self {
-            Cell::Text(text) => text.write_json(out),
-            Cell::Number(n) => out.number(*n),
-            Cell::Whole(n) => out.number(*n),
-            Cell::Seconds(seconds) => seconds.write_json(out),
-            Cell::Mark(mark) => out.boolean(*mark),
-            Cell::Texts(texts) => texts.write_json(out),
-            Cell::Numbers(numbers) => numbers.write_json(out),
-            Cell::Stop(stop) => stop.write_json(out),
-            Cell::Print(print) => print.write_json(out),
-            Cell::Message(body) => body.write_json(out),
+            Cell::Text(text) => text.serialize(out),
+            Cell::Number(n) => out.u64(*n),
+            Cell::Whole(n) => out.i64(*n),
+            Cell::Seconds(seconds) => seconds.serialize(out),
+            Cell::Mark(mark) => out.bool(*mark),
+            Cell::Texts(texts) => texts.serialize(out),
+            Cell::Numbers(numbers) => numbers.serialize(out),
+            Cell::Stop(stop) => serialize_stop(*stop, out),
+            Cell::Print(print) => print.serialize(out),
+            Cell::Message(body) => body.serialize(out),
         }
     }
 }
@@ -114,13 +95,15 @@ pub struct Row<'a> {
     pub cells: Vec<(&'static str, Option<Cell<'a>>)>,
 }
 
+impl Described for Row<'_> {}
+
 impl Row<'_> {
-    /// Writes each field that isn't missing.
-    pub fn write_fields(&self, out: &mut Json) -> Result<(), AllocError> {
+    /// Sends each field that isn't missing.
+    pub fn serialize_fields<S: Serializer>(&self, out: &mut S) -> Result<(), S::Error> {
         for (name, cell) in &self.cells {
             if let Some(cell) = cell {
-                out.name(name)?;
-                cell.write_json(out)?;
+                out.key(name)?;
+                cell.serialize(out)?;
             }
         }
         Ok(())
@@ -128,10 +111,10 @@ impl Row<'_> {
 }
 
 /// An object, in which what is missing is left out.
-impl WriteJson for Row<'_> {
-    fn write_json(&self, out: &mut Json) -> Result<(), AllocError> {
-        out.begin_object()?;
-        self.write_fields(out)?;
-        out.end_object()
+impl Serialize for Row<'_> {
+    fn serialize<S: Serializer>(&self, out: &mut S) -> Result<(), S::Error> {
+        out.begin_map(None)?;
+        self.serialize_fields(out)?;
+        out.end_map()
     }
 }

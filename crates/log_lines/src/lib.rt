@@ -11,7 +11,6 @@ mod chains;
 mod columns;
 mod fields;
 mod hellos;
-mod json_writer;
 mod line;
 mod lists;
 mod names;

@@ -1,11 +1,10 @@
 //! Lists in a line. They are walked where they are written.
 use crate::cell::Cell;
-use crate::json_writer::{Json, WriteJson};
 use crate::suites::Suites;
 use crate::text::{Text, extension, group, version};
 use layouts::{Counted1, InPlace, Items};
+use serde::{Described, Serialize, Serializer};
 use ssl2_hello::CipherSpec;
-use std::alloc::AllocError;
 use tls_base::{NamedGroup, TlsCipherSuiteID, TlsVersion};
 use tls_ext::{ExtensionType, KeyShareEntry};
 use tls_summary::CertificateSummary;
@@ -173,13 +172,17 @@ impl Texts<'_> {
     }
 }
 
-/// Each text is the next value.
-impl TakesTexts for Json {
-    type Error = AllocError;
+/// Sends each text as one of a sequence.
+#[derive(Drop)]
+struct Sends<'a, S> {
+    out: &'a mut S,
+}
 
-    #[inline(always)]
-    fn take_text(&mut self, text: &Text<'_>) -> Result<(), AllocError> {
-        text.write_json(self)
+impl<S: Serializer> TakesTexts for Sends<'_, S> {
+    type Error = S::Error;
+
+    fn take_text(&mut self, text: &Text<'_>) -> Result<(), S::Error> {
+        text.serialize(&mut *self.out)
     }
 }
 
@@ -191,11 +194,13 @@ pub fn some_texts(texts: Texts<'_>) -> Option<Cell<'_>> {
     Some(Cell::Texts(texts))
 }
 
-impl WriteJson for Texts<'_> {
-    fn write_json(&self, out: &mut Json) -> Result<(), AllocError> {
-        out.begin_array()?;
-        self.hand(out)?;
-        out.end_array()
+impl Described for Texts<'_> {}
+
+impl Serialize for Texts<'_> {
+    fn serialize<S: Serializer>(&self, out: &mut S) -> Result<(), S::Error> {
+        out.begin_seq(None)?;
+        self.hand(&mut Sends { out: &mut *out })?;
+        out.end_seq()
     }
 }
 
@@ -238,14 +243,16 @@ pub fn some_numbers(numbers: Numbers<'_>) -> Option<Cell<'_>> {
     Some(Cell::Numbers(numbers))
 }
 
-impl WriteJson for Numbers<'_> {
-    fn write_json(&self, out: &mut Json) -> Result<(), AllocError> {
-        out.begin_array()?;
+impl Described for Numbers<'_> {}
+
+impl Serialize for Numbers<'_> {
+    fn serialize<S: Serializer>(&self, out: &mut S) -> Result<(), S::Error> {
+        out.begin_seq(None)?;
         for place in 0..self.len() {
             if let Some(number) = self.get(place) {
-                out.number(number)?;
+                out.u64(number)?;
             }
         }
-        out.end_array()
+        out.end_seq()
     }
 }

@@ -1,19 +1,19 @@
-//! Objects of lines as JSON, and what messages say in it.
-use crate::json_writer::{Json, WriteJson};
-use serde::{Case, NameKind, Serializer};
+//! Values as JSON.
+use json::Writer;
+use serde::{Case, NameKind, Serialize, Serializer};
 use std::alloc::{AllocError, Global};
-use std::fmt::Display;
+use std::fmt::{Display, Write};
 
 /// Most lines of JSON are no longer than so many bytes.
 pub const LINE_LEN: usize = 4096;
 
 /// Why a value isn't written.
 #[derive(Clone, Copy)]
-pub enum Refusal {
+enum Refusal {
     /// Memory ran out.
     OutOfMemory,
-    /// It is of a kind that no message has: a number of 128 bits or of single precision, an object within another's braces, or one with keys that are no names.
-    NotOfMessages,
+    /// It is of a kind that no line has: a number of 128 bits, an object within another's braces, or one with keys that are no names.
+    NotOfLines,
 }
 
 impl From<AllocError> for Refusal {
@@ -22,134 +22,187 @@ impl From<AllocError> for Refusal {
     }
 }
 
-/// A name in that case.
-fn name_text(alloc: Global, name: &str, case: Case, kind: NameKind) -> Result<String, AllocError> {
-    let mut text = String::new(alloc);
-    case.append(kind, name, &mut text)?;
-    Ok(text)
+/// Writes values of lines as JSON, as `serde_json` does. Its refusal is small, since each call hands it on by value.
+#[derive(Drop)]
+struct Json {
+    out: Writer,
+    // Room for a text that is put together.
+    room: String,
 }
 
-/// Writes messages, as `serde_json` does. The refusal is small, since each call hands it on by value.
+impl Json {
+    /// A name in that case: the key of a field, or a text.
+    fn name(
+        &mut self,
+        name: &str,
+        case: Case,
+        kind: NameKind,
+        is_key: bool,
+    ) -> Result<(), Refusal> {
+        self.room.clear();
+        case.append(kind, name, &mut self.room)?;
+        if is_key {
+            self.out.key(self.room.as_str())?;
+        } else {
+            self.out.string(self.room.as_str())?;
+        }
+        Ok(())
+    }
+}
+
 impl Serializer for Json {
     type Error = Refusal;
 
     fn bool(&mut self, v: bool) -> Result<(), Refusal> {
-        self.boolean(v)?;
+        self.out.boolean(v)?;
         Ok(())
     }
 
     fn i64(&mut self, v: i64) -> Result<(), Refusal> {
-        self.number(v)?;
+        self.out.i64(v)?;
         Ok(())
     }
 
     fn u64(&mut self, v: u64) -> Result<(), Refusal> {
-        self.number(v)?;
+        self.out.u64(v)?;
         Ok(())
     }
 
     fn i128(&mut self, _v: i128) -> Result<(), Refusal> {
-        Err(Refusal::NotOfMessages)
+        Err(Refusal::NotOfLines)
     }
 
     fn u128(&mut self, _v: u128) -> Result<(), Refusal> {
-        Err(Refusal::NotOfMessages)
+        Err(Refusal::NotOfLines)
     }
 
-    fn f32(&mut self, _v: f32) -> Result<(), Refusal> {
-        Err(Refusal::NotOfMessages)
+    fn f32(&mut self, v: f32) -> Result<(), Refusal> {
+        if v.is_finite() {
+            self.out.float_with_plus(v)?;
+        } else {
+            self.out.null()?;
+        }
+        Ok(())
     }
 
     fn f64(&mut self, v: f64) -> Result<(), Refusal> {
-        self.float(v)?;
+        if v.is_finite() {
+            self.out.float_with_plus(v)?;
+        } else {
+            self.out.null()?;
+        }
         Ok(())
     }
 
     fn char(&mut self, v: char) -> Result<(), Refusal> {
-        self.shown(&v)?;
+        self.room.clear();
+        self.room.push(v)?;
+        self.out.string(self.room.as_str())?;
         Ok(())
     }
 
     fn str(&mut self, v: &str) -> Result<(), Refusal> {
-        self.string(v)?;
+        self.out.string(v)?;
         Ok(())
     }
 
     fn bytes(&mut self, v: &[u8]) -> Result<(), Refusal> {
-        self.begin_array()?;
+        self.out.begin_array()?;
         for byte in v {
-            self.number(*byte)?;
+            self.out.u64(u64::from(*byte))?;
         }
-        self.end_array()?;
+        self.out.end_array()?;
         Ok(())
     }
 
     fn unit(&mut self) -> Result<(), Refusal> {
-        self.null()?;
+        self.out.null()?;
         Ok(())
     }
 
     fn str_cased(&mut self, name: &str, case: Case) -> Result<(), Refusal> {
-        let text = name_text(self.alloc, name, case, NameKind::Variant)?;
-        self.string(text.as_str())?;
-        Ok(())
+        self.name(name, case, NameKind::Variant, false)
     }
 
     fn begin_seq(&mut self, _len: Option<usize>) -> Result<(), Refusal> {
-        self.begin_array()?;
+        self.out.begin_array()?;
         Ok(())
     }
 
     fn end_seq(&mut self) -> Result<(), Refusal> {
-        self.end_array()?;
+        self.out.end_array()?;
         Ok(())
     }
 
     fn begin_map(&mut self, _len: Option<usize>) -> Result<(), Refusal> {
-        self.begin_object()?;
+        self.out.begin_object()?;
         Ok(())
     }
 
     fn end_map(&mut self) -> Result<(), Refusal> {
-        self.end_object()?;
+        self.out.end_object()?;
         Ok(())
     }
 
     fn key_cased(&mut self, name: &str, case: Case) -> Result<(), Refusal> {
         if let Case::AsIs = case {
-            Json::key(self, name)?;
+            self.out.key(name)?;
             return Ok(());
         }
-        let text = name_text(self.alloc, name, case, NameKind::Field)?;
-        Json::key(self, text.as_str())?;
-        Ok(())
+        self.name(name, case, NameKind::Field, true)
     }
 
     fn variant_key(&mut self, name: &str, case: Case) -> Result<(), Refusal> {
-        let text = name_text(self.alloc, name, case, NameKind::Variant)?;
-        Json::key(self, text.as_str())?;
-        Ok(())
+        self.name(name, case, NameKind::Variant, true)
     }
 
     fn begin_key(&mut self) -> Result<(), Refusal> {
-        Err(Refusal::NotOfMessages)
+        Err(Refusal::NotOfLines)
     }
 
     fn end_key(&mut self) -> Result<(), Refusal> {
-        Err(Refusal::NotOfMessages)
+        Err(Refusal::NotOfLines)
     }
 
     fn flatten_next(&mut self) -> Result<(), Refusal> {
-        Err(Refusal::NotOfMessages)
+        Err(Refusal::NotOfLines)
     }
 
     fn custom(&self, _message: &str) -> Refusal {
-        Refusal::NotOfMessages
+        Refusal::NotOfLines
     }
 
     fn collect_str<T: Display>(&mut self, value: &T) -> Result<(), Refusal> {
-        self.shown(value)?;
+        self.room.clear();
+        if write!(self.room, "{value}").is_err() {
+            return Err(Refusal::OutOfMemory);
+        }
+        self.out.string(self.room.as_str())?;
         Ok(())
+    }
+}
+
+/// What failed for memory alone: a line has no value of another kind.
+fn in_memory<T: Drop>(written: Result<T, Refusal>) -> Result<T, AllocError> {
+    match written {
+        Ok(value) => Ok(value),
+        Err(_) => Err(AllocError),
+    }
+}
+
+impl Json {
+    /// One that wrote nothing, in which so many bytes have room at first.
+    fn new(alloc: Global, room: usize) -> Result<Json, AllocError> {
+        Ok(Json {
+            out: Writer::new(Vec::with_capacity(alloc, room)?),
+            room: String::new(alloc),
+        })
+    }
+
+    /// What was written.
+    fn into_bytes(self) -> Vec<u8> {
+        let Json { out, .. } = self;
+        out.into_inner()
     }
 }
 
@@ -163,37 +216,37 @@ impl Object {
     /// One without fields, in which so many bytes have room at first.
     pub fn new(alloc: Global, room: usize) -> Result<Object, AllocError> {
         let mut json = Json::new(alloc, room)?;
-        json.begin_object()?;
+        in_memory(json.begin_map(None))?;
         Ok(Object { json })
     }
 
-    /// Adds a field by its name.
-    pub fn add<T: WriteJson>(&mut self, name: &str, value: &T) -> Result<(), AllocError> {
-        self.json.name(name)?;
-        value.write_json(&mut self.json)
+    /// Adds a field.
+    pub fn add<T: Serialize>(&mut self, name: &str, value: &T) -> Result<(), AllocError> {
+        in_memory(self.json.key(name))?;
+        in_memory(value.serialize(&mut self.json))
     }
 
     /// The object as JSON.
     pub fn into_bytes(self) -> Result<Vec<u8>, AllocError> {
         let mut json = self.json;
-        json.end_object()?;
+        in_memory(json.end_map())?;
         Ok(json.into_bytes())
     }
 }
 
 /// A value as JSON, in which so many bytes have room at first.
-pub fn json_bytes<T: WriteJson>(
+pub fn json_bytes<T: Serialize>(
     alloc: Global,
     value: &T,
     room: usize,
 ) -> Result<Vec<u8>, AllocError> {
     let mut json = Json::new(alloc, room)?;
-    value.write_json(&mut json)?;
+    in_memory(value.serialize(&mut json))?;
     Ok(json.into_bytes())
 }
 
 /// The same as text.
-pub fn json_text<T: WriteJson>(
+pub fn json_text<T: Serialize>(
     alloc: Global,
     value: &T,
     room: usize,

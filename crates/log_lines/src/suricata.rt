@@ -2,7 +2,6 @@
 use crate::cell::{Cell, PrintCell, Row};
 use crate::columns::Certified;
 use crate::fields::{End, Field, Named, Offer, Print};
-use crate::json_writer::{Json, WriteJson};
 use crate::line::{cell_of, end_cell, microseconds};
 use crate::lists::Texts;
 use crate::names::suricata_version;
@@ -13,6 +12,7 @@ use crate::text::{Text, add_text, hexadecimal, name_cell, name_or_number, some_m
 use crate::told::{Moment, Told};
 use connection_ids::flow_id;
 use connections::Protocol;
+use serde::{Described, Serialize, Serializer};
 use sha1::Sha1;
 use std::alloc::{AllocError, Global};
 use tls_summary::HandshakeSummary;
@@ -64,13 +64,15 @@ struct Event<'a> {
     tls: Row<'a>,
 }
 
-impl WriteJson for Event<'_> {
-    fn write_json(&self, out: &mut Json) -> Result<(), AllocError> {
-        out.begin_object()?;
-        self.front.write_fields(out)?;
-        out.name("tls")?;
-        self.tls.write_json(out)?;
-        out.end_object()
+impl Described for Event<'_> {}
+
+impl Serialize for Event<'_> {
+    fn serialize<S: Serializer>(&self, out: &mut S) -> Result<(), S::Error> {
+        out.begin_map(None)?;
+        self.front.serialize_fields(out)?;
+        out.key("tls")?;
+        self.tls.serialize(out)?;
+        out.end_map()
     }
 }
 

@@ -1,7 +1,7 @@
 //! How texts are written: names of ours, numbers in hexadecimal, and what a peer sent.
 use crate::cell::Cell;
-use crate::json_writer::{Json, WriteJson};
 use crate::names::zeek_version;
+use serde::{Described, Serialize, Serializer};
 use std::alloc::{AllocError, Global};
 use std::fmt::{self, Display, Formatter};
 use std::net::IpAddr;
@@ -14,8 +14,6 @@ const PIECE: usize = 32;
 /// A text, by what it is made of. It is put together where it is written.
 #[derive(Drop)]
 pub enum Text<'a> {
-    /// A name of ours, or of a registry: nothing in it is escaped, in whatever form a line has.
-    Name(&'static str),
     /// One that stands so.
     Plain(&'a str),
     /// The same, held here.
@@ -43,15 +41,12 @@ fn is_plain(byte: u8) -> bool {
     matches!(byte, b' '..=b'~') && !matches!(byte, b'\\' | b'\'' | b'"')
 }
 
-/// Whether none of the bytes is escaped.
-fn are_plain(bytes: &[u8]) -> bool {
-    bytes.iter().all(|byte| is_plain(*byte))
-}
-
 /// The text that the bytes are, if none of them is escaped.
 fn plain_text(bytes: &[u8]) -> Option<&str> {
-    if !are_plain(bytes) {
-        return None;
+    for byte in bytes {
+        if !is_plain(*byte) {
+            return None;
+        }
     }
     match str::from_utf8(bytes) {
         Ok(text) => Some(text),
@@ -109,7 +104,6 @@ fn write_scheme<W: fmt::Write>(f: &mut Formatter<W>, scheme: u16) -> fmt::Result
 impl Display for Text<'_> {
     fn fmt<W: fmt::Write>(&self, f: &mut Formatter<W>) -> fmt::Result {
         match self {
-            Text::Name(name) => f.write_str(name),
             Text::Plain(text) => f.write_str(text),
             Text::Owned(text) => f.write_str(text.as_str()),
             Text::Code(code) => write_code(f, *code),
@@ -131,7 +125,6 @@ impl Text<'_> {
     /// The text, where nothing is to be put together.
     pub fn as_plain(&self) -> Option<&str> {
         match self {
-            Text::Name(name) => Some(*name),
             Text::Plain(text) => Some(*text),
             Text::Owned(text) => Some(text.as_str()),
             Text::Escaped(bytes) => plain_text(bytes),
@@ -140,36 +133,42 @@ impl Text<'_> {
     }
 }
 
-/// Writes a signature scheme.
-fn write_scheme_json(scheme: u16, out: &mut Json) -> Result<(), AllocError> {
-    match SignatureScheme(scheme).registered_name() {
-        Some(name) => out.plain(name.as_bytes()),
-        None => out.code(scheme),
+impl Described for Text<'_> {}
+
+/// Sends a number of 2 bytes: there are many in a line, so it isn't put together in the room for other texts.
+fn serialize_code<S: Serializer>(code: u16, out: &mut S) -> Result<(), S::Error> {
+    match str::from_utf8(&code_text(code)) {
+        Ok(text) => out.str(text),
+        Err(_) => out.collect_str(&Text::Code(code)),
     }
 }
 
-impl WriteJson for Text<'_> {
-    // Inlined, so that a list of one kind is written by a loop of its own.
-    #[inline(always)]
-    fn write_json(&self, out: &mut Json) -> Result<(), AllocError> {
+/// Sends a signature scheme.
+fn serialize_scheme<S: Serializer>(scheme: u16, out: &mut S) -> Result<(), S::Error> {
+    match SignatureScheme(scheme).registered_name() {
+        Some(name) => out.str(name),
+        None => serialize_code(scheme, out),
+    }
+}
+
+impl Serialize for Text<'_> {
+    fn serialize<S: Serializer>(&self, out: &mut S) -> Result<(), S::Error> {
         match self {
-            Text::Name(name) => out.plain(name.as_bytes()),
-            Text::Plain(text) => out.string(text),
-            Text::Owned(text) => out.string(text.as_str()),
-            Text::Code(code) => out.code(*code),
-            Text::Digits(bytes) => out.digits(bytes),
-            Text::Escaped(bytes) if are_plain(bytes) => out.plain(bytes),
-            Text::Scheme(scheme) => write_scheme_json(*scheme, out),
-            Text::Address(IpAddr::V4(address)) => out.address(*address),
-            _ => out.shown(self),
+            Text::Code(code) => return serialize_code(*code, out),
+            Text::Scheme(scheme) => return serialize_scheme(*scheme, out),
+            _ => {}
+        }
+        match self.as_plain() {
+            Some(text) => out.str(text),
+            None => out.collect_str(self),
         }
     }
 }
 
 /// The name, or else the number.
-pub fn name_or_number<'a>(name: Option<&'static str>, n: u16) -> Text<'a> {
+pub fn name_or_number<'a>(name: Option<&'a str>, n: u16) -> Text<'a> {
     match name {
-        Some(name) => Text::Name(name),
+        Some(name) => Text::Plain(name),
         None => Text::Code(n),
     }
 }
@@ -196,13 +195,13 @@ pub fn some_text<'a>(text: Result<String, AllocError>) -> Result<Option<Cell<'a>
 
 /// A name of ours.
 pub fn name_cell<'a>(name: &'static str) -> Cell<'a> {
-    Cell::Text(Text::Name(name))
+    Cell::Text(Text::Plain(name))
 }
 
 /// A name of ours, where there is one.
 pub fn some_name<'a>(name: Option<&'static str>) -> Option<Cell<'a>> {
     match name {
-        Some(name) => Some(Cell::Text(Text::Name(name))),
+        Some(name) => Some(Cell::Text(Text::Plain(name))),
         None => None,
     }
 }

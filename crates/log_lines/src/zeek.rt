@@ -218,16 +218,21 @@ fn plain_text(alloc: Global, cell: &Cell<'_>) -> Result<String, AllocError> {
 }
 
 /// Adds what a field says; what has fields of its own as JSON.
-fn add_cell(alloc: Global, line: &mut String, cell: &Cell<'_>) -> Result<(), AllocError> {
+fn add_cell(alloc: Global, line: &mut String, cell: &Option<Cell<'_>>) -> Result<(), AllocError> {
     match cell {
-        Cell::Text(text) => add_shown(alloc, line, text, false),
-        Cell::Texts(texts) => add_texts(alloc, line, texts),
-        Cell::Numbers(numbers) => add_numbers(alloc, line, *numbers),
-        Cell::Stop(_) | Cell::Message(_) | Cell::Print(_) => {
-            let json = json_text(alloc, cell, LINE_LEN)?;
-            add_text(alloc, line, json.as_str(), false)
+        None => line.push_str(UNSET),
+        Some(Cell::Text(text)) => add_shown(alloc, line, text, false),
+        Some(Cell::Texts(texts)) => add_texts(alloc, line, texts),
+        Some(Cell::Numbers(numbers)) => add_numbers(alloc, line, *numbers),
+        Some(Cell::Stop(_) | Cell::Message(_) | Cell::Print(_)) => {
+            add_text(
+                alloc,
+                line,
+                json_text(alloc, cell, LINE_LEN)?.as_str(),
+                false,
+            )
         }
-        other => line.push_str(plain_text(alloc, other)?.as_str()),
+        Some(other) => line.push_str(plain_text(alloc, other)?.as_str()),
     }
 }
 
@@ -239,10 +244,7 @@ pub fn line(alloc: Global, row: &Row<'_>) -> Result<String, AllocError> {
         if !is_first {
             line.push('\t')?;
         }
-        match cell {
-            Some(cell) => add_cell(alloc, &mut line, cell)?,
-            None => line.push_str(UNSET)?,
-        }
+        add_cell(alloc, &mut line, cell)?;
         is_first = false;
     }
     Ok(line)
