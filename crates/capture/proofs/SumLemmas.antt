@@ -65,43 +65,6 @@ eight_bytes t n (a ∷ b ∷ c ∷ d ∷ e ∷ f ∷ g ∷ h ∷ ys) m p =
     (b + 256 * c + 65537 * d + 16777472 * e + 4295032833 * f + 1099528405248 * g + 281479271743489 * h) (omega (arith, p)))
 eight_bytes t n xs m p = absurd (omega arith)
 
--- The same, where the sums of the lower and of the upper halves are told apart.
-pub eight_halves : (l u n : ℕ) (xs : List ℕ) → 8 ≤ length xs
-    → n ≡ from_le_bytes w64 (get_or xs 0 0 ∷ get_or xs 1 0 ∷ get_or xs 2 0 ∷ get_or xs 3 0 ∷ get_or xs 4 0 ∷ get_or xs 5 0 ∷ get_or xs 6 0 ∷ get_or xs 7 0 ∷ [])
-    → ((l + n % 2 ^ 32 + (u + n / 2 ^ 32)) * 256 + words (take (length xs - 8) (drop 8 xs))) % 65535 ≡ ((l + u) * 256 + words xs) % 65535
-eight_halves l u n xs m p =
-    ap (λ (k : ℕ). (k * 256 + words (take (length xs - 8) (drop 8 xs))) % 65535) (omega arith) ∙ eight_bytes (l + u) n xs m p
-
--- The sum of so many numbers of 64 bits in front, as far as it fits in 64 bits, and that of their upper halves: the lower halves have a sum too.
-pub record Halves (whole upper count : ℕ) (rest bytes : List ℕ) : Type 0 where
-  pub lower : ℕ
-  pub is : whole ≡ (lower + 2 ^ 32 * upper) % 2 ^ 64
-  pub few : lower ≤ 2 ^ 32 * count
-  pub few_upper : upper ≤ 2 ^ 32 * count
-  pub same : ((lower + upper) * 256 + words rest) % 65535 ≡ words bytes % 65535
-
-pub no_halves : (bytes : List ℕ) → Halves 0 0 0 bytes bytes
-no_halves bytes = record {
-  lower = 0;
-  is = refl;
-  few = omega arith;
-  few_upper = omega arith;
-  same = ap (λ (n : ℕ). n % 65535) (omega arith);
-}
-
--- One number more.
-pub more_halves : (whole upper count n : ℕ) (rest bytes : List ℕ) → n < 2 ^ 64 → 8 ≤ length rest
-    → n ≡ from_le_bytes w64 (get_or rest 0 0 ∷ get_or rest 1 0 ∷ get_or rest 2 0 ∷ get_or rest 3 0 ∷ get_or rest 4 0 ∷ get_or rest 5 0 ∷ get_or rest 6 0 ∷ get_or rest 7 0 ∷ [])
-    → Halves whole upper count rest bytes
-    → Halves ((whole + n) % 2 ^ 64) (upper + n / 2 ^ 32) (count + 1) (take (length rest - 8) (drop 8 rest)) bytes
-more_halves whole upper count n rest bytes m long p h = record {
-  lower = h.lower + n % 2 ^ 32;
-  is = omega (arith, h.is);
-  few = omega (arith, h.few);
-  few_upper = omega (arith, h.few_upper, m);
-  same = eight_halves h.lower upper n rest long p ∙ h.same;
-}
-
 -- What is left behind of a multiple.
 same_scaled : (x y : ℕ) → x % 65535 ≡ y % 65535 → (x * 256) % 65535 ≡ (y * 256) % 65535
 same_scaled x y h = mul-mod x 256 65535 ∙ (ap (λ (k : ℕ). (k * (256 % 65535)) % 65535) h ∙ sym (mul-mod y 256 65535))

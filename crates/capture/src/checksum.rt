@@ -36,20 +36,17 @@ fn sum_of_eights(bytes: &[u8]) -> (u64, &[u8])
     ensures bound { result.0 < 2 ^ 50 }
     ensures shorter { length result.1.now < 8 ⊎ length result.1.now < length bytes.now }
 {
-    let (mut whole, mut upper) = (0_u64, 0_u64);
+    let mut sum = 0_u64;
     let mut rest = bytes;
     'eights: for _ in 0..MOST_EIGHTS {
         let [a, b, c, d, e, f, g, h, behind @ ..] = rest else {
             break;
         };
         let eight = u64::from_le_bytes([*a, *b, *c, *d, *e, *f, *g, *h]);
-        // (the sum of the lower halves isn't kept: without the upper ones it is what is left of the whole)
-        whole = whole.wrapping_add(eight);
-        upper += eight / 0x1_0000_0000;
+        sum += eight % 0x1_0000_0000 + eight / 0x1_0000_0000;
         rest = behind;
     }
-    let lower = whole.wrapping_sub(upper % 0x1_0000_0000 * 0x1_0000_0000);
-    (lower + upper, rest)
+    (sum, rest)
 }
 
 /// The sum of the words of these bytes, or a number that leaves the same behind when divided by 65,535.
