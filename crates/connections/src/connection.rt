@@ -1,6 +1,6 @@
 //! A connection of TCP, or an exchange over UDP.
 ghost use Rattle.std.specs.Prelude.{◌≡◌, ◌<◌, ◌≤◌, ◌^◌, IfOk, IfSome, IfNone, OnOk, OnErr, Some, true};
-ghost use Rattle.connections.specs.Connection.{adds_nothing as adds_none, confirms as confirms_answer, counted as counting, dropped_from, goes_on_behind, has_opening, held_by, hosts_from as hosts_at, hosts_of, is_closed, judgement_of, last_of, noting, part_by, sent_by, side_of, silent, start_of, stream_of, without_bytes, Accepts, Begins, ChangesCountsAlone, IsAnew, IsBegunBy, IsKept, LeavesOut, LeavesOutSyn, NoneWaits, Puts, PutsData, PutsSyn, Shows};
+ghost use Rattle.connections.specs.Connection.{adds_nothing as adds_none, confirms as confirms_answer, counted_from, dropped_from, goes_on_behind, has_opening, held_by, hosts_from as hosts_at, hosts_of, is_closed, judgement_from, judgement_of, last_of, noting_from, part_by, sent_by, side_of, silent, start_of, stream_of, without_bytes, Accepts, Begins, ChangesCountsAlone, IsAnew, IsBegunBy, IsKept, LeavesOut, LeavesOutSyn, NoneWaits, Puts, PutsData, PutsSyn, Shows};
 
 use crate::dropped::Dropped;
 use crate::five_tuple::{End, Protocol};
@@ -265,7 +265,13 @@ impl<T: Listener> Connection<T> {
     pub(crate) fn judge(&self, segment: &Segment<'_>) -> Judgement
         ensures { result ≡ judgement_of segment.now self.now }
     {
-        let side = self.side_of(segment.source);
+        self.judge_from(self.side_of(segment.source), segment)
+    }
+
+    /// The same of a segment of that side.
+    fn judge_from(&self, side: Side, segment: &Segment<'_>) -> Judgement
+        ensures { result ≡ judgement_from side segment.now self.now }
+    {
         let (sender, receiver) = self.hosts_from(side);
         judge(sender, receiver, self.stream(side).front(), segment)
     }
@@ -285,13 +291,20 @@ impl<T: Listener> Connection<T> {
     pub(crate) fn verdict(&self, segment: &Segment<'_>) -> Verdict
         ensures judgement { result.judgement ≡ judgement_of segment.now self.now }
     {
+        self.verdict_from(self.side_of(segment.source), segment)
+    }
+
+    /// The same of a segment of that side.
+    fn verdict_from(&self, side: Side, segment: &Segment<'_>) -> Verdict
+        ensures judgement { result.judgement ≡ judgement_from side segment.now self.now }
+    {
         let has_waiting = !self.waiting.is_empty();
-        let judgement = self.judge(segment);
+        let judgement = self.judge_from(side, segment);
         Verdict {
             judgement,
             begins_another: has_waiting && self.shows_another(segment),
             tells: has_waiting && self.is_heeded(segment, judgement),
-            shows_damage: self.shows_damage(segment.source, segment.checksum),
+            shows_damage: self.shows_damage(side, segment.checksum),
         }
     }
 
@@ -351,10 +364,10 @@ impl<T: Listener> Connection<T> {
         receiver.next.is_none() && sender.next.is_some() && is_first_behind(segment, asking)
     }
 
-    /// Whether a packet shows by its checksum that all that came before was damaged: none of it is of the other end, and none had a right one.
+    /// Whether a packet of that side shows by its checksum that all that came before was damaged: none of it is of the other end, and none had a right
+    /// one.
     #[inline(always)]
-    pub(crate) fn shows_damage(&self, sender: End, checksum: Checksum) -> bool {
-        let side = self.side_of(sender);
+    pub(crate) fn shows_damage(&self, side: Side, checksum: Checksum) -> bool {
         let (host, other) = match side {
             Side::Originator => (&self.originator_host, self.responder_sent),
             Side::Responder => (&self.responder_host, self.originator_sent),
@@ -549,14 +562,14 @@ impl<T: Listener> Connection<T> {
         }
     }
 
-    /// Notes what a segment says of its sender, unless the receiver has all of it.
-    fn note(&mut self, segment: &Segment<'_>, judgement: Judgement)
-        ensures noted { self.new ≡ noting judgement segment.now self.old }
+    /// Notes what a segment of that side says of its sender, unless the receiver has all of it.
+    fn note(&mut self, side: Side, segment: &Segment<'_>, judgement: Judgement)
+        ensures noted { self.new ≡ noting_from side judgement segment.now self.old }
         ensures weight { self.new.weight ≡ self.old.weight }
     {
         let is_new = judgement != Judgement::Again;
         let checksum = segment.checksum;
-        match self.side_of(segment.source) {
+        match side {
             Side::Originator => {
                 let wrong = self.originator_host.note_checksum(checksum);
                 self.originator_dropped.add_damaged(u64::from(wrong));
@@ -598,13 +611,13 @@ impl<T: Listener> Connection<T> {
         }
     }
 
-    /// Counts a segment, and notes its time.
-    fn count(&mut self, segment: &Segment<'_>)
-        ensures counted { self.new ≡ counting segment.now self.old }
+    /// Counts a segment of that side, and notes its time.
+    fn count(&mut self, side: Side, segment: &Segment<'_>)
+        ensures counted { self.new ≡ counted_from side segment.now self.old }
         ensures weight { self.new.weight ≡ self.old.weight }
     {
         self.last_time = segment.time;
-        match self.side_of(segment.source) {
+        match side {
             Side::Originator => self.originator_sent.add(segment.payload),
             Side::Responder => self.responder_sent.add(segment.payload),
         }
@@ -617,8 +630,9 @@ impl<T: Listener> Connection<T> {
         ensures left_out { OnErr result (LeavesOut segment.now self.old self.new) }
         ensures weight { self.new.weight ≡ self.old.weight }
     {
-        let judgement = self.judge(segment);
-        self.accept_judged(alloc, segment, judgement)
+        let side = self.side_of(segment.source);
+        let judgement = self.judge_from(side, segment);
+        self.accept_judged(alloc, side, segment, judgement)
     }
 
     /// The same where the segment's receiver takes it, or has it, and nothing is to be done before; else the connection stays as it is, and `Some` says
@@ -634,28 +648,31 @@ impl<T: Listener> Connection<T> {
         ensures left_out { OnErr result (LeavesOut segment.now self.old self.new) }
         ensures weight { self.new.weight ≡ self.old.weight }
     {
-        let verdict = self.verdict(segment);
+        let side = self.side_of(segment.source);
+        let verdict = self.verdict_from(side, segment);
         if !verdict.lets_in() {
             return Ok(Some(verdict));
         }
-        self.accept_judged(alloc, segment, verdict.judgement)?;
+        self.accept_judged(alloc, side, segment, verdict.judgement)?;
         Ok(None)
     }
 
-    /// Puts the segment into its sender's stream by what its receiver does with it.
+    /// Puts the segment of that side into its stream by what its receiver does with it.
     fn accept_judged(
         &mut self,
         alloc: Global,
+        side: Side,
         segment: &Segment<'_>,
         judgement: Judgement,
     ) -> Result<(), AllocError>
-        requires { judgement ≡ judgement_of segment.now self.old }
+        requires sent { side ≡ side_of self.old segment.now.source }
+        requires judged { judgement ≡ judgement_of segment.now self.old }
         ensures taken { OnOk result (Accepts segment.now self.old self.new) }
         ensures left_out { OnErr result (LeavesOut segment.now self.old self.new) }
         ensures weight { self.new.weight ≡ self.old.weight }
     {
-        self.count(segment);
-        self.note(segment, judgement);
+        self.count(side, segment);
+        self.note(side, segment, judgement);
         if segment.begins() {
             return self.put_syn(alloc, segment, judgement);
         }

@@ -85,7 +85,7 @@ impl<T: Listener> Connection<T> {
         ensures taken { TakesDatagramIn datagram.now self.old self.new }
         ensures weight { self.new.weight ≡ self.old.weight }
     {
-        if self.shows_damage(datagram.source, datagram.checksum) {
+        if self.shows_damage(self.side_of(datagram.source), datagram.checksum) {
             self.restart(alloc, datagram.time);
         }
         self.accept_datagram(datagram);
