@@ -75,6 +75,7 @@ enum Step {
 pub(crate) const AUTHENTICATION: u8 = 51;
 
 /// What stands in a datagram of IPv4 that isn't cut, behind an Authentication Header where there is one.
+#[inline(always)]
 fn protected(i: &[u8], protocol: u8) -> IResult<&[u8], Content>
     ensures { Gives view_content (protected_layout protocol) i.now result }
 {
@@ -96,6 +97,7 @@ pub(crate) fn whole_protected(i: &[u8], protocol: u8) -> IResult<&[u8], Content>
 }
 
 /// What a datagram of IPv4 holds.
+#[inline(always)]
 fn content_v4(i: &[u8], flags: u16, protocol: u8) -> IResult<&[u8], Content>
     ensures { Gives view_content (content_v4_layout flags protocol) i.now result }
 {
@@ -106,6 +108,7 @@ fn content_v4(i: &[u8], flags: u16, protocol: u8) -> IResult<&[u8], Content>
 }
 
 /// The same, where no further bytes belong to it.
+#[inline(always)]
 fn whole_v4(i: &[u8], flags: u16, protocol: u8) -> IResult<&[u8], Content>
     ensures { Gives view_content (complete (content_v4_layout flags protocol)) i.now result }
 {
@@ -117,7 +120,7 @@ fn whole_v4(i: &[u8], flags: u16, protocol: u8) -> IResult<&[u8], Content>
 
 /// The lengths of a header of IPv4 and of its datagram.
 #[tactic(auto, using(layouts::proofs::OneAnswerLemmas::read_allowed), unfolding(crate::specs::Ip::lengths_v4))]
-#[inline]
+#[inline(always)]
 pub(crate) fn lengths_v4(i: &[u8]) -> IResult<&[u8], LengthsV4>
     ensures gives { Gives view_lengths_v4 lengths_v4_layout i.now result }
     ensures header { IfOk result (λ x. 20 ≤ x.1.header) }
@@ -147,7 +150,7 @@ pub(crate) fn lengths_v4(i: &[u8]) -> IResult<&[u8], LengthsV4>
 
 /// The fields of a header of IPv4 behind its lengths.
 #[tactic(auto, using(layouts::proofs::OneAnswerLemmas::read_allowed), unfolding(crate::specs::Ip::fields_v4))]
-#[inline]
+#[inline(always)]
 pub(crate) fn fields_v4(i: &[u8]) -> IResult<&[u8], FieldsV4>
     ensures gives { Gives view_fields_v4 fields_v4_layout i.now result }
     ensures words { IfOk result (λ x. x.1.words < 2 ^ 20) }
@@ -177,6 +180,7 @@ pub(crate) fn fields_v4(i: &[u8]) -> IResult<&[u8], FieldsV4>
 
 /// What a datagram of IPv4 holds, behind a header of this length.
 #[tactic(auto, using(layouts::proofs::OneAnswerLemmas::read_allowed), unfolding(crate::specs::Ip::held_v4))]
+#[inline(always)]
 fn held_v4<'a>(i: &'a [u8], lengths: LengthsV4, fields: FieldsV4) -> IResult<&'a [u8], Content<'a>>
     requires { (lengths.total ≡ 0) ⊎ (lengths.header ≤ lengths.total) }
     ensures { Gives view_content (held_v4_layout lengths.header lengths.total (content_v4_layout fields.flags fields.protocol)) i.now result }
@@ -200,6 +204,7 @@ fn held_v4<'a>(i: &'a [u8], lengths: LengthsV4, fields: FieldsV4) -> IResult<&'a
 ///   data offset of a segment is below 5 words, or the length of a user datagram below 8.
 /// - `Error` of kind `Complete` where a segment or user datagram doesn't fit in the total length.
 #[tactic(auto, using(layouts::proofs::OneAnswerLemmas::read_allowed), unfolding(crate::specs::Ip::ipv4))]
+#[inline(always)]
 pub fn parse_ipv4(i: &[u8]) -> IResult<&[u8], Datagram>
     ensures { Gives view_datagram ipv4 i.now result }
 {

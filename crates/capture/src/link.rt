@@ -207,6 +207,7 @@ macro_rules! header {
 
 /// The type of what follows, by the link type.
 #[tactic(auto, using(layouts::proofs::OneAnswerLemmas::read_allowed), unfolding(crate::specs::Link::link))]
+#[inline(always)]
 fn link(i: &[u8], link_type: u16) -> IResult<&[u8], u16>
     ensures { Gives (λ v. v) (link_layout link_type) i.now result }
 {
@@ -244,6 +245,7 @@ fn network(i: &[u8], kind: u16) -> IResult<&[u8], u16>
 /// - `Error` of kind `Switch` where the link type is another.
 /// - `Error` of kind `Verify` where a PPPoE packet isn't one of a session, or raw IP has another version.
 #[tactic(auto, using(layouts::proofs::OneAnswerLemmas::read_allowed), unfolding(crate::specs::Link::carried))]
+#[inline(always)]
 pub fn parse_link(i: &[u8], link_type: u16) -> IResult<&[u8], u16>
     ensures { Gives (λ v. v) (carried link_type) i.now result }
 {

@@ -89,7 +89,7 @@ pub enum Content<'a> {
 
 /// Reads the ports and numbers in front of a segment of TCP.
 #[tactic(auto, using(layouts::proofs::OneAnswerLemmas::read_allowed), unfolding(crate::specs::Transport::numbers))]
-#[inline]
+#[inline(always)]
 fn read_numbers(i: &[u8]) -> IResult<&[u8], Numbers>
     ensures { Gives view_numbers numbers_layout i.now result }
 {
@@ -108,7 +108,7 @@ fn read_numbers(i: &[u8]) -> IResult<&[u8], Numbers>
 
 /// Reads what stands behind the numbers, up to the options.
 #[tactic(auto, using(layouts::proofs::OneAnswerLemmas::read_allowed), unfolding(crate::specs::Transport::control_fields))]
-#[inline]
+#[inline(always)]
 fn control_fields(i: &[u8]) -> IResult<&[u8], Control>
     ensures gives { Gives view_control control_fields_layout i.now result }
     ensures fits { IfOk result (λ x. 80 ≤ x.1.offset) }
@@ -136,6 +136,7 @@ fn control_fields(i: &[u8]) -> IResult<&[u8], Control>
 /// - `Incomplete` of what is missing of the header, or of the options.
 /// - `Error` of kind `LengthValue` where the data offset is below 5.
 #[tactic(auto, using(layouts::proofs::OneAnswerLemmas::read_allowed), unfolding(crate::specs::Transport::tcp))]
+#[inline(always)]
 pub fn parse_tcp(i: &[u8]) -> IResult<&[u8], TcpSegment>
     ensures { Gives view_segment tcp_layout i.now result }
 {
@@ -187,6 +188,7 @@ pub fn parse_udp(i: &[u8]) -> IResult<&[u8], UdpDatagram>
 
 /// What a datagram holds, by the number of its protocol.
 #[tactic(auto, using(layouts::proofs::OneAnswerLemmas::read_allowed), unfolding(crate::specs::Transport::transport))]
+#[inline(always)]
 pub(crate) fn transport(i: &[u8], protocol: u8) -> IResult<&[u8], Content>
     ensures { Gives view_content (transport_layout protocol) i.now result }
 {

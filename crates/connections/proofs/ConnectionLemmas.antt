@@ -1,10 +1,13 @@
 -- What a connection comes to by a segment.
-use Rattle.std.proofs.Common.{◌≡◌, ◌∙◌, ap, subst, sym, true, false, Option, Result, Ok, Err}
+use Rattle.std.proofs.Common.{◌≡◌, ◌∙◌, ap, refl, subst, sym, true, false, Option, Result, Ok, Err}
 use Rattle.std.specs.Prelude.{OnErr, OnOk}
 use Rattle.connections.specs.Segment.{begins}
-use Rattle.connections.specs.Connection.{adds_nothing, counted, part_by, judgement_of, noting, without_bytes, Accepts, AcceptsAnswer, Begins, IsBegunBy, LeavesOut, LeavesOutPart, LeavesOutSyn, PutsData, PutsPart, PutsSyn}
+use Rattle.connections.specs.Connection.{adds_nothing, counted, counted_from, part_by, judgement_of, noting, noting_from, side_of, without_bytes, Accepts, AcceptsAnswer, Begins, IsBegunBy, LeavesOut, LeavesOutPart, LeavesOutSyn, PutsData, PutsPart, PutsSyn}
 use Rattle.connections.specs.declared.connection.Beginning.{Beginning}
 use Rattle.connections.specs.declared.connection.Connection.{Connection}
+use Rattle.connections.specs.declared.connection.Side.{Side}
+use Rattle.connections.specs.declared.connection.Side.TheVariants.{Originator, Responder}
+use Rattle.connections.specs.declared.five_tuple.End.{End}
 use Rattle.connections.specs.declared.receiver.Judgement.{Judgement}
 use Rattle.connections.specs.declared.segment.Segment.{Segment}
 
@@ -18,10 +21,25 @@ pub where_err : {A E P Q : Type 0} → (r : Result A E) → (P → Q) → OnErr 
 where_err (Ok a) f h = _
 where_err (Err e) f h = f h
 
-module _ {T : Type 0} (s : Segment) (old : Connection T) (j : Judgement) (mid noted new : Connection T)
-    (judged : j ≡ judgement_of s old) (counts : mid ≡ counted s old) (notes : noted ≡ noting j s mid) where
+-- Who sent a segment stays known as it is counted.
+same_side : {T : Type 0} → (side : Side) (s : Segment) (c : Connection T) (sender : End)
+    → side_of (counted_from side s c) sender ≡ side_of c sender
+same_side Originator s c sender = refl
+same_side Responder s c sender = refl
+
+module _ {T : Type 0} (side : Side) (s : Segment) (old : Connection T) (j : Judgement) (mid noted new : Connection T)
+    (sent : side ≡ side_of old s.source) (judged : j ≡ judgement_of s old) (counts : mid ≡ counted_from side s old)
+    (notes : noted ≡ noting_from side j s mid) where
+  counts_its : mid ≡ counted s old
+  counts_its = counts ∙ ap (λ x. counted_from x s old) sent
+
+  is_its : side ≡ side_of mid s.source
+  is_its = sent ∙ (sym (same_side side s old s.source) ∙ ap (λ c. side_of c s.source) (sym counts))
+
   behind : noted ≡ noting (judgement_of s old) s (counted s old)
-  behind = notes ∙ ap (λ x. noting x s mid) judged ∙ ap (noting (judgement_of s old) s) counts
+  behind =
+      notes ∙ ap (λ x. noting_from x j s mid) is_its ∙ ap (λ x. noting x s mid) judged
+      ∙ ap (noting (judgement_of s old) s) counts_its
 
   pub syn_accepted : begins s ≡ true → PutsSyn s noted new → Accepts s old new
   syn_accepted b p =

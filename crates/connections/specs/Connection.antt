@@ -150,8 +150,11 @@ module _ {T : Type 0} where
   front_at side c = front_of (stream_of side c) (stream_of side c).reading
 
   -- What the receiver of a segment does with it.
+  abbrev pub judgement_from : Side → Segment → Connection T → Judgement
+  judgement_from side s c = judge (hosts_from side c).0 (hosts_from side c).1 (front_at side c) s
+
   abbrev pub judgement_of : Segment → Connection T → Judgement
-  judgement_of s c = judge (hosts_of s c).0 (hosts_of s c).1 (front_at (side_of c s.source) c) s
+  judgement_of s c = judgement_from (side_of c s.source) s c
 
   -- Of a packet that is dropped, or waits, only counts change, and what waits.
   abbrev pub ChangesCountsAlone : Connection T → Connection T → Type 0

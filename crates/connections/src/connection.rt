@@ -1,15 +1,11 @@
 //! A connection of TCP, or an exchange over UDP.
 ghost use Rattle.std.specs.Prelude.{◌≡◌, ◌<◌, ◌≤◌, ◌^◌, IfOk, IfSome, IfNone, OnOk, OnErr, Some, true};
-ghost use Rattle.connections.specs.declared.receiver.Reason.TheVariants as reason;
-ghost use Rattle.connections.specs.Connection.{adds_nothing as adds_none, begun_by_datagram, confirms as confirms_answer, counted as counting, dropped_from, goes_on_behind, has_opening, held_by, hosts_from as hosts_at, hosts_of, is_closed, is_datagram_damaged, judgement_of, last_of, noting, part_by, sent_by, side_of, silent, start_of, stream_of, with_datagram, without_bytes, Accepts, Begins, ChangesCountsAlone, IsAfter, IsAnew, IsBegunBy, IsKept, LeavesOut, LeavesOutSyn, NoneWaits, Puts, PutsData, PutsSyn, Shows, TakesDatagramIn};
+ghost use Rattle.connections.specs.Connection.{adds_nothing as adds_none, confirms as confirms_answer, counted_from, dropped_from, goes_on_behind, has_opening, held_by, hosts_from as hosts_at, hosts_of, is_closed, judgement_from, judgement_of, last_of, noting_from, part_by, sent_by, side_of, silent, start_of, stream_of, without_bytes, Accepts, Begins, ChangesCountsAlone, IsAnew, IsBegunBy, IsKept, LeavesOut, LeavesOutSyn, NoneWaits, Puts, PutsData, PutsSyn, Shows};
 
-use crate::datagram::Datagram;
 use crate::dropped::Dropped;
 use crate::five_tuple::{End, Protocol};
 use crate::host::{Host, later};
-use crate::receiver::{
-    Judgement, Reason, edge, is_behind_fin, is_beyond, is_damaged, is_known, judge,
-};
+use crate::receiver::{Judgement, Reason, edge, is_behind_fin, is_beyond, is_known, judge};
 use crate::segment::{Checksum, Segment};
 use crate::stream::Stream;
 use crate::traffic::Traffic;
@@ -48,8 +44,8 @@ pub struct Connection<T> {
     /// The same of its last.
     pub last_time: u64,
     // What is known of both ends over TCP.
-    originator_host: Host,
-    responder_host: Host,
+    pub(crate) originator_host: Host,
+    pub(crate) responder_host: Host,
     // Segments of which their receivers' acknowledgements tell whether they were taken; and SYNs, with which another connection between the
     // same ends may begin.
     waiting: Waiting,
@@ -148,7 +144,7 @@ fn confirms(segment: &Segment<'_>, answering: &Segment<'_>) -> bool
 
 impl<T: Listener> Connection<T> {
     /// One of which nothing came, between these ends.
-    fn new(
+    pub(crate) fn new(
         alloc: Global,
         protocol: Protocol,
         originator: End,
@@ -209,40 +205,6 @@ impl<T: Listener> Connection<T> {
         }
     }
 
-    /// One that this datagram begins.
-    pub(crate) fn of_datagram(alloc: Global, datagram: &Datagram<'_>) -> Connection<T>
-        ensures begun { result ≡ begun_by_datagram datagram.now result.waiting result.listener }
-        ensures waits { NoneWaits result }
-        ensures weight { result.weight ≡ 0 }
-    {
-        let mut exchange = Connection::new(
-            alloc,
-            Protocol::Udp,
-            datagram.source,
-            datagram.destination,
-            datagram.time,
-        );
-        exchange.accept_datagram(datagram);
-        exchange
-    }
-
-    /// Another exchange between the same ends, which this datagram begins; it is not counted. What the checksums of both ends are stays known.
-    pub(crate) fn after(&self, alloc: Global, datagram: &Datagram<'_>) -> Connection<T>
-        ensures { IsAfter datagram.now self.now result }
-    {
-        let (sender, receiver) = self.hosts_from(self.side_of(datagram.source));
-        let mut exchange = Connection::new(
-            alloc,
-            Protocol::Udp,
-            datagram.source,
-            datagram.destination,
-            datagram.time,
-        );
-        exchange.originator_host = Host::after(sender);
-        exchange.responder_host = Host::after(receiver);
-        exchange
-    }
-
     /// Whether a SYN of it was captured.
     pub fn has_opening(&self) -> bool
         ensures { result ≡ has_opening self.now }
@@ -251,6 +213,7 @@ impl<T: Listener> Connection<T> {
     }
 
     /// Which side a sender of its packets is.
+    #[inline(always)]
     pub fn side_of(&self, sender: End) -> Side
         ensures { result ≡ side_of self.now sender }
     {
@@ -282,7 +245,7 @@ impl<T: Listener> Connection<T> {
     }
 
     /// What is known of the end of that side, and of the other.
-    fn hosts_from(&self, side: Side) -> (&Host, &Host)
+    pub(crate) fn hosts_from(&self, side: Side) -> (&Host, &Host)
         ensures { (result.0.now, result.1.now) ≡ hosts_at side self.now }
     {
         match side {
@@ -302,7 +265,13 @@ impl<T: Listener> Connection<T> {
     pub(crate) fn judge(&self, segment: &Segment<'_>) -> Judgement
         ensures { result ≡ judgement_of segment.now self.now }
     {
-        let side = self.side_of(segment.source);
+        self.judge_from(self.side_of(segment.source), segment)
+    }
+
+    /// The same of a segment of that side.
+    fn judge_from(&self, side: Side, segment: &Segment<'_>) -> Judgement
+        ensures { result ≡ judgement_from side segment.now self.now }
+    {
         let (sender, receiver) = self.hosts_from(side);
         judge(sender, receiver, self.stream(side).front(), segment)
     }
@@ -322,13 +291,20 @@ impl<T: Listener> Connection<T> {
     pub(crate) fn verdict(&self, segment: &Segment<'_>) -> Verdict
         ensures judgement { result.judgement ≡ judgement_of segment.now self.now }
     {
+        self.verdict_from(self.side_of(segment.source), segment)
+    }
+
+    /// The same of a segment of that side.
+    fn verdict_from(&self, side: Side, segment: &Segment<'_>) -> Verdict
+        ensures judgement { result.judgement ≡ judgement_from side segment.now self.now }
+    {
         let has_waiting = !self.waiting.is_empty();
-        let judgement = self.judge(segment);
+        let judgement = self.judge_from(side, segment);
         Verdict {
             judgement,
-            begins_another: has_waiting && self.another(segment).is_some(),
+            begins_another: has_waiting && self.shows_another(segment),
             tells: has_waiting && self.is_heeded(segment, judgement),
-            shows_damage: self.shows_damage(segment.source, segment.checksum),
+            shows_damage: self.shows_damage(side, segment.checksum),
         }
     }
 
@@ -374,6 +350,12 @@ impl<T: Listener> Connection<T> {
         }
     }
 
+    /// Whether it shows that. A call of its own, since its segments are much to make room for, which few packets need.
+    #[inline(never)]
+    fn shows_another(&self, segment: &Segment<'_>) -> bool {
+        self.another(segment).is_some()
+    }
+
     /// Whether a segment goes on behind a SYN of its sender's, of whose receiver nothing was captured.
     fn goes_on_alone(&self, segment: &Segment<'_>, asking: &Segment<'_>) -> bool
         ensures { result ≡ true → goes_on_behind segment.now asking.now ≡ true }
@@ -382,9 +364,10 @@ impl<T: Listener> Connection<T> {
         receiver.next.is_none() && sender.next.is_some() && is_first_behind(segment, asking)
     }
 
-    /// Whether a packet shows by its checksum that all that came before was damaged: none of it is of the other end, and none had a right one.
-    pub(crate) fn shows_damage(&self, sender: End, checksum: Checksum) -> bool {
-        let side = self.side_of(sender);
+    /// Whether a packet of that side shows by its checksum that all that came before was damaged: none of it is of the other end, and none had a right
+    /// one.
+    #[inline(always)]
+    pub(crate) fn shows_damage(&self, side: Side, checksum: Checksum) -> bool {
         let (host, other) = match side {
             Side::Originator => (&self.originator_host, self.responder_sent),
             Side::Responder => (&self.responder_host, self.originator_sent),
@@ -423,7 +406,7 @@ impl<T: Listener> Connection<T> {
     }
 
     /// Counts a packet of which its receiver takes nothing.
-    fn count_dropped(&mut self, side: Side, reason: Reason)
+    pub(crate) fn count_dropped(&mut self, side: Side, reason: Reason)
         ensures { self.new ≡ dropped_from side reason self.old }
     {
         match side {
@@ -579,14 +562,14 @@ impl<T: Listener> Connection<T> {
         }
     }
 
-    /// Notes what a segment says of its sender, unless the receiver has all of it.
-    fn note(&mut self, segment: &Segment<'_>, judgement: Judgement)
-        ensures noted { self.new ≡ noting judgement segment.now self.old }
+    /// Notes what a segment of that side says of its sender, unless the receiver has all of it.
+    fn note(&mut self, side: Side, segment: &Segment<'_>, judgement: Judgement)
+        ensures noted { self.new ≡ noting_from side judgement segment.now self.old }
         ensures weight { self.new.weight ≡ self.old.weight }
     {
         let is_new = judgement != Judgement::Again;
         let checksum = segment.checksum;
-        match self.side_of(segment.source) {
+        match side {
             Side::Originator => {
                 let wrong = self.originator_host.note_checksum(checksum);
                 self.originator_dropped.add_damaged(u64::from(wrong));
@@ -628,13 +611,13 @@ impl<T: Listener> Connection<T> {
         }
     }
 
-    /// Counts a segment, and notes its time.
-    fn count(&mut self, segment: &Segment<'_>)
-        ensures counted { self.new ≡ counting segment.now self.old }
+    /// Counts a segment of that side, and notes its time.
+    fn count(&mut self, side: Side, segment: &Segment<'_>)
+        ensures counted { self.new ≡ counted_from side segment.now self.old }
         ensures weight { self.new.weight ≡ self.old.weight }
     {
         self.last_time = segment.time;
-        match self.side_of(segment.source) {
+        match side {
             Side::Originator => self.originator_sent.add(segment.payload),
             Side::Responder => self.responder_sent.add(segment.payload),
         }
@@ -647,8 +630,9 @@ impl<T: Listener> Connection<T> {
         ensures left_out { OnErr result (LeavesOut segment.now self.old self.new) }
         ensures weight { self.new.weight ≡ self.old.weight }
     {
-        let judgement = self.judge(segment);
-        self.accept_judged(alloc, segment, judgement)
+        let side = self.side_of(segment.source);
+        let judgement = self.judge_from(side, segment);
+        self.accept_judged(alloc, side, segment, judgement)
     }
 
     /// The same where the segment's receiver takes it, or has it, and nothing is to be done before; else the connection stays as it is, and `Some` says
@@ -664,28 +648,31 @@ impl<T: Listener> Connection<T> {
         ensures left_out { OnErr result (LeavesOut segment.now self.old self.new) }
         ensures weight { self.new.weight ≡ self.old.weight }
     {
-        let verdict = self.verdict(segment);
+        let side = self.side_of(segment.source);
+        let verdict = self.verdict_from(side, segment);
         if !verdict.lets_in() {
             return Ok(Some(verdict));
         }
-        self.accept_judged(alloc, segment, verdict.judgement)?;
+        self.accept_judged(alloc, side, segment, verdict.judgement)?;
         Ok(None)
     }
 
-    /// Puts the segment into its sender's stream by what its receiver does with it.
+    /// Puts the segment of that side into its stream by what its receiver does with it.
     fn accept_judged(
         &mut self,
         alloc: Global,
+        side: Side,
         segment: &Segment<'_>,
         judgement: Judgement,
     ) -> Result<(), AllocError>
-        requires { judgement ≡ judgement_of segment.now self.old }
+        requires sent { side ≡ side_of self.old segment.now.source }
+        requires judged { judgement ≡ judgement_of segment.now self.old }
         ensures taken { OnOk result (Accepts segment.now self.old self.new) }
         ensures left_out { OnErr result (LeavesOut segment.now self.old self.new) }
         ensures weight { self.new.weight ≡ self.old.weight }
     {
-        self.count(segment);
-        self.note(segment, judgement);
+        self.count(side, segment);
+        self.note(side, segment, judgement);
         if segment.begins() {
             return self.put_syn(alloc, segment, judgement);
         }
@@ -736,52 +723,6 @@ impl<T: Listener> Connection<T> {
             return self.put(alloc, &kept.segment());
         }
         self.accept(alloc, &kept.segment())
-    }
-
-    /// Whether a checksum of the datagram is wrong, as it arrives.
-    pub fn is_damaged(&self, datagram: &Datagram<'_>) -> bool
-        ensures { result ≡ is_datagram_damaged datagram.now self.now }
-    {
-        let (sender, receiver) = self.hosts_from(self.side_of(datagram.source));
-        is_damaged(sender, receiver, datagram.checksum, datagram.payload.len())
-    }
-
-    /// Counts a datagram of which its receiver takes nothing, since a checksum is wrong.
-    pub fn drop_datagram(&mut self, datagram: &Datagram<'_>)
-        ensures { self.new ≡ dropped_from (side_of self.old datagram.now.source) reason.Checksum self.old }
-    {
-        self.count_dropped(self.side_of(datagram.source), Reason::Checksum);
-    }
-
-    /// Notes the datagram's time, and counts it.
-    pub(crate) fn accept_datagram(&mut self, datagram: &Datagram<'_>)
-        ensures counted { self.new ≡ with_datagram datagram.now self.old }
-        ensures weight { self.new.weight ≡ self.old.weight }
-    {
-        self.last_time = datagram.time;
-        match self.side_of(datagram.source) {
-            Side::Originator => {
-                let wrong = self.originator_host.note_checksum(datagram.checksum);
-                self.originator_dropped.add_damaged(u64::from(wrong));
-                self.originator_sent.add(datagram.payload);
-            }
-            Side::Responder => {
-                let wrong = self.responder_host.note_checksum(datagram.checksum);
-                self.responder_dropped.add_damaged(u64::from(wrong));
-                self.responder_sent.add(datagram.payload);
-            }
-        }
-    }
-
-    /// The same, anew where the datagram shows that all before it was damaged.
-    pub fn take_datagram(&mut self, alloc: Global, datagram: &Datagram<'_>)
-        ensures taken { TakesDatagramIn datagram.now self.old self.new }
-        ensures weight { self.new.weight ≡ self.old.weight }
-    {
-        if self.shows_damage(datagram.source, datagram.checksum) {
-            self.restart(alloc, datagram.time);
-        }
-        self.accept_datagram(datagram);
     }
 
     /// How many bytes of memory it takes, at most: its streams hold no more.

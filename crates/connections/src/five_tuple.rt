@@ -30,6 +30,7 @@ pub struct End {
 }
 
 /// Whether two rows of four octets are the same.
+#[inline(always)]
 fn same_octets(one: [u8; 4], other: [u8; 4]) -> bool
     ensures { result ≡ pointwise nat_eq one other }
 {
@@ -39,6 +40,7 @@ fn same_octets(one: [u8; 4], other: [u8; 4]) -> bool
 }
 
 /// Whether two addresses are the same: the four octets of IPv4 are compared at once, and in no loop.
+#[inline(always)]
 fn same_address(one: &IpAddr, other: &IpAddr) -> bool
     ensures { result ≡ is_address one.now other.now }
 {
@@ -54,6 +56,7 @@ impl PartialEq for End {
 
     ghost laws = { Prim.search (same_addresses, comparing, rules) };
 
+    #[inline(always)]
     fn eq(&self, other: &End) -> bool {
         self.port == other.port && same_address(&self.address, &other.address)
     }

@@ -10,6 +10,7 @@
 mod connection;
 mod datagram;
 mod dropped;
+mod exchange;
 mod five_tuple;
 mod host;
 mod laws;

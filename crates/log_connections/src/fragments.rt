@@ -1,8 +1,9 @@
 //! Datagrams that came in fragments.
 
+use crate::arrival::Arrival;
 use crate::counts::add_one;
 use crate::heard::Keeper;
-use crate::log::{Arrival, Log};
+use crate::log::Log;
 use capture::{Datagram, Fragment, parse_joined};
 use connections::Side;
 use ip_fragments::{Outcome, Refusal, Whole};

@@ -5,6 +5,7 @@
 //! out is counted ([`Counts`]).
 #![tactic(auto)]
 
+mod arrival;
 mod counts;
 mod fragments;
 mod fronts;
@@ -12,7 +13,8 @@ mod heard;
 mod log;
 mod memory;
 
+pub use arrival::{Arrival, Checksums};
 pub use counts::{Counts, add_one};
 pub use fragments::Joined;
 pub use heard::{HEARD_COST, Heard, Keeper, Pieces};
-pub use log::{Arrival, Checksums, Log};
+pub use log::Log;

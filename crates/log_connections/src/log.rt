@@ -4,53 +4,23 @@ ghost use Rattle.connections.specs.Connection.{side_of};
 ghost use Rattle.log_connections.specs.Heard.{HearsNext, HearsOn, direction_of as direction};
 ghost use Rattle.log_connections.specs.Log.{HearsFrom, HearsSide, Logs, LogsDatagram, LogsExchange, LogsOpen, is_logged};
 
+use crate::arrival::{Arrival, Checksums, checksum_of, datagram_of, end, segment_of};
 use crate::counts::{Counts, add_one};
 use crate::heard::{Heard, Keeper, Pieces};
 use crate::memory::SPARE;
-use capture::{
-    Address, Content, TcpSegment, UdpDatagram, maximum_segment_size, option_of, timestamp,
-    window_scale,
-};
+use capture::{Content, TcpSegment, UdpDatagram};
 use connection_parts::Part;
 use connections::{
-    Checksum, Connection, Connections, Datagram, End, FiveTuple, Judgement, Kept, MAX_WAITING,
-    Options, Protocol, Segment, Side, Stream, Told, Verdict,
+    Checksum, Connection, Connections, Datagram, End, Judgement, Kept, MAX_WAITING, Protocol,
+    Segment, Side, Stream, Told, Verdict,
 };
 use ip_fragments::Fragments;
 use networks::{Network, Networks};
 use packets::Packet;
 use std::alloc::{AllocError, Global};
 use std::hash::RandomState;
-use std::net::{IpAddr, Ipv4Addr, Ipv6Addr};
 use tls_flow::Direction;
 use tunnels::{Inside, Tunnels, innermost_into, vlan_tags};
-
-/// The weight of the flag SYN (RFC 9293, section 3.1).
-const SYN: u8 = 2;
-
-/// The kind of the option by which an end takes selective acknowledgements (RFC 2018, section 2).
-const SACK_PERMITTED: u8 = 4;
-
-/// The kind of a byte between options (RFC 9293, section 3.2), and that of the sender's clock (RFC 7323, section 3.2).
-const PADDING: u8 = 1;
-
-const TIMESTAMPS: u8 = 8;
-
-/// The kinds of the options by which a segment is signed (RFC 2385, section 3; RFC 5925, section 2.2).
-const MD5_SIGNATURE: u8 = 19;
-
-const AUTHENTICATION: u8 = 29;
-
-/// Which checksums of packets count.
-#[derive(Clone, Copy, Debug, PartialEq, Eq)]
-pub enum Checksums {
-    /// Those of a sender of whose first packets one had a right one, or the sum of the pseudo-header.
-    Auto,
-    /// All.
-    Check,
-    /// None.
-    Ignore,
-}
 
 /// The log of one capture: its open connections.
 #[derive(Drop)]
@@ -76,159 +46,6 @@ pub struct Log<K> {
     pub(crate) tunnels: Tunnels,
     /// What was read, and what was left out.
     pub counts: Counts,
-}
-
-/// An address.
-fn address(address: Address) -> IpAddr {
-    match address {
-        Address::V4(n) => IpAddr::V4(Ipv4Addr::from_bits(n)),
-        Address::V6(upper, lower) => {
-            IpAddr::V6(Ipv6Addr::from_bits(u128::from(upper) << 64 | u128::from(lower)))
-        }
-    }
-}
-
-/// An end, by its address and its port.
-fn end(address_there: Address, port: u16) -> End {
-    End {
-        address: address(address_there),
-        port,
-    }
-}
-
-/// The clock of a segment that has no other option, in the form that hosts send (RFC 7323, appendix A): most segments have it.
-fn clock_alone(options: &[u8]) -> Option<u32> {
-    match options {
-        [PADDING, PADDING, TIMESTAMPS, 10, a, b, c, d, _, _, _, _] => {
-            Some(u32::from_be_bytes([*a, *b, *c, *d]))
-        }
-        _ => None,
-    }
-}
-
-/// What the options of a segment say. What a SYN alone may say isn't asked of another (RFC 9293, section 3.7.1; RFC 7323, section 2.2; RFC 2018,
-/// section 2).
-fn options_of(options: &[u8], is_syn: bool) -> Options {
-    if let (false, Some(clock)) = (is_syn, clock_alone(options)) {
-        return Options {
-            scale: None,
-            clock: Some(clock),
-            size: None,
-            selects: false,
-            is_signed: false,
-        };
-    }
-    let clock = timestamp(options);
-    let is_signed = option_of(options, MD5_SIGNATURE).is_some()
-        || option_of(options, AUTHENTICATION).is_some();
-    if !is_syn {
-        return Options {
-            scale: None,
-            clock,
-            size: None,
-            selects: false,
-            is_signed,
-        };
-    }
-    Options {
-        scale: window_scale(options),
-        clock,
-        size: maximum_segment_size(options),
-        selects: option_of(options, SACK_PERMITTED).is_some(),
-        is_signed,
-    }
-}
-
-/// What the checksums of a packet are, as far as they count.
-fn checksum_of(datagram: &capture::Datagram<'_>, checksums: Checksums) -> Checksum {
-    if checksums == Checksums::Ignore {
-        return Checksum::Right;
-    }
-    match (datagram.checksum(), checksums) {
-        (capture::Checksum::Right, _) => Checksum::Right,
-        (_, Checksums::Check) => Checksum::Refused,
-        (capture::Checksum::Partial, _) => Checksum::Partial,
-        (capture::Checksum::Wrong, _) => Checksum::Wrong,
-    }
-}
-
-/// A segment with its ends and its time.
-fn segment_of<'a>(
-    time: u64,
-    network: u64,
-    source: End,
-    destination: End,
-    tcp: &TcpSegment<'a>,
-    checksum: Checksum,
-) -> Segment<'a> {
-    Segment {
-        time,
-        network,
-        source,
-        destination,
-        sequence: tcp.sequence,
-        acknowledgment: tcp.acknowledgment,
-        flags: tcp.flags,
-        window: tcp.window,
-        urgent_pointer: tcp.urgent_pointer,
-        options: options_of(tcp.options, tcp.flags / SYN % 2 == 1),
-        checksum,
-        payload: tcp.payload,
-    }
-}
-
-/// A datagram with its ends and its time.
-fn datagram_of<'a>(
-    time: u64,
-    network: u64,
-    source: End,
-    destination: End,
-    udp: &UdpDatagram<'a>,
-    checksum: Checksum,
-) -> Datagram<'a> {
-    Datagram {
-        time,
-        network,
-        source,
-        destination,
-        checksum,
-        payload: udp.payload,
-    }
-}
-
-/// What a packet brings to a connection.
-#[derive(Clone, Copy)]
-pub enum Arrival<'a> {
-    /// A segment of TCP.
-    Segment(Segment<'a>),
-    /// A datagram of UDP.
-    Datagram(Datagram<'a>),
-}
-
-impl<'a> Arrival<'a> {
-    /// When it was captured.
-    pub fn time(&self) -> u64 {
-        match self {
-            Arrival::Segment(segment) => segment.time,
-            Arrival::Datagram(datagram) => datagram.time,
-        }
-    }
-
-    /// Where it comes from.
-    pub(crate) fn source(&self) -> End {
-        match self {
-            Arrival::Segment(segment) => segment.source,
-            Arrival::Datagram(datagram) => datagram.source,
-        }
-    }
-
-    /// Between which ends it goes.
-    pub(crate) fn between(&self) -> FiveTuple {
-        match self {
-            Arrival::Segment(segment) => segment.between(),
-            Arrival::Datagram(datagram) => datagram.between(),
-        }
-    }
 }
 
 /// What becomes of a segment.
@@ -269,9 +86,10 @@ pub(crate) fn with_last<K: Keeper>(
     taken: Option<Connection<Heard<K>>>,
 ) -> Result<Option<Box<Connection<Heard<K>>>>, AllocError> {
     match taken {
-        Some(mut connection) => {
+        Some(connection) => {
+            let mut connection = Box::new(alloc, connection)?;
             hear_last(&mut connection)?;
-            Ok(Some(Box::new(alloc, connection)?))
+            Ok(Some(connection))
         }
         None => Ok(None),
     }
@@ -448,6 +266,7 @@ impl<K: Keeper> Log<K> {
     }
 
     /// The segment that a packet holds, unless it is of another part, which is counted.
+    #[inline(always)]
     fn segment<'a>(
         &mut self,
         packet: Packet<'_>,
@@ -678,7 +497,8 @@ impl<K: Keeper> Log<K> {
         segment: &Segment<'_>,
     ) -> Result<Option<Box<Connection<Heard<K>>>>, AllocError> {
         match self.hear_open(segment)? {
-            Reception::Heard(is_closed) => self.end_heard(segment, Some(is_closed)),
+            Reception::Heard(false) => Ok(None),
+            Reception::Heard(true) => self.take_closed(segment),
             Reception::NoneOpen => {
                 let heard = self.hear_first(segment)?;
                 self.end_heard(segment, heard)

@@ -1,8 +1,9 @@
 //! Which connections end before their time, since memory runs short.
 
+use crate::arrival::Arrival;
 use crate::counts::add_one;
 use crate::heard::{Heard, Keeper};
-use crate::log::{Arrival, Log, with_last};
+use crate::log::{Log, with_last};
 use connections::Connection;
 use std::alloc::AllocError;
 

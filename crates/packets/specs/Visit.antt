@@ -6,6 +6,8 @@ use Rattle.packets.specs.Section.{Packet}
 use Rattle.packets.specs.Front.{State, Said, Captured, Other, Wait}
 use Rattle.packets.specs.Packets.{End, Packets, Whole, BrokenOff, Refused}
 use Rattle.packets.specs.declared.reader.CaptureError.TheVariants as error
+use Rattle.packets.specs.declared.visit.FrontError.{FrontError}
+use Rattle.packets.specs.declared.visit.FrontError.TheVariants as stop
 use Rattle.packets.specs.declared.visit.VisitError.{VisitError}
 use Rattle.packets.specs.declared.visit.VisitError.TheVariants as visit
 
@@ -39,6 +41,15 @@ abbrev pub Goes : {E : Type 0} → Said → Option (List Packet) → Option (Lis
     → Result Bool (VisitError E) → Type 0
 Goes said old new t t' b b' (Ok went) = Went said old new t t' b b' went
 Goes said old new t t' b b' (Err e) = Failed said old new e
+
+-- Why what stands in front could not be visited, as the visit of all packets tells it.
+abbrev pub visit_error : {E : Type 0} → FrontError E → VisitError E
+visit_error (stop.Capture e) = visit.Capture e
+visit_error (stop.Visitor e) = visit.Visitor e
+
+abbrev pub as_visited : {A E : Type 0} → Result A (FrontError E) → Result A (VisitError E)
+as_visited (Ok a) = Ok a
+as_visited (Err e) = Err (visit_error e)
 
 -- Some of the packets were visited, from the first on.
 abbrev pub AddsFront : Option (List Packet) → Option (List Packet) → Packets → Type 0

@@ -4,7 +4,7 @@ ghost use Rattle.std.specs.Io.KnownBytes.{IsAtEnd};
 ghost use Rattle.packets.specs.Section.{Packet as PacketValue, view_packet};
 ghost use Rattle.packets.specs.Front.{front};
 ghost use Rattle.packets.specs.Packets.{Whole, end_of, packets_of};
-ghost use Rattle.packets.specs.Visit.{AddsAll, Goes, IsCause, IsEnd, StaysSound, Visits};
+ghost use Rattle.packets.specs.Visit.{as_visited, visit_error, AddsAll, Goes, IsCause, IsEnd, StaysSound, Visits};
 
 use crate::buffer::Buffer;
 use crate::reader::{Capture, CaptureError, Packet, Step};
@@ -43,15 +43,32 @@ pub enum VisitError<E> {
     Visitor(E),
 }
 
+/// Why what stands in front isn't visited. Each packet's visit answers by it, so it has no room for an `io::Error`, which is large.
+#[derive(Drop)]
+enum FrontError<E> {
+    Capture(CaptureError),
+    Visitor(E),
+}
+
+/// The same, as the visit of all packets tells it.
+fn visit_error<E>(e: FrontError<E>) -> VisitError<E>
+    ensures { result ≡ visit_error e }
+{
+    match e {
+        FrontError::Capture(e) => VisitError::Capture(e),
+        FrontError::Visitor(e) => VisitError::Visitor(e),
+    }
+}
+
 /// Visits what stands in front of the buffer, and takes it off: true. False where it isn't all there.
 fn visit_front<V: PacketVisitor>(
     capture: &mut Capture,
     buffer: &mut Buffer,
     visitor: &mut V,
-) -> Result<bool, VisitError<V::Error>>
+) -> Result<bool, FrontError<V::Error>>
     ensures goes { Goes (front capture.old buffer.old) (V.taken visitor.old) (V.taken visitor.new) capture.old capture.new
-        buffer.old buffer.new result }
-    ensures sound { StaysSound (V.is_sound visitor.old) (V.is_sound visitor.new) result }
+        buffer.old buffer.new (as_visited result) }
+    ensures sound { StaysSound (V.is_sound visitor.old) (V.is_sound visitor.new) (as_visited result) }
 {
     match capture.step(buffer.held()) {
         Ok(Step::Packet(packet, rest)) => {
@@ -61,7 +78,7 @@ fn visit_front<V: PacketVisitor>(
                     buffer.keep_last(left);
                     Ok(true)
                 }
-                Err(e) => Err(VisitError::Visitor(e)),
+                Err(e) => Err(FrontError::Visitor(e)),
             }
         }
         Ok(Step::Other(rest)) => {
@@ -70,7 +87,7 @@ fn visit_front<V: PacketVisitor>(
             Ok(true)
         }
         Ok(Step::Wait) => Ok(false),
-        Err(e) => Err(VisitError::Capture(e)),
+        Err(e) => Err(FrontError::Capture(e)),
     }
 }
 
@@ -113,7 +130,7 @@ pub fn visit_packets<R: Read, V: PacketVisitor>(
                 Ok(_) => continue,
                 Err(e) => return Err(VisitError::Reading(e)),
             },
-            Err(e) => return Err(e),
+            Err(e) => return Err(visit_error(e)),
         }
     }
     Err(VisitError::Endless)

@@ -3,7 +3,7 @@ ghost use Rattle.std.specs.Prelude.{◌≡◌};
 ghost use Rattle.tlslog.specs.Exit.{worse};
 ghost use Rattle.tlslog.specs.Run.{IsSameCause};
 
-use crate::output::LineError;
+use crate::output::{LineError, Refusal};
 use packets::{CaptureError, VisitError};
 use std::alloc::AllocError;
 use std::fmt::{self, Display, Formatter};
@@ -66,7 +66,7 @@ pub enum Failure {
     /// Nobody reads on what is printed.
     Closed,
     /// A write failed.
-    Writing(io::Error),
+    Writing(Refusal),
 }
 
 impl Failure {
@@ -105,7 +105,9 @@ impl Display for Failure {
             Failure::Reading(e) => write!(f, "cannot read: {}", Reason(e)),
             Failure::Endless => f.write_str("cannot read: there is no end"),
             Failure::Closed => f.write_str("cannot write: nobody reads on"),
-            Failure::Writing(e) => write!(f, "cannot write: {}", Reason(e)),
+            Failure::Writing(refusal) => {
+                write!(f, "cannot write: {}", Reason(&refusal.error()))
+            }
         }
     }
 }

@@ -6,6 +6,31 @@ ghost use Rattle.tlslog.specs.Output.{IsOfWriting, Tells};
 use std::alloc::AllocError;
 use std::io::{self, ErrorKind, Write};
 
+/// Why the system refused a write. Each packet's log answers by it, so it is small, as an `io::Error` isn't.
+#[derive(Clone, Copy)]
+pub struct Refusal {
+    kind: ErrorKind,
+    code: Option<i32>,
+}
+
+impl Refusal {
+    /// By this error; a message that isn't the system's is left out.
+    fn of(e: &io::Error) -> Refusal {
+        Refusal {
+            kind: e.kind(),
+            code: e.raw_os_error(),
+        }
+    }
+
+    /// The error.
+    pub fn error(&self) -> io::Error {
+        match self.code {
+            Some(code) => io::Error::from_raw_os_error(code),
+            None => io::Error::from(self.kind),
+        }
+    }
+}
+
 /// Why a line isn't written.
 #[derive(Clone, Copy)]
 pub enum LineError {
@@ -14,7 +39,7 @@ pub enum LineError {
     /// Nobody reads what is written any more: the pipe was closed.
     Closed,
     /// A write failed, or took nothing.
-    Writing(io::Error),
+    Writing(Refusal),
 }
 
 impl From<AllocError> for LineError {
@@ -28,13 +53,13 @@ impl From<AllocError> for LineError {
 }
 
 /// A write that failed by this error.
-fn refused_by(e: io::Error) -> LineError
+fn refused_by(e: &io::Error) -> LineError
     ensures { IsOfWriting result }
 {
     if e.kind() == ErrorKind::BrokenPipe {
         LineError::Closed
     } else {
-        LineError::Writing(e)
+        LineError::Writing(Refusal::of(e))
     }
 }
 
@@ -78,7 +103,7 @@ impl<W: Write> Output<W> {
             Ok(()) => Ok(()),
             Err(e) => {
                 self.has_failed = true;
-                Err(refused_by(e))
+                Err(refused_by(&e))
             }
         }
     }

@@ -173,6 +173,7 @@ pub fn innermost(i: &[u8], link_type: u16) -> Unwrapped
 
 /// What a packet holds whose datagram of IPv4 stands in front, through no tunnel yet. Most packets hold a segment of TCP.
 #[tactic(auto, using(crate::proofs::WalkLemmas::refused, crate::proofs::WalkLemmas::holds), unfolding(crate::specs::Walk::layer_of_type))]
+#[inline(always)]
 fn inside_ipv4<'a>(i: &'a [u8], tunnels: &mut Tunnels) -> Inside<'a>
     requires { tunnels.old.count ≡ 0 }
     ensures { followed 8 (listed tunnels.old) (reading (layer_of_type_layout 0x0800) i.now) ≡ record { tunnels = listed tunnels.new; inside = view_inside result } }

@@ -37,5 +37,6 @@ returns-in-Ok-eq0-clause-cause g c =
 
 pub returns-in-Err-clause-cause : goal.returns-in-Err-clause-cause
 returns-in-Err-clause-cause g c =
-    failed _ _ (g.V.PacketVisitor.taken c.steps.visitor) _ _ _ c.steps.capture c.steps.buffer _ c.steps.invariant.on
-    c.in-Err.ensures.goes
+    rw c.visit_error.ensures
+    (failed _ _ (g.V.PacketVisitor.taken c.steps.visitor) _ _ _ c.steps.capture c.steps.buffer _ c.steps.invariant.on
+    c.in-Err.ensures.goes)

@@ -1,0 +1,93 @@
+//! An exchange of datagrams over UDP: a connection whose packets have no numbers.
+ghost use Rattle.std.specs.Prelude.{◌≡◌};
+ghost use Rattle.connections.specs.declared.receiver.Reason.TheVariants as reason;
+ghost use Rattle.connections.specs.Connection.{begun_by_datagram, dropped_from, is_datagram_damaged, side_of, with_datagram, IsAfter, NoneWaits, TakesDatagramIn};
+
+use crate::connection::{Connection, Listener, Side};
+use crate::datagram::Datagram;
+use crate::five_tuple::Protocol;
+use crate::host::Host;
+use crate::receiver::{Reason, is_damaged};
+use std::alloc::Global;
+
+impl<T: Listener> Connection<T> {
+    /// One that this datagram begins.
+    pub(crate) fn of_datagram(alloc: Global, datagram: &Datagram<'_>) -> Connection<T>
+        ensures begun { result ≡ begun_by_datagram datagram.now result.waiting result.listener }
+        ensures waits { NoneWaits result }
+        ensures weight { result.weight ≡ 0 }
+    {
+        let mut exchange = Connection::new(
+            alloc,
+            Protocol::Udp,
+            datagram.source,
+            datagram.destination,
+            datagram.time,
+        );
+        exchange.accept_datagram(datagram);
+        exchange
+    }
+
+    /// Another exchange between the same ends, which this datagram begins; it is not counted. What the checksums of both ends are stays known.
+    pub(crate) fn after(&self, alloc: Global, datagram: &Datagram<'_>) -> Connection<T>
+        ensures { IsAfter datagram.now self.now result }
+    {
+        let (sender, receiver) = self.hosts_from(self.side_of(datagram.source));
+        let mut exchange = Connection::new(
+            alloc,
+            Protocol::Udp,
+            datagram.source,
+            datagram.destination,
+            datagram.time,
+        );
+        exchange.originator_host = Host::after(sender);
+        exchange.responder_host = Host::after(receiver);
+        exchange
+    }
+
+    /// Whether a checksum of the datagram is wrong, as it arrives.
+    pub fn is_damaged(&self, datagram: &Datagram<'_>) -> bool
+        ensures { result ≡ is_datagram_damaged datagram.now self.now }
+    {
+        let (sender, receiver) = self.hosts_from(self.side_of(datagram.source));
+        is_damaged(sender, receiver, datagram.checksum, datagram.payload.len())
+    }
+
+    /// Counts a datagram of which its receiver takes nothing, since a checksum is wrong.
+    pub fn drop_datagram(&mut self, datagram: &Datagram<'_>)
+        ensures { self.new ≡ dropped_from (side_of self.old datagram.now.source) reason.Checksum self.old }
+    {
+        self.count_dropped(self.side_of(datagram.source), Reason::Checksum);
+    }
+
+    /// Notes the datagram's time, and counts it.
+    pub(crate) fn accept_datagram(&mut self, datagram: &Datagram<'_>)
+        ensures counted { self.new ≡ with_datagram datagram.now self.old }
+        ensures weight { self.new.weight ≡ self.old.weight }
+    {
+        self.last_time = datagram.time;
+        match self.side_of(datagram.source) {
+            Side::Originator => {
+                let wrong = self.originator_host.note_checksum(datagram.checksum);
+                self.originator_dropped.add_damaged(u64::from(wrong));
+                self.originator_sent.add(datagram.payload);
+            }
+            Side::Responder => {
+                let wrong = self.responder_host.note_checksum(datagram.checksum);
+                self.responder_dropped.add_damaged(u64::from(wrong));
+                self.responder_sent.add(datagram.payload);
+            }
+        }
+    }
+
+    /// The same, anew where the datagram shows that all before it was damaged.
+    pub fn take_datagram(&mut self, alloc: Global, datagram: &Datagram<'_>)
+        ensures taken { TakesDatagramIn datagram.now self.old self.new }
+        ensures weight { self.new.weight ≡ self.old.weight }
+    {
+        if self.shows_damage(self.side_of(datagram.source), datagram.checksum) {
+            self.restart(alloc, datagram.time);
+        }
+        self.accept_datagram(datagram);
+    }
+}

@@ -1,0 +1,187 @@
+//! What a packet brings to a connection.
+use capture::{
+    Address, TcpSegment, UdpDatagram, maximum_segment_size, option_of, timestamp, window_scale,
+};
+use connections::{Checksum, Datagram, End, FiveTuple, Options, Segment};
+use std::net::{IpAddr, Ipv4Addr, Ipv6Addr};
+
+/// The weight of the flag SYN (RFC 9293, section 3.1).
+const SYN: u8 = 2;
+
+/// The kind of the option by which an end takes selective acknowledgements (RFC 2018, section 2).
+const SACK_PERMITTED: u8 = 4;
+
+/// The kind of a byte between options (RFC 9293, section 3.2), and that of the sender's clock (RFC 7323, section 3.2).
+const PADDING: u8 = 1;
+
+const TIMESTAMPS: u8 = 8;
+
+/// The kinds of the options by which a segment is signed (RFC 2385, section 3; RFC 5925, section 2.2).
+const MD5_SIGNATURE: u8 = 19;
+
+const AUTHENTICATION: u8 = 29;
+
+/// Which checksums of packets count.
+#[derive(Clone, Copy, Debug, PartialEq, Eq)]
+pub enum Checksums {
+    /// Those of a sender of whose first packets one had a right one, or the sum of the pseudo-header.
+    Auto,
+    /// All.
+    Check,
+    /// None.
+    Ignore,
+}
+
+/// What a packet brings to a connection.
+#[derive(Clone, Copy)]
+pub enum Arrival<'a> {
+    /// A segment of TCP.
+    Segment(Segment<'a>),
+    /// A datagram of UDP.
+    Datagram(Datagram<'a>),
+}
+
+impl<'a> Arrival<'a> {
+    /// When it was captured.
+    pub fn time(&self) -> u64 {
+        match self {
+            Arrival::Segment(segment) => segment.time,
+            Arrival::Datagram(datagram) => datagram.time,
+        }
+    }
+
+    /// Where it comes from.
+    pub(crate) fn source(&self) -> End {
+        match self {
+            Arrival::Segment(segment) => segment.source,
+            Arrival::Datagram(datagram) => datagram.source,
+        }
+    }
+
+    /// Between which ends it goes.
+    pub(crate) fn between(&self) -> FiveTuple {
+        match self {
+            Arrival::Segment(segment) => segment.between(),
+            Arrival::Datagram(datagram) => datagram.between(),
+        }
+    }
+}
+
+/// An address.
+fn address(address: Address) -> IpAddr {
+    match address {
+        Address::V4(n) => IpAddr::V4(Ipv4Addr::from_bits(n)),
+        Address::V6(upper, lower) => {
+            IpAddr::V6(Ipv6Addr::from_bits(u128::from(upper) << 64 | u128::from(lower)))
+        }
+    }
+}
+
+/// An end, by its address and its port.
+pub(crate) fn end(address_there: Address, port: u16) -> End {
+    End {
+        address: address(address_there),
+        port,
+    }
+}
+
+/// The clock of a segment that has no other option, in the form that hosts send (RFC 7323, appendix A): most segments have it.
+fn clock_alone(options: &[u8]) -> Option<u32> {
+    match options {
+        [PADDING, PADDING, TIMESTAMPS, 10, a, b, c, d, _, _, _, _] => {
+            Some(u32::from_be_bytes([*a, *b, *c, *d]))
+        }
+        _ => None,
+    }
+}
+
+/// What the options of a segment say. What a SYN alone may say isn't asked of another (RFC 9293, section 3.7.1; RFC 7323, section 2.2; RFC 2018,
+/// section 2).
+fn options_of(options: &[u8], is_syn: bool) -> Options {
+    if let (false, Some(clock)) = (is_syn, clock_alone(options)) {
+        return Options {
+            scale: None,
+            clock: Some(clock),
+            size: None,
+            selects: false,
+            is_signed: false,
+        };
+    }
+    let clock = timestamp(options);
+    let is_signed = option_of(options, MD5_SIGNATURE).is_some()
+        || option_of(options, AUTHENTICATION).is_some();
+    if !is_syn {
+        return Options {
+            scale: None,
+            clock,
+            size: None,
+            selects: false,
+            is_signed,
+        };
+    }
+    Options {
+        scale: window_scale(options),
+        clock,
+        size: maximum_segment_size(options),
+        selects: option_of(options, SACK_PERMITTED).is_some(),
+        is_signed,
+    }
+}
+
+/// What the checksums of a packet are, as far as they count.
+pub(crate) fn checksum_of(datagram: &capture::Datagram<'_>, checksums: Checksums) -> Checksum {
+    if checksums == Checksums::Ignore {
+        return Checksum::Right;
+    }
+    match (datagram.checksum(), checksums) {
+        (capture::Checksum::Right, _) => Checksum::Right,
+        (_, Checksums::Check) => Checksum::Refused,
+        (capture::Checksum::Partial, _) => Checksum::Partial,
+        (capture::Checksum::Wrong, _) => Checksum::Wrong,
+    }
+}
+
+/// A segment with its ends and its time.
+#[inline(always)]
+pub(crate) fn segment_of<'a>(
+    time: u64,
+    network: u64,
+    source: End,
+    destination: End,
+    tcp: &TcpSegment<'a>,
+    checksum: Checksum,
+) -> Segment<'a> {
+    Segment {
+        time,
+        network,
+        source,
+        destination,
+        sequence: tcp.sequence,
+        acknowledgment: tcp.acknowledgment,
+        flags: tcp.flags,
+        window: tcp.window,
+        urgent_pointer: tcp.urgent_pointer,
+        options: options_of(tcp.options, tcp.flags / SYN % 2 == 1),
+        checksum,
+        payload: tcp.payload,
+    }
+}
+
+/// A datagram with its ends and its time.
+pub(crate) fn datagram_of<'a>(
+    time: u64,
+    network: u64,
+    source: End,
+    destination: End,
+    udp: &UdpDatagram<'a>,
+    checksum: Checksum,
+) -> Datagram<'a> {
+    Datagram {
+        time,
+        network,
+        source,
+        destination,
+        checksum,
+        payload: udp.payload,
+    }
+}
