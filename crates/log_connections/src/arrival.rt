@@ -95,18 +95,9 @@ fn clock_alone(options: &[u8]) -> Option<u32> {
     }
 }
 
-/// What the options of a segment say. What a SYN alone may say isn't asked of another (RFC 9293, section 3.7.1; RFC 7323, section 2.2; RFC 2018,
-/// section 2).
-fn options_of(options: &[u8], is_syn: bool) -> Options {
-    if let (false, Some(clock)) = (is_syn, clock_alone(options)) {
-        return Options {
-            scale: None,
-            clock: Some(clock),
-            size: None,
-            selects: false,
-            is_signed: false,
-        };
-    }
+/// What the options of a segment say, looked for one by one. What a SYN alone may say isn't asked of another (RFC 9293, section 3.7.1; RFC 7323, section 2.2;
+/// RFC 2018, section 2).
+fn options_one_by_one(options: &[u8], is_syn: bool) -> Options {
     let clock = timestamp(options);
     let is_signed = option_of(options, MD5_SIGNATURE).is_some()
         || option_of(options, AUTHENTICATION).is_some();
@@ -126,6 +117,21 @@ fn options_of(options: &[u8], is_syn: bool) -> Options {
         selects: option_of(options, SACK_PERMITTED).is_some(),
         is_signed,
     }
+}
+
+/// What the options of a segment say.
+#[inline(always)]
+fn options_of(options: &[u8], is_syn: bool) -> Options {
+    if let (false, Some(clock)) = (is_syn, clock_alone(options)) {
+        return Options {
+            scale: None,
+            clock: Some(clock),
+            size: None,
+            selects: false,
+            is_signed: false,
+        };
+    }
+    options_one_by_one(options, is_syn)
 }
 
 /// What the checksums of a packet are, as far as they count.
