@@ -105,9 +105,7 @@ impl Display for Failure {
             Failure::Reading(e) => write!(f, "cannot read: {}", Reason(e)),
             Failure::Endless => f.write_str("cannot read: there is no end"),
             Failure::Closed => f.write_str("cannot write: nobody reads on"),
-            Failure::Writing(refusal) => {
-                write!(f, "cannot write: {}", Reason(&refusal.error()))
-            }
+            Failure::Writing(refusal) => { write!(f, "cannot write: {}", Reason(&refusal.error())) }
         }
     }
 }
