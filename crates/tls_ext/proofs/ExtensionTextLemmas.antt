@@ -66,7 +66,7 @@ use Rattle.layouts.proofs.TextLemmas.{
 use Rattle.tls_ext.specs.Extension as ext
 use Rattle.tls_ext.specs.Extension.{Extension, ServerName, extension_type}
 use Rattle.tls_ext.specs.Content.{server_name, server_names, max_fragment_length, supported_groups}
-use Rattle.tls_ext.specs.Dispatch.{registered, extension_content, extension, extensions}
+use Rattle.tls_ext.specs.Dispatch.{registered, registered_list, extension_content, extension, extensions}
 use Rattle.tls_ext.specs.ExtensionText.{
   server_name_text,
   content_text,
@@ -189,7 +189,7 @@ groups_spelled groups all h =
 -- the content of an extension, by its type
 content_spelled : (e : Extension) → FitsExtension e → InRangeExtension e
     → (extension_type e < 256 ^ 2) × Spells (extension_content General (extension_type e)) (content_text e) e [] []
-unfolding extension_content registered
+unfolding extension_content registered registered_list
 content_spelled (ext.server_name names) fits range = (
   omega arith,
   names_spelled names range (omega (arith, fits.length, length-counted 2 (flat_map server_name_text names))),

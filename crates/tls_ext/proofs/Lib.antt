@@ -1,4 +1,3 @@
-pub mod TableLemmas
 pub mod WindowLemmas
 pub mod ExtensionTextLemmas
 pub mod VersionLemmas

@@ -9,10 +9,6 @@ use Rattle.tls_ext.specs.Content as content
 use Rattle.tls_ext.specs.Content.{opaque_content}
 use Rattle.tls_ext.specs.declared.kind.Side.{Side}
 use Rattle.tls_ext.specs.declared.kind.Side.TheVariants.{General, Client, Server}
-use Rattle.tls_ext.specs.declared.kind.ListKind.{ListKind}
-use Rattle.tls_ext.specs.declared.kind.ListKind.TheVariants as list_kind
-use Rattle.tls_ext.specs.declared.kind.Kind.{Kind}
-use Rattle.tls_ext.specs.declared.kind.Kind.TheVariants as kind
 
 -- Which sides read a kind: the general one reads any message, the client's a ClientHello, the server's a ServerHello.
 abbrev pub all_sides : Side → Bool
@@ -37,42 +33,41 @@ pub record Row : Type 1 where
 abbrev pub row : ℕ → Layout Extension → (Side → Bool) → Row
 row n l sides = record { extension_type = n; layout = l; read_by = sides }
 
-abbrev pub list_row : ListKind → Row
-list_row list_kind.SNI = row extension_number.server_name content.server_names all_sides
-list_row list_kind.EllipticCurves = row extension_number.supported_groups content.supported_groups not_server
-list_row list_kind.SignatureAlgorithms =
-    row extension_number.signature_algorithms content.signature_algorithms all_sides
-list_row list_kind.ALPN =
-    row extension_number.application_layer_protocol_negotiation content.application_layer_protocol_negotiation all_sides
-list_row list_kind.SupportedVersions = row extension_number.supported_versions content.supported_versions all_sides
-list_row list_kind.PskExchangeModes =
-    row extension_number.psk_key_exchange_modes content.psk_key_exchange_modes not_server
-list_row list_kind.OidFilters = row extension_number.oid_filters content.oid_filters not_server
+-- The rows of the contents that are no lists, by their numbers.
+abbrev pub other_rows : List Row
+other_rows =
+    row extension_number.max_fragment_length content.max_fragment_length all_sides
+    ∷ row extension_number.status_request content.status_request all_sides
+    ∷ row extension_number.ec_point_formats content.ec_point_formats all_sides
+    ∷ row extension_number.heartbeat content.heartbeat all_sides
+    ∷ row extension_number.signed_certificate_timestamp content.signed_certificate_timestamp all_sides
+    ∷ row extension_number.padding content.padding not_server
+    ∷ row extension_number.encrypt_then_mac content.encrypt_then_mac all_sides
+    ∷ row extension_number.extended_master_secret content.extended_master_secret all_sides
+    ∷ row extension_number.record_size_limit content.record_size_limit all_sides
+    ∷ row extension_number.session_ticket content.session_ticket all_sides
+    ∷ row extension_number.key_share_old content.key_share_old general_only
+    ∷ row extension_number.pre_shared_key content.pre_shared_key all_sides
+    ∷ row extension_number.early_data content.early_data all_sides
+    ∷ row extension_number.cookie content.cookie all_sides
+    ∷ row extension_number.post_handshake_auth content.post_handshake_auth not_server
+    ∷ row extension_number.key_share content.key_share all_sides
+    ∷ row extension_number.next_protocol_negotiation content.next_protocol_negotiation all_sides
+    ∷ row extension_number.renegotiation_info content.renegotiation_info all_sides
+    ∷ row extension_number.encrypted_server_name content.encrypted_server_name not_server
+    ∷ []
 
-abbrev pub kind_row : Kind → Row
-kind_row (kind.List found) = list_row found
-kind_row kind.MaxFragmentLength = row extension_number.max_fragment_length content.max_fragment_length all_sides
-kind_row kind.StatusRequest = row extension_number.status_request content.status_request all_sides
-kind_row kind.EcPointFormats = row extension_number.ec_point_formats content.ec_point_formats all_sides
-kind_row kind.Heartbeat = row extension_number.heartbeat content.heartbeat all_sides
-kind_row kind.SignedCertificateTimestamp =
-    row extension_number.signed_certificate_timestamp content.signed_certificate_timestamp all_sides
-kind_row kind.Padding = row extension_number.padding content.padding not_server
-kind_row kind.EncryptThenMac = row extension_number.encrypt_then_mac content.encrypt_then_mac all_sides
-kind_row kind.ExtendedMasterSecret =
-    row extension_number.extended_master_secret content.extended_master_secret all_sides
-kind_row kind.RecordSizeLimit = row extension_number.record_size_limit content.record_size_limit all_sides
-kind_row kind.SessionTicket = row extension_number.session_ticket content.session_ticket all_sides
-kind_row kind.KeyShareOld = row extension_number.key_share_old content.key_share_old general_only
-kind_row kind.PreSharedKey = row extension_number.pre_shared_key content.pre_shared_key all_sides
-kind_row kind.EarlyData = row extension_number.early_data content.early_data all_sides
-kind_row kind.Cookie = row extension_number.cookie content.cookie all_sides
-kind_row kind.PostHandshakeAuth = row extension_number.post_handshake_auth content.post_handshake_auth not_server
-kind_row kind.KeyShare = row extension_number.key_share content.key_share all_sides
-kind_row kind.NextProtocolNegotiation =
-    row extension_number.next_protocol_negotiation content.next_protocol_negotiation all_sides
-kind_row kind.RenegotiationInfo = row extension_number.renegotiation_info content.renegotiation_info all_sides
-kind_row kind.EncryptedServerName = row extension_number.encrypted_server_name content.encrypted_server_name not_server
+-- The rows of those that are.
+abbrev pub list_rows : List Row
+list_rows =
+    row extension_number.server_name content.server_names all_sides
+    ∷ row extension_number.supported_groups content.supported_groups not_server
+    ∷ row extension_number.signature_algorithms content.signature_algorithms all_sides
+    ∷ row extension_number.application_layer_protocol_negotiation content.application_layer_protocol_negotiation all_sides
+    ∷ row extension_number.supported_versions content.supported_versions all_sides
+    ∷ row extension_number.psk_key_exchange_modes content.psk_key_exchange_modes not_server
+    ∷ row extension_number.oid_filters content.oid_filters not_server
+    ∷ []
 
 -- The content for each number at a side.
 abbrev pub Contents : Type 1
@@ -86,44 +81,18 @@ in_front r others side n = choose (n == r.extension_type && r.read_by side) r.la
 abbrev pub unknown_content : Contents
 unknown_content side n = opaque_content (ext.unknown n)
 
-abbrev pub contents : List Kind → Contents
-contents [] = unknown_content
-contents (k ∷ ks) = in_front (kind_row k) (contents ks)
+-- What these rows have; else what the others have.
+abbrev pub contents : List Row → Contents → Contents
+contents [] others = others
+contents (r ∷ rs) others = in_front r (contents rs others)
 
--- The kinds that are read, by their numbers.
-abbrev pub kinds : List Kind
-kinds =
-    kind.List list_kind.SNI
-    ∷ kind.MaxFragmentLength
-    ∷ kind.StatusRequest
-    ∷ kind.List list_kind.EllipticCurves
-    ∷ kind.EcPointFormats
-    ∷ kind.List list_kind.SignatureAlgorithms
-    ∷ kind.Heartbeat
-    ∷ kind.List list_kind.ALPN
-    ∷ kind.SignedCertificateTimestamp
-    ∷ kind.Padding
-    ∷ kind.EncryptThenMac
-    ∷ kind.ExtendedMasterSecret
-    ∷ kind.RecordSizeLimit
-    ∷ kind.SessionTicket
-    ∷ kind.KeyShareOld
-    ∷ kind.PreSharedKey
-    ∷ kind.EarlyData
-    ∷ kind.List list_kind.SupportedVersions
-    ∷ kind.Cookie
-    ∷ kind.List list_kind.PskExchangeModes
-    ∷ kind.List list_kind.OidFilters
-    ∷ kind.PostHandshakeAuth
-    ∷ kind.KeyShare
-    ∷ kind.NextProtocolNegotiation
-    ∷ kind.RenegotiationInfo
-    ∷ kind.EncryptedServerName
-    ∷ []
+-- What is read of a number that no other row has.
+unfoldable pub registered_list : Contents
+registered_list = contents list_rows unknown_content
 
--- Their rows.
+-- What is read of a number.
 unfoldable pub registered : Contents
-registered = contents kinds
+registered = contents other_rows registered_list
 
 -- A number that is kept free so that peers ignore what they don't know: each of its bytes ends in the hexadecimal digit
 -- a. These are 256 numbers: RFC 8701, section 2, has the sixteen of them whose two bytes are equal.

@@ -5,7 +5,6 @@ pub mod Within
 pub mod Dispatch
 pub mod InPlace
 pub mod Offered
-pub mod Kinds
 pub mod ExtensionText
 pub use Rattle.layouts.specs.Bytes
 pub use Rattle.layouts.specs.Layout

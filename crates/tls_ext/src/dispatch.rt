@@ -1,59 +1,70 @@
 //! Extensions of any kind (RFC 8446, section 4.2), each read as the content that its type has.
 ghost use Rattle.std.specs.Prelude.{◌≡◌, ◌≤◌, length, map};
-ghost use Rattle.layouts.specs.Answers.{GivesOrMemory};
-ghost use Rattle.tls_ext.specs.Extension.{Extension, view};
+ghost use Rattle.layouts.specs.Answers.{Gives, GivesOrMemory};
+ghost use Rattle.tls_ext.specs.Extension.{Extension, unknown, view};
 ghost use Rattle.tls_ext.specs.Dispatch.{extension as extension_layout, extension_content as content_layout};
-ghost use Rattle.tls_ext.specs.Dispatch.{extensions};
-ghost use Rattle.tls_ext.specs.Kinds.{kind_content as kind_layout, list_content as list_layout};
+ghost use Rattle.tls_ext.specs.Dispatch.{extensions, registered, registered_list};
+ghost use Rattle.tls_ext.specs.Content.{opaque_content};
 ghost use Rattle.tls_ext.specs.declared.kind.Side.{Side};
 ghost use Rattle.tls_ext.specs.declared.kind.Side.TheVariants.{General as general, Client as client, Server as server};
 
 use crate::content;
 use crate::extension::TlsExtension;
-use crate::kind::{Kind, ListKind, Side, kind_of, rows};
+use crate::kind::{Side, list_rows, other_rows, row_type, rows};
 use layouts::{IResult, Item, Room, counted2, hops2, items};
 use std::alloc::Global;
 use std::marker::PhantomData;
 use tls_base::TlsExtensionType;
 
-/// For each row of the table whose content is a list the arm that reads it.
-macro_rules! read_list {
-    ([$kind:ident $alloc:ident $i:ident] $($number:tt =>
-        $(list($list:ident, $read:ident))? $(value $v:tt)? $(empty $e:tt)? $(fields $f:tt)?, $sides:ident;)*) => {
+/// What the row of the type answers, where the side reads it; `$other` where none of these rows has it so.
+macro_rules! by_type {
+    ([$kind:ident $side:ident $i:ident $given:tt => $other:expr]
+        $($number:tt => $form:ident($variant:ident, $read:ident), $sides:ident;)*) => {
         match $kind {
-            $($(ListKind::$list => content::$read($alloc, $i),)?)*
+            $(row_type!($number) => {
+                if $side.$sides() { content::$read $given } else { unknown_content($i, $kind) }
+            })*
+            _ => $other,
         }
     };
 }
 
-/// For each other row the arm that reads it.
-macro_rules! read_other {
-    ([$kind:ident $alloc:ident $i:ident] $($number:tt =>
-        $(list $l:tt)? $(value($value:ident, $read_value:ident))? $(empty($empty:ident, $read_empty:ident))?
-        $(fields($fields:ident, $read_fields:ident))?, $sides:ident;)*) => {
-        match $kind {
-            Kind::List(list) => list_content($alloc, $i, list),
-            $($(Kind::$value => content::$read_value($i),)?)*
-            $($(Kind::$empty => content::$read_empty($i),)?)*
-            $($(Kind::$fields => content::$read_fields($i),)?)*
-        }
-    };
+/// The content of an extension whose type no row has, or not at that side: all its bytes.
+#[tactic(auto, using(layouts::proofs::OneAnswerLemmas::read_allowed))]
+#[inline(always)]
+fn unknown_content(i: &[u8], kind: TlsExtensionType) -> IResult<&[u8], TlsExtension>
+    ensures { Gives view (opaque_content (unknown kind.0)) i.now result }
+{
+    let (i, content) = content::whole(i);
+    Ok((i, TlsExtension::Unknown(kind, content)))
 }
 
-/// The content of a kind that is a list.
+/// The content where the type may be one of the lists'.
+#[tactic(auto, using(layouts::proofs::OneAnswerLemmas::read_allowed), unfolding(crate::specs::Dispatch::registered_list))]
 #[inline(always)]
-fn list_content(alloc: Global, i: &[u8], kind: ListKind) -> IResult<&[u8], TlsExtension>
-    ensures { GivesOrMemory view (list_layout kind) i.now result }
+fn list_content(
+    alloc: Global,
+    i: &[u8],
+    kind: TlsExtensionType,
+    side: Side,
+) -> IResult<&[u8], TlsExtension>
+    ensures { GivesOrMemory view (registered_list side kind.0) i.now result }
 {
-    rows!(read_list kind alloc i)
+    rows!(list_rows by_type kind side i (alloc, i) => unknown_content(i, kind))
 }
 
-/// The content of an extension of that kind.
+/// The content where the type isn't kept free.
+#[tactic(auto, using(layouts::proofs::OneAnswerLemmas::read_allowed), unfolding(crate::specs::Dispatch::registered, crate::specs::Dispatch::registered_list))]
 #[inline(always)]
-fn kind_content(alloc: Global, i: &[u8], kind: Kind) -> IResult<&[u8], TlsExtension>
-    ensures { GivesOrMemory view (kind_layout kind) i.now result }
+fn registered_content(
+    alloc: Global,
+    i: &[u8],
+    kind: TlsExtensionType,
+    side: Side,
+) -> IResult<&[u8], TlsExtension>
+    ensures { GivesOrMemory view (registered side kind.0) i.now result }
 {
-    rows!(read_other kind alloc i)
+    rows!(other_rows by_type kind side i (i) => list_content(alloc, i, kind, side))
 }
 
 /// The content of an extension of the type `kind`, as `side` reads it.
@@ -73,13 +84,7 @@ fn extension_content(
         let (i, content) = content::whole(i);
         return Ok((i, TlsExtension::Grease(kind.0, content)));
     }
-    match kind_of(kind.0, side) {
-        Some(kind) => kind_content(alloc, i, kind),
-        None => {
-            let (i, content) = content::whole(i);
-            Ok((i, TlsExtension::Unknown(kind, content)))
-        }
-    }
+    registered_content(alloc, i, kind, side)
 }
 
 /// A whole extension, as `side` reads it.

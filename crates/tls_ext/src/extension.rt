@@ -2,7 +2,7 @@
 ghost use Rattle.std.specs.Prelude.{◌≡◌, IfOk};
 ghost use Rattle.tls_ext.specs.Extension.{view, extension_type};
 
-use crate::kind::{row_type, rows};
+use crate::kind::{every_row, row_type, rows};
 use std::alloc::{AllocError, Global};
 use tls_base::{
     CertificateStatusType, NamedGroup, OutOfMemory, SNIType, TlsCipherSuiteID, TlsExtensionType,
@@ -117,7 +117,7 @@ impl From<&TlsExtension<'_>> for TlsExtensionType {
     ghost from_gives = { λ e t. t.0 ≡ extension_type (view e.now) };
 
     fn from(extension: &TlsExtension) -> TlsExtensionType {
-        rows!(type_of extension)
+        rows!(every_row type_of extension)
     }
 }
 
@@ -163,6 +163,6 @@ impl<'a> TlsExtension<'a> {
     pub fn try_clone(&self, alloc: Global) -> Result<TlsExtension<'a>, OutOfMemory>
         ensures { IfOk result (λ e. view e ≡ view self.now) }
     {
-        Ok(rows!(copy_of self alloc))
+        Ok(rows!(every_row copy_of self alloc))
     }
 }
