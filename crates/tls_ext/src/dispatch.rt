@@ -16,7 +16,8 @@ use std::alloc::Global;
 use std::marker::PhantomData;
 use tls_base::TlsExtensionType;
 
-/// What the row of the type answers, where the side reads it; `$other` where none of these rows has it so.
+/// What the row of the type answers, where that side reads it, and else all bytes; `$other` where none of these rows has the
+/// type.
 macro_rules! by_type {
     ([$kind:ident $side:ident $i:ident $given:tt => $other:expr]
         $($number:tt => $form:ident($variant:ident, $read:ident), $sides:ident;)*) => {
@@ -39,8 +40,9 @@ fn unknown_content(i: &[u8], kind: TlsExtensionType) -> IResult<&[u8], TlsExtens
     Ok((i, TlsExtension::Unknown(kind, content)))
 }
 
-/// The content where the type may be one of the lists'.
-#[tactic(auto, using(layouts::proofs::OneAnswerLemmas::read_allowed), unfolding(crate::specs::Dispatch::registered_list))]
+/// The content of a type that no other row has. It is a function of its own, since in one match with the rows that are
+/// read in place these would answer in the memory that the calls for lists answer in.
+#[tactic(auto, using(layouts::proofs::OneAnswerLemmas::read_allowed, layouts::proofs::OneAnswerLemmas::eqb_other), unfolding(crate::specs::Dispatch::registered_list))]
 #[inline(always)]
 fn list_content(
     alloc: Global,
@@ -53,8 +55,8 @@ fn list_content(
     rows!(list_rows by_type kind side i (alloc, i) => unknown_content(i, kind))
 }
 
-/// The content where the type isn't kept free.
-#[tactic(auto, using(layouts::proofs::OneAnswerLemmas::read_allowed), unfolding(crate::specs::Dispatch::registered, crate::specs::Dispatch::registered_list))]
+/// The content of a type that isn't kept free.
+#[tactic(auto, using(layouts::proofs::OneAnswerLemmas::read_allowed, layouts::proofs::OneAnswerLemmas::eqb_other), unfolding(crate::specs::Dispatch::registered, crate::specs::Dispatch::registered_list))]
 #[inline(always)]
 fn registered_content(
     alloc: Global,

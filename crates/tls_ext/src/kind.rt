@@ -1,4 +1,4 @@
-//! The table of extensions: which type has which content, who reads it, and which sides.
+//! The table of the kinds of extensions: which type is which kind, who reads it, and on which sides.
 ghost use Rattle.std.specs.Prelude.{◌≡◌};
 ghost use Rattle.tls_ext.specs.Dispatch.{all_sides, not_server, general_only};
 
@@ -39,8 +39,8 @@ impl Side {
 /// The table, told once: it hands its rows to the macro that it is passed, behind the words in brackets; `$part` picks the
 /// rows. A row has an extension type (the name of its constant, or its number where it has none), the form and the name of
 /// the variant of `TlsExtension`, the call that reads the content, and which sides read it. Those whose content is a list
-/// stand apart, since they are read by calls and all others in place: in one match, what is made in place would go through
-/// the memory that the calls answer in. In each part the rows stand in the order of the types' numbers.
+/// stand apart, since they are read by calls and all others in place. In each part the rows stand in the order of the
+/// types' numbers.
 macro_rules! rows {
     ($part:ident $then:ident $($words:tt)*) => {
         $part! {

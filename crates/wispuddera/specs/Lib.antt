@@ -23,7 +23,6 @@ pub use Rattle.tls_ext.specs.Content
 pub use Rattle.tls_ext.specs.Tagged
 pub use Rattle.tls_ext.specs.Dispatch
 pub use Rattle.tls_ext.specs.InPlace as ExtensionInPlace
-pub use Rattle.tls_ext.specs.Kinds
 pub use Rattle.tls_ext.specs.ExtensionText
 pub use Rattle.tls_hs.specs.Hello
 pub use Rattle.tls_hs.specs.ServerHello
