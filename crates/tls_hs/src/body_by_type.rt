@@ -111,7 +111,6 @@ macro_rules! by_type {
 ///
 /// `Error` of kind `Switch` where no body has this type; else what the body's own call refuses.
 #[tactic(auto, using(layouts::proofs::OneAnswerLemmas::read_allowed), unfolding(crate::specs::Handshake::body_from_finished))]
-#[inline(always)]
 pub(crate) fn body_from_finished(
     i: &[u8],
     msg_type: TlsHandshakeType,

@@ -39,10 +39,13 @@ abbrev pub kind_of_hello : Bool → Kind
 kind_of_hello has_id = if has_id then kind.ClientHelloWithId else kind.ClientHello
 
 -- That of its type, but for the ServerHello of draft 18 of TLS 1.3 (draft-ietf-tls-tls13-18, section 4.1.3).
+abbrev pub kind_by_variant : handshakes.Handshake → Kind
+kind_by_variant (handshakes.ServerHelloV13Draft18 hello) = kind.ServerHelloV13Draft18
+kind_by_variant m = kind_of_type (msg_type_of m)
+
 abbrev pub kind_of_handshake : handshakes.Handshake → Kind
 kind_of_handshake (handshakes.ClientHello hello) = kind_of_hello (is_some hello.session_id)
-kind_of_handshake (handshakes.ServerHelloV13Draft18 hello) = kind.ServerHelloV13Draft18
-kind_of_handshake m = kind_of_type (msg_type_of m)
+kind_of_handshake m = kind_by_variant m
 
 -- Severity 1 is a warning.
 abbrev pub kind_of_message : messages.Message → Kind

@@ -1,10 +1,10 @@
 //! What the rules of a conversation see of a message: its kind and its direction.
-ghost use Rattle.std.specs.Prelude.{◌≡◌};
+ghost use Rattle.std.specs.Prelude.{◌≡◌, Some, slice_get};
 ghost use Rattle.tls_hs.specs.Handshake.{view_handshake};
 ghost use Rattle.tls_hs.specs.Message.{view_message};
-ghost use Rattle.tls_states.specs.Symbols.{kind_of_handshake, kind_of_message, kind_of_type, direction};
+ghost use Rattle.tls_states.specs.Symbols.{kind_by_variant, kind_of_handshake, kind_of_message, direction};
 
-use tls_base::{TlsAlertSeverity, TlsHandshakeType};
+use tls_base::TlsAlertSeverity;
 use tls_hs::{TlsMessage, TlsMessageHandshake};
 
 /// A kind of message. The kinds that no rule tells apart are one.
@@ -55,40 +55,74 @@ impl Direction {
     }
 }
 
+/// The kinds of handshake messages, each at the place of its variant. A look-up here is faster than a jump by the variant.
+static BY_VARIANT: [Kind; 17] = [
+    Kind::HelloRequest,
+    Kind::ClientHello,
+    Kind::ServerHello,
+    Kind::ServerHelloV13Draft18,
+    Kind::NewSessionTicket,
+    Kind::Other,
+    Kind::Other,
+    Kind::Certificate,
+    Kind::ServerKeyExchange,
+    Kind::CertificateRequest,
+    Kind::ServerDone,
+    Kind::CertificateVerify,
+    Kind::ClientKeyExchange,
+    Kind::Other,
+    Kind::CertificateStatus,
+    Kind::Other,
+    Kind::Other,
+];
+
+/// The place of a message's variant among the variants.
+#[inline]
+fn place_of_variant(message: &TlsMessageHandshake<'_>) -> usize
+    ensures { slice_get BY_VARIANT result ≡ Some (kind_by_variant (view_handshake message.now)) }
+{
+    match message {
+        TlsMessageHandshake::HelloRequest => 0,
+        TlsMessageHandshake::ClientHello(_) => 1,
+        TlsMessageHandshake::ServerHello(_) => 2,
+        TlsMessageHandshake::ServerHelloV13Draft18(_) => 3,
+        TlsMessageHandshake::NewSessionTicket(_) => 4,
+        TlsMessageHandshake::EndOfEarlyData => 5,
+        TlsMessageHandshake::HelloRetryRequest(_) => 6,
+        TlsMessageHandshake::Certificate(_) => 7,
+        TlsMessageHandshake::ServerKeyExchange(_) => 8,
+        TlsMessageHandshake::CertificateRequest(_) => 9,
+        TlsMessageHandshake::ServerDone(_) => 10,
+        TlsMessageHandshake::CertificateVerify(_) => 11,
+        TlsMessageHandshake::ClientKeyExchange(_) => 12,
+        TlsMessageHandshake::Finished(_) => 13,
+        TlsMessageHandshake::CertificateStatus(_) => 14,
+        TlsMessageHandshake::NextProtocol(_) => 15,
+        TlsMessageHandshake::KeyUpdate(_) => 16,
+    }
+}
+
 impl Kind {
-    /// The kind of a handshake message by its type alone: that of a ClientHello without a session id for each.
+    /// The kind of a handshake message by its variant alone: that of a ClientHello without a session id for each.
     #[inline]
-    fn of_type(msg_type: TlsHandshakeType) -> Kind
-        ensures { result ≡ kind_of_type msg_type.0 }
+    fn by_variant(message: &TlsMessageHandshake<'_>) -> Kind
+        ensures { result ≡ kind_by_variant (view_handshake message.now) }
     {
-        match msg_type {
-            TlsHandshakeType::HelloRequest => Kind::HelloRequest,
-            TlsHandshakeType::ClientHello => Kind::ClientHello,
-            TlsHandshakeType::ServerHello => Kind::ServerHello,
-            TlsHandshakeType::NewSessionTicket => Kind::NewSessionTicket,
-            TlsHandshakeType::Certificate => Kind::Certificate,
-            TlsHandshakeType::ServerKeyExchange => Kind::ServerKeyExchange,
-            TlsHandshakeType::CertificateRequest => Kind::CertificateRequest,
-            TlsHandshakeType::ServerDone => Kind::ServerDone,
-            TlsHandshakeType::CertificateVerify => Kind::CertificateVerify,
-            TlsHandshakeType::ClientKeyExchange => Kind::ClientKeyExchange,
-            TlsHandshakeType::CertificateStatus => Kind::CertificateStatus,
-            _ => Kind::Other,
-        }
+        BY_VARIANT[place_of_variant(message)]
     }
 
-    /// The kind of a handshake message: that of its type, but for a session id, and for the ServerHello of draft 18 of TLS 1.3.
+    /// The kind of a handshake message. The session id is looked at apart, so that the rest is a look-up of the variant.
     #[tactic(auto, using(crate::proofs::SymbolLemmas::viewed_is_some))]
     #[inline]
     fn of_handshake(message: &TlsMessageHandshake<'_>) -> Kind
         ensures { result ≡ kind_of_handshake (view_handshake message.now) }
     {
-        match message {
-            TlsMessageHandshake::ClientHello(hello) if hello.session_id.is_some() =>
-                Kind::ClientHelloWithId,
-            TlsMessageHandshake::ServerHelloV13Draft18(_) => Kind::ServerHelloV13Draft18,
-            _ => Kind::of_type(message.msg_type()),
+        if let TlsMessageHandshake::ClientHello(hello) = message {
+            if hello.session_id.is_some() {
+                return Kind::ClientHelloWithId;
+            }
         }
+        Kind::by_variant(message)
     }
 
     /// The kind of a message.
