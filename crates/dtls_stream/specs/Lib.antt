@@ -2,10 +2,15 @@ pub mod Fragments
 pub mod Messages
 pub mod Sent
 pub mod Datagrams
+pub mod FlowEvents
+pub mod Ciphertext
+pub mod Ack
+pub mod DatagramRecord
 pub use Rattle.layouts.specs.Bytes
 pub use Rattle.layouts.specs.Layout
 pub use Rattle.layouts.specs.Meaning
 pub use Rattle.layouts.specs.Reading
+pub use Rattle.layouts.specs.Answers
 pub use Rattle.tls_base.specs.Alert
 pub use Rattle.tls_records.specs.Framing
 pub use Rattle.tls_records.specs.DtlsRecord

@@ -3,9 +3,9 @@ use serde::Serialize;
 use std::alloc::{AllocError, Global};
 use std::mem;
 use tls_base::{TlsHandshakeType, TlsMessageAlert, TlsRecordType};
-use tls_conversations::Said;
 use tls_flow::{Direction, HandshakeMessage};
 use tls_json::{AlertMessage, ChangeCipherSpec, Chosen, HeartbeatMessage, Message};
+use tls_stream::Said;
 
 /// What stands in a message, by its fields.
 #[derive(Drop, Serialize)]
@@ -174,25 +174,25 @@ impl Kept {
         &mut self,
         alloc: Global,
         direction: Direction,
-        event: &tls_conversations::Event<'_>,
+        event: &tls_stream::Event<'_>,
         message: Option<&HandshakeMessage<'_>>,
     ) -> Result<(), AllocError> {
         match event {
-            tls_conversations::Event::Handshake(bytes) => {
+            tls_stream::Event::Handshake(bytes) => {
                 let word = handshake_word(alloc, &mut self.chosen, bytes, message);
                 self.keep(direction, word)
             }
-            tls_conversations::Event::ChangeCipherSpec => {
+            tls_stream::Event::ChangeCipherSpec => {
                 self.keep(direction, change_word(alloc))
             }
-            tls_conversations::Event::Alert(alert) => {
+            tls_stream::Event::Alert(alert) => {
                 self.keep(direction, alert_word(alloc, alert))
             }
-            tls_conversations::Event::Heartbeat(fragment) => {
+            tls_stream::Event::Heartbeat(fragment) => {
                 self.keep(direction, heartbeat_word(alloc, fragment))
             }
-            tls_conversations::Event::ApplicationData(_) => Ok(()),
-            tls_conversations::Event::Encrypted(_) => Ok(()),
+            tls_stream::Event::ApplicationData(_) => Ok(()),
+            tls_stream::Event::Encrypted(_) => Ok(()),
         }
     }
 

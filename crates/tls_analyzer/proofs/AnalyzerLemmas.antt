@@ -24,8 +24,8 @@ use Rattle.tls_stream.specs.Item.{Event as Said}
 use Rattle.tls_flow.specs.Table.{outcome_at}
 use Rattle.tls_flow.specs.declared.symbol.Direction.{Direction as Side}
 use Rattle.tls_flow.specs.declared.symbol.Direction.TheVariants.{ToServer, FromServer}
-use Rattle.tls_conversations.specs.Conversations.{IsPast}
-use Rattle.tls_conversations.specs.declared.conversation.Conversation.{Conversation}
+use Rattle.tls_stream.specs.Conversations.{IsPast}
+use Rattle.tls_stream.specs.declared.conversation.Conversation.{Conversation}
 use Rattle.tls_analyzer.specs.History.{history}
 use Rattle.tls_analyzer.specs.Hearing.{known_of}
 use Rattle.tls_analyzer.specs.Noting.{Known, has_sealed, known}

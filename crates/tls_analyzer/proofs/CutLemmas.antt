@@ -49,13 +49,13 @@ use Rattle.tls_flow.specs.Steps.{follow}
 use Rattle.tls_flow.specs.declared.event.Event.{Event}
 use Rattle.tls_flow.specs.declared.symbol.Direction.{Direction as Side}
 use Rattle.tls_flow.specs.declared.symbol.Direction.TheVariants.{ToServer, FromServer}
-use Rattle.tls_conversations.specs.Conversations.{IsBehind, IsPast, IsFedBy, IsToldIf, ear, other, tells, views}
-use Rattle.tls_conversations.specs.Ears.{IsFirst, SaysAs, says, says_by, told}
-use Rattle.tls_conversations.specs.Events.{chooses_tls13, event_of}
-use Rattle.tls_conversations.specs.declared.conversation.Conversation.{Conversation}
-use Rattle.tls_conversations.specs.declared.ear.Ear.{Ear}
-use Rattle.tls_conversations.specs.declared.ear.Standing.{Standing}
-use Rattle.tls_conversations.specs.declared.ear.Standing.TheVariants.{Speaks, AtFault, Over}
+use Rattle.tls_stream.specs.Conversations.{IsBehind, IsPast, IsFedBy, IsToldIf, ear, other, tells, views}
+use Rattle.tls_stream.specs.Ears.{IsFirst, SaysAs, says, says_by, told}
+use Rattle.tls_stream.specs.FlowEvents.{chooses_tls13, event_of}
+use Rattle.tls_stream.specs.declared.conversation.Conversation.{Conversation}
+use Rattle.tls_stream.specs.declared.ear.Ear.{Ear}
+use Rattle.tls_stream.specs.declared.ear.Standing.{Standing}
+use Rattle.tls_stream.specs.declared.ear.Standing.TheVariants.{Speaks, AtFault, Over}
 use Rattle.tls_analyzer.specs.History.{history, letter_of, with_letter}
 use Rattle.tls_analyzer.specs.Noting.{has_sealed, is_sealed, known}
 use Rattle.tls_analyzer.specs.Hearing.{AreHeard, IsHeard, known_of, onto, turns}

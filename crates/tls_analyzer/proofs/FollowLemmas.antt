@@ -33,9 +33,9 @@ use Rattle.tls_stream.specs.Item.{Event as Said}
 use Rattle.tls_flow.specs.Table.{outcome_at}
 use Rattle.tls_flow.specs.declared.symbol.Direction.{Direction as Side}
 use Rattle.tls_flow.specs.declared.symbol.Direction.TheVariants.{ToServer, FromServer}
-use Rattle.tls_conversations.specs.Conversations.{IsFedBy, IsPast, ear}
-use Rattle.tls_conversations.specs.Ears.{IsReady, first_in, front_of, says}
-use Rattle.tls_conversations.specs.declared.conversation.Conversation.{Conversation}
+use Rattle.tls_stream.specs.Conversations.{IsFedBy, IsPast, ear}
+use Rattle.tls_stream.specs.Ears.{IsReady, first_in, front_of, says}
+use Rattle.tls_stream.specs.declared.conversation.Conversation.{Conversation}
 use Rattle.tls_analyzer.specs.Hearing.{IsFed, IsNextTaken, IsNoted, known_of}
 use Rattle.tls_analyzer.specs.History.{history, letter_of, with_letter}
 use Rattle.tls_analyzer.specs.Noting.{Known, has_sealed, is_sealed, known}

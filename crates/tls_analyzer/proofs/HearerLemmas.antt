@@ -33,14 +33,15 @@ use Rattle.tls_summary.specs.HandshakeSummary.{HandshakeSummary}
 use Rattle.tls_flow.specs.declared.event.Event.{Event}
 use Rattle.tls_flow.specs.declared.flow.Flow.{Flow}
 use Rattle.tls_flow.specs.declared.symbol.Direction.{Direction as Side}
-use Rattle.tls_conversations.specs.Conversations.{IsPast, IsFedBy, ear}
-use Rattle.tls_conversations.specs.Events.{event_of, event_with, message_in, message_in_datagram}
+use Rattle.tls_stream.specs.Conversations.{IsPast, IsFedBy, ear}
+use Rattle.tls_stream.specs.FlowEvents.{event_of, event_with, message_in}
+use Rattle.dtls_stream.specs.FlowEvents.{message_in_datagram}
 use Rattle.dtls_stream.specs.Messages as datagrams
 use Rattle.tls_analyzer.specs.Datagrams as in_datagrams
 use Rattle.tls_flow.specs.Bytes.{HandshakeMessage, kind_of_datagrams, kind_of_message}
 use Rattle.tls_flow.specs.declared.symbol.Kind.{Kind}
-use Rattle.tls_conversations.specs.Ears.{IsReady, first_in, front_of, says}
-use Rattle.tls_conversations.specs.declared.conversation.Conversation.{Conversation}
+use Rattle.tls_stream.specs.Ears.{IsReady, first_in, front_of, says}
+use Rattle.tls_stream.specs.declared.conversation.Conversation.{Conversation}
 use Rattle.tls_analyzer.specs.History.{history, letter_of, with_letter}
 use Rattle.tls_analyzer.specs.Noting.{followed, has_sealed, is_sealed, known, stepped}
 use Rattle.tls_analyzer.specs.Hearing.{IsFed, IsHeard, IsNextTaken, IsNoted, known_of}

@@ -26,7 +26,7 @@ use Rattle.std.proofs.lemmas.List.{map-append, take_all}
 use Rattle.layouts.specs.Bytes.{Bytes}
 use Rattle.tls_flow.specs.declared.symbol.Direction.{Direction as Side}
 use Rattle.tls_flow.specs.declared.symbol.Direction.TheVariants.{ToServer, FromServer}
-use Rattle.tls_conversations.specs.Conversations.{views}
+use Rattle.tls_stream.specs.Conversations.{views}
 use Rattle.tls_analyzer.specs.Hearing.{onto, turns}
 use Rattle.tls_analyzer.specs.Analyzers.{AreHeardOn, IsHeardOn}
 use Rattle.tls_analyzer.specs.declared.analyzer.Analyzer.{Analyzer}

@@ -8,9 +8,9 @@ use Rattle.tls_flow.specs.Table.{is_waiting, outcome_at}
 use Rattle.tls_flow.specs.declared.symbol.Direction.{Direction as Side}
 use Rattle.tls_flow.specs.declared.symbol.Direction.TheVariants.{ToServer, FromServer}
 use Rattle.tls_flow.specs.declared.state.Outcome.{Outcome}
-use Rattle.tls_conversations.specs.Conversations.{IsBegun, IsFedBy, IsPast, ear, other}
-use Rattle.tls_conversations.specs.Ears.{says}
-use Rattle.tls_conversations.specs.declared.conversation.Conversation.{Conversation}
+use Rattle.tls_stream.specs.Conversations.{IsBegun, IsFedBy, IsPast, ear, other}
+use Rattle.tls_stream.specs.Ears.{says}
+use Rattle.tls_stream.specs.declared.conversation.Conversation.{Conversation}
 use Rattle.tls_summary.specs.HandshakeSummary.{nothing, view_summary}
 use Rattle.tls_detection.specs.Front.{begins_tls}
 use Rattle.tls_stream.specs.Events.{default_limit}

@@ -14,12 +14,12 @@ use Rattle.tls_flow.specs.declared.event.Event.{Event as Followed}
 use Rattle.tls_flow.specs.declared.flow.Flow.{Flow}
 use Rattle.tls_flow.specs.declared.symbol.Direction.{Direction as Side}
 use Rattle.tls_flow.specs.declared.symbol.Direction.TheVariants.{ToServer, FromServer}
-use Rattle.tls_conversations.specs.Events.{event_in_datagram_with, kind_in_datagram, message_in_datagram}
+use Rattle.dtls_stream.specs.FlowEvents.{event_in_datagram_with, kind_in_datagram, message_in_datagram}
 use Rattle.tls_flow.specs.Bytes.{HandshakeMessage}
 use Rattle.tls_flow.specs.declared.symbol.Kind.{Kind}
 use Rattle.tls_flow.specs.declared.state.Outcome.{Outcome}
 use Rattle.tls_summary.specs.HandshakeSummary.{HandshakeSummary, nothing, of_alert, of_datagrams, view_summary}
-use Rattle.dtls13_records.specs.Ciphertext.{Ciphertext, ciphertext}
+use Rattle.dtls_stream.specs.Ciphertext.{Ciphertext, ciphertext}
 use Rattle.tls_analyzer.specs.Ends.{is_13}
 use Rattle.tls_stream.specs.Events.{default_limit}
 use Rattle.tls_summary.specs.Told.{client_session_id, connection_id_length, offers_ticket, server_session_id}

@@ -4,12 +4,12 @@ use Rattle.layouts.specs.Bytes.{Bytes}
 use Rattle.tls_stream.specs.Item.{Event as Said}
 use Rattle.tls_flow.specs.declared.symbol.Direction.{Direction as Side}
 use Rattle.tls_flow.specs.declared.symbol.Direction.TheVariants.{ToServer, FromServer}
-use Rattle.tls_conversations.specs.Conversations.{IsBegun, IsBehind, IsPast, IsFedBy, ear}
-use Rattle.tls_conversations.specs.Ears.{says}
-use Rattle.tls_conversations.specs.declared.conversation.Conversation.{Conversation}
+use Rattle.tls_stream.specs.Conversations.{IsBegun, IsBehind, IsPast, IsFedBy, ear}
+use Rattle.tls_stream.specs.Ears.{says}
+use Rattle.tls_stream.specs.declared.conversation.Conversation.{Conversation}
 use Rattle.tls_flow.specs.Steps.{silence}
 use Rattle.tls_summary.specs.HandshakeSummary.{asked_in_ssl2, nothing, view_summary}
-use Rattle.tls_conversations.specs.Events.{plain}
+use Rattle.tls_flow.specs.Events.{plain}
 use Rattle.tls_flow.specs.declared.symbol.Kind.TheVariants as kind
 use Rattle.ssl2_hello.specs.ClientHello as ssl2
 use Rattle.std.specs.Str.{byte}

@@ -4,7 +4,8 @@ use Rattle.std.specs.Str.{byte}
 use Rattle.layouts.specs.Bytes.{Bytes}
 use Rattle.tls_stream.specs.Item as stream
 use Rattle.dtls_stream.specs.Messages as datagrams
-use Rattle.tls_conversations.specs.Events.{kind_in_datagram, kind_said}
+use Rattle.tls_stream.specs.FlowEvents.{kind_said}
+use Rattle.dtls_stream.specs.FlowEvents.{kind_in_datagram}
 use Rattle.tls_flow.specs.declared.symbol.Direction.{Direction as Side}
 use Rattle.tls_flow.specs.declared.symbol.Direction.TheVariants.{ToServer, FromServer}
 use Rattle.tls_flow.specs.declared.symbol.Kind.{Kind}

@@ -6,7 +6,7 @@ use Rattle.tls_flow.specs.Steps.{follow}
 use Rattle.tls_flow.specs.declared.event.Event.{Event}
 use Rattle.tls_flow.specs.declared.flow.Flow.{Flow}
 use Rattle.tls_flow.specs.Bytes.{HandshakeMessage}
-use Rattle.tls_conversations.specs.Events.{event_of, message_in}
+use Rattle.tls_stream.specs.FlowEvents.{event_of, message_in}
 use Rattle.tls_summary.specs.HandshakeSummary.{HandshakeSummary, is_stray, of_alert, of_message_if}
 
 -- One step: what an event of that side adds, where m is the handshake message that it is.

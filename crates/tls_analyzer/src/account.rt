@@ -10,10 +10,9 @@ ghost use Rattle.tls_analyzer.specs.Datagrams.{awaits_change as awaits, behind_c
 
 use crate::history::{add_letter, datagram_letter};
 use crate::witness::Witness;
-use dtls_stream::Event;
+use dtls_stream::{Event, datagram_message, dtls_event_with};
 use std::alloc::{AllocError, Global};
-use tls_conversations::{Direction, Flow, Kind, Outcome, datagram_message, dtls_event_with};
-use tls_flow::HandshakeMessage;
+use tls_flow::{Direction, Flow, HandshakeMessage, Kind, Outcome};
 use tls_summary::HandshakeSummary;
 
 /// How far a side has come.

@@ -1,8 +1,8 @@
 //! What a connection says, as far as it is TLS.
 ghost use Rattle.std.specs.Prelude.{◌≡◌, ◌++◌, [], IfOk, OnOk};
 ghost use Rattle.ssl2_hello.specs.ClientHello.{view_client_hello as view_ssl2_hello};
-ghost use Rattle.tls_conversations.specs.Conversations.{ear, views};
-ghost use Rattle.tls_conversations.specs.Ears.{IsReady, front_of};
+ghost use Rattle.tls_stream.specs.Conversations.{ear, views};
+ghost use Rattle.tls_stream.specs.Ears.{IsReady, front_of};
 ghost use Rattle.tls_summary.specs.HandshakeSummary.{view_summary};
 ghost use Rattle.tls_flow.specs.Table.{outcome_at};
 ghost use Rattle.tls_analyzer.specs.Ends.{is_established as established_by, is_resumed as resumed_by};
@@ -15,8 +15,8 @@ use crate::witness::{Nobody, Witness};
 use ssl2_hello::Ssl2ClientHello;
 use std::alloc::{AllocError, Global};
 use std::mem;
-use tls_conversations::{Direction, Outcome, Stop};
 use tls_detection::{HEADER_LEN, begins_tls};
+use tls_flow::{Direction, Outcome, Stop};
 use tls_summary::HandshakeSummary;
 
 /// How a side is heard.

@@ -15,7 +15,7 @@ use crate::speaker::first_fragment;
 use dtls_stream::{Fragment, read_record};
 use layouts::InPlace;
 use tls_base::TlsHandshakeType;
-use tls_conversations::Outcome;
+use tls_flow::Outcome;
 use tls_records::{DTLSClientHelloView, DTLSRawRecord};
 use tls_summary::HandshakeSummary;
 

@@ -2,7 +2,7 @@
 ghost use Rattle.std.specs.Prelude.{◌≡◌, IfOk, OnOk};
 ghost use Rattle.tls_records.specs.DtlsRecord.{view_raw_record};
 ghost use Rattle.dtls_stream.specs.Fragments.{view_fragment};
-ghost use Rattle.tls_conversations.specs.Conversations.{views};
+ghost use Rattle.tls_stream.specs.Conversations.{views};
 ghost use Rattle.tls_summary.specs.HandshakeSummary.{view_summary};
 ghost use Rattle.tls_flow.specs.Table.{outcome_at};
 ghost use Rattle.tls_analyzer.specs.Another.{begins_another as another_begins};
@@ -16,10 +16,9 @@ use crate::datagram_records::is_known;
 use crate::ends;
 use crate::speaker::{Speaker, first_fragment, is_hello};
 use crate::witness::{Nobody, Witness};
-use dtls_stream::{Fragment, read_record};
-use dtls13_records::parse_dtls13_ciphertext;
+use dtls_stream::{Fragment, parse_dtls13_ciphertext, read_record};
 use std::alloc::{AllocError, Global};
-use tls_conversations::{Direction, Flow, Outcome, Stop};
+use tls_flow::{Direction, Flow, Outcome, Stop};
 use tls_records::DTLSRawRecord;
 use tls_summary::HandshakeSummary;
 

@@ -1,10 +1,10 @@
 //! The records of datagrams, counted.
 ghost use Rattle.std.specs.Prelude.{◌≡◌};
 ghost use Rattle.tls_records.specs.DtlsRecord.{view_header};
-ghost use Rattle.dtls13_records.specs.Datagram.{view_datagram_record};
+ghost use Rattle.dtls_stream.specs.DatagramRecord.{view_datagram_record};
 ghost use Rattle.tls_analyzer.specs.DatagramRecords.{is_known as is_known_header, is_record as is_record_of, no_datagrams, with_datagram};
 
-use dtls13_records::DatagramRecord;
+use dtls_stream::DatagramRecord;
 use tls_detection::is_datagram_version;
 use tls_records::DTLSRecordHeader;
 
@@ -56,7 +56,7 @@ impl DatagramRecords {
     pub fn add(&mut self, datagram: &[u8], connection_id_len: usize, is_13: bool)
         ensures { self.new ≡ with_datagram is_13 connection_id_len datagram.now self.old }
     {
-        for record in dtls13_records::DatagramRecords::new(datagram, connection_id_len) {
+        for record in dtls_stream::DatagramRecords::new(datagram, connection_id_len) {
             if !is_record(&record, is_13) {
                 return;
             }

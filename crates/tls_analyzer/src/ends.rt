@@ -3,7 +3,7 @@ ghost use Rattle.std.specs.Prelude.{◌≡◌};
 ghost use Rattle.tls_summary.specs.HandshakeSummary.{view_summary};
 ghost use Rattle.tls_analyzer.specs.Ends.{is_13 as is_13_by, is_established as established_by, is_resumed as resumed_by};
 
-use tls_conversations::Outcome;
+use tls_flow::Outcome;
 use tls_summary::HandshakeSummary;
 
 /// Whether the part of a handshake that can be read came to its end.

@@ -2,9 +2,9 @@
 ghost use Rattle.std.specs.Prelude.{◌≡◌, [], IfOk, OnOk};
 ghost use Rattle.std.specs.Option.{option_map};
 ghost use Rattle.ssl2_hello.specs.ClientHello.{view_client_hello as view_ssl2_hello};
-ghost use Rattle.tls_conversations.specs.Conversations.{IsBegun, ear, views};
-ghost use Rattle.tls_conversations.specs.Ears.{IsReady, front_of};
-ghost use Rattle.tls_conversations.specs.Events.{event_of, view_said};
+ghost use Rattle.tls_stream.specs.Conversations.{IsBegun, ear, views};
+ghost use Rattle.tls_stream.specs.Ears.{IsReady, front_of};
+ghost use Rattle.tls_stream.specs.FlowEvents.{event_of, view_said};
 ghost use Rattle.tls_flow.specs.Bytes.{view_heard};
 ghost use Rattle.tls_summary.specs.HandshakeSummary.{nothing, view_summary};
 ghost use Rattle.tls_flow.specs.Steps.{silence};
@@ -16,11 +16,8 @@ use crate::history::{add_letter, said_letter};
 use crate::witness::{Nobody, Witness};
 use ssl2_hello::Ssl2ClientHello;
 use std::alloc::{AllocError, Global};
-use tls_conversations::{
-    Conversation, Direction, Event, Flow, Kind, Said, said_event_with, said_message,
-};
-use tls_flow::HandshakeMessage;
-use tls_stream::DEFAULT_LIMIT;
+use tls_flow::{Direction, Flow, HandshakeMessage, Kind};
+use tls_stream::{Conversation, DEFAULT_LIMIT, Event, Said, said_event_with, said_message};
 use tls_summary::HandshakeSummary;
 
 /// A conversation, and what its events say of it.

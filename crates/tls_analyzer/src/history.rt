@@ -1,12 +1,13 @@
 //! What both sides said, as a text of letters.
 ghost use Rattle.std.specs.Prelude.{◌≡◌, [], OnOk};
 ghost use Rattle.tls_stream.specs.Item.{view_event};
-ghost use Rattle.tls_conversations.specs.Events.{view_said};
+ghost use Rattle.tls_stream.specs.FlowEvents.{view_said};
 ghost use Rattle.dtls_stream.specs.Messages.{view_event as view_in_datagram};
 ghost use Rattle.tls_analyzer.specs.History.{cased as cased_of, letter_in_datagram_with, letter_of_datagram_message, letter_of_message, letter_of_type as letter_by_type, letter_with, with_letter};
 
 use std::alloc::AllocError;
-use tls_conversations::{Direction, Event, Kind, Said};
+use tls_flow::{Direction, Kind};
+use tls_stream::{Event, Said};
 
 /// How many letters are kept of a connection: a peer may send messages without end.
 pub const HISTORY_LIMIT: usize = 100;

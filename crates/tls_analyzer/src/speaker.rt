@@ -11,7 +11,7 @@ use crate::witness::Witness;
 use dtls_stream::{DEFAULT_LIMITS, Fragment, Messages, hear_record, parse_dtls_fragment};
 use std::alloc::{AllocError, Global};
 use tls_base::{TlsHandshakeType, TlsRecordType};
-use tls_conversations::Direction;
+use tls_flow::Direction;
 use tls_records::DTLSRawRecord;
 
 /// One side.

@@ -1,7 +1,7 @@
 //! Who hears what both sides say, one event after the other.
 use std::alloc::AllocError;
-use tls_conversations::{Direction, Said};
-use tls_flow::HandshakeMessage;
+use tls_flow::{Direction, HandshakeMessage};
+use tls_stream::Said;
 
 /// Who hears each event of a connection that counts, once it was followed and noted.
 pub trait Witness {

@@ -1,3 +1,3 @@
 pub mod Events
-pub mod Ears
-pub mod Conversations
+pub use Rattle.tls_stream.specs.Ears
+pub use Rattle.tls_stream.specs.Conversations

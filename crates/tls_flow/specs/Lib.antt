@@ -6,3 +6,4 @@ pub mod Steps
 pub mod Messages
 pub mod Bytes
 pub mod Read
+pub mod Events

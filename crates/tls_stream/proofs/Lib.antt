@@ -10,3 +10,5 @@ pub mod SourceLemmas
 pub mod DirectionLemmas
 pub mod HeldLemmas
 pub mod TakenLemmas
+pub mod EarLemmas
+pub mod ConversationLemmas

@@ -6,6 +6,9 @@ pub mod Messages
 pub mod Stream
 pub mod Events
 pub mod Taken
+pub mod FlowEvents
+pub mod Ears
+pub mod Conversations
 pub use Rattle.layouts.specs.Bytes
 pub use Rattle.layouts.specs.Meaning
 pub use Rattle.layouts.specs.Reading

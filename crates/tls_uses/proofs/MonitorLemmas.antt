@@ -4,9 +4,9 @@ use Rattle.std.proofs.Common.{Some, None, IsSome, refl, sym, ◌∙◌, ap, subs
 use Rattle.layouts.specs.Bytes.{Bytes}
 use Rattle.tls_stream.specs.Item.{Event as Said}
 use Rattle.tls_flow.specs.declared.symbol.Direction.{Direction as Side}
-use Rattle.tls_conversations.specs.Conversations.{IsPast, IsFedBy, IsTakenBy, ear}
-use Rattle.tls_conversations.specs.Ears.{IsReady, first_in, front_of, says}
-use Rattle.tls_conversations.specs.declared.conversation.Conversation.{Conversation}
+use Rattle.tls_stream.specs.Conversations.{IsPast, IsFedBy, IsTakenBy, ear}
+use Rattle.tls_stream.specs.Ears.{IsReady, first_in, front_of, says}
+use Rattle.tls_stream.specs.declared.conversation.Conversation.{Conversation}
 use Rattle.tls_uses.specs.Monitor.{IsWatched}
 
 -- It was fed, and n events were taken off and followed.

@@ -3,9 +3,9 @@ use Rattle.std.specs.Prelude.{◌≡◌, ℕ, ◌^◌, ◌-◌, ◌⊎◌, List,
 use Rattle.layouts.specs.Bytes.{Bytes}
 use Rattle.tls_stream.specs.Item.{Event as Said}
 use Rattle.tls_flow.specs.declared.symbol.Direction.{Direction as Side}
-use Rattle.tls_conversations.specs.Conversations.{IsPast, IsFedBy, ear}
-use Rattle.tls_conversations.specs.Ears.{says}
-use Rattle.tls_conversations.specs.declared.conversation.Conversation.{Conversation}
+use Rattle.tls_stream.specs.Conversations.{IsPast, IsFedBy, ear}
+use Rattle.tls_stream.specs.Ears.{says}
+use Rattle.tls_stream.specs.declared.conversation.Conversation.{Conversation}
 
 -- The side gets a further piece, and each event that it says by it is followed, in order, until it says no more; at the most as many as
 -- a u64 counts.

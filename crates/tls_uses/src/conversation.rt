@@ -63,7 +63,7 @@ fn add_messages(
 /// ChangeCipherSpec. They are those of each side's bytes, joined: neither the pieces nor the records cut a message.
 ///
 /// The sides aren't told of TLS 1.3 here, so a second ClientHello that stands behind a ChangeCipherSpec counts as encrypted: a
-/// `Conversation` of `tls_conversations` hands it out.
+/// `Conversation` of `tls_stream` hands it out.
 ///
 /// `OutOfMemory` where a piece, a message or a list could not be held.
 pub fn conversation_messages(alloc: Global, pieces: &[Piece]) -> Result<Messages, OutOfMemory>

@@ -4,8 +4,8 @@ use log_connections::{Heard, Keeper, Pieces};
 use log_lines::{Chains, Party, Presented, Speech, Spoken, Summary};
 use std::alloc::{AllocError, Global};
 use tls_analyzer::Witness;
-use tls_conversations::Said;
 use tls_flow::{Direction, HandshakeMessage};
+use tls_stream::Said;
 
 /// What is kept of a connection until it is printed.
 #[derive(Drop)]

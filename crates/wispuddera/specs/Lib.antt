@@ -72,11 +72,15 @@ pub use Rattle.tls_flow.specs.Table as FlowTable
 pub use Rattle.tls_flow.specs.Steps as FlowSteps
 pub use Rattle.tls_flow.specs.Messages as FlowMessages
 pub use Rattle.tls_flow.specs.Bytes as FlowBytes
+pub use Rattle.tls_flow.specs.Events as FlowEvents
 pub use Rattle.tls_flow.specs.Read
 pub use Rattle.dtls_stream.specs.Fragments
 pub use Rattle.dtls_stream.specs.Messages as DtlsMessages
 pub use Rattle.dtls_stream.specs.Sent
 pub use Rattle.dtls_stream.specs.Datagrams
+pub use Rattle.dtls_stream.specs.Ciphertext
+pub use Rattle.dtls_stream.specs.Ack
+pub use Rattle.dtls_stream.specs.DatagramRecord
 pub use Rattle.tls_conversations.specs.Events as BothEvents
 pub use Rattle.tls_conversations.specs.Ears
 pub use Rattle.tls_conversations.specs.Conversations as BothConversations

@@ -24,9 +24,9 @@ use Rattle.std.proofs.Common.{
   ap,
   ap₂,
 }
-use Rattle.tls_conversations.specs.Conversations.{IsBehind, IsFedBy, IsToldIf}
-use Rattle.tls_conversations.specs.Ears.{IsFed, IsFirst}
-use Rattle.tls_conversations.specs.Events.{chooses_tls13, event_of}
+use Rattle.tls_stream.specs.Conversations.{IsBehind, IsFedBy, IsToldIf}
+use Rattle.tls_stream.specs.Ears.{IsFed, IsFirst}
+use Rattle.tls_stream.specs.FlowEvents.{chooses_tls13, event_of}
 use Rattle.tls_stream.specs.Item.{Event as Saying}
 use Rattle.layouts.specs.Bytes.{Bytes}
 use Rattle.tls_flow.specs.Conversations.{IsOutcome, IsStop}

@@ -37,7 +37,7 @@ use Rattle.std.proofs.Common.{
 use Rattle.std.specs.Prelude.{IfSome, option_map, slice_index}
 use Rattle.std.proofs.Math.Seq.{take-append_seam}
 use Rattle.std.proofs.lemmas.List.{length-drop, length-take-le}
-use Rattle.tls_conversations.specs.Ears.{IsFed, IsFirst, says}
+use Rattle.tls_stream.specs.Ears.{IsFed, IsFirst, says}
 use Rattle.tls_stream.specs.Held.{Held}
 use Rattle.tls_stream.specs.Item.{
   Alone,

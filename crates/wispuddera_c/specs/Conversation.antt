@@ -17,10 +17,10 @@ use Rattle.std.specs.Prelude.{
   ◌++◌,
   length,
 }
-use Rattle.tls_conversations.specs.Conversations.{IsBehind, IsFedBy, ear, other}
-use Rattle.tls_conversations.specs.Ears.{SaysAs, says}
-use Rattle.tls_conversations.specs.Events.{event_of}
-use Rattle.tls_conversations.specs.declared.conversation.Conversation.{Conversation as Followed}
+use Rattle.tls_stream.specs.Conversations.{IsBehind, IsFedBy, ear, other}
+use Rattle.tls_stream.specs.Ears.{SaysAs, says}
+use Rattle.tls_stream.specs.FlowEvents.{event_of}
+use Rattle.tls_stream.specs.declared.conversation.Conversation.{Conversation as Followed}
 use Rattle.tls_stream.specs.Item.{Event as Saying}
 use Rattle.layouts.specs.Bytes.{Bytes}
 use Rattle.tls_flow.specs.Conversations.{IsStop}

@@ -1,7 +1,7 @@
 -- What a side says next, in C's numbers.
 use Rattle.std.specs.Prelude.{◌≡◌, ℕ, Bool, true, false, ◌&&◌, ◌==◌, Option, Some, None, Result, Ok, Err, [], ◌≤◌, length, drop, slice_index}
 use Rattle.tls_base.specs.ExtensionNumbers.{pre_shared_key}
-use Rattle.tls_conversations.specs.Events.{event_of}
+use Rattle.tls_stream.specs.FlowEvents.{event_of}
 use Rattle.tls_stream.specs.Item.{Event as Saying, Handshake, ChangeCipherSpec, Alert, Heartbeat, ApplicationData, Encrypted, Failed}
 use Rattle.tls_stream.specs.declared.fault.Fault.{Fault}
 use Rattle.tls_stream.specs.declared.fault.Fault.TheVariants as fault

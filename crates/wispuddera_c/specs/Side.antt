@@ -1,10 +1,10 @@
 -- One side's stream, of which a buffer of the caller's holds what isn't handed out yet.
 use Rattle.std.specs.Prelude.{◌≡◌, ℕ, ◌≤◌, ◌+◌, ◌-◌, Bool, true, false, None, [], length, take}
 use Rattle.std.specs.List.{between}
-use Rattle.tls_conversations.specs.Ears.{IsFirst, SaysAs, says}
-use Rattle.tls_conversations.specs.declared.ear.Ear.{Ear}
-use Rattle.tls_conversations.specs.declared.ear.Standing.{Standing}
-use Rattle.tls_conversations.specs.declared.ear.Standing.TheVariants.{Speaks, Over}
+use Rattle.tls_stream.specs.Ears.{IsFirst, SaysAs, says}
+use Rattle.tls_stream.specs.declared.ear.Ear.{Ear}
+use Rattle.tls_stream.specs.declared.ear.Standing.{Standing}
+use Rattle.tls_stream.specs.declared.ear.Standing.TheVariants.{Speaks, Over}
 use Rattle.tls_stream.specs.Held.{Held}
 use Rattle.tls_stream.specs.Item.{Event as Saying}
 use Rattle.tls_stream.specs.Stream.{Source, OfMessage, OfRecord}

@@ -1,7 +1,7 @@
 //! Both sides of a conversation, joined: pieces in, events out, and how it stands. What is held lies in a buffer of the caller's for each side.
 ghost use Rattle.std.specs.Prelude.{◌≡◌, ◌≢◌, ◌≤◌, ◌<◌, ◌+◌, ◌||◌, ℕ, Bool, [], List, length, true, false, if◌then◌else◌};
-ghost use Rattle.tls_conversations.specs.Conversations.{IsBegun};
-ghost use Rattle.tls_conversations.specs.Events.{chooses_tls13 as chooses};
+ghost use Rattle.tls_stream.specs.Conversations.{IsBegun};
+ghost use Rattle.tls_stream.specs.FlowEvents.{chooses_tls13 as chooses};
 ghost use Rattle.layouts.specs.Bytes.{Bytes};
 ghost use Rattle.tls_flow.specs.Conversations.{IsOutcome};
 ghost use Rattle.tls_flow.specs.Symbols.{symbols_of};

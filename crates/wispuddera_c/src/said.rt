@@ -1,7 +1,7 @@
 //! What a side of a conversation says next, in C's numbers.
 ghost use Rattle.std.specs.Prelude.{◌≡◌};
 ghost use Rattle.std.specs.Option.{option_map};
-ghost use Rattle.tls_conversations.specs.Events.{event_of};
+ghost use Rattle.tls_stream.specs.FlowEvents.{event_of};
 ghost use Rattle.tls_stream.specs.Item.{Failed, view_event};
 ghost use Rattle.tls_ext.specs.InPlace.{content_of};
 ghost use Rattle.layouts.specs.Bytes.{Bytes};
@@ -82,7 +82,7 @@ fn kind_of_message(message: &[u8]) -> Kind
     }
 }
 
-/// What is said, as an event of the conversation. It doesn't call `tls_conversations::tls_event`, so that the library has one call
+/// What is said, as an event of the conversation. It doesn't call `tls_stream::tls_event`, so that the library has one call
 /// alone of what reads a ServerHello, [`kind_of_body`].
 fn event_said(event: &Saying<'_>, side: Direction) -> FlowEvent
     ensures { result ≡ event_of side (view_event event.now) }

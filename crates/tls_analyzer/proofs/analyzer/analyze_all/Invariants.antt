@@ -1,6 +1,6 @@
 -- the pieces so far were heard, from a beginning on
 use Rattle.std.proofs.Common.{take}
-use Rattle.tls_conversations.specs.Conversations.{views}
+use Rattle.tls_stream.specs.Conversations.{views}
 use Rattle.tls_analyzer.specs.Analyzers.{AreHeardOn, IsNew}
 use Rattle.tls_analyzer.specs.declared.analyzer.Analyzer.{Analyzer}
 use Rattle.tls_analyzer.proofs.analyzer.analyze_all.Given as goal

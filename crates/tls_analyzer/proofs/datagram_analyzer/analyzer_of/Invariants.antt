@@ -1,6 +1,6 @@
 -- what is still to come, heard behind what came, is all of it
 use Rattle.std.proofs.Common.{◌≡◌, drop}
-use Rattle.tls_conversations.specs.Conversations.{views}
+use Rattle.tls_stream.specs.Conversations.{views}
 use Rattle.tls_analyzer.specs.Datagrams.{IsKnown, Analyzer, heard_all, untold}
 use Rattle.tls_analyzer.proofs.datagram_analyzer.analyzer_of.Given as goal
 

@@ -1,6 +1,6 @@
 -- the pieces so far were heard, from a beginning on
 use Rattle.std.proofs.Common.{◌≡◌, [], take}
-use Rattle.tls_conversations.specs.Conversations.{IsBegun, views}
+use Rattle.tls_stream.specs.Conversations.{IsBegun, views}
 use Rattle.tls_flow.specs.Steps.{silence}
 use Rattle.tls_summary.specs.HandshakeSummary.{nothing, view_summary}
 use Rattle.tls_stream.specs.Events.{default_limit}

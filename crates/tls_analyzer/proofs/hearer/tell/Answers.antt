@@ -1,6 +1,6 @@
 use Rattle.std.proofs.Common.{rules, ap, ◌∙◌}
 use Rattle.std.specs.Option.{option_map}
-use Rattle.tls_conversations.specs.Events.{view_said}
+use Rattle.tls_stream.specs.FlowEvents.{view_said}
 use Rattle.tls_summary.specs.HandshakeSummary.{view_summary}
 use Rattle.tls_flow.specs.Bytes.{kind_of_message, view_heard}
 use Rattle.tls_analyzer.proofs.HearerLemmas.{copied_view, same_event, same_step}

@@ -1,5 +1,5 @@
 use Rattle.std.proofs.Common.{rules, ◌≡◌, ◌≤◌, arith}
-use Rattle.tls_conversations.specs.Events.{view_said}
+use Rattle.tls_stream.specs.FlowEvents.{view_said}
 use Rattle.tls_uses.proofs.MonitorLemmas.{on_begun, on_more_some, on_none, on_end}
 use Rattle.tls_uses.proofs.monitor.watch.Goals as goal
 

@@ -1,5 +1,5 @@
 use Rattle.std.proofs.Common.{length, subst}
-use Rattle.tls_conversations.specs.Ears.{IsFed}
+use Rattle.tls_stream.specs.Ears.{IsFed}
 use Rattle.wispuddera_c.specs.Conversation.{known_of}
 use Rattle.wispuddera_c.specs.Side.{ear_of}
 use Rattle.wispuddera_c.proofs.ConversationLemmas.{all_else, fed_with, other_with, within_with}

@@ -1,6 +1,6 @@
 use Rattle.std.proofs.Common.{rules, subst, sym}
-use Rattle.tls_conversations.specs.Conversations.{ear}
-use Rattle.tls_conversations.specs.Ears.{front_of}
+use Rattle.tls_stream.specs.Conversations.{ear}
+use Rattle.tls_stream.specs.Ears.{front_of}
 use Rattle.tls_analyzer.specs.Analyzers.{IsNext, IsTaken}
 use Rattle.tls_analyzer.proofs.FollowLemmas.{next_clear, on_end, on_next, on_none, on_over}
 use Rattle.tls_analyzer.proofs.analyzer.Analyzer.follow.Goals as goal

@@ -1,6 +1,6 @@
 use Rattle.std.proofs.Common.{◌≡◌}
 use Rattle.layouts.specs.Items.{items_in}
-use Rattle.dtls13_records.specs.Datagram.{datagram_record13}
+use Rattle.dtls_stream.specs.DatagramRecord.{datagram_record13}
 use Rattle.tls_analyzer.specs.DatagramRecords.{with_records}
 use Rattle.tls_analyzer.proofs.datagram_records.DatagramRecords.add.Given as goal
 

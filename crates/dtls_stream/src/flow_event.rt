@@ -1,0 +1,45 @@
+//! What a side of DTLS says, as an event of a flow.
+ghost use Rattle.std.specs.Prelude.{◌≡◌};
+ghost use Rattle.std.specs.Option.{option_map};
+ghost use Rattle.tls_flow.specs.Bytes.{view_heard};
+ghost use Rattle.dtls_stream.specs.Messages.{view_event};
+ghost use Rattle.dtls_stream.specs.FlowEvents.{event_in_datagram, event_in_datagram_with, message_in_datagram};
+
+use crate::event::Event;
+use tls_flow::{Direction, Event as FlowEvent, HandshakeMessage, Kind};
+
+/// The handshake message that a side of DTLS says, with its ServerHello read; `None` where it says another thing.
+pub fn datagram_message<'a>(event: &'a Event<'_>) -> Option<HandshakeMessage<'a>>
+    ensures { option_map view_heard result ≡ message_in_datagram (view_event event.now) }
+{
+    match event {
+        Event::Handshake(message) => Some(HandshakeMessage::of_datagrams(
+            message.msg_type,
+            message.body.as_slice(),
+        )),
+        _ => None,
+    }
+}
+
+/// What a side of DTLS says, as an event, where `kind` is that of the handshake message.
+pub fn dtls_event_with(event: &Event<'_>, kind: Kind, side: Direction) -> Option<FlowEvent>
+    ensures { result ≡ event_in_datagram_with side (view_event event.now) kind }
+{
+    match event {
+        Event::Handshake(_) => Some(FlowEvent::new(kind, side)),
+        Event::ChangeCipherSpec => Some(FlowEvent::new(Kind::ChangeCipherSpec, side)),
+        Event::Alert(alert) => Some(FlowEvent::of_alert(alert, side)),
+        Event::Encrypted(_) => Some(FlowEvent::new(Kind::Encrypted, side)),
+        Event::Refused(_, _) | Event::Fault(_) => None,
+    }
+}
+
+/// The event that a side of DTLS says, from its datagrams. `None` for what its peer drops, which says nothing: a record, or the
+/// rest of one, that can't be read (RFC 6347, section 4.1.2.7), and a fragment that isn't taken, as one of a message that was handed out
+/// before and is sent again (section 4.2.4). A ChangeCipherSpec that is sent again is to be left out before.
+pub fn dtls_event(event: &Event<'_>, side: Direction) -> Option<FlowEvent>
+    ensures { result ≡ event_in_datagram side (view_event event.now) }
+{
+    let kind = Kind::of_datagrams(datagram_message(event).as_ref());
+    dtls_event_with(event, kind, side)
+}

@@ -1,2 +1,0 @@
-pub mod EarLemmas
-pub mod ConversationLemmas

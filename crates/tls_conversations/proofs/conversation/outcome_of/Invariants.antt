@@ -1,9 +1,0 @@
--- the pieces so far were heard
-use Rattle.std.proofs.Common.{List, take}
-use Rattle.tls_flow.specs.declared.event.Event.{Event}
-use Rattle.tls_conversations.specs.Conversations.{Hears, IsBegun, views}
-use Rattle.tls_conversations.proofs.ConversationLemmas.{AreHeard}
-use Rattle.tls_conversations.proofs.conversation.outcome_of.Given as goal
-
-abbrev pub invariant-loop-side : goal.invariant-loop-side
-invariant-loop-side l = AreHeard l.limit (views (take l.side-index l.pieces)) l.conversation

@@ -1,0 +1,136 @@
+-- Sides of conversations.
+use Rattle.std.proofs.Common.{
+  ◌≡◌,
+  ℕ,
+  List,
+  [],
+  ◌∷◌,
+  ◌++◌,
+  Bool,
+  true,
+  false,
+  Option,
+  Some,
+  None,
+  Ok,
+  refl,
+  sym,
+  ◌∙◌,
+  ap,
+  subst,
+  append_assoc,
+  append-nil,
+}
+use Rattle.std.specs.Prelude.{IsSome, option_map}
+use Rattle.layouts.specs.Bytes.{Bytes}
+use Rattle.tls_stream.specs.Item.{Event as Said, Failed}
+use Rattle.tls_stream.specs.Stream.{FirstTaken}
+use Rattle.tls_stream.specs.Events.{IsReady as IsMadeReady, SaysOnly, SaysTheSame, events, fed, first, told_tls13}
+use Rattle.tls_stream.specs.declared.direction.Direction.{Direction}
+use Rattle.tls_stream.specs.declared.fault.Fault.{Fault}
+use Rattle.tls_stream.proofs.DirectionLemmas.{fed_nothing, fed_twice, first_event}
+use Rattle.tls_stream.specs.Ears.{IsFed, IsFirst, IsReady, IsTaken, SaysAs, first_in, front_of, says}
+use Rattle.tls_stream.specs.declared.ear.Ear.{Ear}
+use Rattle.tls_stream.specs.declared.ear.Standing.{Standing}
+use Rattle.tls_stream.specs.declared.ear.Standing.TheVariants.{Speaks, AtFault, Over}
+
+abbrev pub speaking : Direction → Ear
+speaking d = record { direction = d; standing = Speaks }
+
+abbrev pub faulty : Direction → Fault → Ear
+faulty d f = record { direction = d; standing = AtFault f }
+
+-- Nothing more comes.
+pub none_to_come : (d : Direction) → events (fed d []) ≡ events d
+none_to_come d = ap events (fed_nothing d)
+
+-- A direction that was made ready.
+pub same_waits : (d n : Direction) → SaysTheSame n d → SaysAs (speaking d) (speaking n)
+same_waits d n same t = sym (same t)
+
+pub same_fails : (d n m : Direction) (f : Fault) → SaysTheSame n d → SaysOnly n (Failed f ∷ [])
+    → SaysAs (speaking d) (faulty m f)
+same_fails d n m f same only t = sym (same t) ∙ only t
+
+pub ready_some : (d : Direction) → IsSome (first d) → IsReady (speaking d)
+ready_some d some = go (first d) refl some
+  where
+    go : (a : Option (Said × Direction)) → first d ≡ a → IsSome a
+        → first_in (events (fed d [])) ≡ option_map (λ x. x.0) a
+    go None is some = absurd cc
+    go (Some x) is some = ap first_in (first_event d x.1 x.0 [] is)
+
+pub ready_none : (d : Direction) → events d ≡ [] → IsReady (speaking d)
+ready_none d none = go (first d) refl
+  where
+    go : (a : Option (Said × Direction)) → first d ≡ a → first_in (events (fed d [])) ≡ option_map (λ x. x.0) a
+    go None is = ap first_in (none_to_come d ∙ none)
+    go (Some x) is =
+        let e : x.0 ∷ events (fed x.1 []) ≡ [] = sym (first_event d x.1 x.0 [] is) ∙ none_to_come d ∙ none in
+        absurd cc
+
+-- A further piece.
+pub fed_more : (d : Direction) (p t : Bytes) → events (fed d (p ++ t)) ≡ events (fed (fed d p) t)
+fed_more d p t = ap events (sym (fed_twice d p t))
+
+pub fed_is : (d n : Direction) (p : Bytes) (e : Ear) → n ≡ fed d p → SaysAs (speaking n) e → IsFed (speaking d) p e
+fed_is d n p e is same t = fed_more d p t ∙ ap (λ m. events (fed m t)) (sym is) ∙ same t
+
+-- What stands in front is taken off.
+pub taken_is : (d n : Direction) (e : Ear) → FirstTaken (first d) d true n → SaysAs (speaking n) e
+    → IsTaken (front_of (speaking d)) (speaking d) true e
+taken_is d n e off same = go (first d) refl off
+  where
+    go : (a : Option (Said × Direction)) → first d ≡ a → FirstTaken a d true n
+        → IsTaken (option_map (λ x. x.0) a) (speaking d) true e
+    go None is off = let t : true ≡ false = off.0 in absurd cc
+    go (Some x) is off = (
+      refl,
+      λ t. first_event d x.1 x.0 t is ∙ ap (λ m. x.0 ∷ events (fed m t)) (sym off.1)
+          ∙ ap (λ vs. x.0 ∷ vs) (same t),
+    )
+
+pub none_taken : (d n : Direction) → FirstTaken (first d) d false n
+    → IsTaken (front_of (speaking d)) (speaking d) false (speaking n)
+none_taken d n off = go (first d) off
+  where
+    go : (a : Option (Said × Direction)) → FirstTaken a d false n
+        → IsTaken (option_map (λ x. x.0) a) (speaking d) false (speaking n)
+    go None off = (refl, ap speaking off.1)
+    go (Some x) off = let t : false ≡ true = off.0 in absurd cc
+
+-- By how the side stands.
+pub ready_by : (s : Standing) (d : Direction) (b : Bool) → s ≡ Speaks → IsMadeReady d (Ok b)
+    → IsReady (record { direction = d; standing = s })
+ready_by s d true is h = subst (λ s. IsReady (record { direction = d; standing = s })) (sym is) (ready_some d h)
+ready_by s d false is h = subst (λ s. IsReady (record { direction = d; standing = s })) (sym is) (ready_none d h)
+
+pub ready_silent : (s : Standing) (d : Direction) → (s ≡ Speaks → ⊥) → IsReady (record { direction = d; standing = s })
+ready_silent Speaks d other = absurd (other refl)
+ready_silent (AtFault f) d other = refl
+ready_silent Over d other = refl
+
+pub taken_by : (s : Standing) (d n : Direction) (e : Ear) (t : Bool) → s ≡ Speaks → t ≡ true
+    → FirstTaken (first d) d t n
+    → SaysAs (record { direction = n; standing = s }) e
+    → IsTaken (front_of (record { direction = d; standing = s })) (record { direction = d; standing = s }) t e
+taken_by s d n e t is took off same =
+    let at : IsTaken (front_of (speaking d)) (speaking d) true e
+    = taken_is d n e (subst (λ t. FirstTaken (first d) d t n) took off)
+    (subst (λ s. SaysAs (record { direction = n; standing = s }) e) is same) in
+    subst (λ t. IsTaken (front_of (record { direction = d; standing = s })) (record { direction = d; standing = s }) t
+    e) (sym took)
+    (subst (λ s. IsTaken (front_of (record { direction = d; standing = s })) (record { direction = d; standing = s })
+    true e) (sym is) at)
+
+pub kept_ready : (s : Standing) (d n : Direction) (t : Bool) → t ≡ false → FirstTaken (first d) d t n
+    → IsReady (record { direction = d; standing = s }) → IsReady (record { direction = n; standing = s })
+kept_ready s d n t none off ready =
+    subst (λ m. IsReady (record { direction = m; standing = s }))
+    (sym (is (first d) (subst (λ t. FirstTaken (first d) d t n) none off))) ready
+  where
+    is : (a : Option (Said × Direction)) → FirstTaken a d false n → n ≡ d
+    is None off = off.1
+    is (Some x) off = let t : false ≡ true = off.0 in absurd cc
+
+pub ruleset ear_rules = (ready_silent, fed_is)

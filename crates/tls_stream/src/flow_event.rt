@@ -1,0 +1,66 @@
+//! What a side says, as an event of a flow.
+ghost use Rattle.std.specs.Prelude.{◌≡◌};
+ghost use Rattle.std.specs.Option.{option_map};
+ghost use Rattle.tls_flow.specs.Bytes.{view_heard};
+ghost use Rattle.tls_stream.specs.Item.{view_event};
+ghost use Rattle.tls_stream.specs.FlowEvents.{chooses_tls13 as chooses, event_of, event_with, message_in, view_said};
+
+use crate::event::Event;
+use crate::said::Said;
+use tls_flow::{Direction, Event as FlowEvent, HandshakeMessage, Kind};
+
+/// The event that a side of TLS says. Application data counts as encrypted: a handshake has none in the clear.
+pub fn tls_event(event: &Event<'_>, side: Direction) -> FlowEvent
+    ensures { result ≡ event_of side (view_event event.now) }
+{
+    match event {
+        Event::Handshake(message) => FlowEvent::of_handshake(message, side),
+        Event::ChangeCipherSpec => FlowEvent::new(Kind::ChangeCipherSpec, side),
+        Event::Alert(alert) => FlowEvent::of_alert(alert, side),
+        Event::Heartbeat(_) => FlowEvent::new(Kind::Heartbeat, side),
+        Event::ApplicationData(_) => FlowEvent::new(Kind::Encrypted, side),
+        Event::Encrypted(_) => FlowEvent::new(Kind::Encrypted, side),
+    }
+}
+
+/// The handshake message that a side of TLS says, with its ServerHello read; `None` where it says another thing.
+pub fn said_message<'a>(said: &Said<'a>) -> Option<HandshakeMessage<'a>>
+    ensures { option_map view_heard result ≡ message_in (view_said said.now) }
+{
+    match said {
+        Said::Event(Event::Handshake(message)) => HandshakeMessage::read(message),
+        Said::Event(_) | Said::Fault(_) => None,
+    }
+}
+
+/// What is said, as an event, where `kind` is that of the handshake message: what is said is looked at once.
+pub fn said_event_with(said: &Said<'_>, kind: Kind, side: Direction) -> FlowEvent
+    ensures { result ≡ event_with side (view_said said.now) kind }
+{
+    match said {
+        Said::Event(Event::Handshake(_)) => FlowEvent::new(kind, side),
+        Said::Event(event) => tls_event(event, side),
+        Said::Fault(_) => FlowEvent::new(Kind::Unknown, side),
+    }
+}
+
+/// What is said, as an event.
+pub(crate) fn said_event(said: &Said<'_>, side: Direction) -> FlowEvent
+    ensures { result ≡ event_of side (view_said said.now) }
+{
+    let kind = Kind::of_message(said_message(said).as_ref());
+    said_event_with(said, kind, side)
+}
+
+/// Whether the server chooses TLS 1.3 by an event: by its ServerHello, or by a HelloRetryRequest.
+pub fn chooses_tls13(event: &FlowEvent) -> bool
+    ensures { result ≡ chooses event.now.symbol.kind event.now.symbol.direction }
+{
+    matches!(
+        (event.symbol.direction, event.symbol.kind),
+        (
+            Direction::FromServer,
+            Kind::ServerHello13 | Kind::HelloRetryRequest
+        )
+    )
+}
