@@ -182,12 +182,8 @@ impl Kept {
                 let word = handshake_word(alloc, &mut self.chosen, bytes, message);
                 self.keep(direction, word)
             }
-            tls_stream::Event::ChangeCipherSpec => {
-                self.keep(direction, change_word(alloc))
-            }
-            tls_stream::Event::Alert(alert) => {
-                self.keep(direction, alert_word(alloc, alert))
-            }
+            tls_stream::Event::ChangeCipherSpec => self.keep(direction, change_word(alloc)),
+            tls_stream::Event::Alert(alert) => self.keep(direction, alert_word(alloc, alert)),
             tls_stream::Event::Heartbeat(fragment) => {
                 self.keep(direction, heartbeat_word(alloc, fragment))
             }
