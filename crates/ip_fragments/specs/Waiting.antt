@@ -40,7 +40,7 @@ given f i = written f.offset f.payload.now i
 
 -- Twice its bytes, and what surrounds them.
 abbrev pub weight_of : Fragment → ℕ
-weight_of f = length f.payload.now * 2 + 2048
+weight_of f = length f.payload.now * 2 + 5120
 
 -- The datagram would have more than 65,535 bytes.
 abbrev pub is_too_long : Fragment → Bool

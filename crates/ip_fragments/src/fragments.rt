@@ -18,8 +18,8 @@ pub const WAIT_LIMIT: u64 = 30_000_000_000;
 /// So many bytes are held of all datagrams that wait: 32 MiB.
 pub const HELD_LIMIT: usize = 33_554_432;
 
-/// What a fragment counts for besides twice its bytes: two pages of `segments`, which have 520 bytes, and entries of the tree of pages and of the table.
-pub const FRAGMENT_COST: usize = 2048;
+/// What a fragment counts for besides twice its bytes: two pages of `segments`, which have 2,056 bytes, and entries of the tree of pages and of the table.
+pub const FRAGMENT_COST: usize = 5120;
 
 /// The most bytes of a datagram, with its header.
 const MAX_DATAGRAM: usize = 65_535;

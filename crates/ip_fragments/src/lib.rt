@@ -9,7 +9,7 @@
 //! # Cost
 //!
 //! A fragment takes time by its own bytes, whatever came before (crate `segments`). Memory follows the bytes that came, and not where they stand: behind a
-//! gap they are held in pages of 256 places. So a fragment counts for twice its bytes and for
+//! gap they are held in pages of 1,024 places. So a fragment counts for twice its bytes and for
 //! what surrounds them ([`FRAGMENT_COST`]), however often it comes.
 #![tactic(auto)]
 

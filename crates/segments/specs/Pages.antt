@@ -7,7 +7,7 @@ use Rattle.segments.specs.Cells.{Bytes, Cells, byte_at, cell, earlier, known}
 
 -- How many places a page has.
 abbrev pub page_length : ℕ
-page_length = 256
+page_length = 1024
 
 -- Places in a row, each with a mark: where it is set, the byte beside it stands.
 abbrev pub marked : List Bool → Bytes → Cells

@@ -16,14 +16,14 @@
 //!
 //! # Cost
 //!
-//! What waits is held in pages of 256 places, of which only those are there in which a byte came. A segment takes time by its own
+//! What waits is held in pages of 1,024 places, of which only those are there in which a byte came. A segment takes time by its own
 //! bytes, and each byte that waited once more as it is put in order. Bytes are copied, compared and counted a page at a time: a page
 //! is looked up once for all of its places, up to three times as bytes are put into it, by the logarithm of how many pages there are. Where
 //! some bytes of a page stood before, the others are put between them one by one. Nothing else is searched, in whatever order segments
 //! come. A gap that is counted by [`TcpReassembler::missing`] or skipped takes a look-up for each of its places.
 //!
 //! Behind the first byte that is missing, memory grows with what came, and not with how far ahead it is: the first byte in a page
-//! takes the page, of 520 bytes, and its entry in a tree. Where all places wait that the limit of [`TcpReassembler::new`] lets, that is
+//! takes the page, of 2,056 bytes, and its entry in a tree. Where all places wait that the limit of [`TcpReassembler::new`] lets, that is
 //! little more than 2 bytes for each byte of the limit. None is kept once nothing waits. What is available is the caller's to hand
 //! out.
 #![tactic(auto)]

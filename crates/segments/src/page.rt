@@ -9,7 +9,7 @@ use std::alloc::AllocError;
 use std::marker::Model;
 
 /// How many places a page has.
-pub(crate) const PAGE: usize = 256;
+pub(crate) const PAGE: usize = 1024;
 
 /// Places, with a byte each, which stands where the mark is set.
 #[derive(Drop)]

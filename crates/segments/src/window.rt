@@ -11,8 +11,8 @@ use std::alloc::{AllocError, Global};
 use std::collections::BTreeMap;
 use std::marker::Model;
 
-/// What a page takes at most, in bytes: its 520, what the allocator takes besides, and its share of a tree whose nodes are half full.
-const PAGE_COST: usize = 592;
+/// What a page takes at most, in bytes: its 2,056, what the allocator takes besides, and its share of a tree whose nodes are half full.
+const PAGE_COST: usize = 2_128;
 
 /// What a tree of one page takes besides.
 const TREE_COST: usize = 256;
