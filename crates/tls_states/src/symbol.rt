@@ -55,7 +55,7 @@ impl Direction {
     }
 }
 
-/// The kinds of handshake messages, each at the place of its variant. A look-up here is faster than a jump by the variant.
+/// The kinds of handshake messages, each at the place of its variant, and last that of any other. A look-up here is faster than a jump by the variant.
 static BY_VARIANT: [Kind; 17] = [
     Kind::HelloRequest,
     Kind::ClientHello,
@@ -76,7 +76,7 @@ static BY_VARIANT: [Kind; 17] = [
     Kind::Other,
 ];
 
-/// The place of a message's variant among the variants.
+/// The place of a message's variant among the variants: that of its tag, so that the compiler computes nothing.
 #[inline]
 fn place_of_variant(message: &TlsMessageHandshake<'_>) -> usize
     ensures { slice_get BY_VARIANT result ≡ Some (kind_by_variant (view_handshake message.now)) }
@@ -98,7 +98,7 @@ fn place_of_variant(message: &TlsMessageHandshake<'_>) -> usize
         TlsMessageHandshake::Finished(_) => 13,
         TlsMessageHandshake::CertificateStatus(_) => 14,
         TlsMessageHandshake::NextProtocol(_) => 15,
-        TlsMessageHandshake::KeyUpdate(_) => 16,
+        _ => 16,
     }
 }
 

@@ -213,7 +213,8 @@ impl<'a> StreamView<'a> {
 
     /// The event that stands in front, and the bytes that it is taken from.
     #[tactic(auto, using(crate::proofs::StreamLemmas::front_rules))]
-    #[inline(always)] // its two callers need another half of the answer each
+    // Each of its callers takes half of the answer, and the compiler then leaves the other half out.
+    #[inline(always)]
     pub fn first(&self) -> Option<(Event<'a>, Source<'a>)>
         ensures { option_map (λ x. (view_event x.0, view_source x.1)) result ≡ first_source self.now }
     {
