@@ -109,6 +109,15 @@ fn leave_told(types: &mut Vec<u16>)
     types.retain(|kind| *kind != 0 && *kind != 16);
 }
 
+/// The types that the first part doesn't tell.
+fn others(types: Vec<u16>) -> Vec<u16>
+    ensures { result.items ≡ other_types types.items }
+{
+    let mut types = types;
+    leave_told(&mut types);
+    types
+}
+
 /// The first 6 bytes of the SHA-256 of a text, in hexadecimal; zeros of an empty text.
 pub(crate) fn short_digest(alloc: Global, text: &[u8]) -> Result<String, AllocError>
     ensures { IfOk result (λ digits. string_bytes digits ≡ short_digest_of text.now) }
@@ -121,15 +130,13 @@ pub(crate) fn short_digest(alloc: Global, text: &[u8]) -> Result<String, AllocEr
     hex::encode(alloc, front)
 }
 
-/// The numbers in rising order, as a part is made of them.
-fn rising_text(alloc: Global, numbers: Vec<u16>) -> Result<Vec<u8>, AllocError>
-    ensures { IfOk result (λ text. text.items ≡ hex_list (rising numbers.items)) }
+/// The numbers in rising order.
+fn risen(numbers: Vec<u16>) -> Vec<u16>
+    ensures { result.items ≡ rising numbers.items }
 {
     let mut numbers = numbers;
     rise(&mut numbers);
-    let mut text = Vec::with_capacity(alloc, TEXT_LEN)?;
-    push_hex_list(&mut text, numbers.as_slice())?;
-    Ok(text)
+    numbers
 }
 
 /// Adds `_` and the algorithms; nothing where there are none.
@@ -141,6 +148,20 @@ fn push_algorithms(text: &mut Vec<u8>, algorithms: &[u16]) -> Result<(), AllocEr
     }
     text.push(b'_')?;
     push_hex_list(text, algorithms)
+}
+
+/// What a part is made of: the numbers, and the algorithms behind them.
+pub(crate) fn part_text(
+    alloc: Global,
+    numbers: &[u16],
+    algorithms: &[u16],
+) -> Result<Vec<u8>, AllocError>
+    ensures { IfOk result (λ text. text.items ≡ with_algorithms (hex_list numbers.now) algorithms.now) }
+{
+    let mut text = Vec::with_capacity(alloc, TEXT_LEN)?;
+    push_hex_list(&mut text, numbers)?;
+    push_algorithms(&mut text, algorithms)?;
+    Ok(text)
 }
 
 /// Adds the second and the third part, each behind `_`.
@@ -195,25 +216,18 @@ impl ClientHelloParts<'_> {
         kept_types(alloc, extension_types(self.ext))
     }
 
-    /// What the third part is made of, of the types that count.
-    fn types_text(&self, alloc: Global, types: Vec<u16>) -> Result<Vec<u8>, AllocError>
-        ensures { IfOk result (λ text. text.items ≡ with_algorithms (hex_list (rising (other_types types.items)))
-            (without_grease (algorithms_in (view_client self.now).extensions))) }
+    /// The algorithms that count.
+    fn kept_algorithms(&self, alloc: Global) -> Result<Vec<u16>, AllocError>
+        ensures { IfOk result (λ v. v.items ≡ without_grease (algorithms_in (view_client self.now).extensions)) }
     {
-        let mut types = types;
-        leave_told(&mut types);
-        let mut text = rising_text(alloc, types)?;
-        let algorithms = kept(alloc, algorithms(self.ext))?;
-        push_algorithms(&mut text, algorithms.as_slice())?;
-        Ok(text)
+        kept(alloc, algorithms(self.ext))
     }
 
     /// What the second part is made of, as a text that is shown.
     fn ja4_suites(&self, alloc: Global) -> Result<String, AllocError>
         ensures { IfOk result (λ text. string_bytes text ≡ ja4_suites_of (view_client self.now)) }
     {
-        let mut suites = self.kept_suites(alloc)?;
-        rise(&mut suites);
+        let suites = risen(self.kept_suites(alloc)?);
         let mut text = String::with_capacity(alloc, TEXT_LEN)?;
         add_hex_list(&mut text, suites.as_slice())?;
         Ok(text)
@@ -223,10 +237,8 @@ impl ClientHelloParts<'_> {
     fn ja4_types(&self, alloc: Global) -> Result<String, AllocError>
         ensures { IfOk result (λ text. string_bytes text ≡ ja4_types_of (view_client self.now)) }
     {
-        let mut types = self.kept_types(alloc)?;
-        leave_told(&mut types);
-        rise(&mut types);
-        let algorithms = kept(alloc, algorithms(self.ext))?;
+        let types = risen(others(self.kept_types(alloc)?));
+        let algorithms = self.kept_algorithms(alloc)?;
         let mut text = String::with_capacity(alloc, TEXT_LEN)?;
         add_hex_list(&mut text, types.as_slice())?;
         if !algorithms.is_empty() {
@@ -275,9 +287,11 @@ impl ClientHelloParts<'_> {
         let (suites, types) = (self.kept_suites(alloc)?, self.kept_types(alloc)?);
         let mut text = self.ja4_front(alloc, transport, suites.len(), types.len())?;
         text.push('_')?;
-        known.add_digits(alloc, &mut text, rising_text(alloc, suites)?)?;
+        known.add_digits(alloc, &mut text, risen(suites), Vec::new(alloc))?;
         text.push('_')?;
-        known.add_digits(alloc, &mut text, self.types_text(alloc, types)?)?;
+        let types = others(types);
+        let algorithms = self.kept_algorithms(alloc)?;
+        known.add_digits(alloc, &mut text, risen(types), algorithms)?;
         Ok(text)
     }
 }

@@ -1,45 +1,63 @@
-//! Digests of JA4 that were made before.
-ghost use Rattle.std.specs.Prelude.{◌≡◌, ◌++◌, IfSome, OnOk};
+//! Digests of fingerprints that were made before.
+ghost use Rattle.std.specs.Prelude.{◌≡◌, ◌++◌, IfOk, IfSome, OnOk};
 ghost use Rattle.std.specs.String.{string_bytes};
-ghost use Rattle.tls_fingerprints.specs.Ja4.{short_digest as short_digest_of};
+ghost use Rattle.tls_fingerprints.specs.Ja3.{digest_of};
+ghost use Rattle.tls_fingerprints.specs.Ja4.{short_digest as short_digest_of, with_algorithms};
+ghost use Rattle.tls_fingerprints.specs.Numbers.{hex_list};
 
-use crate::ja4::short_digest;
+use crate::ja3::ja3_digest;
+use crate::ja4::{part_text, short_digest};
 use std::alloc::{AllocError, Global};
 
-/// So many texts are kept at most: a network's programs have no more, for the most part.
+/// So many digests of each kind are kept at most: a network's programs have no more, for the most part.
 const MOST: usize = 64;
 
-/// No longer text is kept, so that hellos can't take much memory by theirs.
+/// No part of JA4 is kept that is made of more numbers, so that hellos can't take much memory by theirs.
+const MOST_NUMBERS: usize = 256;
+
+/// The same of a text of JA3 or JA3S, by its bytes.
 const LONGEST: usize = 1024;
 
-/// A text, and the digits of its digest.
+/// What a part of JA4 is made of, and the digits of its digest.
 #[derive(Drop)]
-struct Digested {
-    text: Vec<u8>,
+struct DigestedPart {
+    numbers: Vec<u16>,
+    algorithms: Vec<u16>,
     digits: String,
-    ghost is: { string_bytes digits ≡ short_digest_of text.items },
+    ghost is: { string_bytes digits ≡ short_digest_of (with_algorithms (hex_list numbers.items) algorithms.items) },
 }
 
-/// The digests of the last texts that parts of JA4 were made of. Hellos of one program have the same texts, whatever else they say, so that a digest is seldom made for a line alone.
+/// A text of JA3 or JA3S, and the digits of its digest.
+#[derive(Drop)]
+struct DigestedText {
+    text: String,
+    digits: String,
+    ghost is: { string_bytes digits ≡ digest_of (string_bytes text) },
+}
+
+/// The last digests of JA3, JA3S and of parts of JA4, by what they are made of. Hellos of one program have the same ones, whatever else they say, so that a digest is seldom made for a
+/// line alone.
 #[derive(Drop)]
 pub struct KnownDigests {
-    all: Vec<Digested>,
+    parts: Vec<DigestedPart>,
+    texts: Vec<DigestedText>,
 }
 
 impl KnownDigests {
     /// None yet.
     pub fn new(alloc: Global) -> KnownDigests {
         KnownDigests {
-            all: Vec::new(alloc),
+            parts: Vec::new(alloc),
+            texts: Vec::new(alloc),
         }
     }
 
-    /// The digits of the digest of a text, if they are known.
-    fn digits_of(&self, text: &[u8]) -> Option<&str>
-        ensures { IfSome result (λ digits. digits.now ≡ short_digest_of text.now) }
+    /// The digits of a part's digest, if they are known.
+    fn part_digits(&self, numbers: &[u16], algorithms: &[u16]) -> Option<&str>
+        ensures { IfSome result (λ digits. digits.now ≡ short_digest_of (with_algorithms (hex_list numbers.now) algorithms.now)) }
     {
-        for one in &self.all {
-            if one.text.as_slice() == text {
+        for one in &self.parts {
+            if one.numbers.as_slice() == numbers && one.algorithms.as_slice() == algorithms {
                 return Some(one.digits.as_str());
             }
         }
@@ -47,31 +65,78 @@ impl KnownDigests {
     }
 
     /// Keeps one more, if it is short enough; where there are as many as are kept, it stands alone.
-    fn keep(&mut self, one: Digested) -> Result<(), AllocError> {
-        if one.text.len() > LONGEST {
+    fn keep_part(&mut self, one: DigestedPart) -> Result<(), AllocError> {
+        if one.numbers.len().saturating_add(one.algorithms.len()) > MOST_NUMBERS {
             return Ok(());
         }
-        if self.all.len() >= MOST {
-            self.all.clear();
+        if self.parts.len() >= MOST {
+            self.parts.clear();
         }
-        self.all.push(one)?;
+        self.parts.push(one)?;
         Ok(())
     }
 
-    /// Adds the digits of a part's digest, by what the part is made of.
+    /// Adds the digits of a part's digest, by the numbers that the part is made of, and the algorithms behind them.
     pub(crate) fn add_digits(
         &mut self,
         alloc: Global,
         ja4: &mut String,
-        text: Vec<u8>,
+        numbers: Vec<u16>,
+        algorithms: Vec<u16>,
     ) -> Result<(), AllocError>
-        ensures { OnOk result (string_bytes ja4.new ≡ string_bytes ja4.old ++ short_digest_of text.items) }
+        ensures { OnOk result (string_bytes ja4.new
+            ≡ string_bytes ja4.old ++ short_digest_of (with_algorithms (hex_list numbers.items) algorithms.items)) }
     {
-        if let Some(digits) = self.digits_of(text.as_slice()) {
+        if let Some(digits) = self.part_digits(numbers.as_slice(), algorithms.as_slice()) {
             return ja4.push_str(digits);
         }
+        let text = part_text(alloc, numbers.as_slice(), algorithms.as_slice())?;
         let digits = short_digest(alloc, text.as_slice())?;
         ja4.push_str(digits.as_str())?;
-        self.keep(Digested { text, digits })
+        self.keep_part(DigestedPart {
+            numbers,
+            algorithms,
+            digits,
+        })
+    }
+
+    /// The digits of a text's digest, if they are known.
+    fn text_digits(&self, text: &str) -> Option<&str>
+        ensures { IfSome result (λ digits. digits.now ≡ digest_of text.now) }
+    {
+        for one in &self.texts {
+            if one.text.as_str() == text {
+                return Some(one.digits.as_str());
+            }
+        }
+        None
+    }
+
+    /// Keeps one more, as [`KnownDigests::keep_part`] does.
+    fn keep_text(&mut self, one: DigestedText) -> Result<(), AllocError> {
+        if one.text.len() > LONGEST {
+            return Ok(());
+        }
+        if self.texts.len() >= MOST {
+            self.texts.clear();
+        }
+        self.texts.push(one)?;
+        Ok(())
+    }
+
+    /// [`ja3_digest`] of a text, which isn't made again where it is known.
+    ///
+    /// `AllocError` where it could not be held.
+    pub fn ja3_digest(&mut self, alloc: Global, text: &str) -> Result<String, AllocError>
+        ensures { IfOk result (λ digits. string_bytes digits ≡ digest_of text.now) }
+    {
+        if let Some(digits) = self.text_digits(text) {
+            return String::from_str(alloc, digits);
+        }
+        let digits = ja3_digest(alloc, text)?;
+        let kept = String::from_str(alloc, digits.as_str())?;
+        let text = String::from_str(alloc, text)?;
+        self.keep_text(DigestedText { text, digits: kept })?;
+        Ok(digits)
     }
 }
