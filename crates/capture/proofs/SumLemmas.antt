@@ -25,10 +25,9 @@ use Rattle.std.proofs.Common.{
   arith,
 }
 use Rattle.std.specs.Prelude.{◌==◌, if◌then◌else◌}
-use Rattle.std.specs.Int.{w16, w64, from_be_bytes, from_le_bytes}
+use Rattle.std.specs.Int.{w16, w32, from_be_bytes, from_le_bytes}
 use Rattle.std.proofs.lemmas.List.{take_rest}
 use Rattle.std.proofs.Math.Nat.{add-mod, add-mul-mod_self_left}
-use Rattle.std.proofs.lemmas.Nat.{mul-mod}
 use Rattle.capture.specs.Words.{words}
 use Rattle.capture.specs.Checksum.{checksum_by}
 
@@ -47,35 +46,47 @@ same_but x y k h = ap (λ (n : ℕ). n % 65535) h ∙ add-mul-mod_self_left y 65
 pub same_words4 : (n : ℕ) → (n / 2 ^ 16 + n % 2 ^ 16) % 65535 ≡ n % 65535
 same_words4 n = sym (same_but n (n / 2 ^ 16 + n % 2 ^ 16) (n / 2 ^ 16) (omega arith))
 
--- The words of what is behind eight bytes, and their own with swapped bytes as two numbers of 32 bits.
-pub eight_bytes : (t n : ℕ) (xs : List ℕ) → 8 ≤ length xs
-    → n ≡ from_le_bytes w64 (get_or xs 0 0 ∷ get_or xs 1 0 ∷ get_or xs 2 0 ∷ get_or xs 3 0 ∷ get_or xs 4 0 ∷ get_or xs 5 0 ∷ get_or xs 6 0 ∷ get_or xs 7 0 ∷ [])
-    → ((t + (n % 2 ^ 32 + n / 2 ^ 32)) * 256 + words (take (length xs - 8) (drop 8 xs))) % 65535 ≡ (t * 256 + words xs) % 65535
+-- A number of 32 bits is, with its bytes swapped, the sum of two words.
+pub four_words : (t n a b c d : ℕ) (ys : List ℕ) → n ≡ from_le_bytes w32 (a ∷ b ∷ c ∷ d ∷ [])
+    → ((t + n) * 256 + words ys) % 65535 ≡ (t * 256 + words (a ∷ b ∷ c ∷ d ∷ ys)) % 65535
 unfolding words
-eight_bytes t n (a ∷ b ∷ c ∷ d ∷ e ∷ f ∷ g ∷ h ∷ ys) m p =
-    let xs : List ℕ = a ∷ b ∷ c ∷ d ∷ e ∷ f ∷ g ∷ h ∷ ys in
-    let rest : take (length xs - 8) (drop 8 xs) ≡ ys = take_rest xs 8 in
-    let W = words ys in
-    let whole : ℕ = t * 256 + n * 256 + W in
-    let halves : whole % 65535 ≡ ((t + (n % 2 ^ 32 + n / 2 ^ 32)) * 256 + W) % 65535 =
-    same_but whole ((t + (n % 2 ^ 32 + n / 2 ^ 32)) * 256 + W) (16777472 * (n / 2 ^ 32)) (omega arith) in
-    ap (λ (l : List ℕ). ((t + (n % 2 ^ 32 + n / 2 ^ 32)) * 256 + words l) % 65535) rest
-    ∙ (sym halves
-    ∙ same_but whole (t * 256 + words xs)
-    (b + 256 * c + 65537 * d + 16777472 * e + 4295032833 * f + 1099528405248 * g + 281479271743489 * h) (omega (arith, p)))
-eight_bytes t n xs m p = absurd (omega arith)
+four_words t n a b c d ys p =
+    same_but ((t + n) * 256 + words ys) (t * 256 + words (a ∷ b ∷ c ∷ d ∷ ys)) (b + 256 * c + 65537 * d) (omega (arith, p))
 
--- What is left behind of a multiple.
-same_scaled : (x y : ℕ) → x % 65535 ≡ y % 65535 → (x * 256) % 65535 ≡ (y * 256) % 65535
-same_scaled x y h = mul-mod x 256 65535 ∙ (ap (λ (k : ℕ). (k * (256 % 65535)) % 65535) h ∙ sym (mul-mod y 256 65535))
+-- The words of what is behind sixteen bytes, and their own in four sums.
+pub sixteen_bytes : (s t u v k l m n : ℕ) (xs : List ℕ) → 16 ≤ length xs
+    → k ≡ from_le_bytes w32 (get_or xs 0 0 ∷ get_or xs 1 0 ∷ get_or xs 2 0 ∷ get_or xs 3 0 ∷ [])
+    → l ≡ from_le_bytes w32 (get_or xs 4 0 ∷ get_or xs 5 0 ∷ get_or xs 6 0 ∷ get_or xs 7 0 ∷ [])
+    → m ≡ from_le_bytes w32 (get_or xs 8 0 ∷ get_or xs 9 0 ∷ get_or xs 10 0 ∷ get_or xs 11 0 ∷ [])
+    → n ≡ from_le_bytes w32 (get_or xs 12 0 ∷ get_or xs 13 0 ∷ get_or xs 14 0 ∷ get_or xs 15 0 ∷ [])
+    → (((s + k) + (t + l) + (u + m) + (v + n)) * 256 + words (take (length xs - 16) (drop 16 xs))) % 65535
+    ≡ ((s + t + u + v) * 256 + words xs) % 65535
+sixteen_bytes s t u v k l m n (x0 ∷ x1 ∷ x2 ∷ x3 ∷ x4 ∷ x5 ∷ x6 ∷ x7 ∷ x8 ∷ x9 ∷ x10 ∷ x11 ∷ x12 ∷ x13 ∷ x14 ∷ x15 ∷ ys) _ pk pl pm pn =
+    let xs : List ℕ = x0 ∷ x1 ∷ x2 ∷ x3 ∷ x4 ∷ x5 ∷ x6 ∷ x7 ∷ x8 ∷ x9 ∷ x10 ∷ x11 ∷ x12 ∷ x13 ∷ x14 ∷ x15 ∷ ys in
+    let rest : take (length xs - 16) (drop 16 xs) ≡ ys = take_rest xs 16 in
+    let before : ℕ = s + t + u + v in
+    let order : (s + k) + (t + l) + (u + m) + (v + n) ≡ before + k + l + m + n = omega arith in
+    ap (λ (zs : List ℕ). (((s + k) + (t + l) + (u + m) + (v + n)) * 256 + words zs) % 65535) rest
+    ∙ (ap (λ (w : ℕ). (w * 256 + words ys) % 65535) order
+    ∙ (four_words (before + k + l + m) n x12 x13 x14 x15 ys pn
+    ∙ (four_words (before + k + l) m x8 x9 x10 x11 (x12 ∷ x13 ∷ x14 ∷ x15 ∷ ys) pm
+    ∙ (four_words (before + k) l x4 x5 x6 x7 (x8 ∷ x9 ∷ x10 ∷ x11 ∷ x12 ∷ x13 ∷ x14 ∷ x15 ∷ ys) pl
+    ∙ four_words before k x0 x1 x2 x3 (x4 ∷ x5 ∷ x6 ∷ x7 ∷ x8 ∷ x9 ∷ x10 ∷ x11 ∷ x12 ∷ x13 ∷ x14 ∷ x15 ∷ ys) pk))))
+sixteen_bytes s t u v k l m n xs many _ _ _ _ = absurd (omega arith)
 
--- A block's words, and what is behind it.
-pub one_block : (t s f r w v : ℕ) → f % 65535 ≡ s % 65535 → r % 65535 ≡ (t + f * 256) % 65535
-    → (s * 256 + w) % 65535 ≡ v % 65535 → (r + w) % 65535 ≡ (t + v) % 65535
-one_block t s f r w v h k m =
-    same_more r (t + f * 256) w k
-    ∙ (ap (λ (n : ℕ). n % 65535) (omega arith)
-    ∙ same_sums t t (f * 256 + w) v refl (same_more (f * 256) (s * 256) w (same_scaled f s h) ∙ m))
+-- Four bytes, and what is behind them.
+pub four_bytes : (t n r : ℕ) (xs : List ℕ) → 4 ≤ length xs
+    → n ≡ from_le_bytes w32 (get_or xs 0 0 ∷ get_or xs 1 0 ∷ get_or xs 2 0 ∷ get_or xs 3 0 ∷ [])
+    → r % 65535 ≡ (t + n * 256) % 65535
+    → (r + words (take (length xs - 4) (drop 4 xs))) % 65535 ≡ (t + words xs) % 65535
+unfolding words
+four_bytes t n r (a ∷ b ∷ c ∷ d ∷ ys) _ p q =
+    let xs : List ℕ = a ∷ b ∷ c ∷ d ∷ ys in
+    let rest : take (length xs - 4) (drop 4 xs) ≡ ys = take_rest xs 4 in
+    ap (λ (l : List ℕ). (r + words l) % 65535) rest
+    ∙ (same_more r (t + n * 256) (words ys) q
+    ∙ same_but (t + n * 256 + words ys) (t + words xs) (b + 256 * c + 65537 * d) (omega (arith, p)))
+four_bytes t n r xs many _ _ = absurd (omega arith)
 
 -- The same of two bytes.
 pub two_bytes : (t r : ℕ) (xs : List ℕ) → 2 ≤ length xs

@@ -1,5 +1,6 @@
 //! The checksums of IPv4, TCP and UDP (RFC 1071).
-ghost use Rattle.std.specs.Prelude.{◌≡◌, ◌<◌, ◌⊎◌, ◌+◌, ◌*◌, ◌%◌, ◌^◌, length};
+ghost use Rattle.std.specs.Prelude.{◌≡◌, ◌<◌, ◌+◌, ◌*◌, ◌%◌, ◌^◌, ◌∷◌, [], length};
+ghost use Rattle.std.specs.Int.{w32, from_le_bytes};
 ghost use Rattle.capture.specs.Words.{words as words_of, words4 as words4_of, words8 as words8_of, is_right as is_sum_right};
 ghost use Rattle.capture.specs.Checksum.{address_words as address_words_of, pseudo_words as pseudo_words_of, checksum_by as checksum_by_sums};
 ghost use Rattle.capture.specs.Checksum.{segment_words as segment_words_of, segment_length as segment_length_of, user_words as user_words_of};
@@ -26,27 +27,37 @@ fn folded(sum: u64) -> u64
     sum / 0x1_0000_0000 + sum % 0x1_0000_0000
 }
 
-/// So many times eight bytes are added up at once.
-const MOST_EIGHTS: u32 = 0x1_0000;
+/// Bytes of which there are fewer than this are added up without a test for each sum: no packet has more.
+const MOST_BYTES: usize = 0x1_0000_0000;
 
-/// The sum of the words of bytes in front, each with its bytes swapped (RFC 1071, section 2), and what stands behind those. Four words at once:
-/// 2^16 leaves 1 behind when divided by 65,535.
-fn sum_of_eights(bytes: &[u8]) -> (u64, &[u8])
-    ensures same { (result.0 * 256 + words_of result.1.now) % 65535 ≡ words_of bytes.now % 65535 }
-    ensures bound { result.0 < 2 ^ 50 }
-    ensures shorter { length result.1.now < 8 ⊎ length result.1.now < length bytes.now }
+/// A number of 32 bits, its lowest byte first.
+#[inline(always)]
+fn four(a: u8, b: u8, c: u8, d: u8) -> u64
+    ensures same { result ≡ from_le_bytes w32 (a ∷ b ∷ c ∷ d ∷ []) }
+    ensures bound { result < 2 ^ 32 }
 {
-    let mut sum = 0_u64;
+    u64::from(u32::from_le_bytes([a, b, c, d]))
+}
+
+/// The sum of the words of bytes in front, each with its bytes swapped (RFC 1071, section 2), and what stands behind those. Two words at once:
+/// 2^16 leaves 1 behind when divided by 65,535. In four sums, which LLVM keeps in two vectors.
+fn sum_of_sixteens(bytes: &[u8]) -> (u64, &[u8])
+    ensures same { (result.0 * 256 + words_of result.1.now) % 65535 ≡ words_of bytes.now % 65535 }
+    ensures bound { result.0 < 2 ^ 62 }
+{
+    if bytes.len() >= MOST_BYTES {
+        return (0, bytes);
+    }
+    let (mut first, mut second, mut third, mut fourth) = (0_u64, 0_u64, 0_u64, 0_u64);
     let mut rest = bytes;
-    'eights: for _ in 0..MOST_EIGHTS {
-        let [a, b, c, d, e, f, g, h, behind @ ..] = rest else {
-            break;
-        };
-        let eight = u64::from_le_bytes([*a, *b, *c, *d, *e, *f, *g, *h]);
-        sum += eight % 0x1_0000_0000 + eight / 0x1_0000_0000;
+    'sixteens: while let [a, b, c, d, e, f, g, h, i, j, k, l, m, n, o, p, behind @ ..] = rest {
+        first += four(*a, *b, *c, *d);
+        second += four(*e, *f, *g, *h);
+        third += four(*i, *j, *k, *l);
+        fourth += four(*m, *n, *o, *p);
         rest = behind;
     }
-    (sum, rest)
+    (first + second + third + fourth, rest)
 }
 
 /// The sum of the words of these bytes, or a number that leaves the same behind when divided by 65,535.
@@ -54,11 +65,10 @@ pub(crate) fn sum_of(bytes: &[u8]) -> u64
     ensures same { result % 65535 ≡ words_of bytes.now % 65535 }
     ensures bound { result < 2 ^ 34 }
 {
-    let mut total = 0_u64;
-    let mut rest = bytes;
-    'blocks: while rest.len() >= 8 {
-        let (sum, behind) = sum_of_eights(rest);
-        total = folded(total + folded(sum) * 256);
+    let (sum, mut rest) = sum_of_sixteens(bytes);
+    let mut total = folded(folded(sum) * 256);
+    'fours: while let [a, b, c, d, behind @ ..] = rest {
+        total = folded(total + four(*a, *b, *c, *d) * 256);
         rest = behind;
     }
     'twos: while let [a, b, behind @ ..] = rest {

@@ -2,14 +2,14 @@ use Rattle.std.proofs.Common.{◌≡◌, ◌+◌, ◌%◌, ◌^◌, ◌<◌, len
 use Rattle.capture.specs.Words.{words}
 use Rattle.capture.proofs.checksum.sum_of.Given as goal
 
-abbrev pub invariant-blocks-2 : goal.invariant-blocks-2
-invariant-blocks-2 l = record {
+abbrev pub invariant-fours : goal.invariant-fours
+invariant-fours l = record {
   same : (l.total + words l.rest) % 65535 ≡ words l.bytes % 65535;
   bound : l.total < 2 ^ 33;
 }
 
-abbrev pub decreases-blocks-2 : goal.decreases-blocks-2
-decreases-blocks-2 l = length l.rest
+abbrev pub decreases-fours : goal.decreases-fours
+decreases-fours l = length l.rest
 
 abbrev pub invariant-twos : goal.invariant-twos
 invariant-twos l = record {
