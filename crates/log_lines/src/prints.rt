@@ -73,30 +73,32 @@ fn ja3s_text(told: &mut Told<'_>) -> Result<Option<String>, AllocError> {
     }
 }
 
-/// The digest of a text, which is kept; nothing where there is none.
-fn digest_cell<'a>(
-    alloc: Global,
-    text: Option<String>,
-    kept: &mut Option<String>,
-) -> Result<Option<Cell<'a>>, AllocError> {
-    let Some(text) = text else {
+/// The digest of a text of JA3 or JA3S.
+fn digest_of(told: &Told<'_>, text: &str) -> Result<String, AllocError> {
+    match told.digests.try_borrow_mut() {
+        Ok(mut known) => known.ja3_digest(told.alloc, text),
+        Err(_) => ja3_digest(told.alloc, text),
+    }
+}
+
+/// JA3. Its text is kept.
+fn ja3_cell<'a>(told: &mut Told<'a>) -> Result<Option<Cell<'a>>, AllocError> {
+    let Some(text) = ja3_text(told)? else {
         return Ok(None);
     };
-    let digest = ja3_digest(alloc, text.as_str())?;
-    *kept = Some(text);
-    Ok(Some(Cell::Text(Text::Owned(digest))))
+    let digest = digest_of(told, text.as_str());
+    told.kept.ja3 = Some(text);
+    some_text(digest)
 }
 
-/// JA3.
-fn ja3_cell<'a>(told: &mut Told<'a>) -> Result<Option<Cell<'a>>, AllocError> {
-    let text = ja3_text(told)?;
-    digest_cell(told.alloc, text, &mut told.kept.ja3)
-}
-
-/// JA3S.
+/// JA3S. Its text is kept.
 fn ja3s_cell<'a>(told: &mut Told<'a>) -> Result<Option<Cell<'a>>, AllocError> {
-    let text = ja3s_text(told)?;
-    digest_cell(told.alloc, text, &mut told.kept.ja3s)
+    let Some(text) = ja3s_text(told)? else {
+        return Ok(None);
+    };
+    let digest = digest_of(told, text.as_str());
+    told.kept.ja3s = Some(text);
+    some_text(digest)
 }
 
 /// A text as it is; nothing where there is none.

@@ -62,7 +62,7 @@ pub struct Style {
     pub lines: Lines,
     /// The names of cipher suites.
     pub suites: Suites,
-    /// Digests of JA4 that were made for lines. A line takes them out while it tells of JA4.
+    /// Digests of fingerprints that were made for lines. A line takes them out while it tells of one.
     pub digests: RefCell<KnownDigests>,
 }
 

@@ -143,6 +143,20 @@ fn serialize_code<S: Serializer>(code: u16, out: &mut S) -> Result<(), S::Error>
     }
 }
 
+/// Sends bytes in hexadecimal: session ids and fingerprints, which are no longer than a piece, aren't put together in that room either.
+fn serialize_digits<S: Serializer>(bytes: &[u8], out: &mut S) -> Result<(), S::Error> {
+    if bytes.len() > PIECE {
+        return out.collect_str(&Text::Digits(bytes));
+    }
+    let mut digits = [0; 2 * PIECE];
+    let len = 2 * bytes.len();
+    let _written = hex::encode_to_slice(bytes, &mut digits[..len]);
+    match str::from_utf8(&digits[..len]) {
+        Ok(text) => out.str(text),
+        Err(_) => out.collect_str(&Text::Digits(bytes)),
+    }
+}
+
 /// Sends a signature scheme.
 fn serialize_scheme<S: Serializer>(scheme: u16, out: &mut S) -> Result<(), S::Error> {
     match SignatureScheme(scheme).registered_name() {
@@ -154,13 +168,16 @@ fn serialize_scheme<S: Serializer>(scheme: u16, out: &mut S) -> Result<(), S::Er
 impl Serialize for Text<'_> {
     fn serialize<S: Serializer>(&self, out: &mut S) -> Result<(), S::Error> {
         match self {
-            Text::Code(code) => return serialize_code(*code, out),
-            Text::Scheme(scheme) => return serialize_scheme(*scheme, out),
-            _ => {}
-        }
-        match self.as_plain() {
-            Some(text) => out.str(text),
-            None => out.collect_str(self),
+            Text::Plain(text) => out.str(text),
+            Text::Owned(text) => out.str(text.as_str()),
+            Text::Code(code) => serialize_code(*code, out),
+            Text::Digits(bytes) => serialize_digits(bytes, out),
+            Text::Scheme(scheme) => serialize_scheme(*scheme, out),
+            Text::Escaped(bytes) => match plain_text(bytes) {
+                Some(text) => out.str(text),
+                None => out.collect_str(self),
+            },
+            _ => out.collect_str(self),
         }
     }
 }
