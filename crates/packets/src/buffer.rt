@@ -6,8 +6,8 @@ ghost use Rattle.packets.specs.Held.{Came};
 use std::io::{self, Read};
 use std::marker::Model;
 
-/// How many bytes are asked of a source at once.
-const PIECE: usize = 262_144;
+/// How many bytes are asked of a source at once: so few that what the kernel copies is still in the processor's cache when it is read.
+const PIECE: usize = 65_536;
 
 /// Bytes that came from a source, of which some were taken off the front.
 ///

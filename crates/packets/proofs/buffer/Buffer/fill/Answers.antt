@@ -10,11 +10,11 @@ returns-clause-ok g c =
     let items = c.self.inside.bytes.items in
     let counted : c.len.result ≡ length items = c.len.ensures ∙ c.self.inside.bytes.ok.0 in
     let within : n ≤ length c.read.new.buf = c.in_ok-n.ensures.bound.0 in
-    let whole : c.in-Some.whole ≡ h + 262144 = grind (arith, c.in-Some.ensures) in
+    let whole : c.in-Some.whole ≡ h + 65536 = grind (arith, c.in-Some.ensures) in
     let len : length c.deref_mut.result.now ≡ c.max-len.result = c.deref_mut.ensures.len ∙ c.in_ok-resize.ensures.len in
     let most : length items ≤ c.max-len.result = grind (arith, c.max-len.ensures, counted) in
-    let room : h + 262144 ≤ c.max-len.result = grind (arith, c.max-len.ensures, whole) in
-    let read : 262144 ≤ length c.read.new.buf =
+    let room : h + 65536 ≤ c.max-len.result = grind (arith, c.max-len.ensures, whole) in
+    let read : 65536 ≤ length c.read.new.buf =
     grind (arith, c.read.auto.buf, length-take, length-drop, len, room) in
     let kept : take h c.deref_mut.result.now ≡ take h items =
     ap (take h) c.deref_mut.ensures.value
