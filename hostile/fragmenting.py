@@ -177,10 +177,13 @@ def bad(segments: list[Segment]) -> Iterator[tuple[str, bytes, dict[str, int]]]:
     yield "too long", told([long]), {"fragments of datagrams of more than 65,535 bytes": 1}
     yield "late", told([*pieces[:-1], pieces[-1]], step=31_000_000 // max(1, len(pieces) - 1) + 1), {"datagrams of which fragments were missing for 30 seconds": 1, missing: 1}
     many = [fragment(frame, number, 8, True, b"x" * 8) for number in range(30_000)]
-    yield "many that never end", told(many), {missing: HELD_LIMIT // 2064, "datagrams of which fragments were missing, and that had no room": 30_000 - HELD_LIMIT // 2064}
+    yield "many that never end", told(many), {missing: WAITING, "datagrams of which fragments were missing, and that had no room": 30_000 - WAITING}
     same = [fragment(frame, 7, 8, True, payload[8:16])] * 1000
     yield "the same again and again", told(same), {missing: 1}
     yield "empty ones", told([fragment(frame, 7, 8 * number, True, b"") for number in range(1000)]), {missing: 1}
 
 
 HELD_LIMIT = 33_554_432
+# A fragment counts for twice its bytes and so many more; of those with 8 bytes so many may wait.
+FRAGMENT_COST = 5120
+WAITING = HELD_LIMIT // (2 * 8 + FRAGMENT_COST)
