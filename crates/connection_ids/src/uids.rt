@@ -13,8 +13,16 @@ use sha2::{Digest, Sha256};
 use std::alloc::{AllocError, Global};
 use std::net::IpAddr;
 
-/// How many digits an identifier has.
-const DIGITS: u32 = 17;
+/// An identifier's digits are made of two numbers of 64 bits, since a division of 128 bits takes several times as long: so many are the lower ones, and
+/// so many the upper ones.
+const LOWER_DIGITS: u32 = 10;
+
+const UPPER_DIGITS: u32 = 7;
+
+/// 62 to the power of these.
+const LOWER: u128 = 839_299_365_868_340_224;
+
+const UPPER: u128 = 3_521_614_606_208;
 
 /// How long it is.
 const UID_LEN: usize = 18;
@@ -86,14 +94,14 @@ fn digit(n: u8) -> char
 }
 
 /// Adds the lowest digit of a number in base 62.
-fn add_digit(text: &mut String, n: u128) -> Result<(), AllocError>
+fn add_digit(text: &mut String, n: u64) -> Result<(), AllocError>
     ensures { OnOk result (string_bytes text.new ≡ string_bytes text.old ++ digit_of (n % 62) ∷ []) }
 {
     text.push(digit((n % 62) as u8))
 }
 
 /// Adds that many of the lowest digits of a number in base 62, the lowest first.
-fn add_digits(text: &mut String, count: u32, n: u128) -> Result<(), AllocError>
+fn add_digits(text: &mut String, count: u32, n: u64) -> Result<(), AllocError>
     ensures { OnOk result (string_bytes text.new ≡ string_bytes text.old ++ base62 count n) }
 {
     if count == 0 {
@@ -101,6 +109,14 @@ fn add_digits(text: &mut String, count: u32, n: u128) -> Result<(), AllocError>
     }
     add_digit(text, n)?;
     add_digits(text, count - 1, n / 62)
+}
+
+/// Adds the 17 lowest digits of a number in base 62, the lowest first.
+fn add_number(text: &mut String, n: u128) -> Result<(), AllocError>
+    ensures { OnOk result (string_bytes text.new ≡ string_bytes text.old ++ base62 17 n) }
+{
+    add_digits(text, LOWER_DIGITS, (n % LOWER) as u64)?;
+    add_digits(text, UPPER_DIGITS, (n / LOWER % UPPER) as u64)
 }
 
 /// The identifier of the connection between these ends whose first packet came so many microseconds after 1970-01-01 00:00 UTC: `C` and 17 digits and letters,
@@ -119,7 +135,7 @@ pub fn uid(
     let digest = digest(protocol, originator, responder, microseconds);
     let mut text = String::with_capacity(alloc, UID_LEN)?;
     text.push('C')?;
-    add_digits(&mut text, DIGITS, front_number(&digest))?;
+    add_number(&mut text, front_number(&digest))?;
     Ok(text)
 }
 
