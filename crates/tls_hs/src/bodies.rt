@@ -95,6 +95,7 @@ pub(crate) fn end_of_early_data(i: &[u8]) -> IResult<&[u8], TlsMessageHandshake>
 ///
 /// `Incomplete` of the count of missing bytes, where they are missing in front of the extensions.
 #[tactic(auto, using(layouts::proofs::OneAnswerLemmas::read_allowed), unfolding(crate::specs::Handshake::hello_retry_request_body))]
+#[inline(always)]
 pub fn parse_tls_handshake_msg_hello_retry_request(i: &[u8]) -> IResult<&[u8], TlsMessageHandshake>
     ensures { Gives view_handshake hello_retry_request_body i.now result }
 {

@@ -71,6 +71,8 @@ impl Held {
     }
 
     /// Joins a record's fragment of `n` bytes to the part, and takes the record off the stream.
+    // Once a record, where what stands around it in its callers runs once a message: there it takes their registers.
+    #[inline(never)]
     pub fn join(&mut self, n: usize)
         requires { 5 + n ≤ length self.old.unread }
         ensures { self.new ≡ joined self.old n }
