@@ -1,18 +1,24 @@
 -- What is heard of a side from where its TLS begins.
-use Rattle.std.proofs.Common.{◌≡◌, ℕ, ◌≤◌, ◌<◌, Bool, true, false, List, length, drop, refl, sym, ◌∙◌, ap, subst, arith}
-use Rattle.std.specs.Prelude.{min, nat_le}
-use Rattle.std.proofs.lemmas.Bool.{leb-true, leb-false}
+use Rattle.std.proofs.Common.{◌≡◌, ℕ, ◌≤◌, ◌<◌, Bool, true, false, List, length, drop, refl, sym, ◌∙◌, ap, subst, inr, arith}
+use Rattle.std.specs.Prelude.{min, nat_le, not}
+use Rattle.std.proofs.lemmas.Bool.{and_parts, leb-true, leb-false}
 use Rattle.std.proofs.lemmas.List.{drop_all}
 use Rattle.layouts.specs.Bytes.{Bytes}
 use Rattle.connections.specs.Stream.{next_bytes, stopped}
 use Rattle.connections.specs.declared.connection.Side.{Side}
 use Rattle.connections.specs.declared.stream.Stream.{Stream}
+use Rattle.connections.specs.declared.stream.Reading.{Reading}
+use Rattle.connections.specs.declared.stream.Reading.TheVariants.{Unbegun, Open, Over}
+use Rattle.tls_flow.specs.Table.{outcome_at}
 use Rattle.tls_flow.specs.declared.symbol.Direction.{Direction}
-use Rattle.tls_analyzer.specs.Analyzers.{IsHeardAsNone, IsHeardOn}
+use Rattle.tls_analyzer.specs.Analyzers.{IsHeardAsNone, IsHeardBy, IsHeardOn, IsNext, IsNextBy, hearing, is_over, over_by}
 use Rattle.tls_analyzer.specs.declared.analyzer.Analyzer.{Analyzer}
-use Rattle.log_connections.specs.Fronts.{leaving, with_begun}
-use Rattle.log_connections.specs.Heard.{HearsAt, HearsNone, IsTakenOff}
+use Rattle.tls_analyzer.specs.declared.analyzer.Hearing.{Hearing}
+use Rattle.tls_analyzer.specs.declared.analyzer.Hearing.TheVariants.{Unknown, Clear, Encrypted, Other}
+use Rattle.log_connections.specs.Fronts.{front_of, is_sought, leaving, with_begun}
+use Rattle.log_connections.specs.Heard.{HearsAt, HearsBy, HearsNone, HearsStream, IsTakenOff, begins_in, is_over_in}
 use Rattle.log_connections.specs.declared.fronts.Fronts.{Fronts}
+use Rattle.log_connections.specs.declared.fronts.Beginning.TheVariants as beginnings
 use Rattle.log_connections.specs.declared.heard.Said.{Said}
 use Rattle.log_connections.specs.declared.heard.Said.TheVariants as said
 
@@ -41,3 +47,42 @@ behind_all n m b c e is = is ∙ go (nat_le n (length b)) refl
     go true h = ap (λ k. drop k b) (omega (arith, e, leb-true n (length b) h))
     go false h = drop_all m b (omega (arith, e, leb-false n (length b) h))
         ∙ sym (drop_all n b (omega (arith, leb-false n (length b) h)))
+
+-- Of a side that is over nothing is heard, whatever comes.
+heard_over : (x : Analyzer) (d : Direction) (b : Bytes) → is_over x d ≡ true → IsHeardOn x d b x
+heard_over x d b over = go (hearing x d) refl
+  where
+    next : IsNext x d b x
+    next = subst (λ t. IsNextBy t x d b x) (sym over) refl
+
+    go : (h : Hearing) → hearing x d ≡ h → IsHeardBy h x d b x
+    go Unknown is =
+        let none : false ≡ true = subst (λ h. over_by h (outcome_at x.hearer.flow.state) ≡ true) is over in cc
+    go Clear is = next
+    go Encrypted is = next
+    go Other is = next
+
+stopped_over : (t : Stream) (r : Reading) → t.reading ≡ r → (stopped t r).reading ≡ Over
+stopped_over t Unbegun is = refl
+stopped_over t (Open h) is = refl
+stopped_over t Over is = is
+
+not_sought : (b : Bool) → not b ≡ true → b ≡ false
+not_sought false is = refl
+not_sought true is = cc
+
+-- A side that is over is read no further, and all else stays.
+pub over_stays : (s : Side) (last : Bool) (d : Direction) (t u : Stream) (z : Said)
+    → is_over_in s d z ≡ true → u ≡ stopped t t.reading → HearsStream s last d t u z z
+unfolding HearsStream HearsAt
+over_stays s last d t u (said.Stream x f) over stops =
+    let both = and_parts (not (is_sought (front_of s f))) (is_over x d) over in
+    let found : is_sought (front_of s f) ≡ false = not_sought (is_sought (front_of s f)) both.0 in
+    let begins : begins_in s last (said.Stream x f) (next_bytes t t.reading) ≡ beginnings.At 0 = rw found in
+    let begun : f ≡ with_begun s 0 f = rw found in
+    subst (λ b. HearsBy b s d t u (said.Stream x f) (said.Stream x f)) (sym begins) (
+      heard_over x d (drop 0 (next_bytes t t.reading)) both.1,
+      begun,
+      inr (ap (λ v. v.reading) stops ∙ stopped_over t t.reading refl),
+    )
+over_stays s last d t u (said.Datagrams x) over stops = cc

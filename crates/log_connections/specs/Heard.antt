@@ -1,5 +1,5 @@
 -- What is heard of a connection's bytes.
-use Rattle.std.specs.Prelude.{◌≡◌, ◌⊎◌, ◌-◌, ◌&&◌, ℕ, Bool, true, false, Ok, Err, length, drop}
+use Rattle.std.specs.Prelude.{◌≡◌, ◌⊎◌, ◌-◌, ◌&&◌, ℕ, Bool, true, false, not, Ok, Err, length, drop}
 use Rattle.layouts.specs.Bytes.{Bytes}
 use Rattle.connections.specs.Stream.{handing_on, has_urgent_next, is_cut_short, next_bytes, passing_urgent, stopped}
 use Rattle.connections.specs.declared.stream.Stream.{Stream}
@@ -10,13 +10,13 @@ use Rattle.tls_flow.specs.declared.symbol.Direction.{Direction}
 use Rattle.tls_flow.specs.declared.symbol.Direction.TheVariants.{ToServer, FromServer}
 use Rattle.tls_analyzer.specs.Datagrams.{IsKnown, heard}
 use Rattle.tls_analyzer.specs.Datagrams as datagrams
-use Rattle.tls_analyzer.specs.Analyzers.{IsHeardAsNone, IsHeardInSsl2, IsHeardOn}
+use Rattle.tls_analyzer.specs.Analyzers.{IsHeardAsNone, IsHeardInSsl2, IsHeardOn, is_over}
 use Rattle.ssl2_hello.specs.ClientHello as ssl2
 use Rattle.layouts.specs.Meaning.{Answer}
 use Rattle.layouts.specs.Reading.{reading}
 use Rattle.tls_analyzer.specs.declared.analyzer.Analyzer.{Analyzer}
 use Rattle.log_connections.specs.declared.fronts.Fronts.{Fronts}
-use Rattle.log_connections.specs.Fronts.{are_answered, beginning, front_of, leaving, passing, with_begun}
+use Rattle.log_connections.specs.Fronts.{are_answered, beginning, front_of, is_sought, leaving, passing, with_begun}
 use Rattle.log_connections.specs.declared.fronts.Beginning.{Beginning}
 use Rattle.log_connections.specs.declared.fronts.Beginning.TheVariants as beginnings
 use Rattle.log_connections.specs.declared.heard.Said.{Said}
@@ -66,6 +66,11 @@ HearsSsl2 s d t u (said.Datagrams x) y = (y ≡ said.Datagrams x) × (u ≡ t)
 abbrev pub begins_in : Side → Bool → Said → Bytes → Beginning
 begins_in s last (said.Stream x f) b = beginning x.is_tls last (front_of s f) b
 begins_in s last (said.Datagrams x) b = beginnings.Waits
+
+-- A side whose TLS was found, or that speaks none, is heard no further.
+abbrev pub is_over_in : Side → Direction → Said → Bool
+is_over_in s d (said.Stream x f) = not (is_sought (front_of s f)) && is_over x d
+is_over_in s d (said.Datagrams x) = false
 
 abbrev pub HearsBy : Beginning → Side → Direction → Stream → Stream → Said → Said → Type 0
 HearsBy beginnings.Waits s d t u x y = (u ≡ t) × (y ≡ x)

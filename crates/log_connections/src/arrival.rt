@@ -131,7 +131,21 @@ fn options_of(options: &[u8], is_syn: bool) -> Options {
             is_signed: false,
         };
     }
-    options_one_by_one(options, is_syn)
+    // (field by field: in one piece they would pass through memory)
+    let Options {
+        scale,
+        clock,
+        size,
+        selects,
+        is_signed,
+    } = options_one_by_one(options, is_syn);
+    Options {
+        scale,
+        clock,
+        size,
+        selects,
+        is_signed,
+    }
 }
 
 /// What the checksums of a packet are, as far as they count.

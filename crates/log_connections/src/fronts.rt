@@ -1,5 +1,5 @@
 //! What stands in front of the TLS of a side.
-ghost use Rattle.std.specs.Prelude.{◌≡◌};
+ghost use Rattle.std.specs.Prelude.{◌≡◌, not};
 ghost use Rattle.log_connections.specs.Fronts.{answers as answers_in, are_answered as answered, are_silent as silent, beginning as begins, begins_there, found as found_in, front_of, leaving, may_begin as may_begin_in, passing, is_sought as sought, is_waiting, with_begun, with_front};
 
 use connections::Side;
@@ -152,6 +152,13 @@ impl Fronts {
         ensures { result ≡ (front_of side self.now).passed }
     {
         self.of(side).passed
+    }
+
+    /// Whether a side is heard, or was left.
+    pub(crate) fn has_begun(&self, side: Side) -> bool
+        ensures { result ≡ not (sought (front_of side self.now)) }
+    {
+        !self.of(side).is_sought()
     }
 
     /// Whether neither side is heard yet.

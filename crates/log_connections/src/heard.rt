@@ -2,7 +2,7 @@
 ghost use Rattle.std.specs.Prelude.{◌≡◌, ◌||◌, OnOk, drop};
 ghost use Rattle.tls_detection.specs.Front.{held_datagram as held_datagram_of};
 ghost use Rattle.connections.specs.Stream.{is_cut_short};
-ghost use Rattle.log_connections.specs.Heard.{HearsAt, HearsDatagram, HearsNone, HearsStream, HearsSsl2, IsSpokenBy, PassesOver, begins_in, direction_of as direction_by, preamble_of};
+ghost use Rattle.log_connections.specs.Heard.{HearsAt, HearsDatagram, HearsNone, HearsStream, HearsSsl2, IsSpokenBy, PassesOver, begins_in, direction_of as direction_by, is_over_in, preamble_of};
 
 use crate::fronts::{Beginning, Fronts, begins_at};
 use connections::{Listener, Protocol, Side, Stream};
@@ -413,11 +413,43 @@ impl<K: Keeper> Heard<K> {
         }
     }
 
+    /// Whether a side is heard no further.
+    fn is_over(&self, side: Side) -> bool
+        ensures { result ≡ is_over_in side (direction_by self.now.is_turned side) self.now.said }
+    {
+        match &self.said {
+            Said::Stream(analyzer, fronts) => {
+                fronts.has_begun(side) && analyzer.is_over(self.direction(side))
+            }
+            Said::Datagrams(_) => false,
+        }
+    }
+
     /// Hears what a side's stream says next, from where its TLS begins; the bytes that come next are its last, where they `are_last`. Those in front
     /// are passed over.
     /// The opening of the connection was captured where it `is_opened`.
-    #[tactic(auto, unfolding(crate::specs::Heard::HearsStream))]
+    #[tactic(auto, using(crate::proofs::FrontLemmas::over_stays))]
     pub(crate) fn hear_stream(
+        &mut self,
+        stream: &mut Stream,
+        side: Side,
+        is_opened: bool,
+        are_last: bool,
+    ) -> Result<(), AllocError>
+        ensures { OnOk result (HearsStream side (are_last || is_cut_short stream.old stream.old.reading) (direction_by self.new.is_turned side)
+            stream.old stream.new self.old.said self.new.said) }
+    {
+        // (most packets come when all of the handshake was heard)
+        if stream.available().is_empty() && self.is_over(side) {
+            stream.stop();
+            return Ok(());
+        }
+        self.hear_further(stream, side, is_opened, are_last)
+    }
+
+    /// The same of a side that says something, or may be heard further.
+    #[tactic(auto, unfolding(crate::specs::Heard::HearsStream))]
+    fn hear_further(
         &mut self,
         stream: &mut Stream,
         side: Side,

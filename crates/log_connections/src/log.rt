@@ -20,7 +20,7 @@ use packets::Packet;
 use std::alloc::{AllocError, Global};
 use std::hash::RandomState;
 use tls_flow::Direction;
-use tunnels::{Inside, Tunnels, innermost_into, vlan_tags};
+use tunnels::{Inside, Tunnels, innermost_into, plain_segment, vlan_tags};
 
 /// The log of one capture: its open connections.
 #[derive(Drop)]
@@ -312,7 +312,30 @@ impl<K: Keeper> Log<K> {
         self.arrival_inside(packet, &inside)
     }
 
-    /// The same of a datagram that came with that packet.
+    /// The same as [`Log::arrival`], at once, of a segment that comes in no tunnel and whose connection is logged whatever it is, as most are. `None` of any
+    /// other packet, which isn't counted: [`Log::arrival`] tells what it holds.
+    #[inline(always)]
+    pub fn plain_arrival<'a>(&mut self, packet: Packet<'a>) -> Option<Arrival<'a>> {
+        if self.part.is_some() || self.networks.is_some() {
+            return None;
+        }
+        let Some(datagram) = plain_segment(packet.bytes, packet.link_type, &mut self.tunnels) else {
+            return None;
+        };
+        let Content::Tcp(tcp) = datagram.content else {
+            return None;
+        };
+        add_one(&mut self.counts.packets);
+        // (field by field: the checksum looks at a datagram in memory, and the segment is made of one in registers)
+        let looked_at = capture::Datagram { ..datagram };
+        let source = end(datagram.source, tcp.source);
+        let destination = end(datagram.destination, tcp.destination);
+        let checksum = checksum_of(&looked_at, self.checksums);
+        let segment = segment_of(packet.time, 0, source, destination, &tcp, checksum);
+        Some(Arrival::Segment(segment))
+    }
+
+    /// What arrives with a packet that holds this datagram.
     #[inline(always)]
     fn arrival_of<'a>(
         &mut self,

@@ -237,6 +237,23 @@ fn log_packet<W: Write>(
 ) -> Result<(), LineError>
     ensures { Tells out.old.has_failed out.new.has_failed result }
 {
+    if let Some(arrival) = log.plain_arrival(packet) {
+        return log_arrival(alloc, style, log, &arrival, out);
+    }
+    log_other_packet(alloc, style, log, packet, out)
+}
+
+/// The same of a packet of which it can't be told at once what arrives. A body of its own: what it has room for is zeroed at its entry.
+#[inline(never)]
+fn log_other_packet<W: Write>(
+    alloc: Global,
+    style: &Style,
+    log: &mut Log<Kept>,
+    packet: Packet<'_>,
+    out: &mut Output<W>,
+) -> Result<(), LineError>
+    ensures { Tells out.old.has_failed out.new.has_failed result }
+{
     match log.arrival(packet)? {
         Some(arrival) => log_arrival(alloc, style, log, &arrival, out),
         None => log_joined_datagram(alloc, style, log, packet, out),

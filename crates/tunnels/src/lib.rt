@@ -25,4 +25,4 @@ pub use overlay::{parse_geneve, parse_vxlan};
 pub use tags::vlan_tags;
 pub use teredo::parse_teredo;
 pub use tunnel::{ETHERNET, Header, MAX_TUNNELS, Tunnel, TunnelKind, Tunnels};
-pub use walk::{Inside, Unwrapped, innermost, innermost_into};
+pub use walk::{Inside, Unwrapped, innermost, innermost_into, plain_segment};

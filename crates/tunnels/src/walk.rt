@@ -1,12 +1,12 @@
 //! From a packet's link down to the innermost datagram.
 #![tactic(auto, using(layouts::proofs::OneAnswerLemmas::read_allowed), unfolding(crate::specs::Walk::layer_of_type, crate::specs::Walk::packet_layer, crate::specs::Walk::inner_layer))]
 
-ghost use Rattle.std.specs.Prelude.{◌≡◌, ◌≤◌, ◌+◌};
+ghost use Rattle.std.specs.Prelude.{◌≡◌, ◌≤◌, ◌+◌, [], IfSome};
 ghost use Rattle.layouts.specs.Answers.{Gives, IsAnswer, answer_of};
 ghost use Rattle.layouts.specs.Reading.{reading};
 ghost use Rattle.capture.specs.Ip.{view_datagram};
 ghost use Rattle.tunnels.specs.Tunnel.{listed, view_header};
-ghost use Rattle.tunnels.specs.Walk.{datagram_layer as datagram_layer_of, followed, inner_layer as inner_layer_layout, layer_of_type as layer_of_type_layout, packet_layer as packet_layer_layout, unwrapped, view_inside, view_layer, view_unwrapped, wrapped_or as wrapped_or_by};
+ghost use Rattle.tunnels.specs.Walk.{Held, datagram_layer as datagram_layer_of, followed, inner_layer as inner_layer_layout, layer_of_type as layer_of_type_layout, packet_layer as packet_layer_layout, unwrapped, view_inside, view_layer, view_unwrapped, wrapped_or as wrapped_or_by};
 
 use crate::carriers::{by_ports, by_protocol};
 use crate::labels::{parse_backbone, parse_mpls};
@@ -24,6 +24,12 @@ const BACKBONE: u16 = 0x88e7;
 
 /// The link type of Ethernet.
 pub(crate) const LINK_ETHERNET: u16 = 1;
+
+/// The number of TCP among the protocols of a datagram.
+const TCP: u8 = 6;
+
+/// How many bytes a header of IPv4 without options and one of TCP have.
+const HEADERS_LEN: u16 = 40;
 
 /// What stands in front.
 #[derive(Drop)]
@@ -197,6 +203,57 @@ fn inside_other<'a>(i: &'a [u8], kind: u16, tunnels: &mut Tunnels) -> Inside<'a>
     ensures { followed 8 (listed tunnels.old) (reading (layer_of_type_layout kind) i.now) ≡ record { tunnels = listed tunnels.new; inside = view_inside result } }
 {
     follow(layer_of_type(i, kind), tunnels, MAX_TUNNELS as u8)
+}
+
+/// Whether bytes may be a datagram of IPv4 that has no options, and holds a segment of TCP: both headers are there whole then.
+#[inline(always)]
+fn may_be_plain(i: &[u8]) -> bool {
+    match i {
+        [0x45, _, upper, lower, _, _, _, _, _, TCP, ..] => {
+            let len = u16::from_be_bytes([*upper, *lower]);
+            len >= HEADERS_LEN && i.len() >= HEADERS_LEN as usize
+        }
+        _ => false,
+    }
+}
+
+/// The datagram of IPv4 in front, if it is a plain one.
+#[tactic(auto, using(crate::proofs::WalkLemmas::holds), unfolding(crate::specs::Walk::layer_of_type))]
+#[inline(always)]
+fn plain_ipv4(i: &[u8]) -> Option<Datagram>
+    ensures { IfSome result (λ datagram. followed 8 [] (reading (layer_of_type_layout 0x0800) i.now) ≡ record { tunnels = []; inside = Held (view_datagram datagram) }) }
+{
+    // (a datagram that is tested beforehand is read without a test for each field)
+    if !may_be_plain(i) {
+        return None;
+    }
+    let Ok((_, datagram)) = parse_ipv4(i) else {
+        return None;
+    };
+    if !matches!(datagram.content, Content::Tcp(_)) {
+        return None;
+    }
+    Some(datagram)
+}
+
+/// The datagram that the packet `i` holds, where it can be told at once, as of most packets: it is one of IPv4 without options, holds a segment
+/// of TCP, and comes behind a header of Ethernet in no tunnel. Where it is `None`, [`innermost_into`] tells. The tunnels are let go.
+#[tactic(auto, unfolding(crate::specs::Walk::packet_layer))]
+#[inline(always)]
+pub fn plain_segment<'a>(i: &'a [u8], link_type: u16, tunnels: &mut Tunnels) -> Option<Datagram<'a>>
+    ensures { IfSome result (λ datagram. unwrapped link_type i.now ≡ record { tunnels = listed tunnels.new; inside = Held (view_datagram datagram) }) }
+{
+    tunnels.clear();
+    if link_type != LINK_ETHERNET {
+        return None;
+    }
+    let Ok((i, kind)) = parse_link(i, LINK_ETHERNET) else {
+        return None;
+    };
+    if kind != IPV4 {
+        return None;
+    }
+    plain_ipv4(i)
 }
 
 /// The same as [`innermost`], with the tunnels put in the place of others: for packet after packet.
