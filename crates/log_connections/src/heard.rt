@@ -4,6 +4,7 @@ ghost use Rattle.tls_detection.specs.Front.{held_datagram as held_datagram_of};
 ghost use Rattle.connections.specs.Stream.{is_cut_short};
 ghost use Rattle.log_connections.specs.Heard.{HearsAt, HearsDatagram, HearsNone, HearsStream, HearsSsl2, IsSpokenBy, PassesOver, begins_in, direction_of as direction_by, is_over_in, preamble_of};
 
+use crate::audience::Audience;
 use crate::fronts::{Beginning, Fronts, begins_at};
 use connections::{Listener, Protocol, Side, Stream};
 use ssl2_hello::parse_ssl2_client_hello;
@@ -12,7 +13,7 @@ use std::mem::size_of;
 use tls_analyzer::{Analyzer, DatagramAnalyzer, DatagramRecords, Records, Witness};
 use tls_detection::{first_message, held_datagram};
 use tls_flow::{Direction, Outcome, Stop};
-use tls_summary::HandshakeSummary;
+use tls_summary::{HandshakeSummary, KnownCertificates};
 use tunnels::{Tunnel, Tunnels};
 
 /// The types of the messages with which a handshake begins, of the client and of the server (RFC 8446, section 4).
@@ -327,6 +328,7 @@ impl<K: Keeper> Heard<K> {
         side: Side,
         is_opened: bool,
         n: usize,
+        known: &mut KnownCertificates,
     ) -> Result<(), AllocError>
         ensures { OnOk result (HearsAt side (direction_by self.new.is_turned side) n stream.old stream.new self.old.said self.new.said) }
     {
@@ -339,7 +341,11 @@ impl<K: Keeper> Heard<K> {
         };
         fronts.begin(side, n);
         self.heard = self.heard.saturating_add(bytes.len());
-        analyzer.hear_with(self.alloc, direction, bytes, &mut self.keeper)?;
+        let mut audience = Audience {
+            keeper: &mut self.keeper,
+            known,
+        };
+        analyzer.hear_with(self.alloc, direction, bytes, &mut audience)?;
         let is_over = analyzer.is_over(direction);
         self.count_records(side, bytes);
         let len = all.len();
@@ -435,6 +441,7 @@ impl<K: Keeper> Heard<K> {
         side: Side,
         is_opened: bool,
         are_last: bool,
+        known: &mut KnownCertificates,
     ) -> Result<(), AllocError>
         ensures { OnOk result (HearsStream side (are_last || is_cut_short stream.old stream.old.reading) (direction_by self.new.is_turned side)
             stream.old stream.new self.old.said self.new.said) }
@@ -466,7 +473,7 @@ impl<K: Keeper> Heard<K> {
                 self.pass_over(stream, side, n);
                 Ok(())
             }
-            Beginning::At(n) => self.hear_at(stream, side, is_opened, n),
+            Beginning::At(n) => self.hear_at(stream, side, is_opened, n, known),
             Beginning::InSsl2 => self.hear_ssl2(stream, side),
             Beginning::Nowhere => self.hear_none(stream, side),
         }
@@ -477,6 +484,7 @@ impl<K: Keeper> Heard<K> {
         &mut self,
         direction: Direction,
         payload: &[u8],
+        known: &mut KnownCertificates,
     ) -> Result<(), AllocError>
         ensures { OnOk result (HearsDatagram direction (held_datagram_of payload.now) self.old.said self.new.said) }
     {
@@ -484,7 +492,11 @@ impl<K: Keeper> Heard<K> {
         let Said::Datagrams(analyzer) = &mut self.said else {
             return Ok(());
         };
-        analyzer.hear_with(self.alloc, direction, payload, &mut self.keeper)?;
+        let mut audience = Audience {
+            keeper: &mut self.keeper,
+            known,
+        };
+        analyzer.hear_with(self.alloc, direction, payload, &mut audience)?;
         // (the version and the connection ids may stand in this datagram, in front of its encrypted records)
         let id_len = analyzer.handshake().connection_id_len(direction);
         let is_13 = analyzer.is_13();

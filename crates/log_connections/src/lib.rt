@@ -6,6 +6,7 @@
 #![tactic(auto)]
 
 mod arrival;
+mod audience;
 mod counts;
 mod fragments;
 mod fronts;

@@ -20,6 +20,7 @@ use packets::Packet;
 use std::alloc::{AllocError, Global};
 use std::hash::RandomState;
 use tls_flow::Direction;
+use tls_summary::KnownCertificates;
 use tunnels::{Inside, Tunnels, innermost_into, plain_segment, vlan_tags};
 
 /// The log of one capture: its open connections.
@@ -37,6 +38,8 @@ pub struct Log<K> {
     pub(crate) is_unsettled: bool,
     // Memory that is let go where the system refuses more, so that connections can end.
     pub(crate) spare: Vec<u8>,
+    // The certificates that any connection heard last, whose digests aren't made again.
+    pub(crate) known: KnownCertificates,
     checksums: Checksums,
     // The part whose connections are logged, where not all are.
     part: Option<Part>,
@@ -71,24 +74,28 @@ enum Delivery {
 }
 
 /// Lets the listener hear the last bytes of both streams, of which it waited for more.
-fn hear_last<K: Keeper>(connection: &mut Connection<Heard<K>>) -> Result<(), AllocError> {
+fn hear_last<K: Keeper>(
+    connection: &mut Connection<Heard<K>>,
+    known: &mut KnownCertificates,
+) -> Result<(), AllocError> {
     let is_opened = connection.has_opening();
     let heard = &mut connection.listener;
     let stream = &mut connection.from_originator;
-    heard.hear_stream(stream, Side::Originator, is_opened, true)?;
+    heard.hear_stream(stream, Side::Originator, is_opened, true, known)?;
     let stream = &mut connection.from_responder;
-    heard.hear_stream(stream, Side::Responder, is_opened, true)
+    heard.hear_stream(stream, Side::Responder, is_opened, true, known)
 }
 
 /// The same of a connection that was taken out, which is large: it is handed on in a place of its own.
 pub(crate) fn with_last<K: Keeper>(
     alloc: Global,
+    known: &mut KnownCertificates,
     taken: Option<Connection<Heard<K>>>,
 ) -> Result<Option<Box<Connection<Heard<K>>>>, AllocError> {
     match taken {
         Some(connection) => {
             let mut connection = Box::new(alloc, connection)?;
-            hear_last(&mut connection)?;
+            hear_last(&mut connection, known)?;
             Ok(Some(connection))
         }
         None => Ok(None),
@@ -101,12 +108,13 @@ fn hear_next<K: Keeper>(
     stream: &mut Stream,
     side: Side,
     is_opened: bool,
+    known: &mut KnownCertificates,
 ) -> Result<(), AllocError>
     ensures { OnOk result (HearsNext side (direction heard.new.is_turned side) stream.old stream.new heard.old.said heard.new.said) }
 {
-    heard.hear_stream(stream, side, is_opened, false)?;
+    heard.hear_stream(stream, side, is_opened, false, known)?;
     if stream.pass_urgent() {
-        heard.hear_stream(stream, side, is_opened, false)?;
+        heard.hear_stream(stream, side, is_opened, false, known)?;
     }
     Ok(())
 }
@@ -118,10 +126,11 @@ fn hear_side<K: Keeper>(
     side: Side,
     is_opened: bool,
     segment: &Segment<'_>,
+    known: &mut KnownCertificates,
 ) -> Result<(), AllocError>
     ensures { OnOk result (HearsOn side (direction heard.new.is_turned side) stream.old stream.new heard.old.said heard.new.said) }
 {
-    hear_next(heard, stream, side, is_opened)?;
+    hear_next(heard, stream, side, is_opened, known)?;
     if segment.has_data() {
         heard.count_records(side, stream.pass(segment));
     }
@@ -134,6 +143,7 @@ fn hear<K: Keeper>(
     segment: &Segment<'_>,
     kept: Option<Pieces>,
     tunnels: &Tunnels,
+    known: &mut KnownCertificates,
 ) -> Result<(), AllocError>
     ensures { OnOk result (HearsSide (side_of connection.old segment.now.source) connection.old connection.new) }
 {
@@ -146,11 +156,11 @@ fn hear<K: Keeper>(
     match side {
         Side::Originator => {
             let stream = &mut connection.from_originator;
-            hear_side(heard, stream, side, is_opened, segment)
+            hear_side(heard, stream, side, is_opened, segment, known)
         }
         Side::Responder => {
             let stream = &mut connection.from_responder;
-            hear_side(heard, stream, side, is_opened, segment)
+            hear_side(heard, stream, side, is_opened, segment, known)
         }
     }
 }
@@ -161,6 +171,7 @@ fn hear_from<K: Keeper>(
     datagram: &Datagram<'_>,
     kept: Option<Pieces>,
     tunnels: &Tunnels,
+    known: &mut KnownCertificates,
 ) -> Result<(), AllocError>
     ensures { OnOk result (HearsFrom datagram.now exchange.old exchange.new) }
 {
@@ -171,7 +182,7 @@ fn hear_from<K: Keeper>(
     if let Some(pieces) = kept {
         heard.keep(pieces)?;
     }
-    heard.hear_datagram(direction, datagram.payload)
+    heard.hear_datagram(direction, datagram.payload, known)
 }
 
 impl<K: Keeper> Log<K> {
@@ -191,6 +202,7 @@ impl<K: Keeper> Log<K> {
             memory: usize::MAX,
             is_unsettled: false,
             spare: Vec::with_capacity(alloc, SPARE)?,
+            known: KnownCertificates::new(alloc),
             checksums: Checksums::Auto,
             part: None,
             networks: None,
@@ -364,7 +376,11 @@ impl<K: Keeper> Log<K> {
 
     /// The same, where there may be one.
     fn take_idle(&mut self, time: u64) -> Result<Option<Box<Connection<Heard<K>>>>, AllocError> {
-        with_last(self.alloc, self.connections.take_idle(time))
+        with_last(
+            self.alloc,
+            &mut self.known,
+            self.connections.take_idle(time),
+        )
     }
 
     /// Puts what arrives into its connection, lets that hear what is there then, and takes the connection out where it is over.
@@ -401,7 +417,13 @@ impl<K: Keeper> Log<K> {
         // (mostly there is one already, which is looked up once)
         if let Some(connection) = self.connections.get_first_mut(&segment.between()) {
             connection.accept(self.alloc, segment)?;
-            hear(connection, segment, self.kept, &self.tunnels)?;
+            hear(
+                connection,
+                segment,
+                self.kept,
+                &self.tunnels,
+                &mut self.known,
+            )?;
             self.is_unsettled = !connection.is_settled();
             return Ok(Some(connection.is_closed()));
         }
@@ -417,7 +439,13 @@ impl<K: Keeper> Log<K> {
         }
         match self.connections.get_mut(&segment.between()) {
             Some(connection) => {
-                hear(connection, segment, self.kept, &self.tunnels)?;
+                hear(
+                    connection,
+                    segment,
+                    self.kept,
+                    &self.tunnels,
+                    &mut self.known,
+                )?;
                 self.is_unsettled = !connection.is_settled();
                 Ok(Some(connection.is_closed()))
             }
@@ -430,7 +458,13 @@ impl<K: Keeper> Log<K> {
         self.connections.accept_kept(kept)?;
         let segment = kept.segment();
         match self.connections.get_mut(&segment.between()) {
-            Some(connection) => hear(connection, &segment, self.kept, &self.tunnels),
+            Some(connection) => hear(
+                connection,
+                &segment,
+                self.kept,
+                &self.tunnels,
+                &mut self.known,
+            ),
             None => Ok(()),
         }
     }
@@ -481,7 +515,11 @@ impl<K: Keeper> Log<K> {
         &mut self,
         segment: &Segment<'_>,
     ) -> Result<Option<Box<Connection<Heard<K>>>>, AllocError> {
-        with_last(self.alloc, self.connections.take_closed(segment)?)
+        with_last(
+            self.alloc,
+            &mut self.known,
+            self.connections.take_closed(segment)?,
+        )
     }
 
     /// Takes out the connection in whose place another begins with a segment, which hears that.
@@ -491,7 +529,7 @@ impl<K: Keeper> Log<K> {
     ) -> Result<Option<Box<Connection<Heard<K>>>>, AllocError> {
         let over = self.connections.take_replaced(segment)?;
         self.hear_segment(segment)?;
-        with_last(self.alloc, over)
+        with_last(self.alloc, &mut self.known, over)
     }
 
     /// Puts a segment that its receiver takes into the connection between its ends, where one is open and nothing is to be done before, and lets that
@@ -506,7 +544,13 @@ impl<K: Keeper> Log<K> {
         if let Some(verdict) = connection.accept_or_tell(self.alloc, segment)? {
             return Ok(Reception::Told(verdict));
         }
-        hear(connection, segment, self.kept, &self.tunnels)?;
+        hear(
+            connection,
+            segment,
+            self.kept,
+            &self.tunnels,
+            &mut self.known,
+        )?;
         // (without data it takes no more than before)
         self.is_unsettled = segment.has_data() && !connection.is_settled();
         let is_closed = connection.is_closed();
@@ -581,7 +625,13 @@ impl<K: Keeper> Log<K> {
             return Ok(Delivery::BeginsAnother);
         }
         exchange.take_datagram(self.alloc, datagram);
-        hear_from(exchange, datagram, self.kept, &self.tunnels)?;
+        hear_from(
+            exchange,
+            datagram,
+            self.kept,
+            &self.tunnels,
+            &mut self.known,
+        )?;
         self.is_unsettled = !exchange.is_settled();
         self.connections.promote(&five_tuple);
         Ok(Delivery::Heard)
@@ -626,7 +676,13 @@ impl<K: Keeper> Log<K> {
         self.connections.accept_datagram(datagram)?;
         match self.connections.get_mut(&datagram.between()) {
             Some(exchange) => {
-                hear_from(exchange, datagram, self.kept, &self.tunnels)?;
+                hear_from(
+                    exchange,
+                    datagram,
+                    self.kept,
+                    &self.tunnels,
+                    &mut self.known,
+                )?;
                 self.is_unsettled = !exchange.is_settled();
                 Ok(())
             }
@@ -642,6 +698,6 @@ impl<K: Keeper> Log<K> {
     /// Takes out a connection that is left. To be called at the capture's end, until there is none.
     pub fn take_left(&mut self) -> Result<Option<Box<Connection<Heard<K>>>>, AllocError> {
         self.count_cut();
-        with_last(self.alloc, self.connections.take_left())
+        with_last(self.alloc, &mut self.known, self.connections.take_left())
     }
 }

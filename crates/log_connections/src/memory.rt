@@ -21,7 +21,7 @@ impl<K: Keeper> Log<K> {
         &mut self,
         taken: Option<Connection<Heard<K>>>,
     ) -> Result<Option<Box<Connection<Heard<K>>>>, AllocError> {
-        match with_last(self.alloc, taken)? {
+        match with_last(self.alloc, &mut self.known, taken)? {
             Some(mut connection) => {
                 connection.listener.is_ended_early = true;
                 add_one(&mut self.counts.ended_early);

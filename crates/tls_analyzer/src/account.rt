@@ -13,7 +13,7 @@ use crate::witness::Witness;
 use dtls_stream::{Event, datagram_message, dtls_event_with};
 use std::alloc::{AllocError, Global};
 use tls_flow::{Direction, Flow, HandshakeMessage, Kind, Outcome};
-use tls_summary::HandshakeSummary;
+use tls_summary::{HandshakeSummary, KnownCertificates};
 
 /// How far a side has come.
 #[derive(Clone, Copy, Debug, PartialEq, Eq)]
@@ -52,6 +52,7 @@ fn note(
     side: Direction,
     event: &Event<'_>,
     message: Option<&HandshakeMessage<'_>>,
+    known: Option<&mut KnownCertificates>,
 ) -> Result<(), AllocError>
     ensures { OnOk result (view_summary handshake.new ≡ noted_in_datagram_with side (view_summary handshake.old) (view_event event.now)
         (option_map (λ m. view_heard m.now) message.entry)) }
@@ -59,7 +60,7 @@ fn note(
     match event {
         Event::Handshake(_) => {
             if let Some(message) = message {
-                handshake.note_datagrams(alloc, side, message)?;
+                handshake.note_datagrams_with(alloc, side, message, known)?;
             }
         }
         Event::Alert(alert) => handshake.note_alert(alert.code),
@@ -150,7 +151,15 @@ impl Account {
     {
         let message = datagram_message(event);
         let kind = Kind::of_datagrams(message.as_ref());
-        note(&mut self.handshake, alloc, side, event, message.as_ref())?;
+        let known = witness.known_certificates();
+        note(
+            &mut self.handshake,
+            alloc,
+            side,
+            event,
+            message.as_ref(),
+            known,
+        )?;
         follow(&mut self.flow, event, kind, side);
         add_letter(&mut self.history, side, datagram_letter(event, kind))?;
         witness.hear_event(side, event, message.as_ref())?;

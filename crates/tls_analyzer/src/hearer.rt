@@ -18,7 +18,7 @@ use ssl2_hello::Ssl2ClientHello;
 use std::alloc::{AllocError, Global};
 use tls_flow::{Direction, Flow, HandshakeMessage, Kind};
 use tls_stream::{Conversation, DEFAULT_LIMIT, Event, Said, said_event_with, said_message};
-use tls_summary::HandshakeSummary;
+use tls_summary::{HandshakeSummary, KnownCertificates};
 
 /// A conversation, and what its events say of it.
 #[derive(Drop)]
@@ -64,6 +64,7 @@ fn note(
     side: Direction,
     said: &Said<'_>,
     message: Option<&HandshakeMessage<'_>>,
+    known: Option<&mut KnownCertificates>,
 ) -> Result<(), AllocError>
     ensures { OnOk result (view_summary handshake.new ≡ noted_with side (view_summary handshake.old) (view_said said.now)
         (option_map (λ m. view_heard m.now) message.entry)) }
@@ -71,7 +72,7 @@ fn note(
     match said {
         Said::Event(Event::Handshake(_)) => {
             if let Some(message) = message {
-                handshake.note(alloc, side, message)?;
+                handshake.note_with(alloc, side, message, known)?;
             }
         }
         Said::Event(Event::Alert(alert)) => handshake.note_alert(alert.code),
@@ -104,7 +105,8 @@ fn tell<W: Witness>(
     let kind = Kind::of_message(message.as_ref());
     let event = said_event_with(said, kind, side);
     step(flow, handshake, side, event);
-    note(handshake, alloc, side, said, message.as_ref())?;
+    let known = witness.known_certificates();
+    note(handshake, alloc, side, said, message.as_ref(), known)?;
     add_letter(history, side, said_letter(said, kind))?;
     witness.hear_said(side, said, message.as_ref())?;
     Ok(event)

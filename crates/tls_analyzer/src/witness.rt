@@ -2,6 +2,7 @@
 use std::alloc::AllocError;
 use tls_flow::{Direction, HandshakeMessage};
 use tls_stream::Said;
+use tls_summary::KnownCertificates;
 
 /// Who hears each event of a connection that counts, once it was followed and noted.
 pub trait Witness {
@@ -20,6 +21,11 @@ pub trait Witness {
         event: &dtls_stream::Event<'_>,
         message: Option<&HandshakeMessage<'_>>,
     ) -> Result<(), AllocError>;
+
+    /// Lends the summaries of certificates that were made before, where it has them: they aren't made again.
+    fn known_certificates(&mut self) -> Option<&mut KnownCertificates> {
+        None
+    }
 }
 
 /// Nobody hears.
@@ -69,6 +75,13 @@ impl<W: Witness> Witness for Option<Box<W>> {
         match self {
             Some(witness) => witness.hear_event(side, event, message),
             None => Ok(()),
+        }
+    }
+
+    fn known_certificates(&mut self) -> Option<&mut KnownCertificates> {
+        match self {
+            Some(witness) => witness.known_certificates(),
+            None => None,
         }
     }
 }

@@ -6,11 +6,13 @@
 
 mod exchange;
 mod hellos;
+mod known;
 pub mod laws;
 mod parts;
 mod summary;
 mod told;
 
+pub use known::KnownCertificates;
 pub use parts::{
     CertificateFault, CertificateSummary, ClientParts, ServerParts, certificate_fault,
 };

@@ -9,6 +9,7 @@ ghost use Rattle.layouts.specs.Reading.{reading};
 ghost use Rattle.x509.specs.Certificate.{certificate};
 ghost use Rattle.tls_summary.specs.Parts.{summary_of_certificate as summary_by, summaries_of_all, fault_by, first_of, view_client, view_server};
 
+use crate::known::KnownCertificates;
 use layouts::{Err, ErrorKind, Items};
 use sha2::{Digest, Sha256};
 use std::alloc::{AllocError, Global};
@@ -140,7 +141,8 @@ pub fn certificate_fault(bytes: &[u8]) -> Option<CertificateFault>
     }
 }
 
-fn summary_of_one(bytes: &[u8]) -> CertificateSummary
+/// What is kept of a certificate.
+pub(crate) fn summary_of_one(bytes: &[u8]) -> CertificateSummary
     ensures { result ≡ summary_by bytes.now }
 {
     CertificateSummary {
@@ -150,16 +152,32 @@ fn summary_of_one(bytes: &[u8]) -> CertificateSummary
     }
 }
 
+/// The same, which isn't made again where it is among those that are lent.
+fn summary_with(
+    alloc: Global,
+    bytes: &[u8],
+    known: &mut Option<&mut KnownCertificates>,
+) -> CertificateSummary
+    ensures { result ≡ summary_by bytes.now }
+{
+    match known {
+        Some(known) => known.summary(alloc, bytes),
+        None => summary_of_one(bytes),
+    }
+}
+
 /// The summaries of certificates, in their order.
 fn summaries_of<'a>(
     alloc: Global,
     chain: Items<'a, RawCertificate<'a>>,
+    known: Option<&mut KnownCertificates>,
 ) -> Result<Vec<CertificateSummary>, AllocError>
     ensures { IfOk result (λ v. v.items ≡ summaries_of_all (items_in (counted 3) chain.entry.bytes.now)) }
 {
+    let mut known = known;
     let mut summaries = Vec::new(alloc);
     for certificate in chain {
-        summaries.push(summary_of_one(certificate.bytes))?;
+        summaries.push(summary_with(alloc, certificate.bytes, &mut known))?;
     }
     Ok(summaries)
 }
@@ -183,11 +201,15 @@ pub(crate) struct Chain {
 }
 
 /// What is kept of a chain, by the bytes of its list.
-pub(crate) fn chain_of(alloc: Global, list: &[u8]) -> Result<Chain, AllocError>
+pub(crate) fn chain_of(
+    alloc: Global,
+    list: &[u8],
+    known: Option<&mut KnownCertificates>,
+) -> Result<Chain, AllocError>
     ensures summaries { IfOk result (λ c. c.summaries.items ≡ summaries_of_all (items_in (counted 3) list.now)) }
     ensures own { IfOk result (λ c. option_map (λ x. x.items) c.own ≡ first_of (items_in (counted 3) list.now)) }
 {
-    let summaries = summaries_of(alloc, Items::new(list))?;
+    let summaries = summaries_of(alloc, Items::new(list), known)?;
     let own = copied_if(alloc, first_certificate(list))?;
     Ok(Chain { summaries, own })
 }

@@ -13,6 +13,7 @@ ghost use Rattle.tls_records.specs.DtlsHello.{client_hello as datagram_client_he
 
 use crate::exchange::curve_of;
 use crate::hellos::group_of_share;
+use crate::known::KnownCertificates;
 use crate::parts::{CertificateSummary, Chain, ClientParts, ServerParts, chain_of, copied};
 use ssl2_hello::Ssl2ClientHello;
 use std::alloc::{AllocError, Global};
@@ -273,13 +274,14 @@ impl HandshakeSummary {
         alloc: Global,
         side: Direction,
         body: &[u8],
+        known: Option<&mut KnownCertificates>,
     ) -> Result<(), AllocError>
         ensures { OnOk result (view_summary self.new ≡ certified side (reading certificate body.now) (view_summary self.old)) }
     {
         let Ok((_, list)) = certificates(body) else {
             return Ok(());
         };
-        let chain = chain_of(alloc, list.bytes())?;
+        let chain = chain_of(alloc, list.bytes(), known)?;
         self.keep_chain(side, chain);
         Ok(())
     }
@@ -291,13 +293,14 @@ impl HandshakeSummary {
         side: Direction,
         msg_type: TlsHandshakeType,
         body: &[u8],
+        known: Option<&mut KnownCertificates>,
     ) -> Result<(), AllocError>
         ensures { OnOk result (view_summary self.new ≡ of_other side msg_type.0 body.now (view_summary self.old)) }
     {
         match msg_type {
             TlsHandshakeType::NewSessionTicket => self.has_ticket = true,
             TlsHandshakeType::HelloRetryRequest => self.retry(side),
-            TlsHandshakeType::Certificate => self.note_certificates(alloc, side, body)?,
+            TlsHandshakeType::Certificate => self.note_certificates(alloc, side, body, known)?,
             TlsHandshakeType::ServerKeyExchange => self.note_key_exchange(body),
             TlsHandshakeType::CertificateRequest => self.requests_certificate = true,
             TlsHandshakeType::CertificateStatus => self.has_status = true,
@@ -318,6 +321,21 @@ impl HandshakeSummary {
     ) -> Result<(), AllocError>
         ensures { OnOk result (view_summary self.new ≡ of_message side (view_heard message.now) (view_summary self.old)) }
     {
+        self.note_with(alloc, side, message, None)
+    }
+
+    /// The same, where summaries of certificates are lent that were made before: they aren't made again, and new ones are kept there.
+    ///
+    /// `AllocError` where the message could not be held.
+    pub fn note_with(
+        &mut self,
+        alloc: Global,
+        side: Direction,
+        message: &HandshakeMessage<'_>,
+        known: Option<&mut KnownCertificates>,
+    ) -> Result<(), AllocError>
+        ensures { OnOk result (view_summary self.new ≡ of_message side (view_heard message.now) (view_summary self.old)) }
+    {
         match message.msg_type {
             TlsHandshakeType::ClientHello => match ClientHelloView::parse(message.body) {
                 Ok((_, hello)) => self.ask(alloc, side, &hello),
@@ -326,7 +344,7 @@ impl HandshakeSummary {
             TlsHandshakeType::ServerHello => {
                 self.note_server_hello(alloc, side, &message.server_hello)
             }
-            _ => self.note_other(alloc, side, message.msg_type, message.body),
+            _ => self.note_other(alloc, side, message.msg_type, message.body, known),
         }
     }
 
@@ -385,6 +403,21 @@ impl HandshakeSummary {
     ) -> Result<(), AllocError>
         ensures { OnOk result (view_summary self.new ≡ of_datagrams side (view_heard message.now) (view_summary self.old)) }
     {
+        self.note_datagrams_with(alloc, side, message, None)
+    }
+
+    /// The same with summaries of certificates, as [`HandshakeSummary::note_with`] has them.
+    ///
+    /// `AllocError` where the message could not be held.
+    pub fn note_datagrams_with(
+        &mut self,
+        alloc: Global,
+        side: Direction,
+        message: &HandshakeMessage<'_>,
+        known: Option<&mut KnownCertificates>,
+    ) -> Result<(), AllocError>
+        ensures { OnOk result (view_summary self.new ≡ of_datagrams side (view_heard message.now) (view_summary self.old)) }
+    {
         match message.msg_type {
             TlsHandshakeType::ClientHello => {
                 self.note_datagram_client_hello(alloc, side, message.body)
@@ -396,7 +429,7 @@ impl HandshakeSummary {
                 self.verify(side);
                 Ok(())
             }
-            _ => self.note_other(alloc, side, message.msg_type, message.body),
+            _ => self.note_other(alloc, side, message.msg_type, message.body, known),
         }
     }
 
