@@ -451,7 +451,7 @@ impl<K: Keeper> Heard<K> {
             stream.stop();
             return Ok(());
         }
-        self.hear_further(stream, side, is_opened, are_last)
+        self.hear_further(stream, side, is_opened, are_last, known)
     }
 
     /// The same of a side that says something, or may be heard further.
@@ -462,6 +462,7 @@ impl<K: Keeper> Heard<K> {
         side: Side,
         is_opened: bool,
         are_last: bool,
+        known: &mut KnownCertificates,
     ) -> Result<(), AllocError>
         ensures { OnOk result (HearsStream side (are_last || is_cut_short stream.old stream.old.reading) (direction_by self.new.is_turned side)
             stream.old stream.new self.old.said self.new.said) }
