@@ -6,10 +6,11 @@ use tls_flow::{Direction, HandshakeMessage};
 use tls_stream::Said;
 use tls_summary::KnownCertificates;
 
-/// Who keeps its pieces, where they are kept; and the certificates of all connections, which are lent along.
+/// Who keeps its pieces, where they are kept; and the certificates of all connections, which are lent along. The keeper is held, and not lent, since
+/// nothing says of a call that hears that it leaves what is lent in its place.
 #[derive(Drop)]
 pub(crate) struct Audience<'a, K> {
-    pub(crate) keeper: &'a mut Option<Box<K>>,
+    pub(crate) keeper: Option<Box<K>>,
     pub(crate) known: &'a mut KnownCertificates,
 }
 

@@ -9,7 +9,7 @@ use crate::fronts::{Beginning, Fronts, begins_at};
 use connections::{Listener, Protocol, Side, Stream};
 use ssl2_hello::parse_ssl2_client_hello;
 use std::alloc::{AllocError, Global};
-use std::mem::size_of;
+use std::mem::{self, size_of};
 use tls_analyzer::{Analyzer, DatagramAnalyzer, DatagramRecords, Records, Witness};
 use tls_detection::{first_message, held_datagram};
 use tls_flow::{Direction, Outcome, Stop};
@@ -342,10 +342,13 @@ impl<K: Keeper> Heard<K> {
         fronts.begin(side, n);
         self.heard = self.heard.saturating_add(bytes.len());
         let mut audience = Audience {
-            keeper: &mut self.keeper,
+            keeper: mem::replace(&mut self.keeper, None),
             known,
         };
-        analyzer.hear_with(self.alloc, direction, bytes, &mut audience)?;
+        let is_heard = analyzer.hear_with(self.alloc, direction, bytes, &mut audience);
+        let Audience { keeper, known: _ } = audience;
+        self.keeper = keeper;
+        is_heard?;
         let is_over = analyzer.is_over(direction);
         self.count_records(side, bytes);
         let len = all.len();
@@ -494,10 +497,13 @@ impl<K: Keeper> Heard<K> {
             return Ok(());
         };
         let mut audience = Audience {
-            keeper: &mut self.keeper,
+            keeper: mem::replace(&mut self.keeper, None),
             known,
         };
-        analyzer.hear_with(self.alloc, direction, payload, &mut audience)?;
+        let is_heard = analyzer.hear_with(self.alloc, direction, payload, &mut audience);
+        let Audience { keeper, known: _ } = audience;
+        self.keeper = keeper;
+        is_heard?;
         // (the version and the connection ids may stand in this datagram, in front of its encrypted records)
         let id_len = analyzer.handshake().connection_id_len(direction);
         let is_13 = analyzer.is_13();
