@@ -4,6 +4,7 @@ use crate::names::{kind_name, sender_name};
 use crate::speech::Body;
 use crate::text::Text;
 use serde::{Described, Serialize, Serializer};
+use std::alloc::AllocError;
 use std::num::nearest_u64_to_f64;
 use tls_flow::Stop;
 
@@ -57,6 +58,34 @@ pub enum Cell<'a> {
     Message(Box<Body>),
 }
 
+/// Who takes what a field says. A cell is made and taken in one place, and isn't handed on by value between them.
+pub trait TakesCell<'a> {
+    /// Takes it; `None` where the field is missing.
+    fn take(&mut self, cell: Option<Cell<'a>>) -> Result<(), AllocError>;
+
+    /// The same, where it could be told.
+    fn take_told(&mut self, cell: Result<Option<Cell<'a>>, AllocError>) -> Result<(), AllocError>;
+}
+
+/// What a field says, kept.
+#[derive(Drop)]
+pub struct KeptCell<'a> {
+    /// `None` where the field is missing.
+    pub cell: Option<Cell<'a>>,
+}
+
+impl<'a> TakesCell<'a> for KeptCell<'a> {
+    fn take(&mut self, cell: Option<Cell<'a>>) -> Result<(), AllocError> {
+        self.cell = cell;
+        Ok(())
+    }
+
+    fn take_told(&mut self, cell: Result<Option<Cell<'a>>, AllocError>) -> Result<(), AllocError> {
+        self.cell = cell?;
+        Ok(())
+    }
+}
+
 /// The kind of message, who sent it, and how many messages of both sides stand in front of it.
 fn serialize_stop<S: Serializer>(stop: Stop, out: &mut S) -> Result<(), S::Error> {
     out.begin_map(None)?;
@@ -72,8 +101,10 @@ fn serialize_stop<S: Serializer>(stop: Stop, out: &mut S) -> Result<(), S::Error
 impl Described for Cell<'_> {}
 
 impl Serialize for Cell<'_> {
+    #[inline(always)]
     fn serialize<S: Serializer>(&self, out: &mut S) -> Result<(), S::Error> {
         match self {
+            Cell::Text(Text::Plain(text)) => out.str(text),
             Cell::Text(text) => text.serialize(out),
             Cell::Number(n) => out.u64(*n),
             Cell::Whole(n) => out.i64(*n),

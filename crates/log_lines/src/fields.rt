@@ -590,56 +590,56 @@ macro_rules! columns {
     };
 }
 
-/// What the rows of a group say of its variant `field`, by what its function is given.
-macro_rules! cells {
+/// Has what the rows of a group say of its variant `field`, by what its function is given, taken by `to`: by that method, which takes what these rows say.
+macro_rules! tells {
     // the rows of the group's blocks are gathered
-    ([End $given:ident $field:ident $($row:tt)*] End { $($more:tt)* } $($rest:tt)*) => {
-        $crate::fields::cells!([End $given $field $($row)* $($more)*] $($rest)*)
+    ([End $given:ident $field:ident $to:ident $take:ident $($row:tt)*] End { $($more:tt)* } $($rest:tt)*) => {
+        $crate::fields::tells!([End $given $field $to $take $($row)* $($more)*] $($rest)*)
     };
-    ([Named $given:ident $field:ident $($row:tt)*] Named { $($more:tt)* } $($rest:tt)*) => {
-        $crate::fields::cells!([Named $given $field $($row)* $($more)*] $($rest)*)
+    ([Named $given:ident $field:ident $to:ident $take:ident $($row:tt)*] Named { $($more:tt)* } $($rest:tt)*) => {
+        $crate::fields::tells!([Named $given $field $to $take $($row)* $($more)*] $($rest)*)
     };
-    ([Course $given:ident $field:ident $($row:tt)*] Course { $($more:tt)* } $($rest:tt)*) => {
-        $crate::fields::cells!([Course $given $field $($row)* $($more)*] $($rest)*)
+    ([Course $given:ident $field:ident $to:ident $take:ident $($row:tt)*] Course { $($more:tt)* } $($rest:tt)*) => {
+        $crate::fields::tells!([Course $given $field $to $take $($row)* $($more)*] $($rest)*)
     };
-    ([Offer $given:ident $field:ident $($row:tt)*] Offer { $($more:tt)* } $($rest:tt)*) => {
-        $crate::fields::cells!([Offer $given $field $($row)* $($more)*] $($rest)*)
+    ([Offer $given:ident $field:ident $to:ident $take:ident $($row:tt)*] Offer { $($more:tt)* } $($rest:tt)*) => {
+        $crate::fields::tells!([Offer $given $field $to $take $($row)* $($more)*] $($rest)*)
     };
-    ([Answer $given:ident $field:ident $($row:tt)*] Answer { $($more:tt)* } $($rest:tt)*) => {
-        $crate::fields::cells!([Answer $given $field $($row)* $($more)*] $($rest)*)
+    ([Answer $given:ident $field:ident $to:ident $take:ident $($row:tt)*] Answer { $($more:tt)* } $($rest:tt)*) => {
+        $crate::fields::tells!([Answer $given $field $to $take $($row)* $($more)*] $($rest)*)
     };
-    ([Chain $given:ident $field:ident $($row:tt)*] Chain { $($more:tt)* } $($rest:tt)*) => {
-        $crate::fields::cells!([Chain $given $field $($row)* $($more)*] $($rest)*)
+    ([Chain $given:ident $field:ident $to:ident $take:ident $($row:tt)*] Chain { $($more:tt)* } $($rest:tt)*) => {
+        $crate::fields::tells!([Chain $given $field $to $take $($row)* $($more)*] $($rest)*)
     };
-    ([Print $given:ident $field:ident $($row:tt)*] Print { $($more:tt)* } $($rest:tt)*) => {
-        $crate::fields::cells!([Print $given $field $($row)* $($more)*] $($rest)*)
+    ([Print $given:ident $field:ident $to:ident $take:ident $($row:tt)*] Print { $($more:tt)* } $($rest:tt)*) => {
+        $crate::fields::tells!([Print $given $field $to $take $($row)* $($more)*] $($rest)*)
     };
-    ([Sent $given:ident $field:ident $($row:tt)*] Sent { $($more:tt)* } $($rest:tt)*) => {
-        $crate::fields::cells!([Sent $given $field $($row)* $($more)*] $($rest)*)
+    ([Sent $given:ident $field:ident $to:ident $take:ident $($row:tt)*] Sent { $($more:tt)* } $($rest:tt)*) => {
+        $crate::fields::tells!([Sent $given $field $to $take $($row)* $($more)*] $($rest)*)
     };
-    ([Carried $given:ident $field:ident $($row:tt)*] Carried { $($more:tt)* } $($rest:tt)*) => {
-        $crate::fields::cells!([Carried $given $field $($row)* $($more)*] $($rest)*)
+    ([Carried $given:ident $field:ident $to:ident $take:ident $($row:tt)*] Carried { $($more:tt)* } $($rest:tt)*) => {
+        $crate::fields::tells!([Carried $given $field $to $take $($row)* $($more)*] $($rest)*)
     };
     ([$($gathered:tt)*] $other:ident $block:tt $($rest:tt)*) => {
-        $crate::fields::cells!([$($gathered)*] $($rest)*)
+        $crate::fields::tells!([$($gathered)*] $($rest)*)
     };
     // no block is left
-    ([$group:ident $given:ident $field:ident $(
+    ([$group:ident $given:ident $field:ident $to:ident $take:ident $(
         $(#[doc = $text:literal])+
         $name:literal $(, $responders:literal)?: $kind:ident = $variant:ident => |$told:ident| $cell:expr;
     )*]) => {
         match $field {
             $($crate::fields::$group::$variant => {
                 let $told = $given;
-                $cell
+                $to.$take($cell)
             })*
         }
     };
 }
 
-pub(crate) use cells;
 pub(crate) use columns;
 pub(crate) use rows;
+pub(crate) use tells;
 
 /// The fields of a connection's line, in their order.
 pub static FIELDS: &[Column<Field>] = rows!(columns);

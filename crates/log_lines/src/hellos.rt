@@ -1,5 +1,5 @@
 //! What both hellos and the certificates say, as fields.
-use crate::cell::Cell;
+use crate::cell::{Cell, TakesCell};
 use crate::certificates::fault_name;
 use crate::fields::{Answer, Chain, Offer, rows};
 use crate::lists::{Numbers, Texts, some_numbers, some_texts};
@@ -32,8 +32,12 @@ fn client_suites<'a>(suites: &'a Suites, handshake: &'a HandshakeSummary) -> Tex
 }
 
 /// What the client offers.
-pub fn offer_cell<'a>(told: &Told<'a>, field: &Offer) -> Option<Cell<'a>> {
-    rows!(cells [Offer told field])
+pub fn tell_offer<'a, T: TakesCell<'a>>(
+    told: &Told<'a>,
+    field: &Offer,
+    to: &mut T,
+) -> Result<(), AllocError> {
+    rows!(tells [Offer told field to take])
 }
 
 /// The code of the compression method that the server chose.
@@ -57,8 +61,12 @@ fn timestamps<'a>(handshake: &HandshakeSummary) -> Option<Cell<'a>> {
 }
 
 /// What the server answers.
-pub fn answer_cell<'a>(told: &Told<'a>, field: &Answer) -> Option<Cell<'a>> {
-    rows!(cells [Answer told field])
+pub fn tell_answer<'a, T: TakesCell<'a>>(
+    told: &Told<'a>,
+    field: &Answer,
+    to: &mut T,
+) -> Result<(), AllocError> {
+    rows!(tells [Answer told field to take])
 }
 
 /// How many certificates a chain has; nothing where there was none.
@@ -115,6 +123,10 @@ fn match_cell<'a>(
 }
 
 /// The certificates of both sides. The lengths and fingerprints of an empty chain are missing.
-pub fn chain_cell<'a>(told: &Told<'a>, field: &Chain) -> Result<Option<Cell<'a>>, AllocError> {
-    rows!(cells [Chain told field])
+pub fn tell_chain<'a, T: TakesCell<'a>>(
+    told: &Told<'a>,
+    field: &Chain,
+    to: &mut T,
+) -> Result<(), AllocError> {
+    rows!(tells [Chain told field to take_told])
 }

@@ -1,13 +1,13 @@
 //! The line of a connection.
-use crate::cell::{Cell, Row, Seconds};
+use crate::cell::{Cell, KeptCell, Row, Seconds, TakesCell};
 use crate::certificates::certified_cell;
 use crate::columns::Certified;
 use crate::fields::{Carried, Course, End, FIELDS, Field, Named, Sent, rows};
-use crate::hellos::{answer_cell, chain_cell, offer_cell, other_names_cell};
+use crate::hellos::{other_names_cell, tell_answer, tell_chain, tell_offer};
 use crate::lists::{Numbers, Texts, some_numbers, some_texts};
 use crate::names::{REASONS, outcome_name, reason_name, tunnel_name};
 use crate::objects::{LINE_LEN, Object};
-use crate::prints::print_cell;
+use crate::prints::tell_print;
 use crate::style::Style;
 use crate::summary::Summary;
 use crate::text::{
@@ -83,8 +83,19 @@ fn duration_cell<'a>(summary: &Summary<'_>) -> Option<Cell<'a>> {
 }
 
 /// Who talks, over what, and when: a connection's first packet, or a message that came at this time.
+fn tell_end<'a, T: TakesCell<'a>>(
+    moment: Moment<'_>,
+    field: &End,
+    to: &mut T,
+) -> Result<(), AllocError> {
+    rows!(tells [End moment field to take_told])
+}
+
+/// The same as a cell.
 pub fn end_cell<'a>(moment: Moment<'_>, field: &End) -> Result<Option<Cell<'a>>, AllocError> {
-    rows!(cells [End moment field])
+    let mut kept = KeptCell { cell: None };
+    tell_end(moment, field, &mut kept)?;
+    Ok(kept.cell)
 }
 
 fn stop_cell<'a>(stop: Option<Stop>) -> Option<Cell<'a>> {
@@ -99,8 +110,12 @@ fn some_alert<'a>(alert: Option<TlsAlertDescription>) -> Option<Cell<'a>> {
 }
 
 /// What was chosen, asked for and said, by name.
-fn named_cell<'a>(told: &Told<'a>, field: &Named) -> Result<Option<Cell<'a>>, AllocError> {
-    rows!(cells [Named told field])
+fn tell_named<'a, T: TakesCell<'a>>(
+    told: &Told<'a>,
+    field: &Named,
+    to: &mut T,
+) -> Result<(), AllocError> {
+    rows!(tells [Named told field to take_told])
 }
 
 /// The letters of a connection's events; nothing where none was heard.
@@ -112,8 +127,12 @@ fn history_cell(letters: &[u8]) -> Option<Cell<'_>> {
 }
 
 /// What a connection came to.
-fn course_cell<'a>(told: &Told<'a>, field: &Course) -> Option<Cell<'a>> {
-    rows!(cells [Course told field])
+fn tell_course<'a, T: TakesCell<'a>>(
+    told: &Told<'a>,
+    field: &Course,
+    to: &mut T,
+) -> Result<(), AllocError> {
+    rows!(tells [Course told field to take])
 }
 
 /// A count, where there is something to count.
@@ -147,8 +166,12 @@ fn bytes_of(sender: Sender<'_>) -> u64 {
 }
 
 /// What a side sent.
-fn sent_cell<'a>(sender: Sender<'_>, field: &Sent) -> Result<Option<Cell<'a>>, AllocError> {
-    rows!(cells [Sent sender field])
+fn tell_sent<'a, T: TakesCell<'a>>(
+    sender: Sender<'_>,
+    field: &Sent,
+    to: &mut T,
+) -> Result<(), AllocError> {
+    rows!(tells [Sent sender field to take_told])
 }
 
 /// The tunnels that a connection came in; nothing where it came in none.
@@ -164,8 +187,12 @@ fn tunnels_cell<'a>(alloc: Global, tunnels: &[Tunnel]) -> Result<Option<Cell<'a>
 }
 
 /// What a connection came in.
-fn carried_cell<'a>(told: &Told<'a>, field: &Carried) -> Result<Option<Cell<'a>>, AllocError> {
-    rows!(cells [Carried told field])
+fn tell_carried<'a, T: TakesCell<'a>>(
+    told: &Told<'a>,
+    field: &Carried,
+    to: &mut T,
+) -> Result<(), AllocError> {
+    rows!(tells [Carried told field to take_told])
 }
 
 /// What one field says of a certificate, if there is one.
@@ -180,21 +207,36 @@ fn own_cell<'a>(
     }
 }
 
+/// Has what one field says of a connection taken.
+fn tell<'a, T: TakesCell<'a>>(
+    told: &mut Told<'a>,
+    field: &Field,
+    to: &mut T,
+) -> Result<(), AllocError> {
+    match field {
+        Field::End(field) => tell_end(told.first_moment(), field, to),
+        Field::Named(field) => tell_named(told, field, to),
+        Field::Course(field) => tell_course(told, field, to),
+        Field::Offer(field) => tell_offer(told, field, to),
+        Field::Answer(field) => tell_answer(told, field, to),
+        Field::Chain(field) => tell_chain(told, field, to),
+        Field::ServerCertificate(field) => {
+            to.take_told(own_cell(told.alloc, &told.server, field))
+        }
+        Field::ClientCertificate(field) => {
+            to.take_told(own_cell(told.alloc, &told.client, field))
+        }
+        Field::Print(field) => tell_print(told, field, to),
+        Field::Sent(side, field) => tell_sent(told.sender(*side), field, to),
+        Field::Carried(field) => tell_carried(told, field, to),
+    }
+}
+
 /// What one field says of a connection; nothing where it is missing.
 pub fn cell_of<'a>(told: &mut Told<'a>, field: &Field) -> Result<Option<Cell<'a>>, AllocError> {
-    match field {
-        Field::End(field) => end_cell(told.first_moment(), field),
-        Field::Named(field) => named_cell(told, field),
-        Field::Course(field) => Ok(course_cell(told, field)),
-        Field::Offer(field) => Ok(offer_cell(told, field)),
-        Field::Answer(field) => Ok(answer_cell(told, field)),
-        Field::Chain(field) => chain_cell(told, field),
-        Field::ServerCertificate(field) => own_cell(told.alloc, &told.server, field),
-        Field::ClientCertificate(field) => own_cell(told.alloc, &told.client, field),
-        Field::Print(field) => print_cell(told, field),
-        Field::Sent(side, field) => sent_cell(told.sender(*side), field),
-        Field::Carried(field) => carried_cell(told, field),
-    }
+    let mut kept = KeptCell { cell: None };
+    tell(told, field, &mut kept)?;
+    Ok(kept.cell)
 }
 
 /// The line of a connection, with the fields at these places of [`FIELDS`].
@@ -215,20 +257,45 @@ pub fn row_of<'a>(
     Ok(Row { cells })
 }
 
-/// The same as an object of JSON, in which what is missing is left out. Each field is written as soon as it is told.
+/// Adds what a field says to an object of JSON, under its name; nothing where it is missing.
+#[derive(Drop)]
+struct Adds<'o> {
+    line: &'o mut Object,
+    name: &'static str,
+}
+
+impl<'a> TakesCell<'a> for Adds<'_> {
+    #[inline(always)]
+    fn take(&mut self, cell: Option<Cell<'a>>) -> Result<(), AllocError> {
+        match cell {
+            Some(cell) => self.line.add(self.name, &cell),
+            None => Ok(()),
+        }
+    }
+
+    #[inline(always)]
+    fn take_told(&mut self, cell: Result<Option<Cell<'a>>, AllocError>) -> Result<(), AllocError> {
+        self.take(cell?)
+    }
+}
+
+/// The same as an object of JSON, in which what is missing is left out, in that memory. Each field is written as soon as it is told.
 pub fn json_line<'a>(
     alloc: Global,
     style: &'a Style,
     places: &[usize],
     summary: &'a Summary<'a>,
+    room: Vec<u8>,
 ) -> Result<Vec<u8>, AllocError> {
     let mut told = Told::new(alloc, style, summary);
-    let mut line = Object::new(alloc, LINE_LEN)?;
+    let mut line = Object::over(alloc, room, LINE_LEN)?;
     for place in places {
         if let Some((name, _, field)) = FIELDS.get(*place) {
-            if let Some(cell) = cell_of(&mut told, field)? {
-                line.add(name, &cell)?;
-            }
+            let mut adds = Adds {
+                line: &mut line,
+                name: *name,
+            };
+            tell(&mut told, field, &mut adds)?;
         }
     }
     line.into_bytes()

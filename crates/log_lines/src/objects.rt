@@ -193,8 +193,16 @@ fn in_memory<T: Drop>(written: Result<T, Refusal>) -> Result<T, AllocError> {
 impl Json {
     /// One that wrote nothing, in which so many bytes have room at first.
     fn new(alloc: Global, room: usize) -> Result<Json, AllocError> {
+        Json::over(alloc, Vec::new(alloc), room)
+    }
+
+    /// The same in that memory, in place of what it holds.
+    fn over(alloc: Global, memory: Vec<u8>, room: usize) -> Result<Json, AllocError> {
+        let mut memory = memory;
+        memory.clear();
+        memory.reserve(room)?;
         Ok(Json {
-            out: Writer::new(Vec::with_capacity(alloc, room)?),
+            out: Writer::new(memory),
             room: String::new(alloc),
         })
     }
@@ -213,14 +221,15 @@ pub struct Object {
 }
 
 impl Object {
-    /// One without fields, in which so many bytes have room at first.
-    pub fn new(alloc: Global, room: usize) -> Result<Object, AllocError> {
-        let mut json = Json::new(alloc, room)?;
+    /// One without fields, in that memory, in place of what it holds. So many bytes have room at first.
+    pub fn over(alloc: Global, memory: Vec<u8>, room: usize) -> Result<Object, AllocError> {
+        let mut json = Json::over(alloc, memory, room)?;
         in_memory(json.begin_map(None))?;
         Ok(Object { json })
     }
 
     /// Adds a field.
+    #[inline(always)]
     pub fn add<T: Serialize>(&mut self, name: &str, value: &T) -> Result<(), AllocError> {
         in_memory(self.json.key(name))?;
         in_memory(value.serialize(&mut self.json))

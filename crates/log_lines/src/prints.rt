@@ -1,5 +1,5 @@
 //! Fingerprints of hellos, as fields.
-use crate::cell::Cell;
+use crate::cell::{Cell, TakesCell};
 use crate::fields::{Print, rows};
 use crate::text::{Text, some_text};
 use crate::told::Told;
@@ -119,6 +119,10 @@ fn ja4_cell<'a>(told: &Told<'_>) -> Result<Option<Cell<'a>>, AllocError> {
 }
 
 /// A fingerprint; nothing where there was no such hello.
-pub fn print_cell<'a>(told: &mut Told<'a>, field: &Print) -> Result<Option<Cell<'a>>, AllocError> {
-    rows!(cells [Print told field])
+pub fn tell_print<'a, T: TakesCell<'a>>(
+    told: &mut Told<'a>,
+    field: &Print,
+    to: &mut T,
+) -> Result<(), AllocError> {
+    rows!(tells [Print told field to take_told])
 }

@@ -330,16 +330,18 @@ impl Style {
         }
     }
 
-    /// The line of a connection, with the fields at these places of [`FIELDS`], without its line break.
+    /// The line of a connection, with the fields at these places of [`FIELDS`], without its line break. One of JSON is written to that memory, in place of what it
+    /// holds.
     pub fn connection_line(
         &self,
         alloc: Global,
         places: &[usize],
         summary: &Summary<'_>,
+        room: Vec<u8>,
     ) -> Result<Vec<u8>, AllocError> {
         match self.format {
             Format::Suricata => suricata::line(alloc, self, summary),
-            Format::Json => json_line(alloc, self, places, summary),
+            Format::Json => json_line(alloc, self, places, summary, room),
             Format::Csv | Format::Zeek => {
                 let row = row_of(alloc, self, places, summary)?;
                 self.line(alloc, &row)

@@ -195,7 +195,12 @@ fn asked_of<'a, R: Runtime + AllocGlobal>(
 fn run_by<R: Runtime + AllocGlobal + RandomSource>(rt: &R, matches: &ArgMatches<'_>) -> u8 {
     match asked_of(rt, matches) {
         Ok(asked) => {
-            let (exit, _out) = log_all(rt, &asked, matches, Output::new(io::writer(rt)));
+            let (exit, _out) = log_all(
+                rt,
+                &asked,
+                matches,
+                Output::new(rt.alloc(), io::writer(rt)),
+            );
             u8::from(exit)
         }
         Err(refusal) => refuse(rt, refusal),

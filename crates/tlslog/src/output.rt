@@ -3,8 +3,12 @@ ghost use Rattle.std.specs.Prelude.{◌≡◌, ◌++◌, [], ◌∷◌, false, O
 ghost use Rattle.std.specs.Io.KnownBytes.{Appends};
 ghost use Rattle.tlslog.specs.Output.{IsOfWriting, Tells};
 
-use std::alloc::AllocError;
+use std::alloc::{AllocError, Global};
 use std::io::{self, ErrorKind, Write};
+use std::mem;
+
+/// Of a line no more memory is kept for the next one, in bytes.
+const MOST_ROOM: usize = 16_384;
 
 /// Why the system refused a write. Each packet's log answers by it, so it is small, as an `io::Error` isn't.
 #[derive(Clone, Copy)]
@@ -66,19 +70,24 @@ fn refused_by(e: &io::Error) -> LineError
 /// A writer of lines, and whether a write of it failed.
 #[derive(Drop)]
 pub struct Output<W> {
+    alloc: Global,
     writer: W,
     has_failed: bool,
+    // The memory of the line that was written last, for the next one.
+    room: Vec<u8>,
 }
 
 impl<W: Write> Output<W> {
-    /// One to which nothing was written.
-    pub fn new(writer: W) -> Output<W>
+    /// One to which nothing was written. It takes no memory.
+    pub fn new(alloc: Global, writer: W) -> Output<W>
         ensures writer { result.writer ≡ writer }
         ensures sound { result.has_failed ≡ false }
     {
         Output {
+            alloc,
             writer,
             has_failed: false,
+            room: Vec::new(alloc),
         }
     }
 
@@ -87,6 +96,24 @@ impl<W: Write> Output<W> {
         ensures { result ≡ self.now.has_failed }
     {
         self.has_failed
+    }
+
+    /// Memory for a line, of which nothing is in use: that of the last line, unless it was long.
+    pub fn room(&mut self) -> Vec<u8>
+        ensures same { self.new ≡ record self.old { room = self.new.room } }
+    {
+        mem::replace(&mut self.room, Vec::new(self.alloc))
+    }
+
+    /// Keeps the memory of a line, unless it is long.
+    fn keep_room(&mut self, line: Vec<u8>)
+        ensures same { self.new ≡ record self.old { room = self.new.room } }
+    {
+        if line.capacity() <= MOST_ROOM {
+            let mut line = line;
+            line.clear();
+            self.room = line;
+        }
     }
 
     /// Writes a line and the line break behind it, by one write where that takes all.
@@ -100,7 +127,10 @@ impl<W: Write> Output<W> {
             return Err(LineError::OutOfMemory);
         }
         match self.writer.write_all(line.as_slice()) {
-            Ok(()) => Ok(()),
+            Ok(()) => {
+                self.keep_room(line);
+                Ok(())
+            }
             Err(e) => {
                 self.has_failed = true;
                 Err(refused_by(&e))

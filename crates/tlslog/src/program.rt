@@ -42,7 +42,7 @@ fn print_row<W: Write>(
 ) -> Result<(), LineError>
     ensures { Tells out.old.has_failed out.new.has_failed result }
 {
-    let line = style.connection_line(alloc, places, summary)?;
+    let line = style.connection_line(alloc, places, summary, out.room())?;
     out.write_line(line)
 }
 
