@@ -2,11 +2,12 @@
 use Rattle.std.specs.Prelude.{Option}
 use Rattle.lru.specs.LruCache.{promoted}
 use Rattle.std.specs.Map.{set_value}
-use Rattle.std.specs.Borrow.{Fml, RattleType, MutBor, LendsIf}
+use Rattle.std.specs.Borrow.{Fml, RattleType, MutBor, Lends, LendsIf}
 use Rattle.connections.specs.FiveTuple.{is_five_tuple}
 use Rattle.connections.specs.Table.{Table}
 use Rattle.connections.specs.declared.five_tuple.FiveTuple.{FiveTuple}
 use Rattle.connections.specs.declared.connection.Connection.{Connection}
+use Rattle.connections.specs.contracts.boxed.Boxed as boxed
 use Rattle.connections.specs.contracts.connection.Connection as connection
 use Rattle.connections.specs.contracts.table.Connections as table
 
@@ -21,3 +22,7 @@ with_first e c t = record t { live = set_value (is_five_tuple e) (promoted (is_f
 -- The same, where what was written to it stands first.
 abbrev pub lends_first : (T : RattleType) → MutBor (Table T.Denot) → FiveTuple → Option (MutBor (Connection T.Denot)) → Fml
 lends_first T t e r = LendsIf (table.the_row T) (connection.the_row T) t r (λ w. with_first e w t.now) t.now
+
+-- What was written to the connection in a block is what the block holds.
+abbrev pub lends_all : (T : RattleType) → MutBor (Connection T.Denot) → MutBor (Connection T.Denot) → Fml
+lends_all T b r = Lends (boxed.the_row T) (connection.the_row T) b r (λ w. w)

@@ -1,6 +1,6 @@
 //! A connection of TCP, or an exchange over UDP.
 ghost use Rattle.std.specs.Prelude.{◌≡◌, ◌<◌, ◌≤◌, ◌^◌, IfOk, IfSome, IfNone, OnOk, OnErr, Some, true};
-ghost use Rattle.connections.specs.Connection.{adds_nothing as adds_none, confirms as confirms_answer, counted_from, dropped_from, goes_on_behind, has_opening, held_by, hosts_from as hosts_at, hosts_of, is_closed, judgement_from, judgement_of, last_of, noting_from, part_by, sent_by, side_of, silent, start_of, stream_of, without_bytes, Accepts, Begins, ChangesCountsAlone, IsAnew, IsBegunBy, IsKept, LeavesOut, LeavesOutSyn, NoneWaits, Puts, PutsData, PutsSyn, Shows};
+ghost use Rattle.connections.specs.Connection.{adds_nothing as adds_none, confirms as confirms_answer, counted_from, dropped_from, goes_on_behind, has_opening, held_by, hosts_from as hosts_at, hosts_of, is_closed, judgement_from, judgement_of, last_of, noting_from, part_by, sent_by, side_of, silent, start_of, stream_of, without_bytes, Accepts, ChangesCountsAlone, IsAnew, IsBegunBy, IsKept, LeavesOut, LeavesOutSyn, NoneWaits, Puts, PutsData, PutsSyn, Shows};
 
 use crate::dropped::Dropped;
 use crate::five_tuple::{End, Protocol};
@@ -77,7 +77,7 @@ pub(crate) struct Beginning {
 }
 
 /// What a connection takes besides its listener and what it holds, in bytes, at most: its fields, its entry in the table with the entry's share of a map that
-/// grows, and what the allocator takes.
+/// grows, and what the allocator takes for the block of each.
 pub const CONNECTION_COST: usize = 1024;
 
 /// How far numbers of one connection may lie apart, at most, so that another isn't seen in them.
@@ -184,25 +184,6 @@ impl<T: Listener> Connection<T> {
             (segment.source, segment.destination)
         };
         Connection::new(alloc, Protocol::Tcp, originator, responder, segment.time)
-    }
-
-    /// One that began with these segments. `AllocError` where it could not be held.
-    pub(crate) fn of_beginning(
-        alloc: Global,
-        beginning: &Beginning,
-    ) -> Result<Connection<T>, AllocError>
-        ensures begun { IfOk result (λ its. Begins beginning.now its) }
-        ensures weight { IfOk result (λ its. its.weight ≡ 0) }
-    {
-        let mut connection = Connection::of_segment(alloc, &beginning.first);
-        connection.accept(alloc, &beginning.first)?;
-        match beginning.answer {
-            Some(answer) => {
-                connection.accept(alloc, &answer)?;
-                Ok(connection)
-            }
-            None => Ok(connection),
-        }
     }
 
     /// Whether a SYN of it was captured.

@@ -7,6 +7,7 @@
 //! counted ([`Traffic`]).
 #![tactic(auto)]
 
+mod boxed;
 mod connection;
 mod datagram;
 mod dropped;

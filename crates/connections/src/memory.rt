@@ -1,5 +1,6 @@
 //! How much memory the connections take, and which of them end where that is too much.
 ghost use Rattle.std.specs.Prelude.{◌≡◌, ◌<◌, ◌≤◌, IfSome, IfNone};
+ghost use Rattle.std.specs.Option.{option_map};
 ghost use Rattle.connections.specs.Table.{at, others};
 ghost use Rattle.connections.specs.Memory.{closed_count, closed_part, is_crowded as crowded, open_part, total, FitsClosed, IsAccounted, IsSettled, IsTakenOut};
 
@@ -61,6 +62,7 @@ impl<T: Listener> Connections<T> {
         let Some(connection) = self.live.peek_mut(five_tuple) else {
             return;
         };
+        let connection = connection.get_mut();
         let others = self.held.saturating_sub(connection.weight);
         connection.settle(MAX_HELD - others);
         self.held = others + connection.weight;
@@ -76,9 +78,9 @@ impl<T: Listener> Connections<T> {
     /// Takes out the connection that was longest without a packet, where those that are open are accounted for more than this limit of bytes lets; and
     /// forgets those that were closed first, as far as they take too much. To be called until there is none: then all that are open are accounted
     /// for at most what the limit lets.
-    pub fn take_crowded(&mut self, limit: usize) -> Option<Connection<T>>
-        ensures taken { IfSome result (IsTakenOut self.old self.new) }
-        ensures crowded { IfSome result (λ c. open_part limit < self.old.held) }
+    pub fn take_crowded(&mut self, limit: usize) -> Option<Box<Connection<T>>>
+        ensures taken { IfSome result (λ b. IsTakenOut self.old self.new b.value) }
+        ensures crowded { IfSome result (λ b. open_part limit < self.old.held) }
         ensures none { IfNone result ((self.new.live ≡ self.old.live) × (self.new.held ≡ self.old.held)) }
         ensures within { IfNone result (IsAccounted self.old → total self.new.live ≤ open_part limit) }
         ensures closed { FitsClosed limit self.old.closed self.new.closed }
@@ -92,14 +94,15 @@ impl<T: Listener> Connections<T> {
     }
 
     /// Takes out the connection between these ends.
-    pub fn take(&mut self, five_tuple: &FiveTuple) -> Option<Connection<T>>
-        ensures taken { result ≡ at five_tuple.now self.old.live }
+    pub fn take(&mut self, five_tuple: &FiveTuple) -> Option<Box<Connection<T>>>
+        ensures taken { option_map (λ b. b.value) result ≡ at five_tuple.now self.old.live }
         ensures others { self.new.live ≡ others five_tuple.now self.old.live }
         ensures closed { self.new.closed ≡ self.old.closed }
         ensures accounted { IsAccounted self.old → IsAccounted self.new }
     {
         let connection = self.live.pop(five_tuple)?;
-        self.held = self.held.saturating_sub(connection.weight);
-        Some(connection)
+        let over = connection.into_box();
+        self.held = self.held.saturating_sub(over.weight);
+        Some(over)
     }
 }

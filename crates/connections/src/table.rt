@@ -8,6 +8,7 @@ ghost use Rattle.connections.specs.Memory.{IsAccounted};
 ghost use Rattle.connections.specs.Datagram.{five_tuple_of_datagram};
 ghost use Rattle.connections.specs.Lends.{lends_connection, lends_first};
 
+use crate::boxed::Boxed;
 use crate::connection::{Connection, Listener, Verdict};
 use crate::datagram::Datagram;
 use crate::five_tuple::FiveTuple;
@@ -36,7 +37,7 @@ pub const CLOSED_COST: usize = 256;
 #[derive(Drop)]
 pub struct Connections<T> {
     alloc: Global,
-    pub(crate) live: LruCache<FiveTuple, Connection<T>, RandomState>,
+    pub(crate) live: LruCache<FiveTuple, Boxed<T>, RandomState>,
     // Those that both sides ended, each with its last time. What still comes of them is left out.
     pub(crate) closed: LruCache<FiveTuple, u64, RandomState>,
     // For how many bytes those that are open are accounted together.
@@ -123,7 +124,7 @@ impl<T: Listener> Connections<T> {
     {
         let (alloc, five_tuple) = (self.alloc, segment.between());
         if let Some(connection) = self.live.peek_mut(&five_tuple) {
-            return connection.drop_segment(alloc, segment, reason);
+            return connection.get_mut().drop_segment(alloc, segment, reason);
         }
         Ok(())
     }
@@ -138,7 +139,7 @@ impl<T: Listener> Connections<T> {
         let Some(connection) = self.live.peek_mut(&five_tuple) else {
             return;
         };
-        connection.restart(alloc, segment.time);
+        connection.get_mut().restart(alloc, segment.time);
     }
 
     /// Keeps a segment in the connection between its ends, until its receiver tells whether it took it; where more than [`MAX_WAITING`] wait, it
@@ -151,7 +152,7 @@ impl<T: Listener> Connections<T> {
     {
         let (alloc, five_tuple) = (self.alloc, segment.between());
         if let Some(connection) = self.live.peek_mut(&five_tuple) {
-            return connection.wait(alloc, segment, reason);
+            return connection.get_mut().wait(alloc, segment, reason);
         }
         Ok(())
     }
@@ -164,7 +165,7 @@ impl<T: Listener> Connections<T> {
     {
         let five_tuple = segment.between();
         if let Some(connection) = self.live.peek_mut(&five_tuple) {
-            return connection.take_waiting(segment);
+            return connection.get_mut().take_waiting(segment);
         }
         None
     }
@@ -177,7 +178,7 @@ impl<T: Listener> Connections<T> {
     {
         let (alloc, five_tuple) = (self.alloc, kept.segment().between());
         if let Some(connection) = self.live.get_mut(&five_tuple) {
-            return connection.accept_kept(alloc, kept);
+            return connection.get_mut().accept_kept(alloc, kept);
         }
         Ok(())
     }
@@ -189,8 +190,8 @@ impl<T: Listener> Connections<T> {
         ensures accounted { at five_tuple self.old.live ≡ None → IsAccounted self.old → IsAccounted self.new }
     {
         let alloc = self.alloc;
-        let mut connection = Connection::of_segment(alloc, segment);
-        connection.accept(alloc, segment)?;
+        let mut connection = Boxed::new(alloc, Connection::of_segment(alloc, segment))?;
+        connection.get_mut().accept(alloc, segment)?;
         put_under(&mut self.live, five_tuple, connection)?;
         self.closed.pop(&five_tuple);
         Ok(())
@@ -212,7 +213,7 @@ impl<T: Listener> Connections<T> {
         let five_tuple = segment.between();
         let alloc = self.alloc;
         if let Some(connection) = self.live.get_mut(&five_tuple) {
-            connection.accept(alloc, segment)?;
+            connection.get_mut().accept(alloc, segment)?;
             return Ok(true);
         }
         if !segment.begins_one() || (!segment.begins() && self.closed.contains(&five_tuple)) {
@@ -232,6 +233,7 @@ impl<T: Listener> Connections<T> {
         let Some(exchange) = self.live.peek_mut(&five_tuple) else {
             return datagram.checksum == Checksum::Refused;
         };
+        let exchange = exchange.get_mut();
         if !exchange.is_damaged(datagram) {
             return false;
         }
@@ -251,10 +253,10 @@ impl<T: Listener> Connections<T> {
         let five_tuple = datagram.between();
         let alloc = self.alloc;
         if let Some(exchange) = self.live.get_mut(&five_tuple) {
-            exchange.take_datagram(alloc, datagram);
+            exchange.get_mut().take_datagram(alloc, datagram);
             return Ok(());
         }
-        let exchange = Connection::of_datagram(self.alloc, datagram);
+        let exchange = Boxed::new(alloc, Connection::of_datagram(alloc, datagram))?;
         put_under(&mut self.live, five_tuple, exchange)?;
         Ok(())
     }
@@ -264,7 +266,8 @@ impl<T: Listener> Connections<T> {
         ensures* writes_back { sem 𝓛 (lends_connection T.row self.entry five_tuple.now result) }
         ensures value { option_copied_mut result ≡ at five_tuple.now self.old.live }
     {
-        self.live.peek_mut(five_tuple)
+        let connection = self.live.peek_mut(five_tuple)?;
+        Some(connection.get_mut())
     }
 
     /// The same, which stands first then.
@@ -272,7 +275,8 @@ impl<T: Listener> Connections<T> {
         ensures* writes_back { sem 𝓛 (lends_first T.row self.entry five_tuple.now result) }
         ensures value { option_copied_mut result ≡ at five_tuple.now self.old.live }
     {
-        self.live.get_mut(five_tuple)
+        let connection = self.live.get_mut(five_tuple)?;
+        Some(connection.get_mut())
     }
 
     /// Lets the connection between these ends stand first. Packets mostly come several in a row, so that it does already: the table is searched only where it
@@ -301,24 +305,35 @@ impl<T: Listener> Connections<T> {
         ensures { option_map (λ c. c.now) result ≡ at five_tuple.now self.now.live }
     {
         match self.live.peek_mru() {
-            Some((latest, connection)) if *five_tuple == *latest => Some(connection),
-            _ => self.live.peek(five_tuple),
+            Some((latest, connection)) if *five_tuple == *latest => Some(connection.get()),
+            _ => {
+                let connection = self.live.peek(five_tuple)?;
+                Some(connection.get())
+            }
         }
     }
 
     /// Takes out the exchange between a datagram's ends, in whose place another begins with that. Nothing of it came; what the checksums of both ends
     /// are stays known.
-    pub fn take_exchange(&mut self, datagram: &Datagram<'_>) -> Option<Connection<T>>
-        ensures taken { result ≡ at (five_tuple_of_datagram datagram.now) self.old.live }
-        ensures left { BeginsAfter datagram.now (at (five_tuple_of_datagram datagram.now) self.old.live) self.old self.new }
+    ///
+    /// `AllocError` where the other one could not be held. Nothing changes then.
+    pub fn take_exchange(
+        &mut self,
+        datagram: &Datagram<'_>,
+    ) -> Result<Option<Box<Connection<T>>>, AllocError>
+        ensures taken { IfOk result (λ taken. option_map (λ b. b.value) taken ≡ at (five_tuple_of_datagram datagram.now) self.old.live) }
+        ensures left { OnOk result (BeginsAfter datagram.now (at (five_tuple_of_datagram datagram.now) self.old.live) self.old self.new) }
+        ensures err { OnErr result (self.new ≡ self.old) }
         ensures accounted { IsAccounted self.old → IsAccounted self.new }
     {
         let (alloc, five_tuple) = (self.alloc, datagram.between());
-        let exchange = self.live.peek_mut(&five_tuple)?;
-        let another = exchange.after(alloc, datagram);
-        let over = mem::replace(exchange, another);
+        let Some(exchange) = self.live.peek_mut(&five_tuple) else {
+            return Ok(None);
+        };
+        let another = Boxed::new(alloc, exchange.get().after(alloc, datagram))?;
+        let over = mem::replace(exchange, another).into_box();
         self.held = self.held.saturating_sub(over.weight);
-        Some(over)
+        Ok(Some(over))
     }
 
     /// Whether both sides ended the last connection between these ends, so that what still comes of it is left out. It is known up to
@@ -336,7 +351,7 @@ impl<T: Listener> Connections<T> {
         ensures one { NoneIsOver time self.now.live → NoneToForget time self.now.closed → result ≡ false }
     {
         let is_live_over = match self.live.peek_lru() {
-            Some((_, oldest)) => is_over(time, oldest.last_time, self.live.len()),
+            Some((_, oldest)) => is_over(time, oldest.get().last_time, self.live.len()),
             None => false,
         };
         let is_closed_over = match self.closed.peek_lru() {
@@ -348,23 +363,24 @@ impl<T: Listener> Connections<T> {
 
     /// Takes out the connection that was longest without a packet, where it is over at this time: it had none for more than
     /// [`IDLE_LIMIT`], or there are more than [`MAX_CONNECTIONS`]. To be called until there is none.
-    pub fn take_idle(&mut self, time: u64) -> Option<Connection<T>>
-        ensures taken { IfSome result (λ c. WasLast self.old.live self.new.live c × IsOver time self.old.live c.last_time) }
+    pub fn take_idle(&mut self, time: u64) -> Option<Box<Connection<T>>>
+        ensures taken { IfSome result (λ b. WasLast self.old.live self.new.live b.value × IsOver time self.old.live b.value.last_time) }
         ensures none { IfNone result ((self.new.live ≡ self.old.live) × NoneIsOver time self.old.live) }
         ensures closed { IsForgotten time self.old.closed self.new.closed }
         ensures none_to_forget { NoneToForget time self.new.closed }
-        ensures held { IfSome result (λ c. self.new.held ≡ self.old.held - c.weight) }
+        ensures held { IfSome result (λ b. self.new.held ≡ self.old.held - b.value.weight) }
         ensures kept { IfNone result (self.new.held ≡ self.old.held) }
         ensures accounted { IsAccounted self.old → IsAccounted self.new }
     {
         forget_idle(&mut self.closed, time);
         let (_, oldest) = self.live.peek_lru()?;
-        if !is_over(time, oldest.last_time, self.live.len()) {
+        if !is_over(time, oldest.get().last_time, self.live.len()) {
             return None;
         }
         let (_, connection) = self.live.pop_lru()?;
-        self.held = self.held.saturating_sub(connection.weight);
-        Some(connection)
+        let over = connection.into_box();
+        self.held = self.held.saturating_sub(over.weight);
+        Some(over)
     }
 
     /// Takes out the connection between the segment's ends where the segment shows that another one began, and puts that in its place: a
@@ -374,22 +390,22 @@ impl<T: Listener> Connections<T> {
     pub fn take_replaced(
         &mut self,
         segment: &Segment<'_>,
-    ) -> Result<Option<Connection<T>>, AllocError>
-        ensures replaced { IfOk result (λ taken. Replaced segment.now self.old self.new taken) }
+    ) -> Result<Option<Box<Connection<T>>>, AllocError>
+        ensures replaced { IfOk result (λ taken. Replaced segment.now self.old self.new (option_map (λ b. b.value) taken)) }
         ensures accounted { IsAccounted self.old → IsAccounted self.new }
     {
         let five_tuple = segment.between();
         let Some(connection) = self.live.peek(&five_tuple) else {
             return Ok(None);
         };
-        let Some(beginning) = connection.another(segment) else {
+        let Some(beginning) = connection.get().another(segment) else {
             return Ok(None);
         };
-        let another = Connection::of_beginning(self.alloc, &beginning)?;
+        let another = Boxed::of_beginning(self.alloc, &beginning)?;
         let Some(place) = self.live.get_mut(&five_tuple) else {
             return Ok(None);
         };
-        let mut over = mem::replace(place, another);
+        let mut over = mem::replace(place, another).into_box();
         over.forget_syns();
         self.held = self.held.saturating_sub(over.weight);
         Ok(Some(over))
@@ -402,37 +418,39 @@ impl<T: Listener> Connections<T> {
     pub fn take_closed(
         &mut self,
         segment: &Segment<'_>,
-    ) -> Result<Option<Connection<T>>, AllocError>
-        ensures taken { IfOk result (λ taken. taken ≡ ended (five_tuple_of segment.now) self.old) }
+    ) -> Result<Option<Box<Connection<T>>>, AllocError>
+        ensures taken { IfOk result (λ taken. option_map (λ b. b.value) taken ≡ ended (five_tuple_of segment.now) self.old) }
         ensures left { OnOk result (self.new ≡ without_ended (five_tuple_of segment.now) segment.now.time self.old) }
         ensures err { OnErr result (self.new ≡ self.old) }
         ensures accounted { IsAccounted self.old → IsAccounted self.new }
     {
         let five_tuple = segment.between();
         match self.live.peek(&five_tuple) {
-            Some(connection) if connection.is_closed() => {}
+            Some(connection) if connection.get().is_closed() => {}
             _ => return Ok(None),
         }
         put_under(&mut self.closed, five_tuple, segment.time)?;
-        let Some(over) = self.live.pop(&five_tuple) else {
+        let Some(connection) = self.live.pop(&five_tuple) else {
             return Ok(None);
         };
+        let over = connection.into_box();
         self.held = self.held.saturating_sub(over.weight);
         Ok(Some(over))
     }
 
     /// Takes out one of the connections that are left, the one that was longest without a packet. To be called at the capture's
     /// end, until there is none.
-    pub fn take_left(&mut self) -> Option<Connection<T>>
-        ensures taken { IfSome result (WasLast self.old.live self.new.live) }
+    pub fn take_left(&mut self) -> Option<Box<Connection<T>>>
+        ensures taken { IfSome result (λ b. WasLast self.old.live self.new.live b.value) }
         ensures none { IfNone result (self.old.live ≡ []) }
         ensures same { IfNone result (self.new ≡ self.old) }
         ensures closed { self.new.closed ≡ self.old.closed }
-        ensures held { IfSome result (λ c. self.new.held ≡ self.old.held - c.weight) }
+        ensures held { IfSome result (λ b. self.new.held ≡ self.old.held - b.value.weight) }
         ensures accounted { IsAccounted self.old → IsAccounted self.new }
     {
         let (_, connection) = self.live.pop_lru()?;
-        self.held = self.held.saturating_sub(connection.weight);
-        Some(connection)
+        let over = connection.into_box();
+        self.held = self.held.saturating_sub(over.weight);
+        Some(over)
     }
 }

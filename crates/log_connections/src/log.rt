@@ -86,15 +86,13 @@ fn hear_last<K: Keeper>(
     heard.hear_stream(stream, Side::Responder, is_opened, true, known)
 }
 
-/// The same of a connection that was taken out, which is large: it is handed on in a place of its own.
+/// The same of a connection that was taken out.
 pub(crate) fn with_last<K: Keeper>(
-    alloc: Global,
     known: &mut KnownCertificates,
-    taken: Option<Connection<Heard<K>>>,
+    taken: Option<Box<Connection<Heard<K>>>>,
 ) -> Result<Option<Box<Connection<Heard<K>>>>, AllocError> {
     match taken {
-        Some(connection) => {
-            let mut connection = Box::new(alloc, connection)?;
+        Some(mut connection) => {
             hear_last(&mut connection, known)?;
             Ok(Some(connection))
         }
@@ -376,11 +374,7 @@ impl<K: Keeper> Log<K> {
 
     /// The same, where there may be one.
     fn take_idle(&mut self, time: u64) -> Result<Option<Box<Connection<Heard<K>>>>, AllocError> {
-        with_last(
-            self.alloc,
-            &mut self.known,
-            self.connections.take_idle(time),
-        )
+        with_last(&mut self.known, self.connections.take_idle(time))
     }
 
     /// Puts what arrives into its connection, lets that hear what is there then, and takes the connection out where it is over.
@@ -515,11 +509,7 @@ impl<K: Keeper> Log<K> {
         &mut self,
         segment: &Segment<'_>,
     ) -> Result<Option<Box<Connection<Heard<K>>>>, AllocError> {
-        with_last(
-            self.alloc,
-            &mut self.known,
-            self.connections.take_closed(segment)?,
-        )
+        with_last(&mut self.known, self.connections.take_closed(segment)?)
     }
 
     /// Takes out the connection in whose place another begins with a segment, which hears that.
@@ -529,7 +519,7 @@ impl<K: Keeper> Log<K> {
     ) -> Result<Option<Box<Connection<Heard<K>>>>, AllocError> {
         let over = self.connections.take_replaced(segment)?;
         self.hear_segment(segment)?;
-        with_last(self.alloc, &mut self.known, over)
+        with_last(&mut self.known, over)
     }
 
     /// Puts a segment that its receiver takes into the connection between its ends, where one is open and nothing is to be done before, and lets that
@@ -651,21 +641,10 @@ impl<K: Keeper> Log<K> {
                 Ok(None)
             }
             Delivery::BeginsAnother => {
-                let over = self.take_exchange(datagram)?;
+                let over = self.connections.take_exchange(datagram)?;
                 self.accept_datagram(datagram)?;
                 Ok(over)
             }
-        }
-    }
-
-    /// Takes out the exchange in whose place a datagram begins another.
-    fn take_exchange(
-        &mut self,
-        datagram: &Datagram<'_>,
-    ) -> Result<Option<Box<Connection<Heard<K>>>>, AllocError> {
-        match self.connections.take_exchange(datagram) {
-            Some(exchange) => Ok(Some(Box::new(self.alloc, exchange)?)),
-            None => Ok(None),
         }
     }
 
@@ -698,6 +677,6 @@ impl<K: Keeper> Log<K> {
     /// Takes out a connection that is left. To be called at the capture's end, until there is none.
     pub fn take_left(&mut self) -> Result<Option<Box<Connection<Heard<K>>>>, AllocError> {
         self.count_cut();
-        with_last(self.alloc, &mut self.known, self.connections.take_left())
+        with_last(&mut self.known, self.connections.take_left())
     }
 }

@@ -19,9 +19,9 @@ impl<K: Keeper> Log<K> {
     /// Lets a connection that was taken out end before its time, and counts it.
     fn end_early(
         &mut self,
-        taken: Option<Connection<Heard<K>>>,
+        taken: Option<Box<Connection<Heard<K>>>>,
     ) -> Result<Option<Box<Connection<Heard<K>>>>, AllocError> {
-        match with_last(self.alloc, &mut self.known, taken)? {
+        match with_last(&mut self.known, taken)? {
             Some(mut connection) => {
                 connection.listener.is_ended_early = true;
                 add_one(&mut self.counts.ended_early);

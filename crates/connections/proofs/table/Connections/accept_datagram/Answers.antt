@@ -1,3 +1,5 @@
+use Rattle.std.proofs.Common.{ap, subst, ◌∙◌}
+use Rattle.connections.specs.Connection.{TakesDatagramIn}
 use Rattle.connections.specs.Datagram.{five_tuple_of_datagram}
 use Rattle.connections.specs.Table.{TakesDatagram}
 use Rattle.connections.proofs.MemoryLemmas.{accounted_first, accounted_written}
@@ -9,25 +11,25 @@ returns-in-Some-clause-put g c =
     let d = c.args.datagram.now in let e = five_tuple_of_datagram d in let xs = c.self.inside.live.entries in
     rw (c.between-five_tuple.ensures, ← c.self.view_is)
     (put_in e (TakesDatagram d) xs c.take_datagram.new.self c.in-Some.exchange.now
-    (rw c.between-five_tuple.ensures at c.in-Some.ensures.value) c.take_datagram.ensures.taken)
+    (rw c.between-five_tuple.ensures at c.in-Some.ensures.value) (subst (λ x. TakesDatagramIn d x c.take_datagram.new.self) c.get_mut-in-Some.ensures.value c.take_datagram.ensures.taken))
 
 pub returns-clause-put : goal.returns-clause-put
 returns-clause-put g c =
     let d = c.args.datagram.now in let e = five_tuple_of_datagram d in let xs = c.self.inside.live.entries in
-    rw (← c.self.view_is) (put_new e (TakesDatagram d) xs c.of_datagram-exchange.result c.put_under.new.table.entries
+    rw (← c.self.view_is) (put_new e (TakesDatagram d) xs c.of_datagram.result c.put_under.new.table.entries
     (rw c.between-five_tuple.ensures at c.in_default.ensures.value)
-    (c.of_datagram-exchange.ensures.begun, c.of_datagram-exchange.ensures.waits) (rw c.between-five_tuple.ensures at c.in_ok-put_under.ensures.put))
+    (c.of_datagram.ensures.begun, c.of_datagram.ensures.waits) (rw (c.between-five_tuple.ensures, c.in_ok-exchange.ensures) at c.in_ok-put_under.ensures.put))
 
 pub returns-in-Some-clause-accounted : goal.returns-in-Some-clause-accounted
 returns-in-Some-clause-accounted g c =
     rw (c.between-five_tuple.ensures, ← c.self.view_is)
     (accounted_written (five_tuple_of_datagram c.args.datagram.now)
     (record { live = c.self.inside.live.entries; closed = c.self.inside.closed.entries; held = c.self.inside.held })
-    c.in-Some.exchange.now c.take_datagram.new.self (rw c.between-five_tuple.ensures at c.in-Some.ensures.value) c.take_datagram.ensures.weight)
+    c.in-Some.exchange.now c.take_datagram.new.self (rw c.between-five_tuple.ensures at c.in-Some.ensures.value) (c.take_datagram.ensures.weight ∙ ap (λ x. x.weight) c.get_mut-in-Some.ensures.value))
 
 pub returns-clause-accounted : goal.returns-clause-accounted
 returns-clause-accounted g c =
-    rw (c.in_ok-put_under.ensures.put, ← c.self.view_is)
+    rw (c.in_ok-put_under.ensures.put, c.in_ok-exchange.ensures, ← c.self.view_is)
     (accounted_first c.between-five_tuple.result
     (record { live = c.self.inside.live.entries; closed = c.self.inside.closed.entries; held = c.self.inside.held })
-    c.of_datagram-exchange.result c.self.inside.closed.entries c.in_default.ensures.value c.of_datagram-exchange.ensures.weight)
+    c.of_datagram.result c.self.inside.closed.entries c.in_default.ensures.value c.of_datagram.ensures.weight)

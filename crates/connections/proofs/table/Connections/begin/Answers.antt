@@ -1,4 +1,5 @@
-use Rattle.std.proofs.Common.{refl, ap, sym, ◌∙◌}
+use Rattle.std.proofs.Common.{refl, ap, sym, ◌∙◌, subst}
+use Rattle.connections.specs.Connection.{Accepts}
 use Rattle.connections.proofs.MemoryLemmas.{accounted_first}
 use Rattle.connections.proofs.table.Connections.begin.Goals as goal
 
@@ -6,7 +7,7 @@ pub returns-clause-begun : goal.returns-clause-begun
 returns-clause-begun g c =
     rw (← c.self.view_is) (record {
       its = c.accept.new.self;
-      takes = (c.of_segment-connection.result, c.of_segment-connection.ensures, c.in_ok-accept.ensures.taken);
+      takes = (c.of_segment.result, c.of_segment.ensures, subst (λ x. Accepts c.args.segment.now x c.accept.new.self) (c.get_mut.ensures.value ∙ c.in_ok-connection.ensures) c.in_ok-accept.ensures.taken);
       stands = rw (c.in_ok-put_under.ensures.put, c.pop.ensures.entries) refl;
     })
 
@@ -16,4 +17,4 @@ returns-clause-accounted g c =
     (λ h. accounted_first c.args.five_tuple
     (record { live = c.self.inside.live.entries; closed = c.self.inside.closed.entries; held = c.self.inside.held })
     c.accept.new.self c.pop.new.self.entries (sym h)
-    (c.accept.ensures.weight ∙ ap (λ x. x.weight) c.of_segment-connection.ensures.0))
+    (c.accept.ensures.weight ∙ ap (λ x. x.weight) (c.get_mut.ensures.value ∙ c.in_ok-connection.ensures ∙ c.of_segment.ensures.0)))

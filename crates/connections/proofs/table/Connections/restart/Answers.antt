@@ -1,4 +1,5 @@
-use Rattle.std.proofs.Common.{ap}
+use Rattle.std.proofs.Common.{ap, subst, ◌∙◌}
+use Rattle.connections.specs.Connection.{IsAnew}
 use Rattle.connections.specs.Segment.{five_tuple_of}
 use Rattle.connections.proofs.MemoryLemmas.{accounted_with}
 use Rattle.connections.proofs.TableLemmas.{anew_at}
@@ -9,7 +10,7 @@ returns-clause-restarts g c =
     rw (c.between-five_tuple.ensures, ← c.self.view_is)
     (anew_at c.args.segment.now.time (five_tuple_of c.args.segment.now)
     (record { live = c.self.inside.live.entries; closed = c.self.inside.closed.entries; held = c.self.inside.held })
-    c.in-Some.connection.now c.restart.new.self (rw c.between-five_tuple.ensures at c.in-Some.ensures.value) c.restart.ensures)
+    c.in-Some.connection.now c.restart.new.self (rw c.between-five_tuple.ensures at c.in-Some.ensures.value) (subst (λ x. IsAnew c.args.segment.now.time x c.restart.new.self) c.get_mut.ensures.value c.restart.ensures))
 
 pub returns-clause-accounted : goal.returns-clause-accounted
 returns-clause-accounted g c =
@@ -17,4 +18,4 @@ returns-clause-accounted g c =
     (accounted_with (five_tuple_of c.args.segment.now)
     (record { live = c.self.inside.live.entries; closed = c.self.inside.closed.entries; held = c.self.inside.held })
     c.in-Some.connection.now c.restart.new.self (rw c.between-five_tuple.ensures at c.in-Some.ensures.value)
-    (ap (λ x. x.weight) c.restart.ensures.is_silent))
+    (ap (λ x. x.weight) c.restart.ensures.is_silent ∙ ap (λ x. x.weight) c.get_mut.ensures.value))

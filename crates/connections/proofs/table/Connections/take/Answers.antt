@@ -14,4 +14,4 @@ returns-clause-accounted g c =
     (accounted_others c.args.five_tuple.now
     (record { live = c.self.inside.live.entries; closed = c.self.inside.closed.entries; held = c.self.inside.held })
     c.in_ok-connection.connection c.self.inside.closed.entries c.saturating_sub-self-inside.result
-    c.in_ok-connection.ensures.value c.saturating_sub-self-inside.ensures)
+    c.in_ok-connection.ensures.value (rw (c.deref.ensures, c.into_box-over.ensures) at c.saturating_sub-self-inside.ensures))

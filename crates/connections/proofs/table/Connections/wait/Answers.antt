@@ -1,4 +1,5 @@
-use Rattle.std.proofs.Common.{ap}
+use Rattle.std.proofs.Common.{ap, subst, ◌∙◌}
+use Rattle.connections.specs.Connection.{ChangesCountsAlone}
 use Rattle.connections.specs.Segment.{five_tuple_of}
 use Rattle.connections.proofs.MemoryLemmas.{accounted_with}
 use Rattle.connections.proofs.TableLemmas.{counts_at}
@@ -9,7 +10,7 @@ returns-in-Some-clause-drops g c =
     rw (c.between-five_tuple.ensures, ← c.self.view_is)
     (counts_at (five_tuple_of c.args.segment.now)
     (record { live = c.self.inside.live.entries; closed = c.self.inside.closed.entries; held = c.self.inside.held })
-    c.in-Some.connection.now c.wait.new.self (rw c.between-five_tuple.ensures at c.in-Some.ensures.value) c.wait.ensures)
+    c.in-Some.connection.now c.wait.new.self (rw c.between-five_tuple.ensures at c.in-Some.ensures.value) (subst (λ x. ChangesCountsAlone x c.wait.new.self) c.get_mut.ensures.value c.wait.ensures))
 
 pub returns-in-Some-clause-accounted : goal.returns-in-Some-clause-accounted
 returns-in-Some-clause-accounted g c =
@@ -17,4 +18,4 @@ returns-in-Some-clause-accounted g c =
     (accounted_with (five_tuple_of c.args.segment.now)
     (record { live = c.self.inside.live.entries; closed = c.self.inside.closed.entries; held = c.self.inside.held })
     c.in-Some.connection.now c.wait.new.self (rw c.between-five_tuple.ensures at c.in-Some.ensures.value)
-    (ap (λ x. x.weight) c.wait.ensures))
+    (ap (λ x. x.weight) c.wait.ensures ∙ ap (λ x. x.weight) c.get_mut.ensures.value))

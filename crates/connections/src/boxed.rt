@@ -1,0 +1,75 @@
+//! A connection in a block of memory of its own.
+ghost use Rattle.std.specs.Prelude.{◌≡◌, IfOk};
+ghost use Rattle.std.specs.Borrow.{sem};
+ghost use Rattle.connections.specs.Connection.{Begins};
+ghost use Rattle.connections.specs.Lends.{lends_all};
+
+use crate::connection::{Beginning, Connection, Listener};
+use std::alloc::{AllocError, Global};
+use std::marker::Model;
+
+/// A connection in a block of its own, so that the table moves a pointer where it would move the connection. A clause sees the connection.
+#[derive(Drop)]
+pub(crate) struct Boxed<T> {
+    block: Box<Connection<T>>,
+}
+
+impl<T> Model for Boxed<T> {
+    ghost use Rattle.connections.specs.declared.connection.Connection.{Connection};
+
+    ghost Value = { Connection T };
+
+    ghost view = { λ b. b.block.value };
+}
+
+impl<T: Listener> Boxed<T> {
+    /// `AllocError` where there is no memory for the block.
+    #[inline(always)]
+    pub(crate) fn new(alloc: Global, connection: Connection<T>) -> Result<Boxed<T>, AllocError>
+        ensures { IfOk result (λ boxed. boxed ≡ connection) }
+    {
+        let block = Box::new(alloc, connection)?;
+        Ok(Boxed { block })
+    }
+
+    /// One that began with these segments. `AllocError` where it could not be held.
+    pub(crate) fn of_beginning(alloc: Global, beginning: &Beginning) -> Result<Boxed<T>, AllocError>
+        ensures begun { IfOk result (λ its. Begins beginning.now its) }
+        ensures weight { IfOk result (λ its. its.weight ≡ 0) }
+    {
+        let mut connection = Boxed::new(alloc, Connection::of_segment(alloc, &beginning.first))?;
+        connection.get_mut().accept(alloc, &beginning.first)?;
+        match beginning.answer {
+            Some(answer) => {
+                connection.get_mut().accept(alloc, &answer)?;
+                Ok(connection)
+            }
+            None => Ok(connection),
+        }
+    }
+
+    /// The connection.
+    #[inline(always)]
+    pub(crate) fn get(&self) -> &Connection<T>
+        ensures { result.now ≡ self.now }
+    {
+        self.block.as_ref()
+    }
+
+    /// The same, to write to.
+    #[inline(always)]
+    pub(crate) fn get_mut(&mut self) -> &mut Connection<T>
+        ensures* writes_back { sem 𝓛 (lends_all T.row self.entry result) }
+        ensures value { result.now ≡ self.old }
+    {
+        self.block.as_mut()
+    }
+
+    /// Its block.
+    #[inline(always)]
+    pub(crate) fn into_box(self) -> Box<Connection<T>>
+        ensures { result.value ≡ self }
+    {
+        self.block
+    }
+}
