@@ -1,11 +1,14 @@
 //! Digests of fingerprints that were made before.
 ghost use Rattle.std.specs.Prelude.{◌≡◌, ◌++◌, IfOk, IfSome, OnOk};
 ghost use Rattle.std.specs.String.{string_bytes};
-ghost use Rattle.tls_fingerprints.specs.Ja3.{digest_of};
+ghost use Rattle.tls_fingerprints.specs.Hellos.{view_client};
+ghost use Rattle.tls_fingerprints.specs.Ja3.{digest_of, ja3_of, ja3_text_of, text_of_numbers};
 ghost use Rattle.tls_fingerprints.specs.Ja4.{short_digest as short_digest_of, with_algorithms};
 ghost use Rattle.tls_fingerprints.specs.Numbers.{hex_list};
 
+use crate::hellos::ClientHelloParts;
 use crate::ja3::ja3_digest;
+use crate::ja3_numbers::Ja3Numbers;
 use crate::ja4::{part_text, short_digest};
 use std::alloc::{AllocError, Global};
 
@@ -35,12 +38,39 @@ struct DigestedText {
     ghost is: { string_bytes digits ≡ digest_of (string_bytes text) },
 }
 
+/// What JA3 is made of, its text, and the digits of its digest.
+#[derive(Drop)]
+struct DigestedHello {
+    numbers: Ja3Numbers,
+    text: String,
+    digits: String,
+    ghost text_is: { string_bytes text ≡ text_of_numbers numbers },
+    ghost digits_are: { string_bytes digits ≡ digest_of (text_of_numbers numbers) },
+}
+
+impl DigestedHello {
+    /// What is to be known of that hello.
+    fn of(alloc: Global, hello: &ClientHelloParts<'_>) -> Result<DigestedHello, AllocError>
+        ensures { IfOk result (λ one. text_of_numbers one.numbers ≡ ja3_text_of (view_client hello.now)) }
+    {
+        let numbers = Ja3Numbers::of(alloc, hello)?;
+        let text = numbers.text(alloc)?;
+        let digits = ja3_digest(alloc, text.as_str())?;
+        Ok(DigestedHello {
+            numbers,
+            text,
+            digits,
+        })
+    }
+}
+
 /// The last digests of JA3, JA3S and of parts of JA4, by what they are made of. Hellos of one program have the same ones, whatever else they say, so that a digest is seldom made for a
 /// line alone.
 #[derive(Drop)]
 pub struct KnownDigests {
     parts: Vec<DigestedPart>,
     texts: Vec<DigestedText>,
+    hellos: Vec<DigestedHello>,
 }
 
 impl KnownDigests {
@@ -49,6 +79,7 @@ impl KnownDigests {
         KnownDigests {
             parts: Vec::new(alloc),
             texts: Vec::new(alloc),
+            hellos: Vec::new(alloc),
         }
     }
 
@@ -137,6 +168,64 @@ impl KnownDigests {
         let kept = String::from_str(alloc, digits.as_str())?;
         let text = String::from_str(alloc, text)?;
         self.keep_text(DigestedText { text, digits: kept })?;
+        Ok(digits)
+    }
+
+    /// What is known of a hello with the same numbers. The last one comes first, since a line may tell both its text and its digest.
+    fn known_hello(&self, hello: &ClientHelloParts<'_>) -> Option<&DigestedHello>
+        ensures { IfSome result (λ one. text_of_numbers one.now.numbers ≡ ja3_text_of (view_client hello.now)) }
+    {
+        for one in self.hellos.iter().rev() {
+            if one.numbers.are_of(hello) {
+                return Some(one);
+            }
+        }
+        None
+    }
+
+    /// Keeps one more, as [`KnownDigests::keep_part`] does.
+    fn keep_hello(&mut self, one: DigestedHello) -> Result<(), AllocError> {
+        if one.numbers.capacity() > MOST_NUMBERS || one.text.len() > LONGEST {
+            return Ok(());
+        }
+        if self.hellos.len() >= MOST {
+            self.hellos.clear();
+        }
+        self.hellos.push(one)?;
+        Ok(())
+    }
+
+    /// The text of a hello's JA3.
+    pub(crate) fn hello_text(
+        &mut self,
+        alloc: Global,
+        hello: &ClientHelloParts<'_>,
+    ) -> Result<String, AllocError>
+        ensures { IfOk result (λ text. string_bytes text ≡ ja3_text_of (view_client hello.now)) }
+    {
+        if let Some(one) = self.known_hello(hello) {
+            return String::from_str(alloc, one.text.as_str());
+        }
+        let one = DigestedHello::of(alloc, hello)?;
+        let text = String::from_str(alloc, one.text.as_str())?;
+        self.keep_hello(one)?;
+        Ok(text)
+    }
+
+    /// The digits of a hello's JA3.
+    pub(crate) fn hello_digits(
+        &mut self,
+        alloc: Global,
+        hello: &ClientHelloParts<'_>,
+    ) -> Result<String, AllocError>
+        ensures { IfOk result (λ digits. string_bytes digits ≡ ja3_of (view_client hello.now)) }
+    {
+        if let Some(one) = self.known_hello(hello) {
+            return String::from_str(alloc, one.digits.as_str());
+        }
+        let one = DigestedHello::of(alloc, hello)?;
+        let digits = String::from_str(alloc, one.digits.as_str())?;
+        self.keep_hello(one)?;
         Ok(digits)
     }
 }

@@ -11,6 +11,7 @@ mod digits;
 mod feeding;
 mod hellos;
 mod ja3;
+mod ja3_numbers;
 mod ja4;
 mod known;
 pub mod laws;
