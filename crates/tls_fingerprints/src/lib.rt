@@ -13,6 +13,7 @@ mod hellos;
 mod ja3;
 mod ja3_numbers;
 mod ja4;
+mod ja4_numbers;
 mod known;
 pub mod laws;
 mod numbers;
