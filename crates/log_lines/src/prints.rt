@@ -52,13 +52,13 @@ fn transport(protocol: Protocol) -> Transport {
 }
 
 /// The text of JA3, or that which was kept; `None` where there was no ClientHello.
-fn ja3_text(told: &mut Told<'_>) -> Result<Option<String>, AllocError> {
-    if told.kept.ja3.is_some() {
-        return Ok(told.kept.ja3.take());
-    }
-    match client_parts(told.handshake) {
-        Some(client) => Ok(Some(client.ja3_text(told.alloc)?)),
-        None => Ok(None),
+fn ja3_text(told: &Told<'_>) -> Result<Option<String>, AllocError> {
+    let Some(client) = client_parts(told.handshake) else {
+        return Ok(None);
+    };
+    match told.digests.try_borrow_mut() {
+        Ok(mut known) => Ok(Some(client.ja3_text_with(told.alloc, &mut known)?)),
+        Err(_) => Ok(Some(client.ja3_text(told.alloc)?)),
     }
 }
 
@@ -73,7 +73,7 @@ fn ja3s_text(told: &mut Told<'_>) -> Result<Option<String>, AllocError> {
     }
 }
 
-/// The digest of a text of JA3 or JA3S.
+/// The digest of a text of JA3S.
 fn digest_of(told: &Told<'_>, text: &str) -> Result<String, AllocError> {
     match told.digests.try_borrow_mut() {
         Ok(mut known) => known.ja3_digest(told.alloc, text),
@@ -81,14 +81,15 @@ fn digest_of(told: &Told<'_>, text: &str) -> Result<String, AllocError> {
     }
 }
 
-/// JA3. Its text is kept.
-fn ja3_cell<'a>(told: &mut Told<'a>) -> Result<Option<Cell<'a>>, AllocError> {
-    let Some(text) = ja3_text(told)? else {
+/// JA3; nothing where there was no ClientHello.
+fn ja3_cell<'a>(told: &Told<'_>) -> Result<Option<Cell<'a>>, AllocError> {
+    let Some(client) = client_parts(told.handshake) else {
         return Ok(None);
     };
-    let digest = digest_of(told, text.as_str());
-    told.kept.ja3 = Some(text);
-    some_text(digest)
+    match told.digests.try_borrow_mut() {
+        Ok(mut known) => some_text(client.ja3_with(told.alloc, &mut known)),
+        Err(_) => some_text(client.ja3(told.alloc)),
+    }
 }
 
 /// JA3S. Its text is kept.

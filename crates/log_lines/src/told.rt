@@ -32,10 +32,9 @@ pub struct Sender<'a> {
     pub party: &'a Party<'a>,
 }
 
-/// The texts of JA3 and of JA3S, from the fields of their digests to those of the texts themselves.
+/// The text of JA3S, from the field of its digest to that of the text itself.
 #[derive(Drop)]
 pub struct KeptTexts {
-    pub ja3: Option<String>,
     pub ja3s: Option<String>,
 }
 
@@ -72,10 +71,7 @@ impl<'a> Told<'a> {
             handshake,
             server: certificate_of(handshake.server_certificate.as_deref()),
             client: certificate_of(handshake.client_certificate.as_deref()),
-            kept: KeptTexts {
-                ja3: None,
-                ja3s: None,
-            },
+            kept: KeptTexts { ja3s: None },
         }
     }
 

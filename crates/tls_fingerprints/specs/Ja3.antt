@@ -7,6 +7,7 @@ use Rattle.layouts.specs.Bytes.{Bytes}
 use Rattle.tls_fingerprints.specs.Numbers.{dashed, without_grease}
 use Rattle.tls_ext.specs.Offered.{groups_in, formats_in}
 use Rattle.tls_fingerprints.specs.Hellos.{Client, Server, types_in}
+use Rattle.tls_fingerprints.specs.declared.ja3_numbers.Ja3Numbers.{Ja3Numbers}
 
 -- Five fields with `,` between each two: the version, the cipher suites, the types of extensions, the groups, the formats of points.
 abbrev pub ja3_text_of : Client → Bytes
@@ -16,6 +17,16 @@ ja3_text_of h = join_with_byte 44 (
     ∷ dashed (without_grease (types_in h.extensions))
     ∷ dashed (without_grease (groups_in h.extensions))
     ∷ dashed (formats_in h.extensions)
+    ∷ [])
+
+-- The same five fields of numbers that are kept of a hello.
+abbrev pub text_of_numbers : Ja3Numbers → Bytes
+text_of_numbers n = join_with_byte 44 (
+    decimal n.version
+    ∷ dashed n.suites.items
+    ∷ dashed n.types.items
+    ∷ dashed n.groups.items
+    ∷ dashed n.formats.items
     ∷ [])
 
 -- The MD5 of a text, in hexadecimal.

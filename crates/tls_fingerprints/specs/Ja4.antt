@@ -12,6 +12,7 @@ use Rattle.tls_ext.specs.Offered.{algorithms_in, content_in, known}
 use Rattle.tls_fingerprints.specs.Hellos.{Client, types_in}
 use Rattle.tls_fingerprints.specs.declared.hellos.Transport.{Transport}
 use Rattle.tls_fingerprints.specs.declared.hellos.Transport.TheVariants as over
+use Rattle.tls_fingerprints.specs.declared.ja4_numbers.Ja4Numbers.{Ja4Numbers}
 
 -- What the hello came over.
 abbrev pub letter_of : Transport → Bytes
@@ -104,6 +105,20 @@ ja4_text_of t h = join_with_byte 95 (ja4_front_of t h ∷ ja4_suites_of h ∷ ja
 -- The first part, and the digests of the others.
 abbrev pub ja4_of : Transport → Client → Bytes
 ja4_of t h = join_with_byte 95 (ja4_front_of t h ∷ short_digest (ja4_suites_of h) ∷ short_digest (ja4_types_of h) ∷ [])
+
+-- The same of the first part and of numbers that are kept of a hello.
+abbrev pub ja4_of_numbers : Bytes → Ja4Numbers → Bytes
+ja4_of_numbers front n = join_with_byte 95 (
+    front
+    ∷ short_digest (hex_list (rising n.suites.items))
+    ∷ short_digest (with_algorithms (hex_list (rising (other_types n.types.items))) n.algorithms.items)
+    ∷ [])
+
+-- The numbers are those of the hello that count.
+pub record AreOf (h : Client) (n : Ja4Numbers) : Type 0 where
+  pub suites : n.suites.items ≡ without_grease h.suites
+  pub types : n.types.items ≡ without_grease (types_in h.extensions)
+  pub algorithms : n.algorithms.items ≡ without_grease (algorithms_in h.extensions)
 
 -- So many numbers count, and these are the digits of the text that is made of them.
 pub record IsPart (n : ℕ) (part : Bytes) (ns : List ℕ) (text : Bytes) : Type 0 where

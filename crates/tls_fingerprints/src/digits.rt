@@ -168,7 +168,7 @@ impl ClientHelloParts<'_> {
     }
 
     /// The first part of JA4, of so many suites and types of extensions.
-    fn front(&self, transport: Transport, suites: usize, types: usize) -> [u8; 10]
+    pub(crate) fn front(&self, transport: Transport, suites: usize, types: usize) -> [u8; 10]
         ensures { result ≡ ja4_front_with transport (view_client self.now) suites types }
     {
         let letter = transport.letter();

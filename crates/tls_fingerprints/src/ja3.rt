@@ -2,36 +2,21 @@
 ghost use Rattle.std.specs.Prelude.{◌≡◌, ◌++◌, ◌∷◌, [], IfOk, OnOk};
 ghost use Rattle.std.specs.String.{string_bytes};
 ghost use Rattle.std.specs.Option.{option_map};
-ghost use Rattle.layouts.specs.Items.{items_in};
-ghost use Rattle.layouts.specs.Layout.{number};
 ghost use Rattle.layouts.specs.Text.{held};
 ghost use Rattle.tls_fingerprints.specs.Numbers.{dashed, without_grease};
-ghost use Rattle.tls_ext.specs.Offered.{groups_in};
 ghost use Rattle.tls_fingerprints.specs.Hellos.{types_in, view_client, view_server};
 ghost use Rattle.tls_fingerprints.specs.Ja3.{digest_of, ja3_of, ja3_text_of, ja3s_of, ja3s_text_of};
 
 use crate::hellos::{ClientHelloParts, ServerHelloParts};
-use crate::numbers::{add_dashed, add_decimal, kept, kept_types};
-use layouts::Items;
+use crate::ja3_numbers::Ja3Numbers;
+use crate::known::KnownDigests;
+use crate::numbers::{add_dashed, add_decimal, kept_types};
 use md5::{Digest, Md5};
 use std::alloc::{AllocError, Global};
 use tls_ext::extension_types;
-use tls_ext::offered::{formats, groups};
 
-/// So many bytes have room in a text at first: most texts are no longer.
-const TEXT_LEN: usize = 512;
-
+/// So many bytes have room in a server's text at first: most texts are no longer.
 const SERVERS_TEXT_LEN: usize = 64;
-
-/// Adds `,` and the numbers that aren't of GREASE.
-fn add_kept(alloc: Global, text: &mut String, numbers: Items<u16>) -> Result<(), AllocError>
-    ensures { OnOk result (string_bytes text.new
-        ≡ string_bytes text.old ++ 44 ∷ dashed (without_grease (items_in (number 2) numbers.entry.bytes.now))) }
-{
-    let kept = kept(alloc, numbers)?;
-    text.push(',')?;
-    add_dashed(text, kept.as_slice())
-}
 
 /// Adds `,` and the types of extensions that aren't of GREASE.
 fn add_types(alloc: Global, text: &mut String, ext: Option<&[u8]>) -> Result<(), AllocError>
@@ -60,14 +45,7 @@ impl ClientHelloParts<'_> {
     pub fn ja3_text(&self, alloc: Global) -> Result<String, AllocError>
         ensures { IfOk result (λ text. string_bytes text ≡ ja3_text_of (view_client self.now)) }
     {
-        let mut text = String::with_capacity(alloc, TEXT_LEN)?;
-        add_decimal(&mut text, self.version.0)?;
-        add_kept(alloc, &mut text, Items::new(self.ciphers.bytes()))?;
-        add_types(alloc, &mut text, self.ext)?;
-        add_kept(alloc, &mut text, Items::new(groups(self.ext).bytes()))?;
-        text.push(',')?;
-        add_dashed(&mut text, formats(self.ext))?;
-        Ok(text)
+        Ja3Numbers::of(alloc, self)?.text(alloc)
     }
 
     /// JA3: the MD5 of [`ClientHelloParts::ja3_text`], in 32 hexadecimal digits.
@@ -77,6 +55,28 @@ impl ClientHelloParts<'_> {
         ensures { IfOk result (λ digits. string_bytes digits ≡ ja3_of (view_client self.now)) }
     {
         ja3_digest(alloc, self.ja3_text(alloc)?.as_str())
+    }
+
+    /// The text of JA3, as [`ClientHelloParts::ja3_text`] makes it, which is copied where a hello with the same numbers is known.
+    ///
+    /// `AllocError` where it could not be held.
+    pub fn ja3_text_with(
+        &self,
+        alloc: Global,
+        known: &mut KnownDigests,
+    ) -> Result<String, AllocError>
+        ensures { IfOk result (λ text. string_bytes text ≡ ja3_text_of (view_client self.now)) }
+    {
+        known.hello_text(alloc, self)
+    }
+
+    /// JA3, as [`ClientHelloParts::ja3`] makes it, which is copied where a hello with the same numbers is known.
+    ///
+    /// `AllocError` where it could not be held.
+    pub fn ja3_with(&self, alloc: Global, known: &mut KnownDigests) -> Result<String, AllocError>
+        ensures { IfOk result (λ digits. string_bytes digits ≡ ja3_of (view_client self.now)) }
+    {
+        known.hello_digits(alloc, self)
     }
 }
 

@@ -270,10 +270,31 @@ impl ClientHelloParts<'_> {
     pub fn ja4(&self, alloc: Global, transport: Transport) -> Result<String, AllocError>
         ensures { IfOk result (λ text. string_bytes text ≡ ja4_of transport (view_client self.now)) }
     {
-        self.ja4_with(alloc, transport, &mut KnownDigests::new(alloc))
+        let (text, _is_new) = self.ja4_by_parts(alloc, transport, &mut KnownDigests::new(alloc))?;
+        Ok(text)
     }
 
-    /// The same, in which digests that are known aren't made again.
+    /// The same, and whether a part's digest was made for it: those that are known aren't made again.
+    fn ja4_by_parts(
+        &self,
+        alloc: Global,
+        transport: Transport,
+        known: &mut KnownDigests,
+    ) -> Result<(String, bool), AllocError>
+        ensures { IfOk result (λ made. string_bytes made.0 ≡ ja4_of transport (view_client self.now)) }
+    {
+        let (suites, types) = (self.kept_suites(alloc)?, self.kept_types(alloc)?);
+        let mut text = self.ja4_front(alloc, transport, suites.len(), types.len())?;
+        text.push('_')?;
+        let new_suites = known.add_digits(alloc, &mut text, risen(suites), Vec::new(alloc))?;
+        text.push('_')?;
+        let types = others(types);
+        let algorithms = self.kept_algorithms(alloc)?;
+        let new_types = known.add_digits(alloc, &mut text, risen(types), algorithms)?;
+        Ok((text, new_suites || new_types))
+    }
+
+    /// JA4, as [`ClientHelloParts::ja4`] makes it, which is copied where a hello with the same lists is known. Digests of its parts that are known aren't made again, either.
     ///
     /// `AllocError` where it could not be held.
     pub fn ja4_with(
@@ -284,14 +305,14 @@ impl ClientHelloParts<'_> {
     ) -> Result<String, AllocError>
         ensures { IfOk result (λ text. string_bytes text ≡ ja4_of transport (view_client self.now)) }
     {
-        let (suites, types) = (self.kept_suites(alloc)?, self.kept_types(alloc)?);
-        let mut text = self.ja4_front(alloc, transport, suites.len(), types.len())?;
-        text.push('_')?;
-        known.add_digits(alloc, &mut text, risen(suites), Vec::new(alloc))?;
-        text.push('_')?;
-        let types = others(types);
-        let algorithms = self.kept_algorithms(alloc)?;
-        known.add_digits(alloc, &mut text, risen(types), algorithms)?;
+        if let Some(text) = known.known_ja4(self, transport) {
+            return String::from_str(alloc, text);
+        }
+        let (text, is_new) = self.ja4_by_parts(alloc, transport, known)?;
+        // Where a program shuffles its extensions, only the first of its hellos has new parts: the others are not to fill the table.
+        if is_new {
+            known.keep_ja4(alloc, self, transport, text.as_str())?;
+        }
         Ok(text)
     }
 }

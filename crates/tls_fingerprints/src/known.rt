@@ -1,18 +1,22 @@
 //! Digests of fingerprints that were made before.
-ghost use Rattle.std.specs.Prelude.{◌≡◌, ◌++◌, IfOk, IfSome, OnOk};
+ghost use Rattle.std.specs.Prelude.{◌≡◌, ◌++◌, true, IfOk, IfSome, OnOk};
 ghost use Rattle.std.specs.String.{string_bytes};
-ghost use Rattle.tls_fingerprints.specs.Ja3.{digest_of};
-ghost use Rattle.tls_fingerprints.specs.Ja4.{short_digest as short_digest_of, with_algorithms};
+ghost use Rattle.tls_fingerprints.specs.Hellos.{view_client};
+ghost use Rattle.tls_fingerprints.specs.Ja3.{digest_of, ja3_of, ja3_text_of, text_of_numbers};
+ghost use Rattle.tls_fingerprints.specs.Ja4.{ja4_of, ja4_of_numbers, short_digest as short_digest_of, with_algorithms};
 ghost use Rattle.tls_fingerprints.specs.Numbers.{hex_list};
 
+use crate::hellos::{ClientHelloParts, Transport};
 use crate::ja3::ja3_digest;
+use crate::ja3_numbers::Ja3Numbers;
 use crate::ja4::{part_text, short_digest};
+use crate::ja4_numbers::Ja4Numbers;
 use std::alloc::{AllocError, Global};
 
-/// So many digests of each kind are kept at most: a network's programs have no more, for the most part.
+/// So many of each kind are kept at most: a network's programs have no more, for the most part.
 const MOST: usize = 64;
 
-/// No part of JA4 is kept that is made of more numbers, so that hellos can't take much memory by theirs.
+/// Nothing is kept that has room for more numbers, so that hellos can't take much memory by theirs.
 const MOST_NUMBERS: usize = 256;
 
 /// The same of a text of JA3 or JA3S, by its bytes.
@@ -35,12 +39,62 @@ struct DigestedText {
     ghost is: { string_bytes digits ≡ digest_of (string_bytes text) },
 }
 
-/// The last digests of JA3, JA3S and of parts of JA4, by what they are made of. Hellos of one program have the same ones, whatever else they say, so that a digest is seldom made for a
-/// line alone.
+/// What JA3 is made of, its text, and the digits of its digest.
+#[derive(Drop)]
+struct DigestedHello {
+    numbers: Ja3Numbers,
+    text: String,
+    digits: String,
+    ghost text_is: { string_bytes text ≡ text_of_numbers numbers },
+    ghost digits_are: { string_bytes digits ≡ digest_of (text_of_numbers numbers) },
+}
+
+impl DigestedHello {
+    /// What is to be known of that hello.
+    fn of(alloc: Global, hello: &ClientHelloParts<'_>) -> Result<DigestedHello, AllocError>
+        ensures { IfOk result (λ one. text_of_numbers one.numbers ≡ ja3_text_of (view_client hello.now)) }
+    {
+        let numbers = Ja3Numbers::of(alloc, hello)?;
+        let text = numbers.text(alloc)?;
+        let digits = ja3_digest(alloc, text.as_str())?;
+        Ok(DigestedHello {
+            numbers,
+            text,
+            digits,
+        })
+    }
+}
+
+/// What JA4 is made of, and JA4.
+#[derive(Drop)]
+struct KnownJa4 {
+    front: [u8; 10],
+    numbers: Ja4Numbers,
+    text: String,
+    ghost is: { string_bytes text ≡ ja4_of_numbers front numbers },
+}
+
+impl KnownJa4 {
+    /// Whether it is that of a hello.
+    fn is_of(&self, hello: &ClientHelloParts<'_>, transport: Transport) -> bool
+        ensures { result ≡ true → string_bytes self.now.text ≡ ja4_of transport (view_client hello.now) }
+    {
+        if !self.numbers.are_of(hello) {
+            return false;
+        }
+        let (suites, types) = (self.numbers.suites.len(), self.numbers.types.len());
+        hello.front(transport, suites, types) == self.front
+    }
+}
+
+/// The last JA3 with its text, JA4, and digests of JA3S and of parts of JA4, by what they are made of. Hellos of one program have the same ones, whatever else they say, so that a digest is
+/// seldom made for a line alone.
 #[derive(Drop)]
 pub struct KnownDigests {
     parts: Vec<DigestedPart>,
     texts: Vec<DigestedText>,
+    hellos: Vec<DigestedHello>,
+    ja4s: Vec<KnownJa4>,
 }
 
 impl KnownDigests {
@@ -49,6 +103,8 @@ impl KnownDigests {
         KnownDigests {
             parts: Vec::new(alloc),
             texts: Vec::new(alloc),
+            hellos: Vec::new(alloc),
+            ja4s: Vec::new(alloc),
         }
     }
 
@@ -66,7 +122,8 @@ impl KnownDigests {
 
     /// Keeps one more, if it is short enough; where there are as many as are kept, it stands alone.
     fn keep_part(&mut self, one: DigestedPart) -> Result<(), AllocError> {
-        if one.numbers.len().saturating_add(one.algorithms.len()) > MOST_NUMBERS {
+        let (numbers, algorithms) = (one.numbers.capacity(), one.algorithms.capacity());
+        if numbers.saturating_add(algorithms) > MOST_NUMBERS {
             return Ok(());
         }
         if self.parts.len() >= MOST {
@@ -76,19 +133,20 @@ impl KnownDigests {
         Ok(())
     }
 
-    /// Adds the digits of a part's digest, by the numbers that the part is made of, and the algorithms behind them.
+    /// Adds the digits of a part's digest, by the numbers that the part is made of, and the algorithms behind them. It answers whether they were made anew.
     pub(crate) fn add_digits(
         &mut self,
         alloc: Global,
         ja4: &mut String,
         numbers: Vec<u16>,
         algorithms: Vec<u16>,
-    ) -> Result<(), AllocError>
+    ) -> Result<bool, AllocError>
         ensures { OnOk result (string_bytes ja4.new
             ≡ string_bytes ja4.old ++ short_digest_of (with_algorithms (hex_list numbers.items) algorithms.items)) }
     {
         if let Some(digits) = self.part_digits(numbers.as_slice(), algorithms.as_slice()) {
-            return ja4.push_str(digits);
+            ja4.push_str(digits)?;
+            return Ok(false);
         }
         let text = part_text(alloc, numbers.as_slice(), algorithms.as_slice())?;
         let digits = short_digest(alloc, text.as_slice())?;
@@ -97,7 +155,8 @@ impl KnownDigests {
             numbers,
             algorithms,
             digits,
-        })
+        })?;
+        Ok(true)
     }
 
     /// The digits of a text's digest, if they are known.
@@ -138,5 +197,106 @@ impl KnownDigests {
         let text = String::from_str(alloc, text)?;
         self.keep_text(DigestedText { text, digits: kept })?;
         Ok(digits)
+    }
+
+    /// What is known of a hello with the same numbers. The last one comes first, since a line may tell both its text and its digest.
+    fn known_hello(&self, hello: &ClientHelloParts<'_>) -> Option<&DigestedHello>
+        ensures { IfSome result (λ one. text_of_numbers one.now.numbers ≡ ja3_text_of (view_client hello.now)) }
+    {
+        for one in self.hellos.iter().rev() {
+            if one.numbers.are_of(hello) {
+                return Some(one);
+            }
+        }
+        None
+    }
+
+    /// Keeps one more, as [`KnownDigests::keep_part`] does.
+    fn keep_hello(&mut self, one: DigestedHello) -> Result<(), AllocError> {
+        if one.numbers.capacity() > MOST_NUMBERS || one.text.len() > LONGEST {
+            return Ok(());
+        }
+        if self.hellos.len() >= MOST {
+            self.hellos.clear();
+        }
+        self.hellos.push(one)?;
+        Ok(())
+    }
+
+    /// The text of a hello's JA3.
+    pub(crate) fn hello_text(
+        &mut self,
+        alloc: Global,
+        hello: &ClientHelloParts<'_>,
+    ) -> Result<String, AllocError>
+        ensures { IfOk result (λ text. string_bytes text ≡ ja3_text_of (view_client hello.now)) }
+    {
+        if let Some(one) = self.known_hello(hello) {
+            return String::from_str(alloc, one.text.as_str());
+        }
+        let one = DigestedHello::of(alloc, hello)?;
+        let text = String::from_str(alloc, one.text.as_str())?;
+        self.keep_hello(one)?;
+        Ok(text)
+    }
+
+    /// The digits of a hello's JA3.
+    pub(crate) fn hello_digits(
+        &mut self,
+        alloc: Global,
+        hello: &ClientHelloParts<'_>,
+    ) -> Result<String, AllocError>
+        ensures { IfOk result (λ digits. string_bytes digits ≡ ja3_of (view_client hello.now)) }
+    {
+        if let Some(one) = self.known_hello(hello) {
+            return String::from_str(alloc, one.digits.as_str());
+        }
+        let one = DigestedHello::of(alloc, hello)?;
+        let digits = String::from_str(alloc, one.digits.as_str())?;
+        self.keep_hello(one)?;
+        Ok(digits)
+    }
+
+    /// JA4 of a hello that came over that, if it is known.
+    pub(crate) fn known_ja4(
+        &self,
+        hello: &ClientHelloParts<'_>,
+        transport: Transport,
+    ) -> Option<&str>
+        ensures { IfSome result (λ text. text.now ≡ ja4_of transport (view_client hello.now)) }
+    {
+        for one in &self.ja4s {
+            if one.is_of(hello, transport) {
+                return Some(one.text.as_str());
+            }
+        }
+        None
+    }
+
+    /// Keeps the JA4 of a hello, as [`KnownDigests::keep_part`] does.
+    pub(crate) fn keep_ja4(
+        &mut self,
+        alloc: Global,
+        hello: &ClientHelloParts<'_>,
+        transport: Transport,
+        ja4: &str,
+    ) -> Result<(), AllocError>
+        requires { ja4.now ≡ ja4_of transport (view_client hello.now) }
+    {
+        let numbers = Ja4Numbers::of(alloc, hello)?;
+        if numbers.capacity() > MOST_NUMBERS {
+            return Ok(());
+        }
+        if self.ja4s.len() >= MOST {
+            self.ja4s.clear();
+        }
+        let front = hello.front(transport, numbers.suites.len(), numbers.types.len());
+        let text = String::from_str(alloc, ja4)?;
+        self.ja4s.push(KnownJa4 {
+            front,
+            numbers,
+            text,
+        })?;
+        Ok(())
     }
 }

@@ -1,5 +1,5 @@
 //! Lists of numbers, as fingerprints have them.
-ghost use Rattle.std.specs.Prelude.{◌≡◌, ◌++◌, ◌∷◌, [], ◌<◌, ◌+◌, map, IfOk, OnOk};
+ghost use Rattle.std.specs.Prelude.{◌≡◌, ◌++◌, ◌∷◌, [], ◌<◌, ◌+◌, map, true, IfOk, OnOk};
 ghost use Rattle.std.specs.List.{join_with_byte};
 ghost use Rattle.std.specs.String.{string_bytes};
 ghost use Rattle.layouts.specs.Items.{items_in};
@@ -49,6 +49,47 @@ pub(crate) fn kept_types(alloc: Global, types: Items<ExtensionType>) -> Result<V
         kept.push(kind.0)?;
     }
     Ok(kept)
+}
+
+/// Whether the numbers that aren't of GREASE are these. The walk ends at the first that differs.
+pub(crate) fn are_kept(numbers: Items<u16>, known: &[u16]) -> bool
+    ensures { result ≡ true → without_grease (items_in (number 2) numbers.entry.bytes.now) ≡ known.now }
+{
+    let mut left = known;
+    for n in numbers {
+        if is_grease(n) {
+            continue;
+        }
+        let Some((first, others)) = left.split_first() else {
+            return false;
+        };
+        if n != *first {
+            return false;
+        }
+        left = others;
+    }
+    left.is_empty()
+}
+
+/// The same of types of extensions.
+pub(crate) fn are_kept_types(types: Items<ExtensionType>, known: &[u16]) -> bool
+    ensures { result ≡ true → without_grease (items_in extension_type types.entry.bytes.now) ≡ known.now }
+{
+    let mut types_left = known;
+    for kind in types {
+        let number = kind.0;
+        if is_grease(number) {
+            continue;
+        }
+        let Some((first, others)) = types_left.split_first() else {
+            return false;
+        };
+        if number != *first {
+            return false;
+        }
+        types_left = others;
+    }
+    types_left.is_empty()
 }
 
 /// The numbers in rising order.
