@@ -1,12 +1,13 @@
 //! A table by protocol and both ends, which makes the hash of ends once where they are looked up several times in a row.
-ghost use Rattle.std.specs.Prelude.{◌≡◌, Some, IfSome};
+ghost use Rattle.std.specs.Prelude.{◌≡◌};
 ghost use Rattle.connections.specs.ByFiveTuple.{hashed_ends, IsHashed};
 
-use crate::five_tuple::FiveTuple;
+use crate::five_tuple::{End, FiveTuple, Protocol};
 use lru::LruCache;
 use std::alloc::{AllocError, Global};
 use std::hash::{BuildHasher, Hash, Hasher, RandomState};
 use std::marker::Model;
+use std::net::{IpAddr, Ipv4Addr};
 
 /// Ends, with their hash by the keys of a table.
 #[derive(Clone, Copy, PartialEq, Eq)]
@@ -36,12 +37,11 @@ impl Hash for HashedEnds {
 pub(crate) struct ByFiveTuple<V> {
     keys: RandomState,
     // What was looked up last: mostly it is looked up again.
-    latest: Option<HashedEnds>,
+    latest: HashedEnds,
     table: LruCache<HashedEnds, V>,
 }
 
 impl<V> Model for ByFiveTuple<V> {
-    ghost use Rattle.std.specs.Prelude.{IfSome};
     ghost use Rattle.lru.specs.LruCache.{LruCache as Entries, lru_cache};
     ghost use Rattle.connections.specs.ByFiveTuple.{unhashed, AreHashed, IsHashed};
     ghost use Rattle.connections.specs.declared.five_tuple.FiveTuple.{FiveTuple};
@@ -50,35 +50,44 @@ impl<V> Model for ByFiveTuple<V> {
 
     ghost view = { λ b. lru_cache (unhashed b.table.entries) b.table.cap };
 
-    ghost invariant = { λ b. AreHashed b.keys b.table.entries × IfSome b.latest (IsHashed b.keys) };
+    ghost invariant = { λ b. AreHashed b.keys b.table.entries × IsHashed b.keys b.latest };
 }
 
-/// Ends with their hash, which is made only where other ends were looked up last.
-#[tactic(auto, unfolding(crate::specs::ByFiveTuple::hash_of))]
-#[inline(always)]
-fn hashed_by(keys: &RandomState, latest: &Option<HashedEnds>, five_tuple: &FiveTuple) -> HashedEnds
-    requires { IfSome latest.now (IsHashed keys.now) }
-    ensures { result ≡ hashed_ends keys.now five_tuple.now }
-{
-    match latest {
-        Some(ends) if ends.five_tuple == *five_tuple => *ends,
-        _ => HashedEnds {
+impl HashedEnds {
+    /// These ends with their hash.
+    #[tactic(auto, unfolding(crate::specs::ByFiveTuple::hash_of))]
+    #[inline(always)]
+    fn new(keys: &RandomState, five_tuple: &FiveTuple) -> HashedEnds
+        ensures { result ≡ hashed_ends keys.now five_tuple.now }
+    {
+        HashedEnds {
             hash: keys.hash_one(*five_tuple),
             five_tuple: *five_tuple,
-        },
+        }
     }
-}
 
-/// Ends with their hash, which is made anew where other ends were looked up last.
-#[inline(always)]
-fn hashed(keys: &RandomState, latest: &mut Option<HashedEnds>, five_tuple: &FiveTuple) -> HashedEnds
-    requires { IfSome latest.old (IsHashed keys.now) }
-    ensures hashed { result ≡ hashed_ends keys.now five_tuple.now }
-    ensures latest { latest.new ≡ Some result }
-{
-    let ends = hashed_by(keys, latest, five_tuple);
-    *latest = Some(ends);
-    ends
+    /// The same, where these were looked up last: no hash is made for ends that are the same.
+    #[inline(always)]
+    fn known(&self, keys: &RandomState, five_tuple: &FiveTuple) -> HashedEnds
+        requires { IsHashed keys.now self.now }
+        ensures { result ≡ hashed_ends keys.now five_tuple.now }
+    {
+        if self.five_tuple == *five_tuple {
+            return *self;
+        }
+        HashedEnds::new(keys, five_tuple)
+    }
+
+    /// Becomes these ends with their hash, which is made only where it had others.
+    #[inline(always)]
+    fn change_to(&mut self, keys: &RandomState, five_tuple: &FiveTuple)
+        requires { IsHashed keys.now self.old }
+        ensures { self.new ≡ hashed_ends keys.now five_tuple.now }
+    {
+        if self.five_tuple != *five_tuple {
+            *self = HashedEnds::new(keys, five_tuple);
+        }
+    }
 }
 
 impl<V> ByFiveTuple<V> {
@@ -95,9 +104,14 @@ impl<V> ByFiveTuple<V> {
     pub(crate) fn new(alloc: Global, keys: RandomState) -> Result<ByFiveTuple<V>, AllocError>
         ensures { IfOk result (λ table. table ≡ lru_cache [] (2 ^ 64 - 1)) }
     {
+        let nobody = End {
+            address: IpAddr::V4(Ipv4Addr::UNSPECIFIED),
+            port: 0,
+        };
+        let five_tuple = FiveTuple::between(0, Protocol::Tcp, nobody, nobody);
         Ok(ByFiveTuple {
             keys,
-            latest: None,
+            latest: HashedEnds::new(&keys, &five_tuple),
             table: LruCache::unbounded(alloc)?,
         })
     }
@@ -114,7 +128,7 @@ impl<V> ByFiveTuple<V> {
     pub(crate) fn peek(&self, five_tuple: &FiveTuple) -> Option<&V>
         ensures { option_copied result ≡ lookup (is_five_tuple five_tuple.now) self.now.entries }
     {
-        let ends = hashed_by(&self.keys, &self.latest, five_tuple);
+        let ends = self.latest.known(&self.keys, five_tuple);
         self.table.peek(&ends)
     }
 
@@ -122,7 +136,7 @@ impl<V> ByFiveTuple<V> {
     pub(crate) fn contains(&self, five_tuple: &FiveTuple) -> bool
         ensures { result ≡ is_some (lookup (is_five_tuple five_tuple.now) self.now.entries) }
     {
-        let ends = hashed_by(&self.keys, &self.latest, five_tuple);
+        let ends = self.latest.known(&self.keys, five_tuple);
         self.table.contains(&ends)
     }
 
@@ -131,7 +145,8 @@ impl<V> ByFiveTuple<V> {
         ensures* writes_back { sem 𝓛 (lends_value V.row self.entry five_tuple.now self.old.entries result) }
         ensures value { option_copied_mut result ≡ lookup (is_five_tuple five_tuple.now) self.old.entries }
     {
-        let ends = hashed(&self.keys, &mut self.latest, five_tuple);
+        self.latest.change_to(&self.keys, five_tuple);
+        let ends = self.latest;
         let value = self.table.peek_mut(&ends)?;
         Some(value)
     }
@@ -141,7 +156,8 @@ impl<V> ByFiveTuple<V> {
         ensures* writes_back { sem 𝓛 (lends_value V.row self.entry five_tuple.now (promoted (is_five_tuple five_tuple.now) self.old.entries) result) }
         ensures value { option_copied_mut result ≡ lookup (is_five_tuple five_tuple.now) self.old.entries }
     {
-        let ends = hashed(&self.keys, &mut self.latest, five_tuple);
+        self.latest.change_to(&self.keys, five_tuple);
+        let ends = self.latest;
         let value = self.table.get_mut(&ends)?;
         Some(value)
     }
@@ -150,8 +166,8 @@ impl<V> ByFiveTuple<V> {
     pub(crate) fn promote(&mut self, five_tuple: &FiveTuple)
         ensures entries { self.new ≡ lru_cache (promoted (is_five_tuple five_tuple.now) self.old.entries) self.old.cap }
     {
-        let ends = hashed(&self.keys, &mut self.latest, five_tuple);
-        self.table.promote(&ends);
+        self.latest.change_to(&self.keys, five_tuple);
+        self.table.promote(&self.latest);
     }
 
     /// The one that stands first.
@@ -175,8 +191,8 @@ impl<V> ByFiveTuple<V> {
         ensures value { result ≡ lookup (is_five_tuple five_tuple.now) self.old.entries }
         ensures entries { self.new ≡ lru_cache (remove_entry (is_five_tuple five_tuple.now) self.old.entries) self.old.cap }
     {
-        let ends = hashed(&self.keys, &mut self.latest, five_tuple);
-        self.table.pop(&ends)
+        self.latest.change_to(&self.keys, five_tuple);
+        self.table.pop(&self.latest)
     }
 
     /// Takes out the one that stands last.
@@ -195,8 +211,8 @@ impl<V> ByFiveTuple<V> {
         ensures entries { OnOk result (self.new ≡ lru_cache (put_entries is_five_tuple self.old five_tuple value) self.old.cap) }
         ensures err { OnErr result (self.new ≡ self.old) }
     {
-        let ends = hashed(&self.keys, &mut self.latest, &five_tuple);
-        self.table.put(ends, value)?;
+        self.latest.change_to(&self.keys, &five_tuple);
+        self.table.put(self.latest, value)?;
         Ok(())
     }
 }
