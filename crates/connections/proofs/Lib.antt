@@ -3,3 +3,4 @@ pub mod EndLemmas
 pub mod StreamLemmas
 pub mod TableLemmas
 pub mod MemoryLemmas
+pub mod HashLemmas

@@ -1,6 +1,6 @@
 -- What the table ends as, once the connection that it lent is given back.
-use Rattle.std.specs.Prelude.{Option}
-use Rattle.lru.specs.LruCache.{promoted}
+use Rattle.std.specs.Prelude.{List, Option}
+use Rattle.lru.specs.LruCache.{LruCache, lru_cache, promoted}
 use Rattle.std.specs.Map.{set_value}
 use Rattle.std.specs.Borrow.{Fml, RattleType, MutBor, Lends, LendsIf}
 use Rattle.connections.specs.FiveTuple.{is_five_tuple}
@@ -8,8 +8,13 @@ use Rattle.connections.specs.Table.{Table}
 use Rattle.connections.specs.declared.five_tuple.FiveTuple.{FiveTuple}
 use Rattle.connections.specs.declared.connection.Connection.{Connection}
 use Rattle.connections.specs.contracts.boxed.Boxed as boxed
+use Rattle.connections.specs.contracts.by_five_tuple.ByFiveTuple as by_five_tuple
 use Rattle.connections.specs.contracts.connection.Connection as connection
 use Rattle.connections.specs.contracts.table.Connections as table
+
+-- What was written to the value under these ends stands among those entries; nothing changes where there is none.
+abbrev pub lends_value : (V : RattleType) → MutBor (LruCache FiveTuple V.Denot) → FiveTuple → List (FiveTuple × V.Denot) → Option (MutBor V.Denot) → Fml
+lends_value V t e xs r = LendsIf (by_five_tuple.the_row V) V t r (λ w. lru_cache (set_value (is_five_tuple e) xs w) t.now.cap) t.now
 
 -- What was written to it stands under its ends; all else stays, and all where there is none.
 abbrev pub lends_connection : (T : RattleType) → MutBor (Table T.Denot) → FiveTuple → Option (MutBor (Connection T.Denot)) → Fml

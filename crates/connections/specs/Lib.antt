@@ -11,4 +11,5 @@ pub mod Table
 pub mod Memory
 pub mod Traffic
 pub mod Dropped
+pub mod ByFiveTuple
 pub mod Lends

@@ -8,6 +8,7 @@
 #![tactic(auto)]
 
 mod boxed;
+mod by_five_tuple;
 mod connection;
 mod datagram;
 mod dropped;

@@ -4,11 +4,10 @@ ghost use Rattle.std.specs.Option.{option_map};
 ghost use Rattle.connections.specs.Table.{at, others};
 ghost use Rattle.connections.specs.Memory.{closed_count, closed_part, is_crowded as crowded, open_part, total, FitsClosed, IsAccounted, IsSettled, IsTakenOut};
 
+use crate::by_five_tuple::ByFiveTuple;
 use crate::connection::{Connection, Listener};
 use crate::five_tuple::FiveTuple;
 use crate::table::{CLOSED_COST, CLOSED_SHARE, Connections};
-use lru::LruCache;
-use std::hash::RandomState;
 
 /// For so many bytes all are accounted at most, more than there is memory.
 const MAX_HELD: usize = 0x7fff_ffff_ffff_ffff;
@@ -35,7 +34,7 @@ fn count_of_closed(limit: usize) -> usize
 }
 
 /// Forgets those that were closed first, until the others fit a limit.
-fn forget_crowded(closed: &mut LruCache<FiveTuple, u64, RandomState>, limit: usize)
+fn forget_crowded(closed: &mut ByFiveTuple<u64>, limit: usize)
     ensures fits { FitsClosed limit closed.old.entries closed.new.entries }
     ensures cap { closed.new.cap ≡ closed.old.cap }
 {

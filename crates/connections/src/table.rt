@@ -9,13 +9,13 @@ ghost use Rattle.connections.specs.Datagram.{five_tuple_of_datagram};
 ghost use Rattle.connections.specs.Lends.{lends_connection, lends_first};
 
 use crate::boxed::Boxed;
+use crate::by_five_tuple::ByFiveTuple;
 use crate::connection::{Connection, Listener, Verdict};
 use crate::datagram::Datagram;
 use crate::five_tuple::FiveTuple;
 use crate::receiver::Reason;
 use crate::segment::{Checksum, Segment};
 use crate::waiting::{Kept, Told};
-use lru::LruCache;
 use std::alloc::{AllocError, Global};
 use std::hash::RandomState;
 use std::marker::Model;
@@ -37,9 +37,9 @@ pub const CLOSED_COST: usize = 256;
 #[derive(Drop)]
 pub struct Connections<T> {
     alloc: Global,
-    pub(crate) live: LruCache<FiveTuple, Boxed<T>, RandomState>,
+    pub(crate) live: ByFiveTuple<Boxed<T>>,
     // Those that both sides ended, each with its last time. What still comes of them is left out.
-    pub(crate) closed: LruCache<FiveTuple, u64, RandomState>,
+    pub(crate) closed: ByFiveTuple<u64>,
     // For how many bytes those that are open are accounted together.
     pub(crate) held: usize,
 }
@@ -57,7 +57,7 @@ impl<T> Model for Connections<T> {
 
 /// Puts a value under these ends, in the place of what stood there.
 fn put_under<X: Drop>(
-    table: &mut LruCache<FiveTuple, X, RandomState>,
+    table: &mut ByFiveTuple<X>,
     five_tuple: FiveTuple,
     value: X,
 ) -> Result<(), AllocError>
@@ -80,7 +80,7 @@ fn is_over(time: u64, last_time: u64, count: usize) -> bool
 }
 
 /// Forgets those that had no packet for more than [`IDLE_LIMIT`], and the oldest where there are more than [`MAX_CONNECTIONS`].
-fn forget_idle(closed: &mut LruCache<FiveTuple, u64, RandomState>, time: u64)
+fn forget_idle(closed: &mut ByFiveTuple<u64>, time: u64)
     ensures forgotten { IsForgotten time closed.old.entries closed.new.entries }
     ensures none_to_forget { NoneToForget time closed.new.entries }
     ensures cap { closed.new.cap ≡ closed.old.cap }
@@ -100,8 +100,8 @@ impl<T: Listener> Connections<T> {
     {
         Ok(Connections {
             alloc,
-            live: LruCache::unbounded_with_hasher(alloc, keys)?,
-            closed: LruCache::unbounded_with_hasher(alloc, keys)?,
+            live: ByFiveTuple::new(alloc, keys)?,
+            closed: ByFiveTuple::new(alloc, keys)?,
             held: 0,
         })
     }

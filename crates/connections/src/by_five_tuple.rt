@@ -1,0 +1,218 @@
+//! A table by protocol and both ends, which makes the hash of ends once where they are looked up several times in a row.
+ghost use Rattle.std.specs.Prelude.{◌≡◌};
+ghost use Rattle.connections.specs.ByFiveTuple.{hashed_ends, IsHashed};
+
+use crate::five_tuple::{End, FiveTuple, Protocol};
+use lru::LruCache;
+use std::alloc::{AllocError, Global};
+use std::hash::{BuildHasher, Hash, Hasher, RandomState};
+use std::marker::Model;
+use std::net::{IpAddr, Ipv4Addr};
+
+/// Ends, with their hash by the keys of a table.
+#[derive(Clone, Copy, PartialEq, Eq)]
+struct HashedEnds {
+    hash: u64,
+    five_tuple: FiveTuple,
+}
+
+// The hash is keyed already, so the table hashes it alone.
+impl Hash for HashedEnds {
+    ghost use Rattle.std.specs.Hash as fed;
+    ghost use Rattle.std.proofs.Common.{rules};
+    ghost use Rattle.std.specs.Cmp.Rules.{hashing};
+
+    ghost hash_input = { λ e. fed.u64 e.hash };
+
+    ghost respects_eq = { Prim.search (hashing, rules) };
+
+    fn hash<H: Hasher>(&self, state: &mut H) {
+        self.hash.hash(state);
+    }
+}
+
+/// A table by ends, the one that was used last first, as a [`LruCache`] has it. Nobody who doesn't know the keys of its hashes can choose ends whose hashes
+/// are the same.
+#[derive(Drop)]
+pub(crate) struct ByFiveTuple<V> {
+    keys: RandomState,
+    // What was looked up last: mostly it is looked up again.
+    latest: HashedEnds,
+    table: LruCache<HashedEnds, V>,
+}
+
+impl<V> Model for ByFiveTuple<V> {
+    ghost use Rattle.lru.specs.LruCache.{LruCache as Entries, lru_cache};
+    ghost use Rattle.connections.specs.ByFiveTuple.{unhashed, AreHashed, IsHashed};
+    ghost use Rattle.connections.specs.declared.five_tuple.FiveTuple.{FiveTuple};
+
+    ghost Value = { Entries FiveTuple V };
+
+    ghost view = { λ b. lru_cache (unhashed b.table.entries) b.table.cap };
+
+    ghost invariant = { λ b. AreHashed b.keys b.table.entries × IsHashed b.keys b.latest };
+}
+
+impl HashedEnds {
+    /// These ends with their hash.
+    #[tactic(auto, unfolding(crate::specs::ByFiveTuple::hash_of))]
+    #[inline(always)]
+    fn new(keys: &RandomState, five_tuple: &FiveTuple) -> HashedEnds
+        ensures { result ≡ hashed_ends keys.now five_tuple.now }
+    {
+        HashedEnds {
+            hash: keys.hash_one(*five_tuple),
+            five_tuple: *five_tuple,
+        }
+    }
+
+    /// The same, where these were looked up last: no hash is made for ends that are the same.
+    #[inline(always)]
+    fn known(&self, keys: &RandomState, five_tuple: &FiveTuple) -> HashedEnds
+        requires { IsHashed keys.now self.now }
+        ensures { result ≡ hashed_ends keys.now five_tuple.now }
+    {
+        if self.five_tuple == *five_tuple {
+            return *self;
+        }
+        HashedEnds::new(keys, five_tuple)
+    }
+
+    /// Becomes these ends with their hash, which is made only where it had others.
+    #[inline(always)]
+    fn change_to(&mut self, keys: &RandomState, five_tuple: &FiveTuple)
+        requires { IsHashed keys.now self.old }
+        ensures { self.new ≡ hashed_ends keys.now five_tuple.now }
+    {
+        if self.five_tuple != *five_tuple {
+            *self = HashedEnds::new(keys, five_tuple);
+        }
+    }
+}
+
+impl<V> ByFiveTuple<V> {
+    ghost use Rattle.std.specs.Prelude.{◌-◌, ◌^◌, ◌<◌, [], length, take, slice_get, is_some, option_map, option_copied, IfOk, OnOk, OnErr};
+    ghost use Rattle.std.specs.Borrow.{sem};
+    ghost use Rattle.std.specs.Map.{lookup, remove_entry};
+    ghost use Rattle.std.specs.Map.Iter.{deref_pair};
+    ghost use Rattle.std.specs.Option.{option_copied_mut};
+    ghost use Rattle.lru.specs.LruCache.{last_entry, lru_cache, promoted, put_entries};
+    ghost use Rattle.connections.specs.FiveTuple.{is_five_tuple};
+    ghost use Rattle.connections.specs.Lends.{lends_value};
+
+    /// None, and as many as there is memory for. The keys are for the hashes.
+    pub(crate) fn new(alloc: Global, keys: RandomState) -> Result<ByFiveTuple<V>, AllocError>
+        ensures { IfOk result (λ table. table ≡ lru_cache [] (2 ^ 64 - 1)) }
+    {
+        let nobody = End {
+            address: IpAddr::V4(Ipv4Addr::UNSPECIFIED),
+            port: 0,
+        };
+        let five_tuple = FiveTuple::between(0, Protocol::Tcp, nobody, nobody);
+        Ok(ByFiveTuple {
+            keys,
+            latest: HashedEnds::new(&keys, &five_tuple),
+            table: LruCache::unbounded(alloc)?,
+        })
+    }
+
+    /// How many there are.
+    pub(crate) fn len(&self) -> usize
+        ensures len { result ≡ length self.now.entries }
+        ensures fits { result < 2 ^ 63 }
+    {
+        self.table.len()
+    }
+
+    /// The value under these ends.
+    pub(crate) fn peek(&self, five_tuple: &FiveTuple) -> Option<&V>
+        ensures { option_copied result ≡ lookup (is_five_tuple five_tuple.now) self.now.entries }
+    {
+        let ends = self.latest.known(&self.keys, five_tuple);
+        self.table.peek(&ends)
+    }
+
+    /// Whether there is one.
+    pub(crate) fn contains(&self, five_tuple: &FiveTuple) -> bool
+        ensures { result ≡ is_some (lookup (is_five_tuple five_tuple.now) self.now.entries) }
+    {
+        let ends = self.latest.known(&self.keys, five_tuple);
+        self.table.contains(&ends)
+    }
+
+    /// The value under these ends to write to, which stays in its place.
+    pub(crate) fn peek_mut(&mut self, five_tuple: &FiveTuple) -> Option<&mut V>
+        ensures* writes_back { sem 𝓛 (lends_value V.row self.entry five_tuple.now self.old.entries result) }
+        ensures value { option_copied_mut result ≡ lookup (is_five_tuple five_tuple.now) self.old.entries }
+    {
+        self.latest.change_to(&self.keys, five_tuple);
+        let ends = self.latest;
+        let value = self.table.peek_mut(&ends)?;
+        Some(value)
+    }
+
+    /// The same, which stands first then.
+    pub(crate) fn get_mut(&mut self, five_tuple: &FiveTuple) -> Option<&mut V>
+        ensures* writes_back { sem 𝓛 (lends_value V.row self.entry five_tuple.now (promoted (is_five_tuple five_tuple.now) self.old.entries) result) }
+        ensures value { option_copied_mut result ≡ lookup (is_five_tuple five_tuple.now) self.old.entries }
+    {
+        self.latest.change_to(&self.keys, five_tuple);
+        let ends = self.latest;
+        let value = self.table.get_mut(&ends)?;
+        Some(value)
+    }
+
+    /// Lets what is under these ends stand first.
+    pub(crate) fn promote(&mut self, five_tuple: &FiveTuple)
+        ensures entries { self.new ≡ lru_cache (promoted (is_five_tuple five_tuple.now) self.old.entries) self.old.cap }
+    {
+        self.latest.change_to(&self.keys, five_tuple);
+        self.table.promote(&self.latest);
+    }
+
+    /// The one that stands first.
+    pub(crate) fn peek_mru(&self) -> Option<(&FiveTuple, &V)>
+        ensures { option_map deref_pair result ≡ slice_get self.now.entries 0 }
+    {
+        let (ends, value) = self.table.peek_mru()?;
+        Some((&ends.five_tuple, value))
+    }
+
+    /// The one that stands last.
+    pub(crate) fn peek_lru(&self) -> Option<(&FiveTuple, &V)>
+        ensures { option_map deref_pair result ≡ last_entry self.now.entries }
+    {
+        let (ends, value) = self.table.peek_lru()?;
+        Some((&ends.five_tuple, value))
+    }
+
+    /// Takes out what is under these ends.
+    pub(crate) fn pop(&mut self, five_tuple: &FiveTuple) -> Option<V>
+        ensures value { result ≡ lookup (is_five_tuple five_tuple.now) self.old.entries }
+        ensures entries { self.new ≡ lru_cache (remove_entry (is_five_tuple five_tuple.now) self.old.entries) self.old.cap }
+    {
+        self.latest.change_to(&self.keys, five_tuple);
+        self.table.pop(&self.latest)
+    }
+
+    /// Takes out the one that stands last.
+    pub(crate) fn pop_lru(&mut self) -> Option<(FiveTuple, V)>
+        ensures value { result ≡ last_entry self.old.entries }
+        ensures entries { self.new ≡ lru_cache (take (length self.old.entries - 1) self.old.entries) self.old.cap }
+    {
+        let (ends, value) = self.table.pop_lru()?;
+        Some((ends.five_tuple, value))
+    }
+
+    /// Puts a value under these ends, which stands first then.
+    pub(crate) fn put(&mut self, five_tuple: FiveTuple, value: V) -> Result<(), AllocError>
+    where
+        V: Drop,
+        ensures entries { OnOk result (self.new ≡ lru_cache (put_entries is_five_tuple self.old five_tuple value) self.old.cap) }
+        ensures err { OnErr result (self.new ≡ self.old) }
+    {
+        self.latest.change_to(&self.keys, &five_tuple);
+        self.table.put(self.latest, value)?;
+        Ok(())
+    }
+}
