@@ -1,4 +1,4 @@
-//! A table by protocol and both ends, which makes the hash of ends once where they are looked up several times in a row.
+//! A table by the ends of connections, which makes a hash once where the same ends are looked up several times in a row.
 ghost use Rattle.std.specs.Prelude.{◌≡◌};
 ghost use Rattle.connections.specs.ByFiveTuple.{hashed_ends, IsHashed};
 
@@ -16,7 +16,7 @@ struct HashedEnds {
     five_tuple: FiveTuple,
 }
 
-// The hash is keyed already, so the table hashes it alone.
+// The table hashes that number alone: since it is keyed, nobody else can choose it.
 impl Hash for HashedEnds {
     ghost use Rattle.std.specs.Hash as fed;
     ghost use Rattle.std.proofs.Common.{rules};
@@ -31,12 +31,47 @@ impl Hash for HashedEnds {
     }
 }
 
-/// A table by ends, the one that was used last first, as a [`LruCache`] has it. Nobody who doesn't know the keys of its hashes can choose ends whose hashes
-/// are the same.
+impl HashedEnds {
+    /// These ends with their hash.
+    #[tactic(auto, unfolding(crate::specs::ByFiveTuple::hash_of))]
+    fn new(keys: &RandomState, five_tuple: &FiveTuple) -> HashedEnds
+        ensures { result ≡ hashed_ends keys.now five_tuple.now }
+    {
+        HashedEnds {
+            hash: keys.hash_one(*five_tuple),
+            five_tuple: *five_tuple,
+        }
+    }
+
+    /// The same: where these are the ends, no hash is made.
+    #[inline(always)]
+    fn known(&self, keys: &RandomState, five_tuple: &FiveTuple) -> HashedEnds
+        requires { IsHashed keys.now self.now }
+        ensures { result ≡ hashed_ends keys.now five_tuple.now }
+    {
+        if self.five_tuple == *five_tuple {
+            return *self;
+        }
+        HashedEnds::new(keys, five_tuple)
+    }
+
+    /// Lets them be these ends with their hash, which is made only where they are others.
+    #[inline(always)]
+    fn change_to(&mut self, keys: &RandomState, five_tuple: &FiveTuple)
+        requires { IsHashed keys.now self.old }
+        ensures { self.new ≡ hashed_ends keys.now five_tuple.now }
+    {
+        if self.five_tuple != *five_tuple {
+            *self = HashedEnds::new(keys, five_tuple);
+        }
+    }
+}
+
+/// A table by ends, as a [`LruCache`]: the one that was used last stands first. A clause sees that cache, without the hashes.
 #[derive(Drop)]
 pub(crate) struct ByFiveTuple<V> {
     keys: RandomState,
-    // What was looked up last: mostly it is looked up again.
+    // Those that were looked up last: a packet's ends are looked up several times.
     latest: HashedEnds,
     table: LruCache<HashedEnds, V>,
 }
@@ -53,43 +88,6 @@ impl<V> Model for ByFiveTuple<V> {
     ghost invariant = { λ b. AreHashed b.keys b.table.entries × IsHashed b.keys b.latest };
 }
 
-impl HashedEnds {
-    /// These ends with their hash.
-    #[tactic(auto, unfolding(crate::specs::ByFiveTuple::hash_of))]
-    #[inline(always)]
-    fn new(keys: &RandomState, five_tuple: &FiveTuple) -> HashedEnds
-        ensures { result ≡ hashed_ends keys.now five_tuple.now }
-    {
-        HashedEnds {
-            hash: keys.hash_one(*five_tuple),
-            five_tuple: *five_tuple,
-        }
-    }
-
-    /// The same, where these were looked up last: no hash is made for ends that are the same.
-    #[inline(always)]
-    fn known(&self, keys: &RandomState, five_tuple: &FiveTuple) -> HashedEnds
-        requires { IsHashed keys.now self.now }
-        ensures { result ≡ hashed_ends keys.now five_tuple.now }
-    {
-        if self.five_tuple == *five_tuple {
-            return *self;
-        }
-        HashedEnds::new(keys, five_tuple)
-    }
-
-    /// Becomes these ends with their hash, which is made only where it had others.
-    #[inline(always)]
-    fn change_to(&mut self, keys: &RandomState, five_tuple: &FiveTuple)
-        requires { IsHashed keys.now self.old }
-        ensures { self.new ≡ hashed_ends keys.now five_tuple.now }
-    {
-        if self.five_tuple != *five_tuple {
-            *self = HashedEnds::new(keys, five_tuple);
-        }
-    }
-}
-
 impl<V> ByFiveTuple<V> {
     ghost use Rattle.std.specs.Prelude.{◌-◌, ◌^◌, ◌<◌, [], length, take, slice_get, is_some, option_map, option_copied, IfOk, OnOk, OnErr};
     ghost use Rattle.std.specs.Borrow.{sem};
@@ -104,6 +102,7 @@ impl<V> ByFiveTuple<V> {
     pub(crate) fn new(alloc: Global, keys: RandomState) -> Result<ByFiveTuple<V>, AllocError>
         ensures { IfOk result (λ table. table ≡ lru_cache [] (2 ^ 64 - 1)) }
     {
+        // (any ends will do until some are looked up)
         let nobody = End {
             address: IpAddr::V4(Ipv4Addr::UNSPECIFIED),
             port: 0,
@@ -146,6 +145,7 @@ impl<V> ByFiveTuple<V> {
         ensures value { option_copied_mut result ≡ lookup (is_five_tuple five_tuple.now) self.old.entries }
     {
         self.latest.change_to(&self.keys, five_tuple);
+        // (a copy, so that the table alone is lent)
         let ends = self.latest;
         let value = self.table.peek_mut(&ends)?;
         Some(value)

@@ -13,8 +13,8 @@ const SMALLEST: usize = 67_108_864;
 /// What is taken besides the connections, in bytes, at most: by the buffers that captures are read into, by lines, and by the program.
 const REST: usize = 8_388_608;
 
-// A connection with its entry in the table takes no more than it is accounted for: the entry has its ends, two links, a pointer to the connection and a place in a
-// map, and each of both blocks what the allocator takes.
+// A connection with its entry in the table takes no more than it is accounted for: the entry has its ends and their hash, two links, a pointer to the connection and a
+// place in a map, and each of both blocks what the allocator takes.
 const _: () = prove!(
     size_of::<Connection<Listener>>() + size_of::<FiveTuple>() + 192 <= CONNECTION_COST + HEARD_COST
 );

@@ -30,5 +30,5 @@ returns g c =
     let written = λ (w : g.row.V.Denot). set_value-unhashed keys e ends is (promoted (test keys e ends is) xs) w (AreHashed-promoted keys e ends is xs c.self.invariant.0) ∙ ap (λ l. set_value (is_five_tuple e) l w) (promoted-unhashed keys e ends is xs c.self.invariant.0) in
     rw (← c.self.view_is) (
       (λ i. inl (c.in_ok-value.value.ghost_name, λ w. ap (λ es. lru_cache es cap) (written w) i)),
-      record { writes_back = tt; value = c.in_ok-value.ensures.value ∙ lookup-unhashed keys e ends is xs c.self.invariant.0 },
+      record { writes_back = tt; value = rw (← lookup-unhashed keys e ends is xs c.self.invariant.0) c.in_ok-value.ensures.value },
     )

@@ -26,5 +26,5 @@ returns g c =
     let ends = c.change_to.new.self in let is = c.change_to.ensures in let keys = c.self.inside.keys in let e = c.args.five_tuple.now in let xs = c.self.inside.table.entries in let cap = c.self.inside.table.cap in
     rw (← c.self.view_is) (
       (λ i. inl (c.in_ok-value.value.ghost_name, λ w. ap (λ es. lru_cache es cap) (set_value-unhashed keys e ends is xs w c.self.invariant.0) i)),
-      record { writes_back = tt; value = c.in_ok-value.ensures.value ∙ lookup-unhashed keys e ends is xs c.self.invariant.0 },
+      record { writes_back = tt; value = rw (← lookup-unhashed keys e ends is xs c.self.invariant.0) c.in_ok-value.ensures.value },
     )
