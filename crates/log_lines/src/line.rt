@@ -92,8 +92,8 @@ fn tell_end<'a, T: TakesCell<'a>>(
 }
 
 /// The same as a cell.
-pub fn end_cell<'a>(moment: Moment<'_>, field: &End) -> Result<Option<Cell<'a>>, AllocError> {
-    let mut kept = KeptCell { cell: None };
+pub fn end_cell(moment: Moment<'_>, field: &End) -> Result<Option<Cell<'static>>, AllocError> {
+    let mut kept: KeptCell<'static> = KeptCell { cell: None };
     tell_end(moment, field, &mut kept)?;
     Ok(kept.cell)
 }
