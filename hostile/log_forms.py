@@ -10,11 +10,12 @@ import shlex
 import shutil
 import subprocess
 from collections import Counter
-from collections.abc import Iterable
+from collections.abc import Callable, Iterable
+from dataclasses import replace
 from pathlib import Path
 from typing import Any
 
-from hostile import exchange_fields, identifiers
+from hostile import exchange_fields, identifiers, packets
 from hostile.shapes import Ask, Line
 
 TOP = Path(__file__).resolve().parent.parent
@@ -30,6 +31,11 @@ c030:TLS_ECDHE_RSA_WITH_AES_256_GCM_SHA384:ECDHE:RSA
 """
 OF_MESSAGES = "ts uid id.orig_h id.orig_p id.resp_h id.resp_p proto side place content_type name message".split()
 CHANGE, ALERT, HANDSHAKE, HEARTBEAT = 20, 21, 22, 24
+# More than are kept of a kind.
+MANY = 100
+# What another suite, and what another serial number, changes in a line.
+OF_SUITES = "client_ciphers ja3 ja3_string ja4".split()
+OF_SERIAL = "serial cert_chain_fps".split()
 
 
 class Wrong(Exception):
@@ -242,11 +248,60 @@ def many_captures(program: Path, ask: Ask, files: list[Path], room: Path) -> int
     return len(files)
 
 
+def with_suite(s: packets.Segment, number: int) -> packets.Segment:
+    """The segment, where it begins with a ClientHello with another suite in front of the others' (RFC 8446, section 4.1.2)."""
+    if s.payload[:1] != b"\x16" or s.payload[5:6] != b"\x01":
+        return s
+    at = 5 + 4 + 2 + 32
+    at += 1 + s.payload[at] + 2
+    return replace(s, payload=s.payload[:at] + number.to_bytes(2, "big") + s.payload[at + 2 :])
+
+
+def others(ask: Ask, file: Path, room: Path, change: Callable[[packets.Segment, int], packets.Segment]) -> list[Line]:
+    """The lines of a capture of one connection that is changed by each of so many numbers, twice in one run."""
+    made = []
+    for number in range(MANY):
+        made.append(room / f"{number}.pcap")
+        made[-1].write_bytes(packets.pcap([(s.time, change(s, number).frame()) for s in packets.read(file.read_bytes())]))
+    status, text, _ = ask([*made, *made])
+    rows = [json.loads(row) for row in text.splitlines()]
+    want(status == 0 and len(rows) == 2 * MANY, "changed", file, status, len(rows))
+    want(rows[:MANY] == rows[MANY:], "changed", file, "not the same when it comes again")
+    return rows[:MANY]
+
+
+def told_again(ask: Ask, files: list[Path], lines: list[Line], room: Path) -> int:
+    """What a line says of a list or a certificate of which a line before told: all captures twice in one run, fields of certificates apart from one another, and
+    more suites and certificates than are kept."""
+    status, text, _ = ask([*files, *files])
+    want(status == 0 and [json.loads(row) for row in text.splitlines()] == [*lines, *lines], "twice in one run:", status, text[-300:])
+    for names in ("subject ts issuer serial client_issuer", "client_subject subject client_issuer", "client_ciphers sigalgs", "ts ssl_client_exts"):
+        status, text, _ = ask(["--fields", names.replace(" ", ","), *files])
+        wanted = [[(name, line[name]) for name in names.split() if name in line] for line in lines]
+        want(status == 0 and [list(json.loads(row).items()) for row in text.splitlines()] == wanted, names, status, text[-300:])
+    [(file, line)] = [(file, line) for file in files if file.stem == "openssl_rsa" for line in lines_of(ask, file)[:1]]
+    for number, row in enumerate(others(ask, file, room, with_suite)):
+        want(row["client_ciphers"] == [f"0x{number:04x}", *line["client_ciphers"][1:]], "suites:", row)
+        want(all(row[name] == line[name] for name in row if name not in OF_SUITES), "another suite:", row)
+    serial = bytes.fromhex(line["serial"])
+    digits = lambda number: serial[:-2] + number.to_bytes(2, "big")  # noqa: E731
+    rows = others(ask, file, room, lambda s, number: replace(s, payload=s.payload.replace(serial, digits(number))))
+    for number, row in enumerate(rows):
+        want(row["serial"].lower() == digits(number).hex(), "serial number:", number, row)
+        want(all(row[name] == line[name] for name in row if name not in OF_SERIAL), "another serial number:", row)
+    return 2 * MANY
+
+
+def lines_of(ask: Ask, file: Path) -> list[Line]:
+    return [json.loads(row) for row in ask([file])[1].splitlines()]
+
+
 def check(program: Path, ask: Ask, files: list[Path], lines: list[Line], room: Path) -> None:
     """All of them. `ask` runs the program on arguments: its status, output and error output."""
     count = fields(ask, files, lines)
     suites(ask, files, lines, room)
     print(f"logs: {count} fields alone, in another order and as comma-separated values, and names of suites, are as they are stored")
+    print(f"logs: {told_again(ask, files, lines, room)} hellos and certificates that differ in a number, and all captures, say the same when they come again")
     print(f"logs: {len(lines)} lines have the identifiers that hashlib makes, and {identified(ask, files, lines)} of messages and certificates that of their connection")
     count, with_fields = messages(ask, files)
     print(f"logs: {count} messages are those that tshark has, with their places, also as comma-separated values; {with_fields} of them have the "

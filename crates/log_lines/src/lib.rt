@@ -11,6 +11,8 @@ mod chains;
 mod columns;
 mod fields;
 mod hellos;
+mod json_line;
+mod known_texts;
 mod line;
 mod lists;
 mod names;

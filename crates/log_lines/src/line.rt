@@ -6,7 +6,6 @@ use crate::fields::{Carried, Course, End, FIELDS, Field, Named, Sent, rows};
 use crate::hellos::{other_names_cell, tell_answer, tell_chain, tell_offer};
 use crate::lists::{Numbers, Texts, some_numbers, some_texts};
 use crate::names::{REASONS, outcome_name, reason_name, tunnel_name};
-use crate::objects::{LINE_LEN, Object};
 use crate::prints::tell_print;
 use crate::style::Style;
 use crate::summary::Summary;
@@ -208,7 +207,7 @@ fn own_cell<'a>(
 }
 
 /// Has what one field says of a connection taken.
-fn tell<'a, T: TakesCell<'a>>(
+pub fn tell<'a, T: TakesCell<'a>>(
     told: &mut Told<'a>,
     field: &Field,
     to: &mut T,
@@ -255,48 +254,4 @@ pub fn row_of<'a>(
         }
     }
     Ok(Row { cells })
-}
-
-/// Adds what a field says to an object of JSON, under its name; nothing where it is missing.
-#[derive(Drop)]
-struct Adds<'o> {
-    line: &'o mut Object,
-    name: &'static str,
-}
-
-impl<'a> TakesCell<'a> for Adds<'_> {
-    #[inline(always)]
-    fn take(&mut self, cell: Option<Cell<'a>>) -> Result<(), AllocError> {
-        match cell {
-            Some(cell) => self.line.add(self.name, &cell),
-            None => Ok(()),
-        }
-    }
-
-    #[inline(always)]
-    fn take_told(&mut self, cell: Result<Option<Cell<'a>>, AllocError>) -> Result<(), AllocError> {
-        self.take(cell?)
-    }
-}
-
-/// The same as an object of JSON, in which what is missing is left out, in that memory. Each field is written as soon as it is told.
-pub fn json_line<'a>(
-    alloc: Global,
-    style: &'a Style,
-    places: &[usize],
-    summary: &'a Summary<'a>,
-    room: Vec<u8>,
-) -> Result<Vec<u8>, AllocError> {
-    let mut told = Told::new(alloc, style, summary);
-    let mut line = Object::over(alloc, room, LINE_LEN)?;
-    for place in places {
-        if let Some((name, _, field)) = FIELDS.get(*place) {
-            let mut adds = Adds {
-                line: &mut line,
-                name: *name,
-            };
-            tell(&mut told, field, &mut adds)?;
-        }
-    }
-    line.into_bytes()
 }

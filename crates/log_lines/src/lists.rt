@@ -145,6 +145,19 @@ impl Texts<'_> {
         }
     }
 
+    /// Whether they are told by numbers of 2 bytes alone.
+    pub fn are_numbers(&self) -> bool {
+        matches!(
+            self,
+            Texts::Versions(_)
+                | Texts::Types(_)
+                | Texts::Groups(_)
+                | Texts::Schemes(_)
+                | Texts::Shares(_)
+                | Texts::Suites(_, _)
+        )
+    }
+
     /// Hands them on, one after the other.
     pub fn hand<T: TakesTexts>(&self, taker: &mut T) -> Result<(), T::Error> {
         match self {

@@ -3,6 +3,7 @@ use json::Writer;
 use serde::{Case, NameKind, Serialize, Serializer};
 use std::alloc::{AllocError, Global};
 use std::fmt::{Display, Write};
+use std::mem;
 
 /// Most lines of JSON are no longer than so many bytes.
 pub const LINE_LEN: usize = 4096;
@@ -212,6 +213,17 @@ impl Json {
         let Json { out, .. } = self;
         out.into_inner()
     }
+
+    /// What was written, of which nothing is left here.
+    fn take_bytes(&mut self, alloc: Global) -> Vec<u8> {
+        let out = mem::replace(&mut self.out, Writer::new(Vec::new(alloc)));
+        out.into_inner()
+    }
+
+    /// Goes on behind these bytes, without a comma.
+    fn go_on(&mut self, bytes: Vec<u8>) {
+        self.out = Writer::new(bytes);
+    }
 }
 
 /// An object whose fields are added one by one.
@@ -235,11 +247,59 @@ impl Object {
         in_memory(value.serialize(&mut self.json))
     }
 
+    /// Adds a field whose value stands as JSON already.
+    pub fn add_written(
+        &mut self,
+        alloc: Global,
+        name: &str,
+        value: &[u8],
+    ) -> Result<(), AllocError> {
+        in_memory(self.json.key(name))?;
+        let mut bytes = self.json.take_bytes(alloc);
+        bytes.extend_from_slice(value)?;
+        bytes.push(b',')?;
+        self.json.go_on(bytes);
+        Ok(())
+    }
+
+    /// Adds fields that stand as JSON already, with a comma between each two.
+    pub fn add_fields(&mut self, alloc: Global, fields: &[u8]) -> Result<(), AllocError> {
+        if fields.is_empty() {
+            return Ok(());
+        }
+        let mut bytes = self.json.take_bytes(alloc);
+        if !matches!(bytes.last(), Some(b'{' | b',')) {
+            bytes.push(b',')?;
+        }
+        bytes.extend_from_slice(fields)?;
+        bytes.push(b',')?;
+        self.json.go_on(bytes);
+        Ok(())
+    }
+
+    /// What was written, without a comma at its end: no value ends in one.
+    fn into_front(self) -> Vec<u8> {
+        let mut bytes = self.json.into_bytes();
+        if matches!(bytes.last(), Some(b',')) {
+            bytes.pop();
+        }
+        bytes
+    }
+
     /// The object as JSON.
     pub fn into_bytes(self) -> Result<Vec<u8>, AllocError> {
-        let mut json = self.json;
-        in_memory(json.end_map())?;
-        Ok(json.into_bytes())
+        let mut bytes = self.into_front();
+        bytes.push(b'}')?;
+        Ok(bytes)
+    }
+
+    /// Its fields as JSON, without the braces.
+    pub fn into_fields(self) -> Vec<u8> {
+        let mut bytes = self.into_front();
+        if !bytes.is_empty() {
+            bytes.remove(0);
+        }
+        bytes
     }
 }
 

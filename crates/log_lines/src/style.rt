@@ -3,7 +3,9 @@ use crate::cell::{Cell, Row};
 use crate::chains::Presented;
 use crate::columns::{Column, DETAILS, PARTS};
 use crate::fields::FIELDS;
-use crate::line::{json_line, row_of};
+use crate::json_line::json_line;
+use crate::known_texts::KnownTexts;
+use crate::line::row_of;
 use crate::objects::{LINE_LEN, json_bytes, json_text};
 use crate::presented::certificate_row;
 use crate::speech::Spoken;
@@ -64,6 +66,8 @@ pub struct Style {
     pub suites: Suites,
     /// Digests of fingerprints that were made for lines. A line takes them out while it tells of one.
     pub digests: RefCell<KnownDigests>,
+    /// What was written of lists and certificates in lines of JSON.
+    pub texts: RefCell<KnownTexts>,
 }
 
 /// Why no such lines can be printed.
@@ -301,6 +305,7 @@ impl Style {
             lines: Lines::new(alloc, kind, names)?,
             suites,
             digests: RefCell::new(KnownDigests::new(alloc)),
+            texts: RefCell::new(KnownTexts::new(alloc)),
         })
     }
 

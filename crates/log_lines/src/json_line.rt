@@ -1,0 +1,167 @@
+//! The line of a connection as an object of JSON. Each field is written as soon as it is told; what was written of the same list or certificate before is copied.
+use crate::cell::{Cell, TakesCell};
+use crate::fields::{FIELDS, Field};
+use crate::known_texts::KnownTexts;
+use crate::line::tell;
+use crate::lists::Texts;
+use crate::objects::{LINE_LEN, Object, json_bytes};
+use crate::style::Style;
+use crate::summary::Summary;
+use crate::told::Told;
+use std::alloc::{AllocError, Global};
+use std::cell::RefCell;
+
+/// Most lists, and most of what is told of a certificate, are no longer than so many bytes.
+const PART_LEN: usize = 512;
+
+/// Adds what a field says to an object of JSON, under its name; nothing where it is missing.
+#[derive(Drop)]
+struct Adds<'o> {
+    alloc: Global,
+    line: &'o mut Object,
+    name: &'static str,
+    known: &'o RefCell<KnownTexts>,
+}
+
+impl Adds<'_> {
+    /// Adds a list: what was written of it before, if that is known.
+    fn add_texts(&mut self, texts: &Texts<'_>) -> Result<(), AllocError> {
+        if let Ok(known) = self.known.try_borrow() {
+            if let Some(text) = known.list(texts) {
+                return self.line.add_written(self.alloc, self.name, text);
+            }
+        }
+        if !texts.are_numbers() {
+            return self.line.add(self.name, texts);
+        }
+        let text = json_bytes(self.alloc, texts, PART_LEN)?;
+        self.line
+            .add_written(self.alloc, self.name, text.as_slice())?;
+        // Where memory to keep it is refused, the line stands all the same.
+        if let Ok(mut known) = self.known.try_borrow_mut() {
+            let _kept = known.keep_list(self.alloc, texts, text.as_slice());
+        }
+        Ok(())
+    }
+}
+
+impl<'a> TakesCell<'a> for Adds<'_> {
+    #[inline(always)]
+    fn take(&mut self, cell: Option<Cell<'a>>) -> Result<(), AllocError> {
+        match cell {
+            Some(Cell::Texts(texts)) => self.add_texts(&texts),
+            Some(cell) => self.line.add(self.name, &cell),
+            None => Ok(()),
+        }
+    }
+
+    #[inline(always)]
+    fn take_told(&mut self, cell: Result<Option<Cell<'a>>, AllocError>) -> Result<(), AllocError> {
+        self.take(cell?)
+    }
+}
+
+/// Adds what a field of that name says.
+#[inline(always)]
+fn add_field<'a>(
+    told: &mut Told<'a>,
+    known: &RefCell<KnownTexts>,
+    name: &'static str,
+    field: &Field,
+    line: &mut Object,
+) -> Result<(), AllocError> {
+    let mut adds = Adds {
+        alloc: told.alloc,
+        line,
+        name,
+        known,
+    };
+    tell(told, field, &mut adds)
+}
+
+/// The bytes of the certificate that a field is of, if it is of one that was sent.
+fn certificate_of_field<'a>(told: &Told<'a>, field: &Field) -> Option<&'a [u8]> {
+    match field {
+        Field::ServerCertificate(_) => told.handshake.server_certificate.as_deref(),
+        Field::ClientCertificate(_) => told.handshake.client_certificate.as_deref(),
+        _ => None,
+    }
+}
+
+/// Whether a field is of the same side's certificate as another.
+fn is_beside(field: &Field, other: &Field) -> bool {
+    matches!(
+        (field, other),
+        (Field::ServerCertificate(_), Field::ServerCertificate(_))
+            | (Field::ClientCertificate(_), Field::ClientCertificate(_))
+    )
+}
+
+/// The places in front whose fields are of the same side's certificate as this one.
+fn places_beside<'p>(field: &Field, places: &'p [usize]) -> &'p [usize] {
+    let same = places.iter().take_while(|place| match FIELDS.get(**place) {
+        Some((_, _, other)) => is_beside(field, other),
+        None => false,
+    });
+    let count = same.count();
+    places.get(..count).unwrap_or(places)
+}
+
+/// Adds what the fields at these places say of a certificate: what was written of it before, if that is known.
+fn add_certificate<'a>(
+    told: &mut Told<'a>,
+    known: &RefCell<KnownTexts>,
+    places: &[usize],
+    certificate: &[u8],
+    line: &mut Object,
+) -> Result<(), AllocError> {
+    let alloc = told.alloc;
+    if let Ok(known) = known.try_borrow() {
+        if let Some(text) = known.certificate(places, certificate) {
+            return line.add_fields(alloc, text);
+        }
+    }
+    let mut part = Object::over(alloc, Vec::new(alloc), PART_LEN)?;
+    for place in places {
+        if let Some((name, _, field)) = FIELDS.get(*place) {
+            add_field(told, known, *name, field, &mut part)?;
+        }
+    }
+    let text = part.into_fields();
+    line.add_fields(alloc, text.as_slice())?;
+    if let Ok(mut known) = known.try_borrow_mut() {
+        let _kept = known.keep_certificate(alloc, places, certificate, text.as_slice());
+    }
+    Ok(())
+}
+
+/// The line of a connection, with the fields at these places of [`FIELDS`], in which what is missing is left out, in that memory.
+pub fn json_line<'a>(
+    alloc: Global,
+    style: &'a Style,
+    places: &[usize],
+    summary: &'a Summary<'a>,
+    room: Vec<u8>,
+) -> Result<Vec<u8>, AllocError> {
+    let mut told = Told::new(alloc, style, summary);
+    let mut line = Object::over(alloc, room, LINE_LEN)?;
+    // So many fields are told.
+    let mut count = 0;
+    for (at, place) in places.iter().enumerate() {
+        let Some((name, _, field)) = FIELDS.get(*place) else {
+            continue;
+        };
+        if at < count {
+            continue;
+        }
+        match certificate_of_field(&told, field) {
+            Some(certificate) => {
+                let part = places_beside(field, places.get(at..).unwrap_or(&[]));
+                count = at.saturating_add(part.len());
+                add_certificate(&mut told, &style.texts, part, certificate, &mut line)?;
+            }
+            None => add_field(&mut told, &style.texts, *name, field, &mut line)?,
+        }
+    }
+    line.into_bytes()
+}

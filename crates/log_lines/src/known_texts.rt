@@ -1,0 +1,229 @@
+//! Parts of lines of JSON as they were written before. Hellos of one program have the same lists, and the certificate of a server comes again and again.
+use crate::lists::Texts;
+use layouts::Items;
+use std::alloc::{AllocError, Global};
+use tls_base::{NamedGroup, TlsCipherSuiteID, TlsExtensionType, TlsVersion};
+use tls_ext::KeyShareEntry;
+
+/// So many of each kind are kept at most: a network's programs have no more, for the most part.
+const MOST: usize = 64;
+
+/// No list is kept that has more numbers, so that hellos can't take much memory by theirs.
+const MOST_NUMBERS: usize = 128;
+
+/// Nothing is kept of a certificate that has more bytes.
+const LONGEST_CERTIFICATE: usize = 4096;
+
+/// No text is kept that has more.
+const LONGEST: usize = 2048;
+
+/// What stands in a list as a number of 2 bytes.
+trait Code {
+    fn code(&self) -> u16;
+}
+
+impl Code for u16 {
+    fn code(&self) -> u16 {
+        *self
+    }
+}
+
+impl Code for TlsVersion {
+    fn code(&self) -> u16 {
+        self.0
+    }
+}
+
+impl Code for TlsExtensionType {
+    fn code(&self) -> u16 {
+        self.0
+    }
+}
+
+impl Code for NamedGroup {
+    fn code(&self) -> u16 {
+        self.0
+    }
+}
+
+impl Code for TlsCipherSuiteID {
+    fn code(&self) -> u16 {
+        self.0
+    }
+}
+
+impl Code for KeyShareEntry<'_> {
+    fn code(&self) -> u16 {
+        self.group.0
+    }
+}
+
+/// A list of numbers, and what is written of it.
+#[derive(Drop)]
+struct KnownList {
+    numbers: Vec<u16>,
+    text: Vec<u8>,
+}
+
+impl KnownList {
+    /// Whether the list has just these.
+    fn is_of<C: Code + Drop, I: Iterator<Item = C>>(&self, list: I) -> bool {
+        let mut left = self.numbers.iter();
+        for one in list {
+            match left.next() {
+                Some(number) if *number == one.code() => {}
+                _ => return false,
+            }
+        }
+        left.next().is_none()
+    }
+}
+
+/// Lists of one kind. Where there are as many as are kept, the next one stands alone.
+#[derive(Drop)]
+struct KnownLists {
+    all: Vec<KnownList>,
+}
+
+impl KnownLists {
+    /// None yet.
+    fn new(alloc: Global) -> KnownLists {
+        KnownLists {
+            all: Vec::new(alloc),
+        }
+    }
+
+    /// What is written of a list, if that is known.
+    fn text<C: Code + Drop, I: Iterator<Item = C> + Copy>(&self, list: I) -> Option<&[u8]> {
+        for one in &self.all {
+            if one.is_of(list) {
+                return Some(one.text.as_slice());
+            }
+        }
+        None
+    }
+
+    /// Keeps what is written of a list, if both are short enough.
+    fn keep<C: Code + Drop, I: Iterator<Item = C>>(
+        &mut self,
+        alloc: Global,
+        list: I,
+        text: &[u8],
+    ) -> Result<(), AllocError> {
+        let mut numbers = Vec::new(alloc);
+        for one in list.take(MOST_NUMBERS + 1) {
+            numbers.push(one.code())?;
+        }
+        if numbers.len() > MOST_NUMBERS || text.len() > LONGEST {
+            return Ok(());
+        }
+        if self.all.len() >= MOST {
+            self.all.clear();
+        }
+        let text = Vec::from_slice(alloc, text)?;
+        self.all.push(KnownList { numbers, text })?;
+        Ok(())
+    }
+}
+
+/// Some fields of a certificate, and what is written of them.
+#[derive(Drop)]
+struct KnownCertificate {
+    places: Vec<usize>,
+    certificate: Vec<u8>,
+    text: Vec<u8>,
+}
+
+/// What was written of the last lists and certificates.
+#[derive(Drop)]
+pub struct KnownTexts {
+    versions: KnownLists,
+    types: KnownLists,
+    groups: KnownLists,
+    schemes: KnownLists,
+    suites: KnownLists,
+    certificates: Vec<KnownCertificate>,
+}
+
+impl KnownTexts {
+    /// None yet.
+    pub fn new(alloc: Global) -> KnownTexts {
+        KnownTexts {
+            versions: KnownLists::new(alloc),
+            types: KnownLists::new(alloc),
+            groups: KnownLists::new(alloc),
+            schemes: KnownLists::new(alloc),
+            suites: KnownLists::new(alloc),
+            certificates: Vec::new(alloc),
+        }
+    }
+
+    /// What is written of a list, if that is known. Only lists of numbers are kept.
+    pub fn list(&self, texts: &Texts<'_>) -> Option<&[u8]> {
+        match texts {
+            Texts::Versions(list) => self.versions.text(*list),
+            Texts::Types(list) => self.types.text(*list),
+            Texts::Groups(list) => self.groups.text(*list),
+            Texts::Shares(bytes) => self.groups.text(shares(bytes)),
+            Texts::Schemes(list) => self.schemes.text(*list),
+            Texts::Suites(_, list) => self.suites.text(*list),
+            _ => None,
+        }
+    }
+
+    /// Keeps what is written of a list of numbers.
+    pub fn keep_list(
+        &mut self,
+        alloc: Global,
+        texts: &Texts<'_>,
+        text: &[u8],
+    ) -> Result<(), AllocError> {
+        match texts {
+            Texts::Versions(list) => self.versions.keep(alloc, *list, text),
+            Texts::Types(list) => self.types.keep(alloc, *list, text),
+            Texts::Groups(list) => self.groups.keep(alloc, *list, text),
+            Texts::Shares(bytes) => self.groups.keep(alloc, shares(bytes), text),
+            Texts::Schemes(list) => self.schemes.keep(alloc, *list, text),
+            Texts::Suites(_, list) => self.suites.keep(alloc, *list, text),
+            _ => Ok(()),
+        }
+    }
+
+    /// What is written of a certificate's fields at these places, if that is known.
+    pub fn certificate(&self, places: &[usize], certificate: &[u8]) -> Option<&[u8]> {
+        for one in &self.certificates {
+            if one.certificate.as_slice() == certificate && one.places.as_slice() == places {
+                return Some(one.text.as_slice());
+            }
+        }
+        None
+    }
+
+    /// Keeps that, if it is short enough. Where there are as many as are kept, it stands alone.
+    pub fn keep_certificate(
+        &mut self,
+        alloc: Global,
+        places: &[usize],
+        certificate: &[u8],
+        text: &[u8],
+    ) -> Result<(), AllocError> {
+        if certificate.len() > LONGEST_CERTIFICATE || text.len() > LONGEST {
+            return Ok(());
+        }
+        if self.certificates.len() >= MOST {
+            self.certificates.clear();
+        }
+        let one = KnownCertificate {
+            places: Vec::from_slice(alloc, places)?,
+            certificate: Vec::from_slice(alloc, certificate)?,
+            text: Vec::from_slice(alloc, text)?,
+        };
+        self.certificates.push(one)?;
+        Ok(())
+    }
+}
+
+/// Key shares, as they stand.
+fn shares(bytes: &[u8]) -> Items<'_, KeyShareEntry<'_>> {
+    Items::new(bytes)
+}
