@@ -69,19 +69,29 @@ def lines(capture: Path | str, port: int | str | None = None, udp: bool = False)
     return [talk.line() for talk in ended + left if talk.is_tls]
 
 
-def rows(capture: Path | str, port: int | str | None, udp: bool) -> Iterator[Row]:
-    """tshark's fields of each packet of that protocol, as dictionaries of lists."""
-    layer, prefix = ("udp", "dtls") if udp else ("tcp", "tls")
+def tshark_fields(udp: bool) -> list[str]:
+    """tshark's fields of a packet that lines are made of."""
+    prefix = "dtls" if udp else "tls"
     fields = [*OUTER, *(OF_UDP if udp else OF_TCP), *wanted_hellos.SHARED]
-    fields += [f"{prefix}.{field}" for field in (*FIELDS, *wanted_hellos.FIELDS)]
+    return fields + [f"{prefix}.{field}" for field in (*FIELDS, *wanted_hellos.FIELDS)]
+
+
+def tshark(capture: Path | str, port: int | str | None, udp: bool) -> list[str]:
+    """The command that prints them, of each packet of that protocol."""
+    layer, prefix = ("udp", "dtls") if udp else ("tcp", "tls")
     command = ["tshark", "--enable-protocol", "communityid", "-r", str(capture), "-T", "fields", "-E", "separator=/t", "-E", "occurrence=a", "-E", "aggregator=;", "-Y", layer]
     command += ["-o", "tcp.reassemble_out_of_order:TRUE"]
     if port:
         command += ["-d", f"{layer}.port=={port},{prefix}"]
-    for field in fields:
+    for field in tshark_fields(udp):
         command += ["-e", field]
-    names = [field if field in wanted_hellos.SHARED else re.sub("^d?tls[.]", "", field) for field in fields]
-    text = subprocess.run(command, stdout=subprocess.PIPE, stderr=subprocess.DEVNULL, text=True, check=True).stdout
+    return command
+
+
+def rows(capture: Path | str, port: int | str | None, udp: bool) -> Iterator[Row]:
+    """tshark's fields of each packet of that protocol, as dictionaries of lists."""
+    names = [field if field in wanted_hellos.SHARED else re.sub("^d?tls[.]", "", field) for field in tshark_fields(udp)]
+    text = subprocess.run(tshark(capture, port, udp), stdout=subprocess.PIPE, stderr=subprocess.DEVNULL, text=True, check=True).stdout
     for line in text.splitlines():
         yield {name: [v for v in part.split(";") if v] for name, part in zip(names, line.split("\t"))}
 
