@@ -1,9 +1,9 @@
 //! Parts of lines of JSON as they were written before. Hellos of one program have the same lists, and the certificate of a server comes again and again.
 use crate::lists::Texts;
-use layouts::Items;
+use layouts::{InPlace, Items};
 use std::alloc::{AllocError, Global};
 use tls_base::{NamedGroup, TlsCipherSuiteID, TlsExtensionType, TlsVersion};
-use tls_ext::KeyShareEntry;
+use tls_ext::{ExtensionType, KeyShareEntry};
 
 /// So many of each kind are kept at most: a network's programs have no more, for the most part.
 const MOST: usize = 64;
@@ -17,44 +17,45 @@ const LONGEST_CERTIFICATE: usize = 4096;
 /// No text is kept that has more.
 const LONGEST: usize = 2048;
 
-/// What stands in a list as a number of 2 bytes.
-trait Code {
-    fn code(&self) -> u16;
+/// What stands in a list as a number of 2 bytes, maybe with more behind it.
+trait Coded<'a>: InPlace<'a> {
+    /// The number.
+    fn code(one: &Self::Read) -> u16;
 }
 
-impl Code for u16 {
-    fn code(&self) -> u16 {
-        *self
+impl<'a> Coded<'a> for u16 {
+    fn code(one: &u16) -> u16 {
+        *one
     }
 }
 
-impl Code for TlsVersion {
-    fn code(&self) -> u16 {
-        self.0
+impl<'a> Coded<'a> for TlsVersion {
+    fn code(one: &TlsVersion) -> u16 {
+        one.0
     }
 }
 
-impl Code for TlsExtensionType {
-    fn code(&self) -> u16 {
-        self.0
+impl<'a> Coded<'a> for ExtensionType {
+    fn code(one: &TlsExtensionType) -> u16 {
+        one.0
     }
 }
 
-impl Code for NamedGroup {
-    fn code(&self) -> u16 {
-        self.0
+impl<'a> Coded<'a> for NamedGroup {
+    fn code(one: &NamedGroup) -> u16 {
+        one.0
     }
 }
 
-impl Code for TlsCipherSuiteID {
-    fn code(&self) -> u16 {
-        self.0
+impl<'a> Coded<'a> for TlsCipherSuiteID {
+    fn code(one: &TlsCipherSuiteID) -> u16 {
+        one.0
     }
 }
 
-impl Code for KeyShareEntry<'_> {
-    fn code(&self) -> u16 {
-        self.group.0
+impl<'a> Coded<'a> for KeyShareEntry<'a> {
+    fn code(one: &KeyShareEntry<'a>) -> u16 {
+        one.group.0
     }
 }
 
@@ -67,11 +68,11 @@ struct KnownList {
 
 impl KnownList {
     /// Whether the list has just these.
-    fn is_of<C: Code + Drop, I: Iterator<Item = C>>(&self, list: I) -> bool {
+    fn is_of<'a, T: Coded<'a>>(&self, list: Items<'a, T>) -> bool {
         let mut left = self.numbers.iter();
         for one in list {
             match left.next() {
-                Some(number) if *number == one.code() => {}
+                Some(number) if *number == T::code(&one) => {}
                 _ => return false,
             }
         }
@@ -94,7 +95,7 @@ impl KnownLists {
     }
 
     /// What is written of a list, if that is known.
-    fn text<C: Code + Drop, I: Iterator<Item = C> + Copy>(&self, list: I) -> Option<&[u8]> {
+    fn text<'a, T: Coded<'a>>(&self, list: Items<'a, T>) -> Option<&[u8]> {
         for one in &self.all {
             if one.is_of(list) {
                 return Some(one.text.as_slice());
@@ -104,15 +105,15 @@ impl KnownLists {
     }
 
     /// Keeps what is written of a list, if both are short enough.
-    fn keep<C: Code + Drop, I: Iterator<Item = C>>(
+    fn keep<'a, T: Coded<'a>>(
         &mut self,
         alloc: Global,
-        list: I,
+        list: Items<'a, T>,
         text: &[u8],
     ) -> Result<(), AllocError> {
         let mut numbers = Vec::new(alloc);
         for one in list.take(MOST_NUMBERS + 1) {
-            numbers.push(one.code())?;
+            numbers.push(T::code(&one))?;
         }
         if numbers.len() > MOST_NUMBERS || text.len() > LONGEST {
             return Ok(());

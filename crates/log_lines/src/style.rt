@@ -66,8 +66,8 @@ pub struct Style {
     pub suites: Suites,
     /// Digests of fingerprints that were made for lines. A line takes them out while it tells of one.
     pub digests: RefCell<KnownDigests>,
-    /// What was written of lists and certificates in lines of JSON.
-    pub texts: RefCell<KnownTexts>,
+    /// What was written of lists, suites by these names, and of certificates, in lines of JSON.
+    pub(crate) texts: RefCell<KnownTexts>,
 }
 
 /// Why no such lines can be printed.
