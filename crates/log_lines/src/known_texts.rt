@@ -5,8 +5,14 @@ use std::alloc::{AllocError, Global};
 use tls_base::{NamedGroup, TlsCipherSuiteID, TlsExtensionType, TlsVersion};
 use tls_ext::{ExtensionType, KeyShareEntry};
 
-/// So many of each kind are kept at most: a network's programs have no more, for the most part.
+/// So many certificates are kept at most: a network's servers have no more, for the most part.
 const MOST: usize = 64;
+
+/// Lists of a kind are kept in so many sets, by a sum of their numbers, so that a list is compared with few others, however alike peers make theirs.
+const SETS: u32 = 16;
+
+/// So many are kept in a set at most.
+const MOST_IN_SET: usize = 4;
 
 /// No list is kept that has more numbers, so that hellos can't take much memory by theirs.
 const MOST_NUMBERS: usize = 128;
@@ -80,23 +86,33 @@ impl KnownList {
     }
 }
 
-/// Lists of one kind. Where there are as many as are kept, the next one stands alone.
+/// In which set a list is kept.
+fn set_of<'a, T: Coded<'a>>(list: Items<'a, T>) -> usize {
+    let mut sum = 0u32;
+    for one in list {
+        sum = sum.wrapping_mul(31).wrapping_add(u32::from(T::code(&one)));
+    }
+    // Both halves count, since numbers of a kind may be alike in their last bits.
+    ((sum ^ (sum >> 16)) % SETS) as usize
+}
+
+/// Lists of one kind, in sets. Where there are as many in one as are kept, the next one stands alone there.
 #[derive(Drop)]
 struct KnownLists {
-    all: Vec<KnownList>,
+    sets: Vec<Vec<KnownList>>,
 }
 
 impl KnownLists {
     /// None yet.
     fn new(alloc: Global) -> KnownLists {
         KnownLists {
-            all: Vec::new(alloc),
+            sets: Vec::new(alloc),
         }
     }
 
     /// What is written of a list, if that is known.
     fn text<'a, T: Coded<'a>>(&self, list: Items<'a, T>) -> Option<&[u8]> {
-        for one in &self.all {
+        for one in self.sets.get(set_of(list))? {
             if one.is_of(list) {
                 return Some(one.text.as_slice());
             }
@@ -118,11 +134,17 @@ impl KnownLists {
         if numbers.len() > MOST_NUMBERS || text.len() > LONGEST {
             return Ok(());
         }
-        if self.all.len() >= MOST {
-            self.all.clear();
+        for _ in self.sets.len()..SETS as usize {
+            self.sets.push(Vec::new(alloc))?;
+        }
+        let Some(set) = self.sets.get_mut(set_of(list)) else {
+            return Ok(());
+        };
+        if set.len() >= MOST_IN_SET {
+            set.clear();
         }
         let text = Vec::from_slice(alloc, text)?;
-        self.all.push(KnownList { numbers, text })?;
+        set.push(KnownList { numbers, text })?;
         Ok(())
     }
 }
