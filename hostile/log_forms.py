@@ -248,13 +248,31 @@ def many_captures(program: Path, ask: Ask, files: list[Path], room: Path) -> int
     return len(files)
 
 
-def with_suite(s: packets.Segment, number: int) -> packets.Segment:
-    """The segment, where it begins with a ClientHello with another suite in front of the others' (RFC 8446, section 4.1.2)."""
-    if s.payload[:1] != b"\x16" or s.payload[5:6] != b"\x01":
-        return s
+def begins_with_hello(s: packets.Segment) -> bool:
+    return s.payload[:1] == b"\x16" and s.payload[5:6] == b"\x01"
+
+
+def suites_of(payload: bytes) -> int:
+    """The place of the first cipher suite of a ClientHello (RFC 8446, section 4.1.2)."""
     at = 5 + 4 + 2 + 32
-    at += 1 + s.payload[at] + 2
+    return at + 1 + payload[at] + 2
+
+
+def with_suite(s: packets.Segment, number: int) -> packets.Segment:
+    """The segment, where it begins with a ClientHello with another suite in the place of the first."""
+    if not begins_with_hello(s):
+        return s
+    at = suites_of(s.payload)
     return replace(s, payload=s.payload[:at] + number.to_bytes(2, "big") + s.payload[at + 2 :])
+
+
+def with_compression(s: packets.Segment, number: int) -> packets.Segment:
+    """The same with another compression method."""
+    if not begins_with_hello(s):
+        return s
+    at = suites_of(s.payload)
+    at += int.from_bytes(s.payload[at - 2 : at], "big") + 1
+    return replace(s, payload=s.payload[:at] + bytes([number]) + s.payload[at + 1 :])
 
 
 def others(ask: Ask, file: Path, room: Path, change: Callable[[packets.Segment, int], packets.Segment]) -> list[Line]:
@@ -272,10 +290,13 @@ def others(ask: Ask, file: Path, room: Path, change: Callable[[packets.Segment, 
 
 def told_again(ask: Ask, files: list[Path], lines: list[Line], room: Path) -> int:
     """What a line says of a list or a certificate of which a line before told: all captures twice in one run, fields of certificates apart from one another, and
-    more suites and certificates than are kept."""
+    more suites, compression methods and certificates than are kept."""
     status, text, _ = ask([*files, *files])
     want(status == 0 and [json.loads(row) for row in text.splitlines()] == [*lines, *lines], "twice in one run:", status, text[-300:])
-    for names in ("subject ts issuer serial client_issuer", "client_subject subject client_issuer", "client_ciphers sigalgs", "ts ssl_client_exts"):
+    for names in (
+        "subject ts issuer serial client_issuer", "client_subject subject client_issuer", "client_ciphers sigalgs", "ts ssl_client_exts",
+        "client_comp_methods point_formats psk_key_exchange_modes", "client_curves client_key_share_groups id.orig_h client_comp_methods",
+    ):
         status, text, _ = ask(["--fields", names.replace(" ", ","), *files])
         wanted = [[(name, line[name]) for name in names.split() if name in line] for line in lines]
         want(status == 0 and [list(json.loads(row).items()) for row in text.splitlines()] == wanted, names, status, text[-300:])
@@ -283,13 +304,16 @@ def told_again(ask: Ask, files: list[Path], lines: list[Line], room: Path) -> in
     for number, row in enumerate(others(ask, file, room, with_suite)):
         want(row["client_ciphers"] == [f"0x{number:04x}", *line["client_ciphers"][1:]], "suites:", row)
         want(without(OF_SUITES, row) == without(OF_SUITES, line), "another suite:", row)
+    for number, row in enumerate(others(ask, file, room, with_compression)):
+        want(row["client_comp_methods"] == [number], "compression methods:", number, row)
+        want(without(["client_comp_methods"], row) == without(["client_comp_methods"], line), "another compression method:", row)
     serial = bytes.fromhex(line["serial"])
     digits = lambda number: serial[:-2] + number.to_bytes(2, "big")  # noqa: E731
     rows = others(ask, file, room, lambda s, number: replace(s, payload=s.payload.replace(serial, digits(number))))
     for number, row in enumerate(rows):
         want(row["serial"].lower() == digits(number).hex(), "serial number:", number, row)
         want(without(OF_SERIAL, row) == without(OF_SERIAL, line), "another serial number:", row)
-    return 2 * MANY
+    return 3 * MANY
 
 
 def without(names: list[str], line: Line) -> Line:

@@ -4,12 +4,13 @@ use Rattle.std.proofs.lemmas.List.{length-map, take-map}
 use Rattle.std.proofs.lemmas.Option.{slice_get-map}
 use Rattle.std.specs.Option.{option_map_or}
 use Rattle.std.specs.Map.{lookup, lookup_entry, remove_entry, set_value}
-use Rattle.std.specs.declared.random_state.RandomState.{RandomState}
 use Rattle.lru.specs.LruCache.{LruCache, lru_cache, promoted, put_entries, last_entry}
 use Rattle.connections.specs.FiveTuple.{is_five_tuple}
-use Rattle.connections.specs.ByFiveTuple.{hash_of, hashed_ends, unhashed, unhashed_entry, AreHashed, IsHashed}
+use Rattle.connections.specs.HashKeys.{hash_of}
+use Rattle.connections.specs.ByFiveTuple.{hashed_ends, unhashed, unhashed_entry, AreHashed, IsHashed}
 use Rattle.connections.specs.declared.five_tuple.FiveTuple.{FiveTuple}
 use Rattle.connections.specs.declared.by_five_tuple.HashedEnds.{HashedEnds}
+use Rattle.connections.specs.declared.hash_keys.HashKeys.{HashKeys}
 use Rattle.connections.specs.contracts.by_five_tuple.HashedEndsPartialEq.TheImpl as hashed_eq
 use Rattle.connections.proofs.TableLemmas.{the_same}
 
@@ -24,7 +25,7 @@ and-false true = refl
 and-false false = refl
 
 module _ {V : Type 0} where
-  pub AreHashed-take : (keys : RandomState) (n : ℕ) (xs : List (HashedEnds × V)) → AreHashed keys xs → AreHashed keys (take n xs)
+  pub AreHashed-take : (keys : HashKeys) (n : ℕ) (xs : List (HashedEnds × V)) → AreHashed keys xs → AreHashed keys (take n xs)
   AreHashed-take keys zero xs h = tt
   AreHashed-take keys (suc n) [] h = h
   AreHashed-take keys (suc n) (x ∷ xs) h = (h.0, AreHashed-take keys n xs h.1)
@@ -39,7 +40,7 @@ module _ {V : Type 0} where
   pub last_entry-unhashed : (xs : List (HashedEnds × V)) → option_map unhashed_entry (last_entry xs) ≡ last_entry (unhashed xs)
   last_entry-unhashed xs = sym (slice_get-map unhashed_entry xs (length xs - 1)) ∙ ap (λ n. slice_get (unhashed xs) (n - 1)) (sym (length-map xs unhashed_entry))
 
-module _ (keys : RandomState) (e : FiveTuple) (k : HashedEnds) (is : k ≡ hashed_ends keys e) where
+module _ (keys : HashKeys) (e : FiveTuple) (k : HashedEnds) (is : k ≡ hashed_ends keys e) where
   -- The test of the ends with their hash.
   abbrev pub test : HashedEnds → Bool
   test = is_hashed_ends k

@@ -11,5 +11,6 @@ pub mod Table
 pub mod Memory
 pub mod Traffic
 pub mod Dropped
+pub mod HashKeys
 pub mod ByFiveTuple
 pub mod Lends

@@ -1,19 +1,41 @@
 //! A table by the ends of connections, which makes a hash once where the same ends are looked up several times in a row.
-ghost use Rattle.std.specs.Prelude.{◌≡◌};
+ghost use Rattle.std.specs.Prelude.{◌≡◌, nat_eq};
+ghost use Rattle.std.specs.Ordering.{eq_of_both, on};
+ghost use Rattle.std.proofs.Common.{rules};
+ghost use Rattle.std.specs.Cmp.Rules.{comparing};
 ghost use Rattle.connections.specs.ByFiveTuple.{hashed_ends, IsHashed};
+ghost use Rattle.connections.specs.FiveTuple.{is_five_tuple};
+ghost use Rattle.connections.specs.contracts.five_tuple.FiveTupleEq.TheImpl.Laws.{laws-law as same_five_tuples};
 
 use crate::five_tuple::{End, FiveTuple, Protocol};
+use crate::hash_keys::HashKeys;
 use lru::LruCache;
 use std::alloc::{AllocError, Global};
-use std::hash::{BuildHasher, Hash, Hasher, RandomState};
+use std::hash::{Hash, Hasher, RandomState};
 use std::marker::Model;
 use std::net::{IpAddr, Ipv4Addr};
 
 /// Ends, with their hash by the keys of a table.
-#[derive(Clone, Copy, PartialEq, Eq)]
+#[derive(Clone, Copy)]
 struct HashedEnds {
     hash: u64,
     five_tuple: FiveTuple,
+}
+
+// The hash first: it is another one for almost all other ends.
+impl PartialEq for HashedEnds {
+    ghost eq = { eq_of_both (on (λ e. e.hash) nat_eq) (on (λ e. e.five_tuple) is_five_tuple) };
+
+    ghost laws = { Prim.search (same_five_tuples, comparing, rules) };
+
+    #[inline(always)]
+    fn eq(&self, other: &HashedEnds) -> bool {
+        self.hash == other.hash && self.five_tuple == other.five_tuple
+    }
+}
+
+impl Eq for HashedEnds {
+    ghost laws = { Prim.search (same_five_tuples, comparing, rules) };
 }
 
 // The table hashes that number alone: since it is keyed, nobody else can choose it.
@@ -33,21 +55,20 @@ impl Hash for HashedEnds {
 
 impl HashedEnds {
     /// These ends with their hash.
-    #[tactic(auto, unfolding(crate::specs::ByFiveTuple::hash_of))]
-    fn new(keys: &RandomState, five_tuple: &FiveTuple) -> HashedEnds
-        ensures { result ≡ hashed_ends keys.now five_tuple.now }
+    fn new(keys: HashKeys, five_tuple: &FiveTuple) -> HashedEnds
+        ensures { result ≡ hashed_ends keys five_tuple.now }
     {
         HashedEnds {
-            hash: keys.hash_one(*five_tuple),
+            hash: keys.hash(five_tuple),
             five_tuple: *five_tuple,
         }
     }
 
     /// The same: where these are the ends, no hash is made.
     #[inline(always)]
-    fn known(&self, keys: &RandomState, five_tuple: &FiveTuple) -> HashedEnds
-        requires { IsHashed keys.now self.now }
-        ensures { result ≡ hashed_ends keys.now five_tuple.now }
+    fn known(&self, keys: HashKeys, five_tuple: &FiveTuple) -> HashedEnds
+        requires { IsHashed keys self.now }
+        ensures { result ≡ hashed_ends keys five_tuple.now }
     {
         if self.five_tuple == *five_tuple {
             return *self;
@@ -57,9 +78,9 @@ impl HashedEnds {
 
     /// Lets them be these ends with their hash, which is made only where they are others.
     #[inline(always)]
-    fn change_to(&mut self, keys: &RandomState, five_tuple: &FiveTuple)
-        requires { IsHashed keys.now self.old }
-        ensures { self.new ≡ hashed_ends keys.now five_tuple.now }
+    fn change_to(&mut self, keys: HashKeys, five_tuple: &FiveTuple)
+        requires { IsHashed keys self.old }
+        ensures { self.new ≡ hashed_ends keys five_tuple.now }
     {
         if self.five_tuple != *five_tuple {
             *self = HashedEnds::new(keys, five_tuple);
@@ -70,7 +91,7 @@ impl HashedEnds {
 /// A table by ends, as a [`LruCache`]: the one that was used last stands first. A clause sees that cache, without the hashes.
 #[derive(Drop)]
 pub(crate) struct ByFiveTuple<V> {
-    keys: RandomState,
+    keys: HashKeys,
     // Those that were looked up last: a packet's ends are looked up several times.
     latest: HashedEnds,
     table: LruCache<HashedEnds, V>,
@@ -108,9 +129,10 @@ impl<V> ByFiveTuple<V> {
             port: 0,
         };
         let five_tuple = FiveTuple::between(0, Protocol::Tcp, nobody, nobody);
+        let keys = HashKeys::of(&keys);
         Ok(ByFiveTuple {
             keys,
-            latest: HashedEnds::new(&keys, &five_tuple),
+            latest: HashedEnds::new(keys, &five_tuple),
             table: LruCache::unbounded(alloc)?,
         })
     }
@@ -127,7 +149,7 @@ impl<V> ByFiveTuple<V> {
     pub(crate) fn peek(&self, five_tuple: &FiveTuple) -> Option<&V>
         ensures { option_copied result ≡ lookup (is_five_tuple five_tuple.now) self.now.entries }
     {
-        let ends = self.latest.known(&self.keys, five_tuple);
+        let ends = self.latest.known(self.keys, five_tuple);
         self.table.peek(&ends)
     }
 
@@ -135,7 +157,7 @@ impl<V> ByFiveTuple<V> {
     pub(crate) fn contains(&self, five_tuple: &FiveTuple) -> bool
         ensures { result ≡ is_some (lookup (is_five_tuple five_tuple.now) self.now.entries) }
     {
-        let ends = self.latest.known(&self.keys, five_tuple);
+        let ends = self.latest.known(self.keys, five_tuple);
         self.table.contains(&ends)
     }
 
@@ -144,7 +166,7 @@ impl<V> ByFiveTuple<V> {
         ensures* writes_back { sem 𝓛 (lends_value V.row self.entry five_tuple.now self.old.entries result) }
         ensures value { option_copied_mut result ≡ lookup (is_five_tuple five_tuple.now) self.old.entries }
     {
-        self.latest.change_to(&self.keys, five_tuple);
+        self.latest.change_to(self.keys, five_tuple);
         // (a copy, so that the table alone is lent)
         let ends = self.latest;
         let value = self.table.peek_mut(&ends)?;
@@ -156,7 +178,7 @@ impl<V> ByFiveTuple<V> {
         ensures* writes_back { sem 𝓛 (lends_value V.row self.entry five_tuple.now (promoted (is_five_tuple five_tuple.now) self.old.entries) result) }
         ensures value { option_copied_mut result ≡ lookup (is_five_tuple five_tuple.now) self.old.entries }
     {
-        self.latest.change_to(&self.keys, five_tuple);
+        self.latest.change_to(self.keys, five_tuple);
         let ends = self.latest;
         let value = self.table.get_mut(&ends)?;
         Some(value)
@@ -166,7 +188,7 @@ impl<V> ByFiveTuple<V> {
     pub(crate) fn promote(&mut self, five_tuple: &FiveTuple)
         ensures entries { self.new ≡ lru_cache (promoted (is_five_tuple five_tuple.now) self.old.entries) self.old.cap }
     {
-        self.latest.change_to(&self.keys, five_tuple);
+        self.latest.change_to(self.keys, five_tuple);
         self.table.promote(&self.latest);
     }
 
@@ -191,7 +213,7 @@ impl<V> ByFiveTuple<V> {
         ensures value { result ≡ lookup (is_five_tuple five_tuple.now) self.old.entries }
         ensures entries { self.new ≡ lru_cache (remove_entry (is_five_tuple five_tuple.now) self.old.entries) self.old.cap }
     {
-        self.latest.change_to(&self.keys, five_tuple);
+        self.latest.change_to(self.keys, five_tuple);
         self.table.pop(&self.latest)
     }
 
@@ -211,7 +233,7 @@ impl<V> ByFiveTuple<V> {
         ensures entries { OnOk result (self.new ≡ lru_cache (put_entries is_five_tuple self.old five_tuple value) self.old.cap) }
         ensures err { OnErr result (self.new ≡ self.old) }
     {
-        self.latest.change_to(&self.keys, &five_tuple);
+        self.latest.change_to(self.keys, &five_tuple);
         self.table.put(self.latest, value)?;
         Ok(())
     }

@@ -67,12 +67,39 @@ impl Eq for End {
 }
 
 /// Between whom packets go, and in which network: both directions have the same.
-#[derive(Clone, Copy, Debug, PartialEq, Eq)]
+#[derive(Clone, Copy, Debug)]
 pub struct FiveTuple {
-    network: u64,
-    protocol: Protocol,
-    lower: End,
-    upper: End,
+    pub(crate) network: u64,
+    pub(crate) protocol: Protocol,
+    pub(crate) lower: End,
+    pub(crate) upper: End,
+}
+
+// As ends are: for each packet.
+impl PartialEq for FiveTuple {
+    ghost use Rattle.connections.specs.contracts.five_tuple.EndPartialEq.TheImpl as end_eq;
+    ghost use Rattle.connections.specs.contracts.five_tuple.EndEq.TheImpl.Laws.{laws-law as same_ends};
+    ghost use Rattle.connections.specs.contracts.five_tuple.ProtocolPartialEq.TheImpl as protocol_eq;
+    ghost use Rattle.connections.specs.contracts.five_tuple.ProtocolEq.TheImpl.Laws.{laws-law as same_protocols};
+
+    ghost eq = { eq_of_both (on (λ e. e.network) nat_eq) (eq_of_both (on (λ e. e.protocol) protocol_eq.ghosts.eq)
+        (eq_of_both (on (λ e. e.lower) end_eq.ghosts.eq) (on (λ e. e.upper) end_eq.ghosts.eq))) };
+
+    ghost laws = { Prim.search (same_ends, same_protocols, comparing, rules) depth 8 };
+
+    #[inline(always)]
+    fn eq(&self, other: &FiveTuple) -> bool {
+        self.network == other.network
+            && (self.protocol == other.protocol
+                && (self.lower == other.lower && self.upper == other.upper))
+    }
+}
+
+impl Eq for FiveTuple {
+    ghost use Rattle.connections.specs.contracts.five_tuple.EndEq.TheImpl.Laws.{laws-law as same_ends};
+    ghost use Rattle.connections.specs.contracts.five_tuple.ProtocolEq.TheImpl.Laws.{laws-law as same_protocols};
+
+    ghost laws = { Prim.search (same_ends, same_protocols, comparing, rules) };
 }
 
 impl FiveTuple {

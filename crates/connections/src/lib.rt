@@ -14,6 +14,7 @@ mod datagram;
 mod dropped;
 mod exchange;
 mod five_tuple;
+mod hash_keys;
 mod host;
 mod laws;
 mod memory;

@@ -101,6 +101,7 @@ pub(crate) fn with_last<K: Keeper>(
 }
 
 /// Lets the listener hear what a side's stream says next, on both sides of an urgent byte.
+#[inline(always)]
 fn hear_next<K: Keeper>(
     heard: &mut Heard<K>,
     stream: &mut Stream,
@@ -118,6 +119,7 @@ fn hear_next<K: Keeper>(
 }
 
 /// The same, and lets it count what the segment adds to a stream that it hears no further.
+#[inline(always)]
 fn hear_side<K: Keeper>(
     heard: &mut Heard<K>,
     stream: &mut Stream,
@@ -136,6 +138,7 @@ fn hear_side<K: Keeper>(
 }
 
 /// The same of the segment's sender, which keeps the pieces that it hears where they are to be taken.
+#[inline(always)]
 fn hear<K: Keeper>(
     connection: &mut Connection<Heard<K>>,
     segment: &Segment<'_>,

@@ -520,7 +520,7 @@ macro_rules! rows {
                 /// RFC: 9525, 6.3
                 /// Zeek: the same
                 /// absent: no `server_name`
-                "sni_matches_cert": Mark = NameMatches => |told| Ok(match_cell(told.handshake, &told.server));
+                "sni_matches_cert": Mark = NameMatches => |told| Ok(match_cell(told.handshake, told.server.certificate()));
                 /// the server's certificates that aren't read, each by its place in the chain (the server's own has 0) and why, as `0:verify`
                 /// RFC: 5280, 4.1
                 /// absent: all are read

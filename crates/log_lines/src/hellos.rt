@@ -114,7 +114,7 @@ fn faults_cell<'a>(
 /// such certificate.
 fn match_cell<'a>(
     handshake: &HandshakeSummary,
-    certificate: &Option<Certificate<'_>>,
+    certificate: Option<&Certificate<'_>>,
 ) -> Option<Cell<'a>> {
     match (handshake.server_name(), certificate) {
         (Some(host), Some(certificate)) => Some(Cell::Mark(matches_host(certificate, host))),
@@ -124,7 +124,7 @@ fn match_cell<'a>(
 
 /// The certificates of both sides. The lengths and fingerprints of an empty chain are missing.
 pub fn tell_chain<'a, T: TakesCell<'a>>(
-    told: &Told<'a>,
+    told: &mut Told<'a>,
     field: &Chain,
     to: &mut T,
 ) -> Result<(), AllocError> {

@@ -3,11 +3,12 @@ use crate::cell::{Cell, TakesCell};
 use crate::fields::{FIELDS, Field};
 use crate::known_texts::KnownTexts;
 use crate::line::tell;
-use crate::lists::Texts;
-use crate::objects::{LINE_LEN, Object, json_bytes};
+use crate::lists::{Numbers, Texts};
+use crate::objects::{LINE_LEN, Object};
 use crate::style::Style;
 use crate::summary::Summary;
 use crate::told::Told;
+use serde::Serialize;
 use std::alloc::{AllocError, Global};
 use std::cell::RefCell;
 
@@ -19,27 +20,49 @@ const PART_LEN: usize = 512;
 struct Adds<'o> {
     alloc: Global,
     line: &'o mut Object,
+    place: usize,
     name: &'static str,
     known: &'o RefCell<KnownTexts>,
 }
 
 impl Adds<'_> {
+    /// The field with this value, apart from the line.
+    fn written<T: Serialize>(&self, value: &T) -> Result<Vec<u8>, AllocError> {
+        let mut part = Object::over(self.alloc, Vec::new(self.alloc), PART_LEN)?;
+        part.add(self.name, value)?;
+        Ok(part.into_fields())
+    }
+
     /// Adds a list: what was written of it before, if that is known.
     fn add_texts(&mut self, texts: &Texts<'_>) -> Result<(), AllocError> {
         if let Ok(known) = self.known.try_borrow() {
-            if let Some(text) = known.list(texts) {
-                return self.line.add_written(self.alloc, self.name, text);
+            if let Some(text) = known.list(self.place, texts) {
+                return self.line.add_fields(self.alloc, text);
             }
         }
         if !texts.are_numbers() {
             return self.line.add(self.name, texts);
         }
-        let text = json_bytes(self.alloc, texts, PART_LEN)?;
-        self.line
-            .add_written(self.alloc, self.name, text.as_slice())?;
+        let text = self.written(texts)?;
+        self.line.add_fields(self.alloc, text.as_slice())?;
         // Where memory to keep it is refused, the line stands all the same.
         if let Ok(mut known) = self.known.try_borrow_mut() {
-            let _kept = known.keep_list(self.alloc, texts, text.as_slice());
+            let _kept = known.keep_list(self.alloc, self.place, texts, text.as_slice());
+        }
+        Ok(())
+    }
+
+    /// The same of a list of codes.
+    fn add_codes(&mut self, codes: &[u8]) -> Result<(), AllocError> {
+        if let Ok(known) = self.known.try_borrow() {
+            if let Some(text) = known.codes(self.place, codes) {
+                return self.line.add_fields(self.alloc, text);
+            }
+        }
+        let text = self.written(&Numbers::Codes(codes))?;
+        self.line.add_fields(self.alloc, text.as_slice())?;
+        if let Ok(mut known) = self.known.try_borrow_mut() {
+            let _kept = known.keep_codes(self.alloc, self.place, codes, text.as_slice());
         }
         Ok(())
     }
@@ -50,6 +73,7 @@ impl<'a> TakesCell<'a> for Adds<'_> {
     fn take(&mut self, cell: Option<Cell<'a>>) -> Result<(), AllocError> {
         match cell {
             Some(Cell::Texts(texts)) => self.add_texts(&texts),
+            Some(Cell::Numbers(Numbers::Codes(codes))) => self.add_codes(codes),
             Some(cell) => self.line.add(self.name, &cell),
             None => Ok(()),
         }
@@ -61,11 +85,12 @@ impl<'a> TakesCell<'a> for Adds<'_> {
     }
 }
 
-/// Adds what a field of that name says.
+/// Adds what the field of that name at that place says.
 #[inline(always)]
 fn add_field<'a>(
     told: &mut Told<'a>,
     known: &RefCell<KnownTexts>,
+    place: usize,
     name: &'static str,
     field: &Field,
     line: &mut Object,
@@ -73,6 +98,7 @@ fn add_field<'a>(
     let mut adds = Adds {
         alloc: told.alloc,
         line,
+        place,
         name,
         known,
     };
@@ -124,7 +150,7 @@ fn add_certificate<'a>(
     let mut part = Object::over(alloc, Vec::new(alloc), PART_LEN)?;
     for place in places {
         if let Some((name, _, field)) = FIELDS.get(*place) {
-            add_field(told, known, *name, field, &mut part)?;
+            add_field(told, known, *place, *name, field, &mut part)?;
         }
     }
     let text = part.into_fields();
@@ -160,7 +186,7 @@ pub fn json_line<'a>(
                 count = at.saturating_add(part.len());
                 add_certificate(&mut told, &style.texts, part, certificate, &mut line)?;
             }
-            None => add_field(&mut told, &style.texts, *name, field, &mut line)?,
+            None => add_field(&mut told, &style.texts, *place, *name, field, &mut line)?,
         }
     }
     line.into_bytes()

@@ -65,16 +65,26 @@ impl<'a> Coded<'a> for KeyShareEntry<'a> {
     }
 }
 
-/// A list of numbers, and what is written of it.
+impl<'a> Coded<'a> for u8 {
+    fn code(one: &u8) -> u16 {
+        u16::from(*one)
+    }
+}
+
+/// A list of numbers in the field at a place, and what is written of that.
 #[derive(Drop)]
 struct KnownList {
+    place: usize,
     numbers: Vec<u16>,
     text: Vec<u8>,
 }
 
 impl KnownList {
-    /// Whether the list has just these.
-    fn is_of<'a, T: Coded<'a>>(&self, list: Items<'a, T>) -> bool {
+    /// Whether it is of that place, and the list has just these.
+    fn is_of<'a, T: Coded<'a>>(&self, place: usize, list: Items<'a, T>) -> bool {
+        if self.place != place {
+            return false;
+        }
         let mut left = self.numbers.iter();
         for one in list {
             match left.next() {
@@ -110,20 +120,21 @@ impl KnownLists {
         }
     }
 
-    /// What is written of a list, if that is known.
-    fn text<'a, T: Coded<'a>>(&self, list: Items<'a, T>) -> Option<&[u8]> {
+    /// What is written of a list at that place, if that is known.
+    fn text<'a, T: Coded<'a>>(&self, place: usize, list: Items<'a, T>) -> Option<&[u8]> {
         for one in self.sets.get(set_of(list))? {
-            if one.is_of(list) {
+            if one.is_of(place, list) {
                 return Some(one.text.as_slice());
             }
         }
         None
     }
 
-    /// Keeps what is written of a list, if both are short enough.
+    /// Keeps what is written of a list at that place, if both are short enough.
     fn keep<'a, T: Coded<'a>>(
         &mut self,
         alloc: Global,
+        place: usize,
         list: Items<'a, T>,
         text: &[u8],
     ) -> Result<(), AllocError> {
@@ -144,7 +155,11 @@ impl KnownLists {
             set.clear();
         }
         let text = Vec::from_slice(alloc, text)?;
-        set.push(KnownList { numbers, text })?;
+        set.push(KnownList {
+            place,
+            numbers,
+            text,
+        })?;
         Ok(())
     }
 }
@@ -165,6 +180,7 @@ pub struct KnownTexts {
     groups: KnownLists,
     schemes: KnownLists,
     suites: KnownLists,
+    codes: KnownLists,
     certificates: Vec<KnownCertificate>,
 }
 
@@ -177,39 +193,57 @@ impl KnownTexts {
             groups: KnownLists::new(alloc),
             schemes: KnownLists::new(alloc),
             suites: KnownLists::new(alloc),
+            codes: KnownLists::new(alloc),
             certificates: Vec::new(alloc),
         }
     }
 
-    /// What is written of a list, if that is known. Only lists of numbers are kept.
-    pub fn list(&self, texts: &Texts<'_>) -> Option<&[u8]> {
+    /// What is written of the field at that place with this list, if that is known. Only lists of numbers are kept.
+    pub fn list(&self, place: usize, texts: &Texts<'_>) -> Option<&[u8]> {
         match texts {
-            Texts::Versions(list) => self.versions.text(*list),
-            Texts::Types(list) => self.types.text(*list),
-            Texts::Groups(list) => self.groups.text(*list),
-            Texts::Shares(bytes) => self.groups.text(shares(bytes)),
-            Texts::Schemes(list) => self.schemes.text(*list),
-            Texts::Suites(_, list) => self.suites.text(*list),
+            Texts::Versions(list) => self.versions.text(place, *list),
+            Texts::Types(list) => self.types.text(place, *list),
+            Texts::Groups(list) => self.groups.text(place, *list),
+            Texts::Shares(bytes) => self.groups.text(place, shares(bytes)),
+            Texts::Schemes(list) => self.schemes.text(place, *list),
+            Texts::Suites(_, list) => self.suites.text(place, *list),
             _ => None,
         }
     }
 
-    /// Keeps what is written of a list of numbers.
+    /// Keeps what is written of the field at that place with this list of numbers.
     pub fn keep_list(
         &mut self,
         alloc: Global,
+        place: usize,
         texts: &Texts<'_>,
         text: &[u8],
     ) -> Result<(), AllocError> {
         match texts {
-            Texts::Versions(list) => self.versions.keep(alloc, *list, text),
-            Texts::Types(list) => self.types.keep(alloc, *list, text),
-            Texts::Groups(list) => self.groups.keep(alloc, *list, text),
-            Texts::Shares(bytes) => self.groups.keep(alloc, shares(bytes), text),
-            Texts::Schemes(list) => self.schemes.keep(alloc, *list, text),
-            Texts::Suites(_, list) => self.suites.keep(alloc, *list, text),
+            Texts::Versions(list) => self.versions.keep(alloc, place, *list, text),
+            Texts::Types(list) => self.types.keep(alloc, place, *list, text),
+            Texts::Groups(list) => self.groups.keep(alloc, place, *list, text),
+            Texts::Shares(bytes) => self.groups.keep(alloc, place, shares(bytes), text),
+            Texts::Schemes(list) => self.schemes.keep(alloc, place, *list, text),
+            Texts::Suites(_, list) => self.suites.keep(alloc, place, *list, text),
             _ => Ok(()),
         }
+    }
+
+    /// What is written of the field at that place with these codes, if that is known.
+    pub fn codes(&self, place: usize, codes: &[u8]) -> Option<&[u8]> {
+        self.codes.text(place, Items::<u8>::new(codes))
+    }
+
+    /// Keeps that.
+    pub fn keep_codes(
+        &mut self,
+        alloc: Global,
+        place: usize,
+        codes: &[u8],
+        text: &[u8],
+    ) -> Result<(), AllocError> {
+        self.codes.keep(alloc, place, Items::<u8>::new(codes), text)
     }
 
     /// What is written of a certificate's fields at these places, if that is known.

@@ -197,7 +197,7 @@ fn tell_carried<'a, T: TakesCell<'a>>(
 /// What one field says of a certificate, if there is one.
 fn own_cell<'a>(
     alloc: Global,
-    certificate: &Option<Certificate<'_>>,
+    certificate: Option<&Certificate<'_>>,
     field: &Certified,
 ) -> Result<Option<Cell<'a>>, AllocError> {
     match certificate {
@@ -220,10 +220,10 @@ pub fn tell<'a, T: TakesCell<'a>>(
         Field::Answer(field) => tell_answer(told, field, to),
         Field::Chain(field) => tell_chain(told, field, to),
         Field::ServerCertificate(field) => {
-            to.take_told(own_cell(told.alloc, &told.server, field))
+            to.take_told(own_cell(told.alloc, told.server.certificate(), field))
         }
         Field::ClientCertificate(field) => {
-            to.take_told(own_cell(told.alloc, &told.client, field))
+            to.take_told(own_cell(told.alloc, told.client.certificate(), field))
         }
         Field::Print(field) => tell_print(told, field, to),
         Field::Sent(side, field) => tell_sent(told.sender(*side), field, to),

@@ -230,6 +230,8 @@ impl Json {
 #[derive(Drop)]
 pub struct Object {
     json: Json,
+    // All that was written, with a comma at its end, while fields come that stand as JSON already.
+    front: Option<Vec<u8>>,
 }
 
 impl Object {
@@ -237,29 +239,36 @@ impl Object {
     pub fn over(alloc: Global, memory: Vec<u8>, room: usize) -> Result<Object, AllocError> {
         let mut json = Json::over(alloc, memory, room)?;
         in_memory(json.begin_map(None))?;
-        Ok(Object { json })
+        Ok(Object { json, front: None })
     }
 
     /// Adds a field.
     #[inline(always)]
     pub fn add<T: Serialize>(&mut self, name: &str, value: &T) -> Result<(), AllocError> {
+        if self.front.is_some() {
+            self.go_on();
+        }
         in_memory(self.json.key(name))?;
         in_memory(value.serialize(&mut self.json))
     }
 
-    /// Adds a field whose value stands as JSON already.
-    pub fn add_written(
-        &mut self,
-        alloc: Global,
-        name: &str,
-        value: &[u8],
-    ) -> Result<(), AllocError> {
-        in_memory(self.json.key(name))?;
-        let mut bytes = self.json.take_bytes(alloc);
-        bytes.extend_from_slice(value)?;
-        bytes.push(b',')?;
-        self.json.go_on(bytes);
-        Ok(())
+    /// Goes on behind what stands as JSON.
+    fn go_on(&mut self) {
+        if let Some(front) = self.front.take() {
+            self.json.go_on(front);
+        }
+    }
+
+    /// All that was written, taken out, with a comma at its end if there are fields.
+    fn take_front(&mut self, alloc: Global) -> Result<Vec<u8>, AllocError> {
+        if let Some(front) = self.front.take() {
+            return Ok(front);
+        }
+        let mut front = self.json.take_bytes(alloc);
+        if !matches!(front.last(), Some(b'{' | b',')) {
+            front.push(b',')?;
+        }
+        Ok(front)
     }
 
     /// Adds fields that stand as JSON already, with a comma between each two.
@@ -267,19 +276,20 @@ impl Object {
         if fields.is_empty() {
             return Ok(());
         }
-        let mut bytes = self.json.take_bytes(alloc);
-        if !matches!(bytes.last(), Some(b'{' | b',')) {
-            bytes.push(b',')?;
-        }
-        bytes.extend_from_slice(fields)?;
-        bytes.push(b',')?;
-        self.json.go_on(bytes);
+        let mut front = self.take_front(alloc)?;
+        front.extend_from_slice(fields)?;
+        front.push(b',')?;
+        self.front = Some(front);
         Ok(())
     }
 
     /// What was written, without a comma at its end: no value ends in one.
     fn into_front(self) -> Vec<u8> {
-        let mut bytes = self.json.into_bytes();
+        let Object { json, front } = self;
+        let mut bytes = match front {
+            Some(front) => front,
+            None => json.into_bytes(),
+        };
         if matches!(bytes.last(), Some(b',')) {
             bytes.pop();
         }

@@ -95,8 +95,8 @@ fn with_colons(alloc: Global, digits: &str) -> Result<String, AllocError> {
 }
 
 /// The bytes of its serial number.
-fn serial_cell<'a>(alloc: Global, told: &Told<'_>) -> Result<Option<Cell<'a>>, AllocError> {
-    match &told.server {
+fn serial_cell<'a>(alloc: Global, told: &mut Told<'_>) -> Result<Option<Cell<'a>>, AllocError> {
+    match told.server.certificate() {
         Some(certificate) => {
             let digits = hex::encode_upper(alloc, certificate.tbs_certificate.serial_number)?;
             some_text(with_colons(alloc, digits.as_str()))

@@ -4,7 +4,7 @@ use crate::names::zeek_version;
 use serde::{Described, Serialize, Serializer};
 use std::alloc::{AllocError, Global};
 use std::fmt::{self, Display, Formatter};
-use std::net::IpAddr;
+use std::net::{IpAddr, Ipv4Addr};
 use std::str;
 use tls_base::{NamedGroup, SignatureScheme, TlsExtensionType, TlsVersion};
 
@@ -157,6 +157,45 @@ fn serialize_digits<S: Serializer>(bytes: &[u8], out: &mut S) -> Result<(), S::E
     }
 }
 
+/// Puts a byte at that place, if there is one: the place behind it.
+#[inline(always)]
+fn put_byte(text: &mut [u8; 15], place: usize, byte: u8) -> usize {
+    if let Some(at) = text.get_mut(place) {
+        *at = byte;
+    }
+    place.saturating_add(1)
+}
+
+/// An address of IPv4 as text, and how long that is.
+fn dotted(address: Ipv4Addr) -> ([u8; 15], usize) {
+    let mut text = [b'0'; 15];
+    let mut len = 0;
+    for (place, octet) in address.octets().iter().enumerate() {
+        if place > 0 {
+            len = put_byte(&mut text, len, b'.');
+        }
+        if *octet >= 100 {
+            len = put_byte(&mut text, len, b'0' + *octet / 100);
+        }
+        if *octet >= 10 {
+            len = put_byte(&mut text, len, b'0' + *octet / 10 % 10);
+        }
+        len = put_byte(&mut text, len, b'0' + *octet % 10);
+    }
+    (text, len)
+}
+
+/// Sends an address: one of IPv4, of which each line has two, isn't put together in that room either.
+fn serialize_address<S: Serializer>(address: IpAddr, out: &mut S) -> Result<(), S::Error> {
+    if let IpAddr::V4(four) = address {
+        let (text, len) = dotted(four);
+        if let Ok(text) = str::from_utf8(text.get(..len).unwrap_or(&[])) {
+            return out.str(text);
+        }
+    }
+    out.collect_str(&Text::Address(address))
+}
+
 /// Sends a signature scheme.
 fn serialize_scheme<S: Serializer>(scheme: u16, out: &mut S) -> Result<(), S::Error> {
     match SignatureScheme(scheme).registered_name() {
@@ -173,6 +212,7 @@ impl Serialize for Text<'_> {
             Text::Code(code) => serialize_code(*code, out),
             Text::Digits(bytes) => serialize_digits(bytes, out),
             Text::Scheme(scheme) => serialize_scheme(*scheme, out),
+            Text::Address(address) => serialize_address(*address, out),
             Text::Escaped(bytes) => match plain_text(bytes) {
                 Some(text) => out.str(text),
                 None => out.collect_str(self),

@@ -38,7 +38,34 @@ pub struct KeptTexts {
     pub ja3s: Option<String>,
 }
 
-/// A connection, the certificates of both sides' own, if they are read, and texts that further fields may have.
+/// A side's own certificate. It is read where the first field asks for it: most lines have what was written of it before.
+#[derive(Drop)]
+pub enum Own<'a> {
+    /// Its bytes, if it was sent.
+    Unread(Option<&'a [u8]>),
+    /// The certificate, if it was sent and is read.
+    Read(Option<Certificate<'a>>),
+}
+
+impl<'a> Own<'a> {
+    /// That of these bytes.
+    fn new(bytes: Option<&'a [u8]>) -> Own<'a> {
+        Own::Unread(bytes)
+    }
+
+    /// The certificate, if it was sent and is read.
+    pub fn certificate(&mut self) -> Option<&Certificate<'a>> {
+        if let Own::Unread(bytes) = self {
+            *self = Own::Read(certificate_of(*bytes));
+        }
+        match self {
+            Own::Read(Some(certificate)) => Some(certificate),
+            _ => None,
+        }
+    }
+}
+
+/// A connection, the certificates of both sides' own, and texts that further fields may have.
 #[derive(Drop)]
 pub struct Told<'a> {
     /// Where texts are put together.
@@ -52,9 +79,9 @@ pub struct Told<'a> {
     /// What both sides' messages say.
     pub handshake: &'a HandshakeSummary,
     /// The server's own certificate.
-    pub server: Option<Certificate<'a>>,
+    pub server: Own<'a>,
     /// The client's own.
-    pub client: Option<Certificate<'a>>,
+    pub client: Own<'a>,
     /// Texts that were made.
     pub kept: KeptTexts,
 }
@@ -69,8 +96,8 @@ impl<'a> Told<'a> {
             digests: &style.digests,
             summary,
             handshake,
-            server: certificate_of(handshake.server_certificate.as_deref()),
-            client: certificate_of(handshake.client_certificate.as_deref()),
+            server: Own::new(handshake.server_certificate.as_deref()),
+            client: Own::new(handshake.client_certificate.as_deref()),
             kept: KeptTexts { ja3s: None },
         }
     }

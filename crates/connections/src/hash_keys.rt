@@ -1,0 +1,74 @@
+//! The hash of a five-tuple, by the keys of a table.
+ghost use Rattle.std.specs.Prelude.{◌≡◌};
+ghost use Rattle.std.specs.Hash.FoldHasher.{folded_multiply};
+ghost use Rattle.connections.specs.HashKeys.{after_address, hash_of, hash_of_both};
+
+use crate::five_tuple::FiveTuple;
+use crate::words::{address_bits, both_bits, port_bits};
+use std::hash::{BuildHasher, RandomState};
+use std::net::IpAddr;
+
+/// The keys of the hashes in a table. Peers choose their addresses and ports, and don't know these.
+#[derive(Clone, Copy)]
+pub struct HashKeys {
+    first: u64,
+    second: u64,
+}
+
+/// Both halves of the product of two numbers, joined: it depends on all bits of both.
+#[inline(always)]
+fn folded(one: u64, other: u64) -> u64
+    ensures { result ≡ folded_multiply one other }
+{
+    let product = one as u128 * other as u128;
+    (product & 0xffff_ffff_ffff_ffff) as u64 ^ (product >> 64) as u64
+}
+
+impl HashKeys {
+    /// Two keys, by those of the system's hashes.
+    pub(crate) fn of(keys: &RandomState) -> HashKeys {
+        HashKeys {
+            first: keys.hash_one(0_u64),
+            second: keys.hash_one(1_u64),
+        }
+    }
+
+    /// A hash of what stands in front, and of an address behind it.
+    fn after_address(self, hash: u64, address: u128) -> u64
+        ensures { result ≡ after_address self hash address }
+    {
+        let upper = (address >> 64) as u64;
+        let lower = (address & 0xffff_ffff_ffff_ffff) as u64;
+        folded(hash ^ upper, self.second ^ lower)
+    }
+
+    /// The hash of two addresses, of which one or both are of IPv6, and of ports and protocol.
+    fn hash_of_both(self, lower: u128, upper: u128, ports: u64) -> u64
+        ensures { result ≡ hash_of_both self lower upper ports }
+    {
+        let hash = self.after_address(self.first, lower);
+        let hash = self.after_address(hash, upper);
+        folded(hash ^ ports, self.second)
+    }
+
+    /// The hash of a five-tuple: where both addresses are of IPv4 and networks aren't told apart, one product.
+    #[tactic(auto, unfolding(crate::specs::HashKeys::hash_of))]
+    #[inline(always)]
+    pub(crate) fn hash(self, five_tuple: &FiveTuple) -> u64
+        ensures { result ≡ hash_of self five_tuple.now }
+    {
+        let (lower, upper) = (five_tuple.lower, five_tuple.upper);
+        let ports = port_bits(lower.port, upper.port, five_tuple.protocol);
+        let hash = match (lower.address, upper.address) {
+            (IpAddr::V4(lower), IpAddr::V4(upper)) => {
+                let addresses = both_bits(lower.to_bits(), upper.to_bits());
+                folded(self.first ^ addresses, self.second ^ ports)
+            }
+            (lower, upper) => self.hash_of_both(address_bits(lower), address_bits(upper), ports),
+        };
+        if five_tuple.network == 0 {
+            return hash;
+        }
+        folded(hash ^ five_tuple.network, self.second)
+    }
+}
