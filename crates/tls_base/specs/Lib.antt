@@ -6,6 +6,7 @@ pub mod Names
 pub mod ExtensionNumbers
 pub mod Constants
 pub mod Registered
+pub mod RegisteredSuites
 pub mod KeyExchange
 pub mod Alert
 pub mod Signature

@@ -249,6 +249,8 @@ macro_rules! rows {
             62 = "tls_flags"; // draft-ietf-tls-tlsflags
             NextProtocolNegotiation = "next_protocol_negotiation";
             17513 = "application_settings"; // draft-vvv-tls-alps
+            17613 = "application_settings"; // draft-vvv-tls-alps, from its second version on
+            51764 = "trust_anchors"; // draft-ietf-tls-trust-anchor-ids
             [Grease];
             0xfd00 = "ech_outer_extensions"; // draft-ietf-tls-esni
             0xfe0d = "encrypted_client_hello"; // draft-ietf-tls-esni

@@ -25,6 +25,7 @@ mod name;
 mod named_group;
 mod psk_mode;
 mod record_type;
+mod registered_suites;
 mod sign_algorithm;
 mod signature;
 mod signature_scheme;

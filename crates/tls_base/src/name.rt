@@ -103,6 +103,18 @@ fn find_rising(numbers: &[u16], names: &[&'static str], n: u16) -> Option<&'stat
     }
 }
 
+/// The name of `n`, by a table whose numbers rise and the names in the same order.
+pub(crate) fn find_rising_name(
+    numbers: &[u16],
+    names: &[&'static str],
+    n: u16,
+) -> Option<&'static str>
+    requires { IsStrictlyIncreasing numbers.now }
+    ensures { option_map (λ t. t.now) result ≡ look_up (names_of (zip numbers.now names.now)) n }
+{
+    find_rising(numbers, names, n)
+}
+
 /// Writes a number of a type, by a table whose numbers rise and the names in the same order.
 pub(crate) fn write_rising<W: fmt::Write>(
     f: &mut fmt::Formatter<W>,

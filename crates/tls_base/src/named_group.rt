@@ -268,6 +268,7 @@ macro_rules! rows {
             4587 = "SecP256r1MLKEM768"; // draft-ietf-tls-ecdhe-mlkem
             4588 = "X25519MLKEM768"; // draft-ietf-tls-ecdhe-mlkem
             4589 = "SecP384r1MLKEM1024"; // draft-ietf-tls-ecdhe-mlkem
+            4590 = "curveSM2MLKEM768"; // draft-yang-tls-hybrid-sm2-mlkem
             0x6399 = "X25519Kyber768Draft00"; // draft-tls-westerbaan-xyber768d00
             0x639a = "SecP256r1Kyber768Draft00"; // draft-kwiatkowski-tls-ecdhe-kyber
             ArbitraryExplicitPrimeCurves = "arbitrary_explicit_prime_curves";

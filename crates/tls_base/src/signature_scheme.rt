@@ -5,8 +5,9 @@ ghost use Rattle.layouts.specs.Answers.{Gives};
 ghost use Rattle.std.specs.Option.{option_map};
 ghost use Rattle.tls_base.specs.Names.{look_up, name};
 ghost use Rattle.tls_base.specs.Constants.{signature_schemes};
+ghost use Rattle.tls_base.specs.Registered.{registered_signature_schemes};
 
-use crate::name::{find_name, names, write_name};
+use crate::name::{find_name, names, registered, write_name};
 use layouts::{IResult, number2};
 use std::fmt;
 
@@ -98,11 +99,12 @@ impl SignatureScheme {
         (self.0 & 0xff) as u8
     }
 
-    /// The name that IANA's registry of signature schemes has for the number, which is that of its constant; `None` where it has none.
+    /// The name that IANA's registry of signature schemes has for the number, without a mark that it is reserved, or that of the pair of TLS 1.2,
+    /// as `dsa_sha256`; `None` where it has none.
     pub fn registered_name(&self) -> Option<&'static str>
-        ensures { option_map (λ t. t.now) result ≡ look_up signature_schemes self.now.0 }
+        ensures { option_map (λ t. t.now) result ≡ look_up registered_signature_schemes self.now.0 }
     {
-        find_name(NAMES, self.0)
+        find_name(REGISTERED, self.0)
     }
 
     /// Reads 2 bytes, big-endian. `Incomplete` of the bytes that are missing, 2 or 1.
@@ -114,14 +116,79 @@ impl SignatureScheme {
     }
 }
 
+/// The registry of signature schemes: a row for each number that has a constant or a name there, and for the pairs of TLS 1.2.
+macro_rules! rows {
+    ($column:ident) => {
+        $column! {
+            SignatureScheme:
+            rsa_pkcs1_sha256 = "rsa_pkcs1_sha256";
+            rsa_pkcs1_sha384 = "rsa_pkcs1_sha384";
+            rsa_pkcs1_sha512 = "rsa_pkcs1_sha512";
+            rsa_pkcs1_sha1 = "rsa_pkcs1_sha1";
+            ecdsa_secp256r1_sha256 = "ecdsa_secp256r1_sha256";
+            ecdsa_secp384r1_sha384 = "ecdsa_secp384r1_sha384";
+            ecdsa_secp521r1_sha512 = "ecdsa_secp521r1_sha512";
+            ecdsa_sha1 = "ecdsa_sha1";
+            sm2sig_sm3 = "sm2sig_sm3";
+            rsa_pss_rsae_sha256 = "rsa_pss_rsae_sha256";
+            rsa_pss_rsae_sha384 = "rsa_pss_rsae_sha384";
+            rsa_pss_rsae_sha512 = "rsa_pss_rsae_sha512";
+            ed25519 = "ed25519";
+            ed448 = "ed448";
+            rsa_pss_pss_sha256 = "rsa_pss_pss_sha256";
+            rsa_pss_pss_sha384 = "rsa_pss_pss_sha384";
+            rsa_pss_pss_sha512 = "rsa_pss_pss_sha512";
+            ecdsa_brainpoolP256r1tls13_sha256 = "ecdsa_brainpoolP256r1tls13_sha256";
+            ecdsa_brainpoolP384r1tls13_sha384 = "ecdsa_brainpoolP384r1tls13_sha384";
+            ecdsa_brainpoolP512r1tls13_sha512 = "ecdsa_brainpoolP512r1tls13_sha512";
+            0x0202 = "dsa_sha1"; // RFC 8446, section 4.2.3
+            0x0402 = "dsa_sha256"; // RFC 8446, section 4.2.3
+            0x0502 = "dsa_sha384"; // RFC 8446, section 4.2.3
+            0x0602 = "dsa_sha512"; // RFC 8446, section 4.2.3
+            0x0101 = "rsa_pkcs1_md5"; // RFC 5246, section 7.4.1.4.1
+            0x0301 = "rsa_pkcs1_sha224"; // RFC 5246, section 7.4.1.4.1
+            0x0302 = "dsa_sha224"; // RFC 5246, section 7.4.1.4.1
+            0x0303 = "ecdsa_sha224"; // RFC 5246, section 7.4.1.4.1
+            0x0420 = "rsa_pkcs1_sha256_legacy"; // draft-ietf-tls-tls13-pkcs1
+            0x0520 = "rsa_pkcs1_sha384_legacy"; // draft-ietf-tls-tls13-pkcs1
+            0x0620 = "rsa_pkcs1_sha512_legacy"; // draft-ietf-tls-tls13-pkcs1
+            0x0704 = "eccsi_sha256"; // draft-wang-tls-raw-public-key-with-ibc
+            0x0705 = "iso_ibs1"; // draft-wang-tls-raw-public-key-with-ibc
+            0x0706 = "iso_ibs2"; // draft-wang-tls-raw-public-key-with-ibc
+            0x0707 = "iso_chinese_ibs"; // draft-wang-tls-raw-public-key-with-ibc
+            0x0709 = "gostr34102012_256a"; // RFC 9367
+            0x070a = "gostr34102012_256b"; // RFC 9367
+            0x070b = "gostr34102012_256c"; // RFC 9367
+            0x070c = "gostr34102012_256d"; // RFC 9367
+            0x070d = "gostr34102012_512a"; // RFC 9367
+            0x070e = "gostr34102012_512b"; // RFC 9367
+            0x070f = "gostr34102012_512c"; // RFC 9367
+            0x0840 = "gostr34102012_256"; // RFC 9189
+            0x0841 = "gostr34102012_512"; // RFC 9189
+            0x0904 = "mldsa44"; // draft-ietf-tls-mldsa
+            0x0905 = "mldsa65"; // draft-ietf-tls-mldsa
+            0x0906 = "mldsa87"; // draft-ietf-tls-mldsa
+            0x0911 = "slhdsa_sha2_128s"; // draft-reddy-tls-slhdsa
+            0x0912 = "slhdsa_sha2_128f"; // draft-reddy-tls-slhdsa
+            0x0913 = "slhdsa_sha2_192s"; // draft-reddy-tls-slhdsa
+            0x0914 = "slhdsa_sha2_192f"; // draft-reddy-tls-slhdsa
+            0x0915 = "slhdsa_sha2_256s"; // draft-reddy-tls-slhdsa
+            0x0916 = "slhdsa_sha2_256f"; // draft-reddy-tls-slhdsa
+            0x0917 = "slhdsa_shake_128s"; // draft-reddy-tls-slhdsa
+            0x0918 = "slhdsa_shake_128f"; // draft-reddy-tls-slhdsa
+            0x0919 = "slhdsa_shake_192s"; // draft-reddy-tls-slhdsa
+            0x091a = "slhdsa_shake_192f"; // draft-reddy-tls-slhdsa
+            0x091b = "slhdsa_shake_256s"; // draft-reddy-tls-slhdsa
+            0x091c = "slhdsa_shake_256f"; // draft-reddy-tls-slhdsa
+        }
+    };
+}
+
 /// The constants, each with its number and its name.
-static NAMES: &[(u16, &str)] = names!(
-    SignatureScheme: rsa_pkcs1_sha256, rsa_pkcs1_sha384, rsa_pkcs1_sha512, rsa_pkcs1_sha1,
-    ecdsa_secp256r1_sha256, ecdsa_secp384r1_sha384, ecdsa_secp521r1_sha512, ecdsa_sha1, sm2sig_sm3,
-    rsa_pss_rsae_sha256, rsa_pss_rsae_sha384, rsa_pss_rsae_sha512, ed25519, ed448,
-    rsa_pss_pss_sha256, rsa_pss_pss_sha384, rsa_pss_pss_sha512, ecdsa_brainpoolP256r1tls13_sha256,
-    ecdsa_brainpoolP384r1tls13_sha384, ecdsa_brainpoolP512r1tls13_sha512
-);
+static NAMES: &[(u16, &str)] = rows!(names);
+
+/// The names of the registry, each behind its number.
+static REGISTERED: &[(u16, &str)] = rows!(registered);
 
 impl fmt::Display for SignatureScheme {
     ghost output = { λ v. Some (name (codes "SignatureScheme") signature_schemes v.0) };
