@@ -8,11 +8,9 @@ use Rattle.lru.specs.LruCache.{last_entry, promoted}
 use Rattle.connections.specs.FiveTuple.{is_five_tuple}
 use Rattle.connections.specs.Table.{at, others, promoting, with_other, Table, WasLast}
 use Rattle.connections.specs.Memory.{total, IsAccounted, IsFront, IsSettled, IsTakenOut}
-use Rattle.connections.specs.Connection.{dropped_from, held_by}
+use Rattle.connections.specs.Connection.{held_by}
 use Rattle.connections.specs.declared.five_tuple.FiveTuple.{FiveTuple}
 use Rattle.connections.specs.declared.connection.Side.{Side}
-use Rattle.connections.specs.declared.connection.Side.TheVariants.{Originator, Responder}
-use Rattle.connections.specs.declared.receiver.Reason.{Reason}
 use Rattle.connections.specs.declared.connection.Connection.{Connection}
 use Rattle.connections.proofs.TableLemmas.{front_and_last, written}
 
@@ -138,11 +136,6 @@ module _ {T : Type 0} where
       → IsAccounted t → IsAccounted (record (with_other e w t) { held = n })
   accounted_settled e t c w n h more was =
       let m = total_with e t.live c w (sym h) in let k = total_others e t.live c (sym h) in omega (arith, m, k, more, was)
-
-  -- A dropped packet doesn't change what its connection is accounted for.
-  pub weight_dropped : (side : Side) (r : Reason) (c : Connection T) → (dropped_from side r c).weight ≡ c.weight
-  weight_dropped Originator r c = refl
-  weight_dropped Responder r c = refl
 
 split : {A : Type 0} → (n : ℕ) (xs : List A) → xs ≡ take n xs ++ drop n xs
 split zero xs = refl

@@ -82,13 +82,6 @@ module _ {X : Type 0} (e : FiveTuple) where
   pub others-first : (xs : List (FiveTuple × X)) (w : X) → others e ((e, w) ∷ xs) ≡ xs
   others-first xs w = rw (is_five_tuple-refl e)
 
-  -- One that stands first, under these ends, is found.
-  pub at-first : (xs : List (FiveTuple × X)) (f : FiveTuple) (x : X) → slice_get xs 0 ≡ Some (f, x) → is_five_tuple e f ≡ true
-      → at e xs ≡ Some x
-  at-first [] f x h same = cc
-  at-first (y ∷ xs) f x h same =
-      let first : y ≡ (f, x) = cc in rw (first, same)
-
   take-all : (n : ℕ) (xs : List (FiveTuple × X)) → length xs ≤ n → take n xs ≡ xs
   take-all zero [] h = refl
   take-all zero (x ∷ xs) h = absurd (omega arith)

@@ -1,17 +1,16 @@
 -- The table of connections: each by its ends, the one with the latest packet first.
 use Rattle.std.specs.Prelude.{◌≡◌, ℕ, ◌-◌, ◌<◌, ◌⊎◌, Bool, true, false, ◌&&◌, ◌||◌, not, is_some, if◌then◌else◌, Option, Some, None, IfSome, List, [], ◌∷◌, ◌++◌, length}
-use Rattle.std.specs.Option.{option_and_then, option_map}
+use Rattle.std.specs.Option.{option_and_then}
 use Rattle.std.specs.Map.{lookup, remove_entry, set_value}
 use Rattle.lru.specs.LruCache.{last_entry, promoted}
 use Rattle.connections.specs.FiveTuple.{is_five_tuple}
 use Rattle.connections.specs.Datagram.{five_tuple_of_datagram}
-use Rattle.connections.specs.Segment.{begins, begins_one, five_tuple_of, is_refused}
-use Rattle.connections.specs.Connection.{begun_by_datagram, dropped_from, is_closed, is_datagram_damaged, judgement_of, side_of, Accepts, Begins, ChangesCountsAlone, IsAfter, IsAnew, IsBegunBy, LeavesOut, NoneWaits, Shows, TakesDatagramIn}
+use Rattle.connections.specs.Segment.{begins, begins_one, five_tuple_of}
+use Rattle.connections.specs.Connection.{begun_by_datagram, dropped_from, is_closed, side_of, Accepts, Begins, ChangesCountsAlone, IsAfter, IsAnew, IsBegunBy, LeavesOut, NoneWaits, Shows, TakesDatagramIn}
 use Rattle.connections.specs.declared.datagram.Datagram.{Datagram}
 use Rattle.connections.specs.declared.five_tuple.FiveTuple.{FiveTuple}
 use Rattle.connections.specs.declared.segment.Segment.{Segment}
 use Rattle.connections.specs.declared.connection.Connection.{Connection}
-use Rattle.connections.specs.declared.receiver.Judgement.{Judgement}
 use Rattle.connections.specs.declared.receiver.Reason.TheVariants as reason
 use Rattle.connections.specs.declared.connection.Beginning.{Beginning}
 use Rattle.connections.specs.declared.table.TheConstants.{IDLE_LIMIT, MAX_CONNECTIONS}
@@ -79,10 +78,6 @@ module _ {T : Type 0} where
   TakesDatagram d (Some c) its = TakesDatagramIn d c its
   TakesDatagram d None its = (its ≡ begun_by_datagram d its.waiting its.listener) × NoneWaits its
 
-  -- What the receiver of a segment does with it, where a connection is open between its ends.
-  abbrev pub judgement_in : Segment → Table T → Option Judgement
-  judgement_in s t = option_map (judgement_of s) (at (five_tuple_of s) t.live)
-
   -- The connection between these ends is another one, in the same place; all others stay.
   abbrev pub with_other : FiveTuple → Connection T → Table T → Table T
   with_other e c t = record t { live = set_value (is_five_tuple e) t.live c }
@@ -101,10 +96,6 @@ module _ {T : Type 0} where
   Drops s old new = ChangesCountsAt (five_tuple_of s) (at (five_tuple_of s) old.live) old new
 
   -- A datagram with a wrong checksum is counted in the exchange between its ends.
-  abbrev pub is_damaged_in : Datagram → Option (Connection T) → Bool
-  is_damaged_in d None = is_refused d.checksum
-  is_damaged_in d (Some c) = is_datagram_damaged d c
-
   abbrev pub DropsDatagramOf : Datagram → Option (Connection T) → Table T → Table T → Type 0
   DropsDatagramOf d None old new = new ≡ old
   DropsDatagramOf d (Some c) old new =

@@ -268,14 +268,7 @@ impl<T: Listener> Connection<T> {
         segment.acknowledges() && is_new
     }
 
-    /// What the connection is to a segment.
-    pub(crate) fn verdict(&self, segment: &Segment<'_>) -> Verdict
-        ensures judgement { result.judgement ≡ judgement_of segment.now self.now }
-    {
-        self.verdict_from(self.side_of(segment.source), segment)
-    }
-
-    /// The same of a segment of that side.
+    /// What the connection is to a segment of that side.
     fn verdict_from(&self, side: Side, segment: &Segment<'_>) -> Verdict
         ensures judgement { result.judgement ≡ judgement_from side segment.now self.now }
     {

@@ -1,20 +1,20 @@
 //! The connections that are open.
-ghost use Rattle.std.specs.Prelude.{◌≡◌, ◌-◌, ◌^◌, ◌≤◌, length, is_some, true, false, IfOk, IfSome, IfNone, IsNone, OnErr, OnOk, [], ◌∷◌};
+ghost use Rattle.std.specs.Prelude.{◌≡◌, ◌-◌, ◌^◌, ◌≤◌, length, true, false, IfOk, IfSome, IfNone, IsNone, OnErr, OnOk, [], ◌∷◌};
 ghost use Rattle.std.specs.Borrow.{sem};
 ghost use Rattle.std.specs.Option.{option_copied_mut, option_map};
 ghost use Rattle.connections.specs.Segment.{five_tuple_of};
-ghost use Rattle.connections.specs.Table.{at, belongs, closed_behind, ended, is_damaged_in, judgement_in, others, promoting, without_ended, BeginsAfter, BeginsFirst, Drops, DropsDatagram, IsForgotten, IsOver, IsOverAmong, IsPut, LeavesOutAt, NoneIsOver, NoneToForget, Puts, Replaced, Restarts, TakesDatagram, WasLast};
+ghost use Rattle.connections.specs.Table.{at, belongs, closed_behind, ended, others, promoting, without_ended, BeginsAfter, BeginsFirst, Drops, IsForgotten, IsOver, IsOverAmong, IsPut, LeavesOutAt, NoneIsOver, NoneToForget, Puts, Replaced, Restarts, TakesDatagram, WasLast};
 ghost use Rattle.connections.specs.Memory.{IsAccounted};
 ghost use Rattle.connections.specs.Datagram.{five_tuple_of_datagram};
 ghost use Rattle.connections.specs.Lends.{lends_connection, lends_first};
 
 use crate::boxed::Boxed;
 use crate::by_five_tuple::ByFiveTuple;
-use crate::connection::{Connection, Listener, Verdict};
+use crate::connection::{Connection, Listener};
 use crate::datagram::Datagram;
 use crate::five_tuple::FiveTuple;
 use crate::receiver::Reason;
-use crate::segment::{Checksum, Segment};
+use crate::segment::Segment;
 use crate::waiting::{Kept, Told};
 use std::alloc::{AllocError, Global};
 use std::hash::RandomState;
@@ -104,14 +104,6 @@ impl<T: Listener> Connections<T> {
             closed: ByFiveTuple::new(alloc, keys)?,
             held: 0,
         })
-    }
-
-    /// What the connection between a segment's ends is to it; `None` where none is open.
-    pub fn verdict(&self, segment: &Segment<'_>) -> Option<Verdict>
-        ensures { option_map (λ verdict. verdict.judgement) result ≡ judgement_in segment.now self.now }
-    {
-        let connection = self.get(&segment.between())?;
-        Some(connection.verdict(segment))
     }
 
     /// Counts a segment of which its receiver takes nothing in the connection between its ends. All else stays as it is, and the connection
@@ -223,24 +215,6 @@ impl<T: Listener> Connections<T> {
         Ok(true)
     }
 
-    /// Counts a datagram with a wrong checksum in the exchange between its ends, of which nothing else changes, and says whether it is one.
-    pub fn drop_damaged(&mut self, datagram: &Datagram<'_>) -> bool
-        ensures dropped { DropsDatagram datagram.now result self.old self.new }
-        ensures damaged { result ≡ is_damaged_in datagram.now (at (five_tuple_of_datagram datagram.now) self.old.live) }
-        ensures accounted { IsAccounted self.old → IsAccounted self.new }
-    {
-        let five_tuple = datagram.between();
-        let Some(exchange) = self.live.peek_mut(&five_tuple) else {
-            return datagram.checksum == Checksum::Refused;
-        };
-        let exchange = exchange.get_mut();
-        if !exchange.is_damaged(datagram) {
-            return false;
-        }
-        exchange.drop_datagram(datagram);
-        true
-    }
-
     /// Counts the datagram, and notes its time, in the exchange between its ends, which it begins where there is none.
     ///
     /// `AllocError` where a new one could not be held: it is left out.
@@ -300,19 +274,6 @@ impl<T: Listener> Connections<T> {
         }
     }
 
-    /// The connection between these ends, to look at. Packets mostly come several in a row, so the first one is looked at before the table is searched.
-    pub fn get(&self, five_tuple: &FiveTuple) -> Option<&Connection<T>>
-        ensures { option_map (λ c. c.now) result ≡ at five_tuple.now self.now.live }
-    {
-        match self.live.peek_mru() {
-            Some((latest, connection)) if *five_tuple == *latest => Some(connection.get()),
-            _ => {
-                let connection = self.live.peek(five_tuple)?;
-                Some(connection.get())
-            }
-        }
-    }
-
     /// Takes out the exchange between a datagram's ends, in whose place another begins with that. Nothing of it came; what the checksums of both ends
     /// are stays known.
     ///
@@ -334,14 +295,6 @@ impl<T: Listener> Connections<T> {
         let over = mem::replace(exchange, another).into_box();
         self.held = self.held.saturating_sub(over.weight);
         Ok(Some(over))
-    }
-
-    /// Whether both sides ended the last connection between these ends, so that what still comes of it is left out. It is known up to
-    /// [`IDLE_LIMIT`] behind its end, and of the latest [`MAX_CONNECTIONS`] that ended.
-    pub fn has_closed(&self, five_tuple: &FiveTuple) -> bool
-        ensures { result ≡ is_some (at five_tuple.now self.now.closed) }
-    {
-        self.closed.contains(five_tuple)
     }
 
     /// Whether one is over at this time, or is to be forgotten of those that were closed: where none is, [`Connections::take_idle`] changes

@@ -2,22 +2,14 @@
 use Rattle.std.proofs.Common.{
   ◌≡◌,
   ℕ,
-  suc,
   ◌+◌,
   ◌-◌,
-  ◌^◌,
-  ◌<◌,
   ◌≤◌,
-  ◌⊎◌,
-  inl,
-  inr,
   List,
   [],
   ◌∷◌,
   ◌++◌,
   length,
-  take,
-  get_or,
   Bool,
   true,
   false,
@@ -36,9 +28,6 @@ use Rattle.std.proofs.Common.{
   append_assoc,
   length-append,
 }
-use Rattle.std.specs.Borrow.{Bor}
-use Rattle.std.proofs.Math.Seq.{take-suc}
-use Rattle.std.proofs.lemmas.List.{map-append, take_all}
 use Rattle.layouts.specs.Bytes.{Bytes}
 use Rattle.tls_stream.specs.Item.{Event as Said}
 use Rattle.tls_stream.specs.Events.{events, fed, with_more}
@@ -49,7 +38,7 @@ use Rattle.tls_flow.specs.Steps.{follow}
 use Rattle.tls_flow.specs.declared.event.Event.{Event}
 use Rattle.tls_flow.specs.declared.symbol.Direction.{Direction as Side}
 use Rattle.tls_flow.specs.declared.symbol.Direction.TheVariants.{ToServer, FromServer}
-use Rattle.tls_stream.specs.Conversations.{IsBehind, IsPast, IsFedBy, IsToldIf, ear, other, tells, views}
+use Rattle.tls_stream.specs.Conversations.{IsBehind, IsPast, IsFedBy, IsToldIf, ear, other, tells}
 use Rattle.tls_stream.specs.Ears.{IsFirst, SaysAs, says, says_by, told}
 use Rattle.tls_stream.specs.FlowEvents.{chooses_tls13, event_of}
 use Rattle.tls_stream.specs.declared.conversation.Conversation.{Conversation}
@@ -57,10 +46,7 @@ use Rattle.tls_stream.specs.declared.ear.Ear.{Ear}
 use Rattle.tls_stream.specs.declared.ear.Standing.{Standing}
 use Rattle.tls_stream.specs.declared.ear.Standing.TheVariants.{Speaks, AtFault, Over}
 use Rattle.tls_analyzer.specs.History.{history, letter_of, with_letter}
-use Rattle.tls_analyzer.specs.Noting.{has_sealed, is_sealed, known}
-use Rattle.tls_analyzer.specs.Hearing.{AreHeard, IsHeard, known_of, onto, turns}
-use Rattle.tls_analyzer.specs.declared.hearer.Hearer.{Hearer}
-use Rattle.tls_analyzer.proofs.KnownLemmas.{known_on}
+use Rattle.tls_analyzer.specs.Noting.{has_sealed, is_sealed}
 
 -- The side with a further piece.
 abbrev pub with_piece : Ear → Bytes → Ear
@@ -264,71 +250,3 @@ sealed_on vs (w ∷ ws) = ap (λ b. b || is_sealed w) (sealed_on vs ws)
 
 pub longer : (vs ws : List Said) (n : ℕ) → n ≤ length ws → n ≤ length (ws ++ vs)
 longer vs ws n few = let e : length (ws ++ vs) ≡ length ws + length vs = length-append ws vs in omega (arith, few, e)
-
-all_on : {P : Type 0} (vs ws : List Said) (n : ℕ) → P ⊎ (n ≤ length ws) → P ⊎ (n ≤ length (ws ++ vs))
-all_on vs ws n (inl p) = inl p
-all_on vs ws n (inr few) = inr (longer vs ws n few)
-
--- Two pieces of a side are heard as one.
-pub both_heard : (h m i : Hearer) (s : Side) (p q : Bytes) (a b : Bool) → IsHeard h s p m a → IsHeard m s q i b
-    → IsHeard h s (p ++ q) i (a || b)
-both_heard h m i s p q a b first last =
-    let whole = joined h.conversation first.begun m.conversation last.begun i.conversation s p q first.said last.said
-    first.fed first.past
-    last.fed last.past in
-    record {
-      begun = whole.begun;
-      said = last.said ++ first.said;
-      fed = whole.fed;
-      past = whole.past;
-      known = last.known ∙ ap (λ k. known s k last.said) first.known
-          ∙ known_on s (known_of h) first.said last.said;
-      history = last.history ∙ ap (λ g. history s g last.said) first.history
-          ∙ history_on s h.history.items first.said last.said;
-      all = all_on first.said last.said (2 ^ 64 - 1) last.all;
-      sealed = ap (λ x. x || b) first.sealed ∙ ap (λ x. has_sealed first.said || x) last.sealed
-          ∙ sym (sealed_on first.said last.said);
-    }
-
--- A piece in front of turns.
-onto_heard : (h m i : Hearer) (p : Side × Bytes) (a : Bool) (ts : List (Side × Bytes)) → IsHeard h p.0 p.1 m a
-    → AreHeard m ts i
-    → AreHeard h (onto p ts) i
-onto_heard h m i p a [] first rest = (m, a, first, rest)
-onto_heard h m i (ToServer, p) a ((ToServer, q) ∷ ts) first rest =
-    (rest.0, a || rest.1, both_heard h m rest.0 ToServer p q a rest.1 first rest.2, rest.3)
-onto_heard h m i (FromServer, p) a ((FromServer, q) ∷ ts) first rest =
-    (rest.0, a || rest.1, both_heard h m rest.0 FromServer p q a rest.1 first rest.2, rest.3)
-onto_heard h m i (ToServer, p) a ((FromServer, q) ∷ ts) first rest = (m, a, first, rest)
-onto_heard h m i (FromServer, p) a ((ToServer, q) ∷ ts) first rest = (m, a, first, rest)
-
--- What is heard of pieces is heard of their turns.
-pub turns_heard : (h i : Hearer) (ps : List (Side × Bytes)) → AreHeard h ps i → AreHeard h (turns ps) i
-turns_heard h i [] heard = heard
-turns_heard h i (p ∷ ps) heard = onto_heard h heard.0 i p heard.1 (turns ps) heard.2 (turns_heard heard.0 i ps heard.3)
-
--- One piece more.
-pub one_more : (h m i : Hearer) (ps : List (Side × Bytes)) (s : Side) (p : Bytes) (a : Bool) → AreHeard h ps m
-    → IsHeard m s p i a
-    → AreHeard h (ps ++ (s, p) ∷ []) i
-one_more h m i [] s p a heard last = (i, a, subst (λ x. IsHeard x s p i a) heard last, refl)
-one_more h m i (q ∷ ps) s p a heard last = (heard.0, heard.1, heard.2, one_more heard.0 m i ps s p a heard.3 last)
-
-pub piece_heard : (h m i : Hearer) (pieces : List (Side × Bor (List ℕ))) (n : ℕ) (q : Side × Bor (List ℕ)) (a : Bool)
-    → n < length pieces
-    → AreHeard h (views (take n pieces)) m → IsHeard m (get_or pieces n q).0 (get_or pieces n q).1.now i a
-    → AreHeard h (views (take (n + 1) pieces)) i
-piece_heard h m i pieces n q a within heard last =
-    let one : n + 1 ≡ suc n = omega arith in
-    let next : views (take (n + 1) pieces) ≡ views (take n pieces) ++ ((get_or pieces n q).0, (get_or pieces n q).1.now)
-    ∷ []
-    = ap (λ k. views (take k pieces)) one ∙ ap views (take-suc pieces n q within)
-    ∙ map-append (λ (p : Side × Bor (List ℕ)). (p.0, p.1.now)) (take n pieces) (get_or pieces n q ∷ []) in
-    subst (λ ps. AreHeard h ps i) (sym next)
-    (one_more h m i (views (take n pieces)) (get_or pieces n q).0 (get_or pieces n q).1.now a heard last)
-
-pub all_heard : (h i : Hearer) (pieces : List (Side × Bor (List ℕ))) (n : ℕ) → length pieces ≤ n
-    → AreHeard h (views (take n pieces)) i
-    → AreHeard h (turns (views pieces)) i
-all_heard h i pieces n all heard =
-    turns_heard h i (views pieces) (subst (λ ps. AreHeard h (views ps) i) (take_all n pieces all) heard)

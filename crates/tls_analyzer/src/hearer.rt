@@ -2,7 +2,7 @@
 ghost use Rattle.std.specs.Prelude.{◌≡◌, [], IfOk, OnOk};
 ghost use Rattle.std.specs.Option.{option_map};
 ghost use Rattle.ssl2_hello.specs.ClientHello.{view_client_hello as view_ssl2_hello};
-ghost use Rattle.tls_stream.specs.Conversations.{IsBegun, ear, views};
+ghost use Rattle.tls_stream.specs.Conversations.{IsBegun, ear};
 ghost use Rattle.tls_stream.specs.Ears.{IsReady, front_of};
 ghost use Rattle.tls_stream.specs.FlowEvents.{event_of, view_said};
 ghost use Rattle.tls_flow.specs.Bytes.{view_heard};
@@ -10,10 +10,10 @@ ghost use Rattle.tls_summary.specs.HandshakeSummary.{nothing, view_summary};
 ghost use Rattle.tls_flow.specs.Steps.{silence};
 ghost use Rattle.tls_analyzer.specs.Noting.{followed, is_sealed, noted, noted_with, stepped};
 ghost use Rattle.tls_analyzer.specs.History.{letter_of, with_letter};
-ghost use Rattle.tls_analyzer.specs.Hearing.{IsFed, IsHeard, IsHeardOf, IsHelloNoted, IsNextTaken};
+ghost use Rattle.tls_analyzer.specs.Hearing.{IsFed, IsHelloNoted, IsNextTaken};
 
 use crate::history::{add_letter, said_letter};
-use crate::witness::{Nobody, Witness};
+use crate::witness::Witness;
 use ssl2_hello::Ssl2ClientHello;
 use std::alloc::{AllocError, Global};
 use tls_flow::{Direction, Flow, HandshakeMessage, Kind};
@@ -22,13 +22,13 @@ use tls_summary::{HandshakeSummary, KnownCertificates};
 
 /// A conversation, and what its events say of it.
 #[derive(Drop)]
-pub struct Hearer {
-    /// Both sides, as far as they were followed. Its flow follows each hello; that of [`Hearer::flow`] leaves those out that are none of the handshake.
-    pub conversation: Conversation,
+pub(crate) struct Hearer {
+    // Both sides, as far as they were followed. Its flow follows each hello; the one below leaves those out that are none of the handshake.
+    pub(crate) conversation: Conversation,
     // The handshake.
     pub(crate) flow: Flow,
-    /// What they said.
-    pub handshake: HandshakeSummary,
+    // What they said.
+    pub(crate) handshake: HandshakeSummary,
     // A letter for each event.
     pub(crate) history: Vec<u8>,
 }
@@ -114,7 +114,7 @@ fn tell<W: Witness>(
 
 impl Hearer {
     /// One of which nothing came. It takes no memory.
-    pub fn new(alloc: Global) -> Hearer
+    pub(crate) fn new(alloc: Global) -> Hearer
         ensures begun { IsBegun DEFAULT_LIMIT result.conversation }
         ensures unfollowed { result.flow ≡ silence }
         ensures unknown { view_summary result.handshake ≡ nothing }
@@ -180,36 +180,4 @@ impl Hearer {
         self.conversation.take_front_as(side, event);
         Ok(Some(is_encrypted))
     }
-
-    /// Puts a piece behind what came of that side's stream, and follows and notes each event that the side says by it: whether one
-    /// of them is encrypted.
-    ///
-    /// `AllocError` where the piece, or a hello in it, could not be held.
-    pub fn hear(&mut self, alloc: Global, side: Direction, piece: &[u8]) -> Result<bool, AllocError>
-        ensures { IfOk result (λ sealed. IsHeard self.old side piece.now self.new sealed) }
-    {
-        let mut has_encrypted = false;
-        self.feed(side, piece)?;
-        for _ in 0..u64::MAX {
-            match self.take_next(alloc, side, &mut Nobody)? {
-                Some(is_encrypted) => has_encrypted = has_encrypted || is_encrypted,
-                None => break,
-            }
-        }
-        Ok(has_encrypted)
-    }
-}
-
-/// What is heard where these pieces come, one after the other, each of the side that speaks. It is what is heard of the turns that they
-/// make, in which a side's pieces up to the other side's next are joined: however they are cut, and the records in them.
-///
-/// `AllocError` where a piece, or a hello in it, could not be held.
-pub fn hear_all(alloc: Global, pieces: &[(Direction, &[u8])]) -> Result<Hearer, AllocError>
-    ensures { IfOk result (λ h. IsHeardOf DEFAULT_LIMIT (views pieces.now) h) }
-{
-    let mut hearer = Hearer::new(alloc);
-    for (side, piece) in pieces {
-        hearer.hear(alloc, *side, piece)?;
-    }
-    Ok(hearer)
 }

@@ -1,9 +1,9 @@
 //! What a connection of TLS or DTLS says: both sides heard, what they say noted, and how its handshake ended.
 //!
-//! Over a stream, [`Hearer`] follows both sides, and its handshake summary is a fold over what they say, in the order of the capture. [`Analyzer`]
+//! Over a stream, [`Analyzer`] follows both sides, and its handshake summary is a fold over what they say, in the order of the capture. It
 //! tells from the first bytes of a side whether they are TLS, and hears a side no further once its handshake ended and it is
-//! encrypted: so nothing behind the handshake is kept. What a [`Hearer`] and a [`Analyzer`] know is what the turns of both sides say, however
-//! these are cut: [`hear_all`] and [`analyze_all`] state it.
+//! encrypted: so nothing behind the handshake is kept. What it knows is what the turns of both sides say, however
+//! these are cut: [`analyze_all`] states it.
 //!
 //! Both have a history: a letter for each event, up to [`HISTORY_LIMIT`]. [`Records`] counts the records of a stream, encrypted ones too, and
 //! keeps no byte of them; [`DatagramRecords`] counts those of datagrams.
@@ -31,7 +31,6 @@ mod witness;
 pub use analyzer::{Analyzer, analyze_all};
 pub use datagram_analyzer::{DatagramAnalyzer, analyzer_of};
 pub use datagram_records::DatagramRecords;
-pub use hearer::{Hearer, hear_all};
 pub use history::HISTORY_LIMIT;
 pub use records::Records;
 pub use witness::Witness;
