@@ -4,13 +4,13 @@
 # Ctrl-C goes to every program of a pipeline. If the capture comes by a pipe, it is left to the program that writes: that one ends, so the
 # pipe does, and the lines of the connections that are still open are printed. At a terminal it says what is waited for.
 
-# Whether standard input is read: no capture is named, or - is.
+# Whether standard input is read: no capture is named, or - is. Where an option isn't known, the program says so, and reads nothing.
 reads_input() {
     has_capture=
     while [ $# -gt 0 ]; do
         case "$1" in
             --checksums | --ciphers | --fields | --format | --memory | --part) [ $# -gt 1 ] && shift ;;
-            --help | --version | -h | -V) return 1 ;;
+            --by-network | --certificates | --csv-raw | --join | --messages | --numbers | --*=*) ;;
             --)
                 shift
                 for word; do
@@ -20,7 +20,7 @@ reads_input() {
                 break
                 ;;
             -) return 0 ;;
-            -*) ;;
+            -*) return 1 ;;
             *) has_capture=1 ;;
         esac
         shift
