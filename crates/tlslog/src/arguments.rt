@@ -1,5 +1,6 @@
 //! The arguments of the command line.
 use crate::failure::Reason;
+use crate::help::AFTER_OPTIONS;
 use clap::{Arg, ArgAction, ArgMatches, Command};
 use connection_parts::Part;
 use log_connections::Checksums;
@@ -172,6 +173,7 @@ pub fn matches<'a>(alloc: Global, words: &'a [String]) -> Result<ArgMatches<'a>,
         .about(
             "Prints a line for each connection of TLS or DTLS in a capture, or for each message or certificate",
         )
+        .after_help(AFTER_OPTIONS)
         .arg(captures(alloc))?
         .arg(messages(alloc))?
         .arg(certificates(alloc))?

@@ -7,6 +7,7 @@
 
 mod arguments;
 mod failure;
+mod help;
 mod listener;
 mod memory;
 mod output;
