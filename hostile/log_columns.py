@@ -1,4 +1,4 @@
-"""The fields of the log, by the tables of crates/log_lines/src/fields.rt and columns.rt: name, type and the text of each."""
+"""The fields of the log, by the tables of crates/log_fields/src/fields.rt and columns.rt: name, type and the text of each."""
 
 from __future__ import annotations
 
@@ -7,8 +7,9 @@ from collections.abc import Iterator
 from pathlib import Path
 from typing import NamedTuple
 
-CRATE = Path(__file__).resolve().parent.parent / "crates/log_lines/src"
-FIELDS, COLUMNS, ZEEK = CRATE / "fields.rt", CRATE / "columns.rt", CRATE / "zeek.rt"
+CRATES = Path(__file__).resolve().parent.parent / "crates"
+FIELDS, COLUMNS = CRATES / "log_fields/src/fields.rt", CRATES / "log_fields/src/columns.rt"
+TYPES, ZEEK = CRATES / "log_formats/src/column.rt", CRATES / "log_formats/src/zeek.rt"
 # What a row's lines begin with where they say something else than what the field is.
 LABELS = ("RFC", "Zeek", "absent")
 ABOVE = "as above"
@@ -117,7 +118,7 @@ def groups(table: list[Column]) -> list[list[Column]]:
 
 def kinds() -> dict[str, tuple[str, str]]:
     """The variants of Type: what each says, and Zeek's name of it."""
-    body = COLUMNS.read_text().split("pub enum Type {\n")[1].split("\n}")[0]
+    body = TYPES.read_text().split("pub enum Type {\n")[1].split("\n}")[0]
     texts = {name: text for text, name in re.findall(r"^    /// (.*)\n    (\w+),$", body, re.M)}
     names = {}
     for variants, name in re.findall(r'^ +(Type::.*) => "(.*)",$', ZEEK.read_text(), re.M):

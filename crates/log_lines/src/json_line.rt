@@ -1,13 +1,13 @@
 //! The line of a connection as an object of JSON. Each field is written as soon as it is told; what was written of the same list or certificate before is copied.
-use crate::cell::{Cell, TakesCell};
-use crate::fields::{FIELDS, Field};
-use crate::known_texts::KnownTexts;
-use crate::line::tell;
-use crate::lists::{Numbers, Texts};
-use crate::objects::{LINE_LEN, Object};
 use crate::style::Style;
-use crate::summary::Summary;
-use crate::told::Told;
+use log_fields::connection::tell;
+use log_fields::fields::{FIELDS, Field};
+use log_fields::summary::Summary;
+use log_fields::told::Told;
+use log_formats::cell::{Cell, TakesCell};
+use log_formats::known_texts::KnownTexts;
+use log_formats::lists::{Numbers, Texts};
+use log_formats::objects::{LINE_LEN, Object};
 use serde::Serialize;
 use std::alloc::{AllocError, Global};
 use std::cell::RefCell;
@@ -169,7 +169,7 @@ pub fn json_line<'a>(
     summary: &'a Summary<'a>,
     room: Vec<u8>,
 ) -> Result<Vec<u8>, AllocError> {
-    let mut told = Told::new(alloc, style, summary);
+    let mut told = style.told(alloc, summary);
     let mut line = Object::over(alloc, room, LINE_LEN)?;
     // So many fields are told.
     let mut count = 0;

@@ -1,13 +1,13 @@
 //! The line of a certificate.
-use crate::cell::{Cell, Row};
-use crate::certificates::{certificate_of, certified_cell, fault_name};
-use crate::chains::Presented;
-use crate::columns::{DETAILS, Detail};
-use crate::line::end_cell;
-use crate::names::sender_name;
-use crate::summary::Summary;
-use crate::text::{hexadecimal, name_cell, some_mark, some_text};
-use crate::told::Moment;
+use log_fields::certificates::{certificate_of, certified_cell, fault_name};
+use log_fields::columns::{DETAILS, Detail};
+use log_fields::connection::end_cell;
+use log_fields::names::sender_name;
+use log_fields::summary::Summary;
+use log_fields::told::Moment;
+use log_formats::cell::{Cell, Row};
+use log_formats::text::{hexadecimal, name_cell, some_mark, some_text};
+use log_messages::Presented;
 use sha2::{Digest, Sha256};
 use std::alloc::{AllocError, Global};
 use tls_flow::Direction;

@@ -1,18 +1,27 @@
 //! The line of a message.
-use crate::cell::{Cell, Row};
-use crate::columns::{PARTS, Part};
-use crate::line::end_cell;
-use crate::names::sender_name;
-use crate::speech::Spoken;
-use crate::summary::Summary;
-use crate::text::{name_cell, some_name};
-use crate::told::Moment;
+use log_fields::columns::{PARTS, Part};
+use log_fields::connection::end_cell;
+use log_fields::names::sender_name;
+use log_fields::summary::Summary;
+use log_fields::told::Moment;
+use log_formats::cell::{Cell, Row};
+use log_formats::objects::{LINE_LEN, json_text};
+use log_formats::text::{name_cell, some_name};
+use log_messages::{Body, Spoken};
 use std::alloc::{AllocError, Global};
 
-/// What one field says of a message that was whole at this time. Its fields are taken out, since they stand in one field alone.
+/// What stands in a message, as JSON.
+fn body_cell(alloc: Global, body: &Option<Box<Body>>) -> Result<Option<Cell<'static>>, AllocError> {
+    match body {
+        Some(body) => Ok(Some(Cell::Json(json_text(alloc, body, LINE_LEN)?))),
+        None => Ok(None),
+    }
+}
+
+/// What one field says of a message that was whole at this time.
 fn part_cell(
     moment: Moment<'_>,
-    spoken: &mut Spoken,
+    spoken: &Spoken,
     part: &Part,
 ) -> Result<Option<Cell<'static>>, AllocError> {
     match part {
@@ -21,10 +30,7 @@ fn part_cell(
         Part::Place => Ok(Some(Cell::Number(spoken.place))),
         Part::ContentType => Ok(Some(Cell::Number(u64::from(spoken.word.content_type.0)))),
         Part::Name => Ok(some_name(spoken.word.name)),
-        Part::Message => match spoken.word.body.take() {
-            Some(body) => Ok(Some(Cell::Message(body))),
-            None => Ok(None),
-        },
+        Part::Message => body_cell(moment.alloc, &spoken.word.body),
     }
 }
 
@@ -41,11 +47,10 @@ pub fn message_row(
         summary,
         time,
     };
-    let mut spoken = spoken;
     let mut cells = Vec::with_capacity(alloc, places.len())?;
     for place in places {
         if let Some((name, _, part)) = PARTS.get(*place) {
-            let cell = part_cell(moment, &mut spoken, part)?;
+            let cell = part_cell(moment, &spoken, part)?;
             cells.push((*name, cell))?;
         }
     }

@@ -1,20 +1,20 @@
 //! What is printed, and how.
-use crate::cell::{Cell, Row};
-use crate::chains::Presented;
-use crate::columns::{Column, DETAILS, PARTS};
-use crate::fields::FIELDS;
 use crate::json_line::json_line;
-use crate::known_texts::KnownTexts;
-use crate::line::row_of;
-use crate::objects::{LINE_LEN, json_bytes, json_text};
 use crate::presented::certificate_row;
-use crate::speech::Spoken;
 use crate::spoken::message_row;
-use crate::suites::Suites;
-use crate::summary::Summary;
-use crate::text::add_text;
-use crate::{suricata, zeek};
-use csv::WriterBuilder;
+use crate::suricata;
+use log_fields::columns::{DETAILS, PARTS};
+use log_fields::connection::row_of;
+use log_fields::fields::FIELDS;
+use log_fields::summary::Summary;
+use log_fields::told::Told;
+use log_formats::cell::Row;
+use log_formats::column::Column;
+use log_formats::known_texts::KnownTexts;
+use log_formats::objects::json_row;
+use log_formats::suites::Suites;
+use log_formats::{comma, zeek};
+use log_messages::{Presented, Spoken};
 use std::alloc::{AllocError, Global};
 use std::cell::RefCell;
 use std::fmt::{self, Display, Formatter};
@@ -204,35 +204,6 @@ impl Lines {
     }
 }
 
-/// What failed for memory alone.
-fn in_memory<T, E: Drop>(made: Result<T, E>) -> Result<T, AllocError> {
-    match made {
-        Ok(value) => Ok(value),
-        Err(_) => Err(AllocError),
-    }
-}
-
-/// A cell as comma-separated values have it: nothing, text as it stands, or else JSON.
-fn field_text(alloc: Global, cell: &Option<Cell<'_>>) -> Result<String, AllocError> {
-    match cell {
-        None => Ok(String::new(alloc)),
-        Some(Cell::Text(text)) => text.to_string(alloc),
-        Some(other) => json_text(alloc, other, 32),
-    }
-}
-
-/// A record of comma-separated values, without its line break.
-fn record(alloc: Global, fields: &[String]) -> Result<Vec<u8>, AllocError> {
-    let mut writer = WriterBuilder::new().from_writer(Vec::new(alloc));
-    for field in fields {
-        in_memory(writer.write_field(field.as_bytes()))?;
-    }
-    in_memory(writer.end_record())?;
-    let mut line = in_memory(writer.into_inner())?;
-    line.pop();
-    Ok(line)
-}
-
 /// What stands in a log of Zeek's in front of its lines.
 fn zeek_header(alloc: Global, lines: &Lines, opened: i64) -> Result<String, AllocError> {
     match lines {
@@ -250,35 +221,11 @@ fn zeek_header(alloc: Global, lines: &Lines, opened: i64) -> Result<String, Allo
 
 /// The line of names in front of comma-separated values.
 fn csv_header(alloc: Global, lines: &Lines) -> Result<Vec<u8>, AllocError> {
-    let names = match lines {
-        Lines::Connections(places) => names_of(alloc, FIELDS, places.as_slice())?,
-        Lines::Messages(places) => names_of(alloc, PARTS, places.as_slice())?,
-        Lines::Certificates(places) => names_of(alloc, DETAILS, places.as_slice())?,
-    };
-    record(alloc, names.as_slice())
-}
-
-/// A record of comma-separated values, of a row.
-fn csv_line(alloc: Global, row: &Row<'_>) -> Result<Vec<u8>, AllocError> {
-    let mut fields = Vec::new(alloc);
-    for (_name, cell) in &row.cells {
-        add_text(&mut fields, field_text(alloc, cell))?;
+    match lines {
+        Lines::Connections(places) => comma::header(alloc, FIELDS, places.as_slice()),
+        Lines::Messages(places) => comma::header(alloc, PARTS, places.as_slice()),
+        Lines::Certificates(places) => comma::header(alloc, DETAILS, places.as_slice()),
     }
-    record(alloc, fields.as_slice())
-}
-
-fn names_of<T>(
-    alloc: Global,
-    table: &[Column<T>],
-    places: &[usize],
-) -> Result<Vec<String>, AllocError> {
-    let mut names = Vec::new(alloc);
-    for place in places {
-        if let Some(column) = table.get(*place) {
-            add_text(&mut names, String::from_str(alloc, column.0))?;
-        }
-    }
-    Ok(names)
 }
 
 impl Style {
@@ -326,11 +273,16 @@ impl Style {
         }
     }
 
+    /// A connection, as it is told in this style.
+    pub(crate) fn told<'a>(&'a self, alloc: Global, summary: &'a Summary<'a>) -> Told<'a> {
+        Told::new(alloc, &self.suites, &self.digests, summary)
+    }
+
     /// A line, without its line break.
     fn line(&self, alloc: Global, row: &Row<'_>) -> Result<Vec<u8>, AllocError> {
         match self.format {
-            Format::Json | Format::Suricata => json_bytes(alloc, row, LINE_LEN),
-            Format::Csv => csv_line(alloc, row),
+            Format::Json | Format::Suricata => json_row(alloc, row),
+            Format::Csv => comma::line(alloc, row),
             Format::Zeek => Ok(zeek::line(alloc, row)?.into_bytes()),
         }
     }
@@ -348,7 +300,7 @@ impl Style {
             Format::Suricata => suricata::line(alloc, self, summary),
             Format::Json => json_line(alloc, self, places, summary, room),
             Format::Csv | Format::Zeek => {
-                let row = row_of(alloc, self, places, summary)?;
+                let row = row_of(&mut self.told(alloc, summary), places)?;
                 self.line(alloc, &row)
             }
         }

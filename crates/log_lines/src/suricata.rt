@@ -1,17 +1,19 @@
 //! Connections as Suricata's eve.json has them (docs.suricata.io, "EVE JSON Format", event type TLS).
-use crate::cell::{Cell, PrintCell, Row};
-use crate::columns::Certified;
-use crate::fields::{End, Field, Named, Offer, Print};
-use crate::line::{cell_of, end_cell, microseconds};
-use crate::lists::Texts;
-use crate::names::suricata_version;
-use crate::objects::{LINE_LEN, json_bytes};
 use crate::style::Style;
-use crate::summary::Summary;
-use crate::text::{Text, add_text, hexadecimal, name_cell, name_or_number, some_mark, some_text};
-use crate::told::{Moment, Told};
 use connection_ids::flow_id;
 use connections::Protocol;
+use log_fields::columns::Certified;
+use log_fields::connection::{cell_of, end_cell, microseconds};
+use log_fields::fields::{End, Field, Named, Offer, Print};
+use log_fields::summary::Summary;
+use log_fields::told::{Moment, Told};
+use log_formats::cell::{Cell, PrintCell, Row};
+use log_formats::lists::Texts;
+use log_formats::objects::{LINE_LEN, json_bytes};
+use log_formats::text::{
+    Text, add_text, hexadecimal, name_cell, name_or_number, some_mark, some_text,
+};
+use log_formats::versions::suricata_version;
 use serde::{Described, Serialize, Serializer};
 use sha1::Sha1;
 use std::alloc::{AllocError, Global};
@@ -254,7 +256,7 @@ pub fn line<'a>(
     style: &'a Style,
     summary: &'a Summary<'a>,
 ) -> Result<Vec<u8>, AllocError> {
-    let mut told = Told::new(alloc, style, summary);
+    let mut told = style.told(alloc, summary);
     let event = Event {
         front: front_row(alloc, summary)?,
         tls: tls_row(alloc, &mut told)?,

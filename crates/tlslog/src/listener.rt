@@ -1,7 +1,8 @@
 //! What goes with each connection of a capture.
 use connections::{Connection, Side};
 use log_connections::{Heard, Keeper, Pieces};
-use log_lines::{Chains, Party, Presented, Speech, Spoken, Summary};
+use log_fields::summary::{Party, Summary};
+use log_messages::{Chains, Presented, Speech, Spoken};
 use std::alloc::{AllocError, Global};
 use tls_analyzer::Witness;
 use tls_flow::{Direction, HandshakeMessage};

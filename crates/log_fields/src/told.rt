@@ -1,9 +1,8 @@
 //! What the fields of a connection's line are told from.
 use crate::certificates::certificate_of;
-use crate::style::Style;
-use crate::suites::Suites;
 use crate::summary::{Party, Summary};
 use connections::{Protocol, Side};
+use log_formats::suites::Suites;
 use std::alloc::Global;
 use std::cell::RefCell;
 use tls_fingerprints::KnownDigests;
@@ -87,13 +86,18 @@ pub struct Told<'a> {
 }
 
 impl<'a> Told<'a> {
-    /// That connection, as it is told in this style.
-    pub fn new(alloc: Global, style: &'a Style, summary: &'a Summary<'a>) -> Told<'a> {
+    /// That connection, as it is told by these names, with digests that were made before.
+    pub fn new(
+        alloc: Global,
+        suites: &'a Suites,
+        digests: &'a RefCell<KnownDigests>,
+        summary: &'a Summary<'a>,
+    ) -> Told<'a> {
         let handshake = summary.handshake;
         Told {
             alloc,
-            suites: &style.suites,
-            digests: &style.digests,
+            suites,
+            digests,
             summary,
             handshake,
             server: Own::new(handshake.server_certificate.as_deref()),

@@ -1,10 +1,10 @@
 //! Fingerprints of hellos, as fields.
-use crate::cell::{Cell, TakesCell};
 use crate::fields::{Print, rows};
-use crate::text::{Text, some_text};
 use crate::told::Told;
 use connections::Protocol;
 use layouts::Items;
+use log_formats::cell::{Cell, TakesCell};
+use log_formats::text::{Text, some_text};
 use std::alloc::{AllocError, Global};
 use tls_fingerprints::{ClientHelloParts, ServerHelloParts, Transport, ja3_digest};
 use tls_summary::HandshakeSummary;

@@ -1,24 +1,23 @@
-//! The line of a connection.
-use crate::cell::{Cell, KeptCell, Row, Seconds, TakesCell};
+//! What the fields of a connection's line say.
 use crate::certificates::certified_cell;
 use crate::columns::Certified;
 use crate::fields::{Carried, Course, End, FIELDS, Field, Named, Sent, rows};
 use crate::hellos::{other_names_cell, tell_answer, tell_chain, tell_offer};
-use crate::lists::{Numbers, Texts, some_numbers, some_texts};
-use crate::names::{REASONS, outcome_name, reason_name, tunnel_name};
+use crate::names::{REASONS, kind_name, outcome_name, reason_name, tunnel_name};
 use crate::prints::tell_print;
-use crate::style::Style;
 use crate::summary::Summary;
-use crate::text::{
-    Text, add_text, name_cell, name_or_number, some_escaped, some_group, some_mark, some_name,
-    some_text, some_version,
-};
 use crate::told::{Moment, Sender, Told};
 use connection_ids::{community_id, uid};
 use connections::{Dropped, Protocol};
+use log_formats::cell::{Cell, KeptCell, Row, Seconds, StopCell, TakesCell};
+use log_formats::lists::{Numbers, Texts, some_numbers, some_texts};
+use log_formats::text::{
+    Text, add_text, name_cell, name_or_number, some_escaped, some_group, some_mark, some_name,
+    some_text, some_version,
+};
 use std::alloc::{AllocError, Global};
 use tls_base::TlsAlertDescription;
-use tls_flow::Stop;
+use tls_flow::{Direction, Stop};
 use tunnels::Tunnel;
 use x509::Certificate;
 
@@ -98,7 +97,13 @@ pub fn end_cell(moment: Moment<'_>, field: &End) -> Result<Option<Cell<'static>>
 }
 
 fn stop_cell<'a>(stop: Option<Stop>) -> Option<Cell<'a>> {
-    Some(Cell::Stop(stop?))
+    let stop = stop?;
+    let symbol = stop.event.symbol;
+    Some(Cell::Stop(StopCell {
+        message: kind_name(symbol.kind),
+        is_clients: symbol.direction == Direction::ToServer,
+        messages_before: stop.place,
+    }))
 }
 
 /// An alert by its name, where there was one.
@@ -185,6 +190,15 @@ fn tunnels_cell<'a>(alloc: Global, tunnels: &[Tunnel]) -> Result<Option<Cell<'a>
     Ok(some_texts(Texts::Owned(names)))
 }
 
+/// The identifiers of the tunnels, 0 of one that has none; nothing where it came in none.
+fn tunnel_ids_cell<'a>(alloc: Global, tunnels: &[Tunnel]) -> Result<Option<Cell<'a>>, AllocError> {
+    let mut ids = Vec::new(alloc);
+    for tunnel in tunnels {
+        ids.push(u64::from(tunnel.id.unwrap_or(0)))?;
+    }
+    Ok(some_numbers(Numbers::Owned(ids)))
+}
+
 /// What a connection came in.
 fn tell_carried<'a, T: TakesCell<'a>>(
     told: &Told<'a>,
@@ -239,17 +253,11 @@ pub fn cell_of<'a>(told: &mut Told<'a>, field: &Field) -> Result<Option<Cell<'a>
 }
 
 /// The line of a connection, with the fields at these places of [`FIELDS`].
-pub fn row_of<'a>(
-    alloc: Global,
-    style: &'a Style,
-    places: &[usize],
-    summary: &'a Summary<'a>,
-) -> Result<Row<'a>, AllocError> {
-    let mut told = Told::new(alloc, style, summary);
-    let mut cells = Vec::with_capacity(alloc, places.len())?;
+pub fn row_of<'a>(told: &mut Told<'a>, places: &[usize]) -> Result<Row<'a>, AllocError> {
+    let mut cells = Vec::with_capacity(told.alloc, places.len())?;
     for place in places {
         if let Some((name, _, field)) = FIELDS.get(*place) {
-            let cell = cell_of(&mut told, field)?;
+            let cell = cell_of(told, field)?;
             cells.push((*name, cell))?;
         }
     }

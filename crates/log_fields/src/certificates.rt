@@ -1,10 +1,10 @@
 //! What a certificate says, as fields (RFC 5280, section 4.1). Nothing is verified.
-use crate::cell::Cell;
 use crate::columns::Certified;
-use crate::lists::{Texts, some_texts};
-use crate::text::{Text, add_text, name_cell, some_text};
 use der::ObjectIdentifier;
 use layouts::{ErrorKind, Items};
+use log_formats::cell::Cell;
+use log_formats::lists::{Texts, some_texts};
+use log_formats::text::{Text, add_text, name_cell, some_text};
 use std::alloc::{AllocError, Global};
 use tls_summary::CertificateFault;
 use x509::{

@@ -1,6 +1,7 @@
 //! The fields of a connection's line: which there are, what is told of each, and what says it.
-use crate::columns::{Certified, Column, Type};
+use crate::columns::Certified;
 use connections::Side;
+use log_formats::column::{Column, Type};
 
 /// Who talks, over what, and when.
 #[derive(Clone, Copy)]
@@ -305,7 +306,7 @@ macro_rules! rows {
                 "tunnels": Texts = Tunnels => |told| tunnels_cell(told.alloc, told.summary.tunnels);
                 /// the number of each of these, 0 where it has none: key, session, label, service, network or endpoint
                 /// absent: it came in none
-                "tunnel_ids": Counts = TunnelIds => |told| Ok(some_numbers(Numbers::Ids(told.summary.tunnels)));
+                "tunnel_ids": Counts = TunnelIds => |told| tunnel_ids_cell(told.alloc, told.summary.tunnels);
             }
             Offer {
                 /// the version field of the ClientHello, `TLSv12` in TLS 1.3
@@ -449,9 +450,9 @@ macro_rules! rows {
                 /// the length in bytes and the SHA-256 of each, the server's own first
                 /// Zeek: `cert_chain_fps`
                 /// absent: as above
-                "cert_lengths": Counts = ServerLengths => |told| Ok(some_numbers(Numbers::Lengths(server_chain(told))));
+                "cert_lengths": Counts = ServerLengths => |told| lengths_cell(told.alloc, server_chain(told));
                 /// as above
-                "cert_chain_fps": Texts = ServerPrints => |told| Ok(some_texts(Texts::Prints(server_chain(told))));
+                "cert_chain_fps": Texts = ServerPrints => |told| prints_cell(told.alloc, server_chain(told));
                 /// `true`: the server sent a CertificateRequest
                 /// RFC: 5246, 7.4.4
                 /// absent: it didn't; TLS 1.3
@@ -464,10 +465,10 @@ macro_rules! rows {
                 /// Zeek: `client_cert_chain_fps`
                 /// absent: it sent none
                 "client_cert_lengths": Counts = ClientLengths =>
-                    |told| Ok(some_numbers(Numbers::Lengths(client_chain(told))));
+                    |told| lengths_cell(told.alloc, client_chain(told));
                 /// as above
                 "client_cert_chain_fps": Texts = ClientPrints =>
-                    |told| Ok(some_texts(Texts::Prints(client_chain(told))));
+                    |told| prints_cell(told.alloc, client_chain(told));
             }
             ServerCertificate {
                 /// the names of the server's own certificate, as RFC 4514 writes them ("What certificates say", below)

@@ -1,4 +1,5 @@
 //! Values as JSON.
+use crate::cell::{Cell, Row};
 use json::Writer;
 use serde::{Case, NameKind, Serialize, Serializer};
 use std::alloc::{AllocError, Global};
@@ -283,6 +284,19 @@ impl Object {
         Ok(())
     }
 
+    /// Adds a field whose value stands as JSON already.
+    pub fn add_json(&mut self, alloc: Global, name: &str, value: &str) -> Result<(), AllocError> {
+        if self.front.is_some() {
+            self.go_on();
+        }
+        in_memory(self.json.key(name))?;
+        let mut front = self.json.take_bytes(alloc);
+        front.extend_from_slice(value.as_bytes())?;
+        front.push(b',')?;
+        self.front = Some(front);
+        Ok(())
+    }
+
     /// What was written, without a comma at its end: no value ends in one.
     fn into_front(self) -> Vec<u8> {
         let Object { json, front } = self;
@@ -324,7 +338,20 @@ pub fn json_bytes<T: Serialize>(
     Ok(json.into_bytes())
 }
 
-/// The same as text.
+/// The object of a row's fields, in which what is missing is left out.
+pub fn json_row(alloc: Global, row: &Row<'_>) -> Result<Vec<u8>, AllocError> {
+    let mut line = Object::over(alloc, Vec::new(alloc), LINE_LEN)?;
+    for (name, cell) in &row.cells {
+        match cell {
+            Some(Cell::Json(text)) => line.add_json(alloc, name, text.as_str())?,
+            Some(cell) => line.add(name, cell)?,
+            None => {}
+        }
+    }
+    line.into_bytes()
+}
+
+/// A value as text of JSON, in which so many bytes have room at first.
 pub fn json_text<T: Serialize>(
     alloc: Global,
     value: &T,

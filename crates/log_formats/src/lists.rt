@@ -7,8 +7,6 @@ use serde::{Described, Serialize, Serializer};
 use ssl2_hello::CipherSpec;
 use tls_base::{NamedGroup, TlsCipherSuiteID, TlsVersion};
 use tls_ext::{ExtensionType, KeyShareEntry};
-use tls_summary::CertificateSummary;
-use tunnels::Tunnel;
 
 /// A list of texts, by what they are made of.
 #[derive(Drop)]
@@ -31,8 +29,8 @@ pub enum Texts<'a> {
     Suites(&'a Suites, Items<'a, TlsCipherSuiteID>),
     /// CipherSpecs of SSL 2.0, by these names.
     Specs(&'a Suites, Items<'a, CipherSpec>),
-    /// Certificates, by their fingerprints.
-    Prints(&'a [CertificateSummary]),
+    /// Digests, in hexadecimal.
+    Digests(Vec<[u8; 32]>),
 }
 
 /// Whether none of these items is read.
@@ -141,7 +139,7 @@ impl Texts<'_> {
             Texts::Shares(bytes) => has_no_share(bytes),
             Texts::Suites(_, list) => has_none(*list),
             Texts::Specs(_, list) => has_none(*list),
-            Texts::Prints(all) => all.is_empty(),
+            Texts::Digests(all) => all.is_empty(),
         }
     }
 
@@ -175,9 +173,9 @@ impl Texts<'_> {
             Texts::Shares(bytes) => hand_shares(bytes, taker),
             Texts::Suites(suites, list) => hand_suites(suites, *list, taker),
             Texts::Specs(suites, list) => hand_specs(suites, *list, taker),
-            Texts::Prints(all) => {
-                for one in *all {
-                    taker.take_text(&Text::Digits(one.sha256.as_slice()))?;
+            Texts::Digests(all) => {
+                for one in all {
+                    taker.take_text(&Text::Digits(one.as_slice()))?;
                 }
                 Ok(())
             }
@@ -218,14 +216,12 @@ impl Serialize for Texts<'_> {
 }
 
 /// A list of numbers, by what has them.
-#[derive(Clone, Copy)]
+#[derive(Drop)]
 pub enum Numbers<'a> {
     /// Codes of one byte.
     Codes(&'a [u8]),
-    /// Certificates, by their lengths.
-    Lengths(&'a [CertificateSummary]),
-    /// Tunnels, by their identifiers; 0 of one that has none.
-    Ids(&'a [Tunnel]),
+    /// Numbers, held here.
+    Owned(Vec<u64>),
 }
 
 impl Numbers<'_> {
@@ -233,8 +229,7 @@ impl Numbers<'_> {
     pub fn get(&self, place: usize) -> Option<u64> {
         match self {
             Numbers::Codes(codes) => Some(u64::from(*codes.get(place)?)),
-            Numbers::Lengths(chain) => Some(chain.get(place)?.length as u64),
-            Numbers::Ids(tunnels) => Some(u64::from(tunnels.get(place)?.id.unwrap_or(0))),
+            Numbers::Owned(all) => Some(*all.get(place)?),
         }
     }
 
@@ -242,8 +237,7 @@ impl Numbers<'_> {
     pub fn len(&self) -> usize {
         match self {
             Numbers::Codes(codes) => codes.len(),
-            Numbers::Lengths(chain) => chain.len(),
-            Numbers::Ids(tunnels) => tunnels.len(),
+            Numbers::Owned(all) => all.len(),
         }
     }
 }

@@ -1,39 +1,7 @@
 //! The names that are printed.
 use connections::Reason;
-use tls_base::TlsVersion;
 use tls_flow::{Direction, Kind, Outcome};
 use tunnels::TunnelKind;
-
-/// The number of DTLS 1.3 (RFC 9147, section 5.3).
-const DTLS13: TlsVersion = TlsVersion(0xfefc);
-
-/// Versions, each as Zeek writes it and as Suricata does.
-static VERSIONS: [(TlsVersion, &str, &str); 8] = [
-    (TlsVersion::Ssl30, "SSLv3", "SSLv3"),
-    (TlsVersion::Tls10, "TLSv10", "TLSv1"),
-    (TlsVersion::Tls11, "TLSv11", "TLS 1.1"),
-    (TlsVersion::Tls12, "TLSv12", "TLS 1.2"),
-    (TlsVersion::Tls13, "TLSv13", "TLS 1.3"),
-    (TlsVersion::DTls10, "DTLSv10", "DTLS 1.0"),
-    (TlsVersion::DTls12, "DTLSv12", "DTLS 1.2"),
-    (DTLS13, "DTLSv13", "DTLS 1.3"),
-];
-
-/// A version as Zeek writes it.
-pub fn zeek_version(version: TlsVersion) -> Option<&'static str> {
-    VERSIONS
-        .iter()
-        .find(|row| row.0 == version)
-        .map(|row| row.1)
-}
-
-/// A version as Suricata writes it.
-pub fn suricata_version(version: TlsVersion) -> Option<&'static str> {
-    VERSIONS
-        .iter()
-        .find(|row| row.0 == version)
-        .map(|row| row.2)
-}
 
 /// How a handshake ended.
 pub fn outcome_name(outcome: Outcome) -> &'static str {

@@ -1,12 +1,9 @@
 //! What stands in a line.
 use crate::lists::{Numbers, Texts};
-use crate::names::{kind_name, sender_name};
-use crate::speech::Body;
 use crate::text::Text;
 use serde::{Described, Serialize, Serializer};
 use std::alloc::AllocError;
 use std::num::nearest_u64_to_f64;
-use tls_flow::Stop;
 
 /// A time or a length of time. JSON has it in seconds.
 #[derive(Clone, Copy)]
@@ -21,6 +18,32 @@ impl Serialize for Seconds {
     fn serialize<S: Serializer>(&self, out: &mut S) -> Result<(), S::Error> {
         let seconds = nearest_u64_to_f64(self.microseconds) / 1_000_000.0;
         seconds.serialize(out)
+    }
+}
+
+/// The event that ended a handshake without success.
+#[derive(Clone, Copy)]
+pub struct StopCell {
+    /// The kind of message.
+    pub message: &'static str,
+    /// Whether the client sent it.
+    pub is_clients: bool,
+    /// How many messages of both sides stand in front of it.
+    pub messages_before: u64,
+}
+
+impl Described for StopCell {}
+
+impl Serialize for StopCell {
+    fn serialize<S: Serializer>(&self, out: &mut S) -> Result<(), S::Error> {
+        out.begin_map(None)?;
+        out.key("message")?;
+        out.str(self.message)?;
+        out.key("sender")?;
+        out.str(if self.is_clients { "client" } else { "server" })?;
+        out.key("messages_before")?;
+        out.u64(self.messages_before)?;
+        out.end_map()
     }
 }
 
@@ -51,11 +74,11 @@ pub enum Cell<'a> {
     /// A list of numbers.
     Numbers(Numbers<'a>),
     /// The event that ended a handshake without success.
-    Stop(Stop),
+    Stop(StopCell),
     /// A fingerprint and its text.
     Print(Box<PrintCell>),
-    /// A message, by its fields.
-    Message(Box<Body>),
+    /// An object that stands as JSON already: a message, by its fields.
+    Json(String),
 }
 
 /// Who takes what a field says. A cell is made and taken in one place, and isn't handed on by value between them.
@@ -86,18 +109,6 @@ impl<'a> TakesCell<'a> for KeptCell<'a> {
     }
 }
 
-/// The kind of message, who sent it, and how many messages of both sides stand in front of it.
-fn serialize_stop<S: Serializer>(stop: Stop, out: &mut S) -> Result<(), S::Error> {
-    out.begin_map(None)?;
-    out.key("message")?;
-    out.str(kind_name(stop.event.symbol.kind))?;
-    out.key("sender")?;
-    out.str(sender_name(stop.event.symbol.direction))?;
-    out.key("messages_before")?;
-    out.u64(stop.place)?;
-    out.end_map()
-}
-
 impl Described for Cell<'_> {}
 
 impl Serialize for Cell<'_> {
@@ -112,9 +123,10 @@ impl Serialize for Cell<'_> {
             Cell::Mark(mark) => out.bool(*mark),
             Cell::Texts(texts) => texts.serialize(out),
             Cell::Numbers(numbers) => numbers.serialize(out),
-            Cell::Stop(stop) => serialize_stop(*stop, out),
+            Cell::Stop(stop) => stop.serialize(out),
             Cell::Print(print) => print.serialize(out),
-            Cell::Message(body) => body.serialize(out),
+            // Only `json_row` writes it as it stands.
+            Cell::Json(text) => out.str(text.as_str()),
         }
     }
 }

@@ -1,32 +1,6 @@
-//! What a field of a line is; the fields of a message's and of a certificate's.
+//! The fields of a message's line and of a certificate's.
 use crate::fields::End;
-
-/// What a field is, and how a log of Zeek's has it, as docs/TLSLOG.md says.
-#[derive(Clone, Copy)]
-pub enum Type {
-    /// seconds since 1970-01-01 00:00 UTC, with 6 digits behind the point
-    Time,
-    /// seconds, with 6 digits behind the point
-    Interval,
-    /// an address of IPv4 or IPv6
-    Address,
-    /// a number
-    Port,
-    /// a name
-    Enum,
-    /// a text
-    Text,
-    /// `T` or `F`
-    Mark,
-    /// a number
-    Count,
-    /// texts, with `,` between them
-    Texts,
-    /// numbers, with `,` between them
-    Counts,
-    /// JSON, since it has fields of its own
-    Fields,
-}
+use log_formats::column::{Column, Type};
 
 /// What a certificate says (RFC 5280, section 4.1).
 #[derive(Clone, Copy)]
@@ -80,9 +54,6 @@ pub enum Detail {
     IsClients,
     Fault,
 }
-
-/// A field: its name, what it is, and what says it.
-pub type Column<T> = (&'static str, Type, T);
 
 /// A table of fields. In front of each row stands what docs/TLSLOG.md, docs/tlslog.1 and bindings/python have of it, which `docs/fields --write` puts there: what it is,
 /// and in lines of their own, as far as there is one, the sections of RFCs behind `RFC: `, the field of Zeek's behind `Zeek: `, and when a line doesn't have it

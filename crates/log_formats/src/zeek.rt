@@ -1,7 +1,7 @@
 //! Lines as Zeek writes its logs: values with tabs between them, behind lines that name the fields and what they are
 //! (docs.zeek.org, "Zeek Log Formats and Inspection").
 use crate::cell::{Cell, Row};
-use crate::columns::{Column, Type};
+use crate::column::{Column, Type};
 use crate::lists::{Numbers, TakesTexts, Texts};
 use crate::objects::{LINE_LEN, json_text};
 use crate::text::Text;
@@ -185,7 +185,7 @@ fn add_texts(alloc: Global, line: &mut String, texts: &Texts<'_>) -> Result<(), 
 }
 
 /// Adds a list of numbers.
-fn add_numbers(alloc: Global, line: &mut String, numbers: Numbers<'_>) -> Result<(), AllocError> {
+fn add_numbers(alloc: Global, line: &mut String, numbers: &Numbers<'_>) -> Result<(), AllocError> {
     if numbers.len() == 0 {
         return line.push_str(EMPTY);
     }
@@ -223,8 +223,9 @@ fn add_cell(alloc: Global, line: &mut String, cell: &Option<Cell<'_>>) -> Result
         None => line.push_str(UNSET),
         Some(Cell::Text(text)) => add_shown(alloc, line, text, false),
         Some(Cell::Texts(texts)) => add_texts(alloc, line, texts),
-        Some(Cell::Numbers(numbers)) => add_numbers(alloc, line, *numbers),
-        Some(Cell::Stop(_) | Cell::Message(_) | Cell::Print(_)) => {
+        Some(Cell::Numbers(numbers)) => add_numbers(alloc, line, numbers),
+        Some(Cell::Json(text)) => add_text(alloc, line, text.as_str(), false),
+        Some(Cell::Stop(_) | Cell::Print(_)) => {
             add_text(
                 alloc,
                 line,

@@ -1,11 +1,11 @@
 //! What both hellos and the certificates say, as fields.
-use crate::cell::{Cell, TakesCell};
 use crate::certificates::fault_name;
 use crate::fields::{Answer, Chain, Offer, rows};
-use crate::lists::{Numbers, Texts, some_numbers, some_texts};
-use crate::suites::Suites;
-use crate::text::{Text, add_text, some_digits, some_group, some_mark, some_version};
 use crate::told::Told;
+use log_formats::cell::{Cell, TakesCell};
+use log_formats::lists::{Numbers, Texts, some_numbers, some_texts};
+use log_formats::suites::Suites;
+use log_formats::text::{Text, add_text, some_digits, some_group, some_mark, some_version};
 use std::alloc::{AllocError, Global};
 use tls_summary::{CertificateSummary, HandshakeSummary};
 use x509::Certificate;
@@ -93,6 +93,30 @@ fn server_chain<'a>(told: &Told<'a>) -> &'a [CertificateSummary] {
 /// The same of the client.
 fn client_chain<'a>(told: &Told<'a>) -> &'a [CertificateSummary] {
     certificates(&told.handshake.client_certificates)
+}
+
+/// The lengths of the certificates of a chain; nothing where there are none.
+fn lengths_cell<'a>(
+    alloc: Global,
+    chain: &[CertificateSummary],
+) -> Result<Option<Cell<'a>>, AllocError> {
+    let mut lengths = Vec::with_capacity(alloc, chain.len())?;
+    for one in chain {
+        lengths.push(one.length as u64)?;
+    }
+    Ok(some_numbers(Numbers::Owned(lengths)))
+}
+
+/// The fingerprints of the certificates of a chain; nothing where there are none.
+fn prints_cell<'a>(
+    alloc: Global,
+    chain: &[CertificateSummary],
+) -> Result<Option<Cell<'a>>, AllocError> {
+    let mut prints = Vec::with_capacity(alloc, chain.len())?;
+    for one in chain {
+        prints.push(one.sha256)?;
+    }
+    Ok(some_texts(Texts::Digests(prints)))
 }
 
 /// Which certificates of a chain aren't read, and why, as `0:verify`; nothing where all are.

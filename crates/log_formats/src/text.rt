@@ -1,6 +1,6 @@
 //! How texts are written: names of ours, numbers in hexadecimal, and what a peer sent.
 use crate::cell::Cell;
-use crate::names::zeek_version;
+use crate::versions::zeek_version;
 use serde::{Described, Serialize, Serializer};
 use std::alloc::{AllocError, Global};
 use std::fmt::{self, Display, Formatter};

@@ -1,0 +1,8 @@
+//! The messages and the certificates that both sides of a connection send in the clear, kept until they are logged: [`Speech`], [`Chains`].
+#![tactic(auto)]
+
+mod chains;
+mod speech;
+
+pub use chains::{Chains, Presented};
+pub use speech::{Body, Speech, Spoken, Word};
