@@ -10,6 +10,7 @@ use log_fields::summary::Summary;
 use log_fields::told::Told;
 use log_formats::cell::Row;
 use log_formats::column::Column;
+use log_formats::comma::Formulas;
 use log_formats::known_texts::KnownTexts;
 use log_formats::objects::json_row;
 use log_formats::suites::Suites;
@@ -26,7 +27,7 @@ pub enum Format {
     /// An object of JSON.
     Json,
     /// A record of comma-separated values (RFC 4180), behind one of the names.
-    Csv,
+    Csv(Formulas),
     /// Values with tabs between them, as Zeek writes them, behind lines that name the fields and say what they are, and in front of one that tells the end.
     Zeek,
     /// An event of Suricata's eve.json, of a connection alone.
@@ -81,6 +82,8 @@ pub enum StyleError<'a> {
     UnknownDetail(&'a str),
     /// Both messages and certificates are to have lines.
     TwoKinds,
+    /// Messages are to have lines, and cipher suites numbers.
+    NumbersOfMessages,
     /// Suricata's events are asked for, which have fields of their own, and some of the log's.
     FieldsOfSuricata,
     /// Suricata's events are asked for, and that messages or certificates have lines.
@@ -133,6 +136,9 @@ impl Display for StyleError<'_> {
             }
             StyleError::TwoKinds => {
                 f.write_str("--messages and --certificates don't go together")
+            }
+            StyleError::NumbersOfMessages => {
+                f.write_str("--numbers doesn't go with --messages, which has names")
             }
             StyleError::FieldsOfSuricata => {
                 f.write_str(
@@ -219,6 +225,15 @@ fn zeek_header(alloc: Global, lines: &Lines, opened: i64) -> Result<String, Allo
     }
 }
 
+/// A line of a log of Zeek's.
+fn zeek_line(alloc: Global, lines: &Lines, row: &Row<'_>) -> Result<String, AllocError> {
+    match lines {
+        Lines::Connections(places) => zeek::line(alloc, FIELDS, places.as_slice(), row),
+        Lines::Messages(places) => zeek::line(alloc, PARTS, places.as_slice(), row),
+        Lines::Certificates(places) => zeek::line(alloc, DETAILS, places.as_slice(), row),
+    }
+}
+
 /// The line of names in front of comma-separated values.
 fn csv_header(alloc: Global, lines: &Lines) -> Result<Vec<u8>, AllocError> {
     match lines {
@@ -239,6 +254,9 @@ impl Style {
         names: Option<&str>,
         suites: Suites,
     ) -> Result<Style, StyleError<'_>> {
+        if kind == LineKind::Messages && suites.are_numbered() {
+            return Err(StyleError::NumbersOfMessages);
+        }
         if matches!(format, Format::Suricata) {
             if kind != LineKind::Connections {
                 return Err(StyleError::KindOfSuricata);
@@ -260,7 +278,7 @@ impl Style {
     pub fn header(&self, alloc: Global, opened: i64) -> Result<Option<Vec<u8>>, AllocError> {
         match self.format {
             Format::Json | Format::Suricata => Ok(None),
-            Format::Csv => Ok(Some(csv_header(alloc, &self.lines)?)),
+            Format::Csv(_) => Ok(Some(csv_header(alloc, &self.lines)?)),
             Format::Zeek => Ok(Some(zeek_header(alloc, &self.lines, opened)?.into_bytes())),
         }
     }
@@ -269,7 +287,7 @@ impl Style {
     pub fn footer(&self, alloc: Global, closed: i64) -> Result<Option<Vec<u8>>, AllocError> {
         match self.format {
             Format::Zeek => Ok(Some(zeek::footer(alloc, closed)?.into_bytes())),
-            Format::Json | Format::Csv | Format::Suricata => Ok(None),
+            Format::Json | Format::Csv(_) | Format::Suricata => Ok(None),
         }
     }
 
@@ -282,8 +300,8 @@ impl Style {
     fn line(&self, alloc: Global, row: &Row<'_>) -> Result<Vec<u8>, AllocError> {
         match self.format {
             Format::Json | Format::Suricata => json_row(alloc, row),
-            Format::Csv => comma::line(alloc, row),
-            Format::Zeek => Ok(zeek::line(alloc, row)?.into_bytes()),
+            Format::Csv(formulas) => comma::line(alloc, row, formulas),
+            Format::Zeek => Ok(zeek_line(alloc, &self.lines, row)?.into_bytes()),
         }
     }
 
@@ -299,7 +317,7 @@ impl Style {
         match self.format {
             Format::Suricata => suricata::line(alloc, self, summary),
             Format::Json => json_line(alloc, self, places, summary, room),
-            Format::Csv | Format::Zeek => {
+            Format::Csv(_) | Format::Zeek => {
                 let row = row_of(&mut self.told(alloc, summary), places)?;
                 self.line(alloc, &row)
             }

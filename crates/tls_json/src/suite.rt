@@ -22,10 +22,7 @@ pub fn suite_value(alloc: Global, suite: TlsCipherSuiteID) -> Result<Value, Allo
 }
 
 /// Cipher suites in their order, each by its name or else its number.
-pub fn suite_values(
-    alloc: Global,
-    list: Items<'_, TlsCipherSuiteID>,
-) -> Result<Value, AllocError>
+pub fn suite_values(alloc: Global, list: Items<'_, TlsCipherSuiteID>) -> Result<Value, AllocError>
     ensures { IfOk result (Shows (array no_items)) }
 {
     let mut all = Values::new(alloc);
