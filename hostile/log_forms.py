@@ -15,24 +15,26 @@ from dataclasses import replace
 from pathlib import Path
 from typing import Any
 
-from hostile import exchange_fields, identifiers, packets
+from hostile import exchange_fields, identifiers, other_formats, packets, suite_names
 from hostile.shapes import Ask, Line
 
 TOP = Path(__file__).resolve().parent.parent
-# Some suites by the names of the registry.
+# Some suites by names of our own, and one by the registry's.
 SUITES = """
 # A list of suites.
-009c:TLS_RSA_WITH_AES_128_GCM_SHA256:RSA:RSA:AES
-1301:TLS_AES_128_GCM_SHA256:TLS13
-1302:TLS_AES_256_GCM_SHA384:TLS13
+009c:RSA-with-AES:RSA:RSA:AES
+1302:our AES:TLS13
 
 c02f:TLS_ECDHE_RSA_WITH_AES_128_GCM_SHA256
-c030:TLS_ECDHE_RSA_WITH_AES_256_GCM_SHA384:ECDHE:RSA
+00ff:SCSV:
 """
 OF_MESSAGES = "ts uid id.orig_h id.orig_p id.resp_h id.resp_p proto side place content_type name message".split()
 CHANGE, ALERT, HANDSHAKE, HEARTBEAT = 20, 21, 22, 24
 # More than are kept of a kind.
 MANY = 100
+# What begins a formula in a spreadsheet.
+FORMULA = ("=", "+", "-", "@", "\t", "\r")
+NAMES = [b"=1+1", b"+1", b"-1", b"--", b"@SUM(A1)", b"1=2", b"a-b", b"[=1]"]
 # What another suite, and what another serial number, changes in a line.
 OF_SUITES = "client_ciphers ja3 ja3_string ja4".split()
 OF_SERIAL = "serial cert_chain_fps".split()
@@ -47,17 +49,23 @@ def want(is_so: object, *words: object) -> None:
         raise Wrong(" ".join(map(str, words)))
 
 
-def named(lines: list[Line]) -> list[Line]:
-    """The lines with the names of suites."""
-    names = dict(line.split(":")[:2] for line in SUITES.splitlines() if line and line[0] != "#")
-    name = lambda suite: names.get(suite[2:], suite)  # noqa: E731
-    fields = {"cipher": name, "client_ciphers": lambda suites: [name(suite) for suite in suites]}
+def with_suites(lines: list[Line], text: Callable[[str], str]) -> list[Line]:
+    """The lines with another text for each suite."""
+    fields = {"cipher": text, "client_ciphers": lambda suites: list(map(text, suites))}
     return [{field: fields.get(field, lambda v: v)(value) for field, value in line.items()} for line in lines]
 
 
-def as_text(value: Any) -> str:
-    """A value as comma-separated values have it."""
-    return value if isinstance(value, str) else json.dumps(value, separators=(",", ":"))
+def own_name(suite: str) -> str:
+    """The name that the list has for a suite, or else what it is called without one."""
+    names = dict(line.split(":")[:2] for line in SUITES.splitlines() if line and line[0] != "#")
+    return names.get(suite_names.numbered(suite)[2:], suite)
+
+
+def as_text(value: Any, is_raw: bool = False) -> str:
+    """A value as comma-separated values have it: a text that a spreadsheet takes for a formula has a mark in front, if it isn't asked for as it is."""
+    if not isinstance(value, str):
+        return json.dumps(value, separators=(",", ":"))
+    return f"'{value}" if value.startswith(FORMULA) and not is_raw else value
 
 
 def records(text: str) -> list[list[str]]:
@@ -86,18 +94,41 @@ def fields(ask: Ask, files: list[Path], lines: list[Line]) -> int:
 
 
 def suites(ask: Ask, files: list[Path], lines: list[Line], room: Path) -> None:
-    """A list of suites, and what is none."""
+    """A list of suites, with numbers and with names for the others, numbers alone, and what is no list."""
     good, bad = room / "suites", room / "no-suites"
     good.write_text(SUITES)
     bad.write_text("TLS_AES_128_GCM_SHA256\n")
-    status, text, _ = ask(["--ciphers", good, *files])
-    want(status == 0 and [json.loads(row) for row in text.splitlines()] == named(lines), "--ciphers", status, text[-300:])
+    for words, other in (
+        (["--ciphers", good], own_name), (["--numbers"], suite_names.numbered),
+        (["--ciphers", good, "--numbers"], lambda suite: own_name(suite_names.numbered(suite))),
+    ):
+        status, text, _ = ask([*words, *files])
+        want(status == 0 and [json.loads(row) for row in text.splitlines()] == with_suites(lines, other), *words, status, text[-300:])
     for words, wanted in [
         (["--ciphers", bad], 2), (["--ciphers", room / "none"], 3), (["--fields", "no_such_field"], 2), (["--fields", "ts,ts"], 2),
         (["--fields", ""], 2), (["--messages", "--fields", "version"], 2), (["--format", "xml"], 2), (["--format"], 2),
     ]:
         status, text, told = ask([*words, *files])
         want((status, text) == (wanted, "") and told, *words, "status", status, text, told)
+
+
+def formulas(ask: Ask, file: Path, room: Path) -> int:
+    """Names that a spreadsheet takes for formulas have a mark in front as comma-separated values, but with --csv-raw; no other name has one, nor a number."""
+    files = []
+    for number, name in enumerate(NAMES):
+        files.append(room / f"formula-{number}.pcap")
+        files[-1].write_bytes(other_formats.with_hello(file, other_formats.hello(name, [b"=h2", name])))
+    status, text, _ = ask(files)
+    lines = [json.loads(row) for row in text.splitlines()]
+    want(status == 0 and [line["server_name"] for line in lines] == [name.decode() for name in NAMES], "names as formulas:", status, text[-300:])
+    for is_raw in (False, True):
+        status, text, _ = ask(["--format", "csv", *["--csv-raw"][: int(is_raw)], *files])
+        names, *rows = records(text)
+        wanted = [[as_text(line[name], is_raw) if name in line else "" for name in names] for line in lines]
+        want(status == 0 and rows == wanted, "formulas as csv:", is_raw, text[-300:])
+    marked = [name for name in NAMES if as_text(name.decode()) != name.decode()]
+    want(len(marked) == 5, "names with a mark:", marked)
+    return len(NAMES)
 
 
 def key(message: Line) -> tuple[int, str]:
@@ -177,7 +208,7 @@ def wanted_of_uses(lines: list[Line]) -> dict[str, list[str] | None]:
             plain([line.get("server_name"), line.get("last_alert"), line.get("stop", {}).get("sender")])
             for line in lines if line["outcome"] == "broken_off"
         ),
-        "cipher suites": counted(line["cipher"] for line in named(lines) if "cipher" in line),
+        "cipher suites": counted(line["cipher"] for line in lines if "cipher" in line),
         "client programs": counted(only(line, "ja4", "ja3") for line in lines),
         "resumed": counted(only(line, "version", "resumed") for line in lines),
         "would still accept": sorted({
@@ -213,13 +244,11 @@ def uses(program: Path, files: list[Path], lines: list[Line], room: Path) -> int
     if not shutil.which("jq"):
         print("logs: there is no jq: the commands of docs/REPORT.md weren't run")
         return 0
-    (room / "suites").write_text(SUITES)
     rows = re.findall(r"^\| (.*?) \| `(\./tlslog .*)` \|$", (TOP / "docs" / "REPORT.md").read_text(), re.M)
     wanted = wanted_of_uses(lines)
     want(len(rows) == len(wanted), len(rows), "commands in docs/REPORT.md")
     for what, command in rows:
         shell = command.replace("\\|", "|").replace("./tlslog", shlex.quote(str(program)))
-        shell = shell.replace("suites.txt", shlex.quote(str(room / "suites")))
         shell = shell.replace("capture.pcap", " ".join(shlex.quote(str(file)) for file in files))
         ran = subprocess.run(["bash", "-c", "set -o pipefail\n" + shell], stdout=subprocess.PIPE, stderr=subprocess.PIPE, text=True)
         [(short, rows_wanted)] = [(short, rows) for short, rows in wanted.items() if short in what]
@@ -302,7 +331,7 @@ def told_again(ask: Ask, files: list[Path], lines: list[Line], room: Path) -> in
         want(status == 0 and [list(json.loads(row).items()) for row in text.splitlines()] == wanted, names, status, text[-300:])
     [(file, line)] = [(file, line) for file in files if file.stem == "openssl_rsa" for line in lines_of(ask, file)[:1]]
     for number, row in enumerate(others(ask, file, room, with_suite)):
-        want(row["client_ciphers"] == [f"0x{number:04x}", *line["client_ciphers"][1:]], "suites:", row)
+        want(row["client_ciphers"] == [suite_names.suite_name(number), *line["client_ciphers"][1:]], "suites:", row)
         want(without(OF_SUITES, row) == without(OF_SUITES, line), "another suite:", row)
     for number, row in enumerate(others(ask, file, room, with_compression)):
         want(row["client_comp_methods"] == [number], "compression methods:", number, row)
@@ -329,6 +358,8 @@ def check(program: Path, ask: Ask, files: list[Path], lines: list[Line], room: P
     count = fields(ask, files, lines)
     suites(ask, files, lines, room)
     print(f"logs: {count} fields alone, in another order and as comma-separated values, and names of suites, are as they are stored")
+    [plain] = [file for file in files if file.stem == "openssl_rsa"]
+    print(f"logs: of {formulas(ask, plain, room)} names those that begin as formulas do are marked as comma-separated values, unless --csv-raw is given")
     print(f"logs: {told_again(ask, files, lines, room)} hellos and certificates that differ in a number, and all captures, say the same when they come again")
     print(f"logs: {len(lines)} lines have the identifiers that hashlib makes, and {identified(ask, files, lines)} of messages and certificates that of their connection")
     count, with_fields = messages(ask, files)

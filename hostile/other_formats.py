@@ -4,6 +4,7 @@ from __future__ import annotations
 
 import hashlib
 import json
+import re
 import subprocess
 from collections.abc import Iterable
 from dataclasses import replace
@@ -15,8 +16,32 @@ from hostile import identifiers, packets, zeek_log
 from hostile.shapes import Ask, Line
 
 PATHS = {(): "ssl", ("--messages",): "tls_messages", ("--certificates",): "x509"}
+# The fields of Zeek 6's logs, as it writes them with its local.zeek.
+OF_ZEEK = {
+    "ssl": """
+        ts uid id.orig_h id.orig_p id.resp_h id.resp_p version cipher curve server_name resumed last_alert next_protocol established ssl_history
+        cert_chain_fps client_cert_chain_fps sni_matches_cert validation_status
+    """.split(),
+    "x509": """
+        ts fingerprint certificate.version certificate.serial certificate.subject certificate.issuer certificate.not_valid_before
+        certificate.not_valid_after certificate.key_alg certificate.sig_alg certificate.key_type certificate.key_length certificate.exponent
+        certificate.curve san.dns san.uri san.email san.ip basic_constraints.ca basic_constraints.path_len host_cert client_cert
+    """.split(),
+}
 # zeek-cut of two fields, as a program of awk.
 CUT = r"""BEGIN { FS = OFS = "\t" } /^#fields/ { for (i = 2; i <= NF; i++) at[$i] = i - 1 } !/^#/ { print $at["uid"], $at["id.resp_p"] }"""
+VERSION_NUMBERS = {
+    "SSLv3": 0x0300, "TLSv10": 0x0301, "TLSv11": 0x0302, "TLSv12": 0x0303, "TLSv13": 0x0304, "DTLSv10": 0xFEFF, "DTLSv12": 0xFEFD, "DTLSv13": 0xFEFC,
+}
+# What Zeek has as a name, and JSON as a number (RFC 3749, 2, and RFC 3943, 3; RFC 8422, 5.1.2; RFC 8446, 4.2.9).
+METHODS = {0: "NULL", 1: "DEFLATE", 64: "LZS"}
+NAMED = {
+    "comp_method": METHODS, "client_comp_methods": METHODS,
+    "point_formats": {0: "uncompressed", 1: "ansiX962_compressed_prime", 2: "ansiX962_compressed_char2"},
+    "psk_key_exchange_modes": {0: "psk_ke", 1: "psk_dhe_ke"},
+}
+OF_VERSION = ("client_version", "server_version")
+ADDRESSES = ("san_ip", "san.ip")
 VERSIONS = {
     "SSLv3": "SSLv3", "TLSv10": "TLSv1", "TLSv11": "TLS 1.1", "TLSv12": "TLS 1.2", "TLSv13": "TLS 1.3",
     "DTLSv10": "DTLS 1.0", "DTLSv12": "DTLS 1.2", "DTLSv13": "DTLS 1.3",
@@ -40,13 +65,30 @@ def kind_of(field: str, value: Any) -> str:
         return "port" if field.endswith("_p") else "addr"
     if field in ("duration", "proto"):
         return {"duration": "interval", "proto": "enum"}[field]
+    if field in OF_VERSION:
+        return "count"
+    if field in NAMED:
+        return "vector[string]" if isinstance(value, list) else "string"
+    if field in ADDRESSES:
+        return "vector[addr]"
     if isinstance(value, list):
         return "vector[string]" if isinstance(value[0], str) else "vector[count]"
     return {bool: "bool", int: "count", str: "string", dict: "string"}[type(value)]
 
 
-def as_zeek(value: Any) -> Any:
+def as_zeek(field: str, value: Any) -> Any:
+    """A value of JSON as Zeek's log has it."""
+    if field in OF_VERSION:
+        return VERSION_NUMBERS[value] if value in VERSION_NUMBERS else int(value, 16)
+    if field in NAMED:
+        name = lambda number: NAMED[field].get(number, f"unknown-{number}")  # noqa: E731
+        return list(map(name, value)) if isinstance(value, list) else name(value)
     return json.dumps(value, separators=(",", ":")) if isinstance(value, dict) else value
+
+
+def row_of(line: Line) -> Line:
+    """A line of JSON as a row of Zeek's log."""
+    return {field: as_zeek(field, value) for field, value in line.items()}
 
 
 def rows(ask: Ask, *words: object) -> str:
@@ -63,13 +105,15 @@ def zeek(ask: Ask, files: list[Path]) -> int:
         log = zeek_log.Log(rows(ask, *words, "--format", "zeek", *files))
         want(log.path == path and len(log.rows) == len(lines) and lines, "the log", log.path, len(log.rows), len(lines))
         for row, line in zip(log.rows, lines):
-            want(row == {field: as_zeek(value) for field, value in line.items()}, "zeek:", row, line)
+            want(row == row_of(line), "zeek:", row, line)
             kinds = dict(zip(log.fields, log.types))
             for field, value in line.items():
                 want(kinds[field] == kind_of(field, value), field, "is", kinds[field])
             count += len(line)
         header = rows(ask, *words, "--format", "csv", *files).splitlines()[0]
         want(",".join(log.fields) == header, "fields of", path, log.fields)
+        lacking = [field for field in OF_ZEEK.get(path, ()) if field not in log.fields]
+        want(not lacking, "Zeek's fields that", path, "lacks:", lacking)
     chosen = zeek_log.Log(rows(ask, "--format", "zeek", "--fields", "id.resp_p,server_name,uid", *files))
     want(chosen.fields == ["id.resp_p", "server_name", "uid"], "chosen fields", chosen.fields)
     lines = [json.loads(line) for line in rows(ask, *files).splitlines()]
@@ -90,20 +134,25 @@ def hello(name: bytes, protocols: list[bytes]) -> bytes:
     return b"\x16\3\1" + counted(2, b"\1" + counted(3, body))
 
 
-def hostile(ask: Ask, capture: Path, room: Path) -> int:
-    """Each name, also in a list, and in front of its line, is read as the text that JSON has. The capture is one of which a hello is the first payload."""
+def with_hello(capture: Path, record: bytes) -> bytes:
+    """A capture of which a hello is the first payload, up to there, with another hello."""
     segments = packets.read(capture.read_bytes())
     place = next(place for place, segment in enumerate(segments) if segment.payload)
+    made = [*segments[:place], replace(segments[place], payload=record)]
+    return packets.pcap([(segment.time, segment.frame()) for segment in made])
+
+
+def hostile(ask: Ask, capture: Path, room: Path) -> int:
+    """Each name, also in a list, and in front of its line, is read as the text that JSON has. The capture is one of which a hello is the first payload."""
     files = []
     for number, name in enumerate(NAMES):
-        made = [*segments[:place], replace(segments[place], payload=hello(name, [name, b"h2", name]))]
         files.append(room / f"name-{number}.pcap")
-        files[-1].write_bytes(packets.pcap([(segment.time, segment.frame()) for segment in made]))
+        files[-1].write_bytes(with_hello(capture, hello(name, [name, b"h2", name])))
     for words in ([], ["--fields", "server_name,orig_alpn"], ["--fields", "server_name"], ["--messages"]):
         lines = [json.loads(line) for line in rows(ask, *words, *files).splitlines()]
         log = zeek_log.Log(rows(ask, *words, "--format", "zeek", *files))
         want(len(lines) == len(NAMES), len(lines), "lines of hostile names")
-        want(log.rows == [{field: as_zeek(value) for field, value in line.items()} for line in lines], "hostile names:", log.rows)
+        want(log.rows == list(map(row_of, lines)), "hostile names:", log.rows)
     events = [json.loads(line) for line in rows(ask, "--format", "suricata", *files).splitlines()]
     lines = [json.loads(line) for line in rows(ask, *files).splitlines()]
     want([event["tls"]["sni"] for event in events] == [line["server_name"] for line in lines], "hostile names of Suricata's")
@@ -129,24 +178,53 @@ def date(text: str | None) -> str | None:
     return text.removesuffix("Z") if text else None
 
 
-def event_of(line: Line, prints: dict[str, str]) -> Line:
-    """The event that is wanted of a connection."""
+def day(seconds: int | None) -> str | None:
+    return f"{datetime.fromtimestamp(seconds, timezone.utc):%Y-%m-%dT%H:%M:%S}" if seconds is not None else None
+
+
+def forward(name: str | None) -> str | None:
+    """A name from its first attribute to the last, of one that RFC 4514 writes from the last on."""
+    if not name:
+        return name
+    parts = re.split(r"((?<!\\)(?:\\\\)*[,+])", name)
+    # (backslashes in front of a separator are of the attribute there)
+    attributes = [part + behind[:-1] for part, behind in zip(parts[::2], [*parts[1::2], ","])]
+    signs = [behind[-1] for behind in parts[1::2]]
+    text = attributes[-1]
+    for attribute, sign in zip(reversed(attributes[:-1]), reversed(signs)):
+        text += {",": ", ", "+": " + "}[sign] + attribute
+    return text
+
+
+def serial_of(digits: str | None) -> str | None:
+    """(the bytes of a number whose first bit is set begin with one of zeros)"""
+    return digits and colons("00" + digits if int(digits[0], 16) >= 8 else digits)
+
+
+def event_of(line: Line, prints: dict[str, str], own: Line | None) -> Line:
+    """The event that is wanted of a connection, whose client sent a certificate of its own."""
     time = datetime.fromtimestamp(round(line["ts"] * 1_000_000) // 1_000_000, timezone.utc)
-    serial, chain = line.get("serial"), line.get("cert_chain_fps")
+    chain, of_client = line.get("cert_chain_fps"), line.get("client_cert_chain_fps")
     pair = lambda name: {"hash": line[name], "string": line[f"{name}_string"]} if name in line else None  # noqa: E731
+    some = lambda given: {name: value for name, value in given.items() if value is not None}  # noqa: E731
+    client = own and some({
+        "subject": forward(line.get("client_subject")), "issuerdn": forward(line.get("client_issuer")), "fingerprint": of_client and colons(prints[of_client[0]]),
+        "serial": serial_of(own.get("certificate.serial")), "notbefore": day(own.get("certificate.not_valid_before")),
+        "notafter": day(own.get("certificate.not_valid_after")),
+    })
     tls = {
-        "subject": line.get("subject"), "issuerdn": line.get("issuer"), "session_resumed": line["resumed"] or None,
-        # (the bytes of a number whose first bit is set begin with one of zeros)
-        "serial": serial and colons("00" + serial if int(serial[0], 16) >= 8 else serial),
+        "subject": forward(line.get("subject")), "issuerdn": forward(line.get("issuer")),
+        "subjectaltname": [*line.get("san_dns", []), *line.get("san_ip", [])] or None, "session_resumed": line["resumed"] or None,
+        "serial": serial_of(line.get("serial")),
         "fingerprint": chain and colons(prints[chain[0]]), "sni": line.get("server_name"),
         "version": VERSIONS.get(line.get("version"), line.get("version")),
         "notbefore": date(line.get("not_before")), "notafter": date(line.get("not_after")), "ja3": pair("ja3"), "ja3s": pair("ja3s"),
-        "ja4": line.get("ja4"), "client_alpns": line.get("orig_alpn"), "server_alpns": [line["next_protocol"]] if "next_protocol" in line else None,
+        "ja4": line.get("ja4"), "client": client, "client_alpns": line.get("orig_alpn"), "server_alpns": [line["next_protocol"]] if "next_protocol" in line else None,
     }
     return {
         "timestamp": f"{time:%Y-%m-%dT%H:%M:%S}.{round(line['ts'] * 1_000_000) % 1_000_000:06}+0000", "flow_id": identifiers.flow_id(line), "event_type": "tls",
         "src_ip": line["id.orig_h"], "src_port": line["id.orig_p"], "dest_ip": line["id.resp_h"], "dest_port": line["id.resp_p"],
-        "proto": line["proto"].upper(), "community_id": line["community_id"], "tls": {name: value for name, value in tls.items() if value is not None},
+        "proto": line["proto"].upper(), "community_id": line["community_id"], "tls": some(tls),
     }
 
 
@@ -156,8 +234,10 @@ def suricata(ask: Ask, files: list[Path]) -> int:
     prints = own_certificates(json.loads(line) for line in rows(ask, "--messages", *files).splitlines())
     events = [json.loads(line) for line in rows(ask, "--format", "suricata", *files).splitlines()]
     want(len(events) == len(lines), len(events), "events of", len(lines), "connections")
+    certificates = [json.loads(line) for line in rows(ask, "--certificates", *files).splitlines()]
+    own = {one["uid"]: one for one in certificates if one["side"] == "client" and one["place"] == 0}
     for event, line in zip(events, lines):
-        wanted = event_of(line, prints)
+        wanted = event_of(line, prints, own.get(line["uid"]))
         want(event == wanted and list(event) == list(wanted) and list(event["tls"]) == list(wanted["tls"]), "suricata:", event, "wanted is", wanted)
     for words, told in [(["--fields", "ts"], "--fields doesn't go with"), (["--messages"], "neither --messages"), (["--certificates"], "nor --certificates")]:
         status, text, error = ask(["--format", "suricata", *words, *files])

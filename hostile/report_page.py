@@ -11,6 +11,7 @@ from datetime import datetime, timezone
 from html.parser import HTMLParser
 from typing import Any
 
+from hostile import suite_names
 from hostile.shapes import Line
 
 ROWS, SOON, DAY = 100, 30, 86400
@@ -166,9 +167,14 @@ def at(seconds: float) -> str:
 
 
 def is_weak(line: Line) -> bool:
-    suite = line.get("cipher")
+    suite = number_of_suite(line)
     want(suite is None or suite in WEAK | STRONG, "a suite that wasn't judged by hand:", suite)
     return suite in WEAK
+
+
+def number_of_suite(line: Line) -> str | None:
+    """The number of the suite in a line, which has that or the name."""
+    return suite_names.numbered(line["cipher"]) if "cipher" in line else None
 
 
 def check_figures(page: Page, lines: list[Line]) -> None:
@@ -196,9 +202,9 @@ def check_fields(page: Page, lines: list[Line]) -> None:
     for name in ("outcomes", "groups", "versions", "suites"):
         same_shares(page, name, len(lines))
     suite = lambda text: None if text == NONE else re.search(r"0x[0-9a-f]{4}", text)[0]  # noqa: E731
-    same_table(page, "suites", field("cipher"), key=suite)
+    same_table(page, "suites", Counter(map(number_of_suite, lines)), key=suite)
     marked = {suite(text) for text in page.column("suites") if not re.search(r"0x[0-9a-f]{4}$|^none", text)}
-    want(marked == {line["cipher"] for line in lines if is_weak(line)}, "weak suites:", marked)
+    want(marked == {number_of_suite(line) for line in lines if is_weak(line)}, "weak suites:", marked)
 
 
 def check_names(page: Page, lines: list[Line]) -> None:
@@ -224,7 +230,7 @@ def check_failures(page: Page, lines: list[Line]) -> None:
 
 def check_servers(page: Page, lines: list[Line]) -> None:
     some = [line for line in lines if line.get("version") in OLD or is_weak(line)]
-    wanted, worst = Counter(map(server_of, some)), {server_of(line) for line in some if line.get("version") in OLD or line.get("cipher") in FORBIDDEN}
+    wanted, worst = Counter(map(server_of, some)), {server_of(line) for line in some if line.get("version") in OLD or number_of_suite(line) in FORBIDDEN}
     found = [(row[0], number_of(row[1]), row[2]) for row in page.rows["poor"]["tbody"]] if some else []
     rows = sorted(wanted.items(), key=lambda item: (item[0] not in worst, -item[1], item[0]))
     rows = [(server, count, "must not" if server in worst else "should not") for server, count in rows]

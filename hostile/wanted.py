@@ -8,7 +8,7 @@ from collections.abc import Iterator
 from pathlib import Path
 from typing import Any
 
-from hostile import identifiers, log_columns, wanted_certificates, wanted_hellos
+from hostile import identifiers, log_columns, suite_names, wanted_certificates, wanted_hellos
 from hostile.shapes import Line, Row
 
 FIELDS = """
@@ -246,7 +246,7 @@ class Analyzer:
         self.said |= wanted_hellos.of_server(row, VERSIONS)
         version = int(first(row, "handshake.extensions.supported_version", "handshake.version"), 16)
         self.said["version"] = VERSIONS[version]
-        self.said["cipher"] = first(row, "handshake.ciphersuite")
+        self.said["cipher"] = suite_names.suite_name(int(first(row, "handshake.ciphersuite"), 16))
         share = first(row, "handshake.extensions_key_share_group", "handshake.extensions_key_share_selected_group")
         self.said["curve"] = group(int(share)) if share else None
         self.said["next_protocol"] = first(row, "handshake.extensions_alpn_str")

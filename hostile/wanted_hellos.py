@@ -6,7 +6,7 @@ import functools
 import hashlib
 import subprocess
 
-from hostile import log_columns
+from hostile import log_columns, suite_names
 from hostile.shapes import Line, Row
 
 FIELDS = """
@@ -39,11 +39,19 @@ LATER_EXTENSIONS = {
     26: "tls_lts", 29: "pwd_protect", 30: "pwd_clear", 31: "password_salt", 32: "ticket_pinning", 33: "tls_cert_with_extern_psk",
     34: "delegated_credential", 36: "TLMSP", 37: "TLMSP_proxying", 38: "TLMSP_delegate", 39: "supported_ekt_ciphers",
     60: "sequence_number_encryption_algorithms", 61: "rrc", 62: "tls_flags", 0xFD00: "ech_outer_extensions", 0xFE0D: "encrypted_client_hello",
+    0x44CD: "application_settings", 0xCA34: "trust_anchors",
+}
+# RFC 8446, 4.2.3, without the mark that they are reserved; pairs of RFC 5246, 7.4.1.4.1, that it leaves out, in the same form; draft-ietf-tls-mldsa.
+LATER_SCHEMES = {
+    0x0202: "dsa_sha1", 0x0402: "dsa_sha256", 0x0502: "dsa_sha384", 0x0602: "dsa_sha512",
+    0x0101: "rsa_pkcs1_md5", 0x0301: "rsa_pkcs1_sha224", 0x0302: "dsa_sha224", 0x0303: "ecdsa_sha224",
+    0x0904: "mldsa44", 0x0905: "mldsa65", 0x0906: "mldsa87",
 }
 LATER_GROUPS = {
     31: "brainpoolP256r1tls13", 32: "brainpoolP384r1tls13", 33: "brainpoolP512r1tls13",
     34: "GC256A", 35: "GC256B", 36: "GC256C", 37: "GC256D", 38: "GC512A", 39: "GC512B", 40: "GC512C",
     512: "MLKEM512", 513: "MLKEM768", 514: "MLKEM1024", 4587: "SecP256r1MLKEM768", 4588: "X25519MLKEM768", 4589: "SecP384r1MLKEM1024",
+    4590: "curveSM2MLKEM768",
     0x6399: "X25519Kyber768Draft00", 0x639A: "SecP256r1Kyber768Draft00", 0xFF01: "arbitrary_explicit_prime_curves",
     0xFF02: "arbitrary_explicit_char2_curves",
 }
@@ -57,7 +65,7 @@ def registries() -> tuple[dict[int, str], dict[int, str], dict[int, str]]:
     )
     schemes = {number: name for number, name in schemes.items() if number < 0xFE00}
     groups = {number: name for number, name in groups.items() if number < 0x200}
-    return extensions | LATER_EXTENSIONS, schemes, groups | LATER_GROUPS
+    return extensions | LATER_EXTENSIONS, schemes | LATER_SCHEMES, groups | LATER_GROUPS
 
 
 def group_name(number: int) -> str:
@@ -116,7 +124,7 @@ def of_client(row: Row, layer: str, versions_by: dict[int, str]) -> Line:
         "client_version": named(versions_by, [version])[0],
         "client_supported_versions": named(versions_by, versions),
         "client_session_id": plain(first(row, "handshake.session_id") or ""),
-        "client_ciphers": named({}, ciphers),
+        "client_ciphers": named(suite_names.NAMES, ciphers),
         "client_comp_methods": numbers(row, "handshake.comp_method"),
         "ssl_client_exts": named(extensions, types),
         "client_curves": named(groups, numbers(row, "handshake.extensions_supported_group")),

@@ -33,10 +33,13 @@ def test_fields():
     }
     reader, (it,) = read(line)
     assert (it.time, it.client, it.server) == (1.5, "192.0.2.1", "[2001:db8::1]:443")
-    assert (it.version, it.suite, it.group, it.host, it.outcome) == ("TLSv12", "0xc02f", "x25519", "a.example", "full")
+    assert (it.version, it.suite, it.group, it.host, it.outcome) == ("TLSv12", "TLS_ECDHE_RSA_WITH_AES_128_GCM_SHA256", "x25519", "a.example", "full")
     assert (it.is_resumed, it.alert, it.stop, it.ja4) == (True, "unknown_ca", ("alert", "client"), "t")
     assert it.certificate == ("00", "CN=a", "CN=b", 1795608000, tuple("abcd"), 6)
     assert not reader.misfits and not reader.unread and reader.cut == 0
+    # A suite that a log has by its name is the same, and one that has no name stays as it is.
+    for suite in (it.suite, "0x0a0a", "private"):
+        assert read({**line, "cipher": suite})[1][0].suite == suite
     reader, (it,) = read({"ts": 0})
     assert it == (0, *[None] * 12)
 
@@ -149,7 +152,7 @@ def test_suites():
         ("0xd001", "TLS_ECDHE_PSK_WITH_AES_128_GCM_SHA256", []),
         ("0x0062", "TLS_RSA_EXPORT1024_WITH_DES_CBC_SHA", ["export key length", "DES", "CBC with SHA-1", "no forward secrecy"]),
     ):
-        assert suites.name_of(number) == name and reasons(name) == wanted, (name, reasons(name))
+        assert suites.name_of(number) == name and suites.number_of_suite(name) == number and reasons(name) == wanted, (name, reasons(name))
     forbidden = {fault.reason for fault in suites.FAULTS if fault.is_forbidden}
     assert forbidden == {"no encryption", "no authentication", "export key length", "RC4", "DES"}
     assert suites.name_of("0x0a0a") == "0x0a0a" and not suites.is_judged("0x0a0a") and reasons("AES128-SHA") == []

@@ -140,7 +140,7 @@ def line(room: rooms.Room, end: End, talk: Analyzer | None = None, is_orig: bool
     ours, other = (str(end.address), end.port), (str(end.to_address), end.to_port)
     orig, resp = (ours, other) if is_orig else (other, ours)
     wanted = {"id.orig_h": orig[0], "id.orig_p": orig[1], "id.resp_h": resp[0], "id.resp_p": resp[1], "server_name": REAL}
-    wanted |= {"version": "TLSv12", "cipher": "0xc02b", "established": True, "outcome": "full", "ssl_history": FULL, "gap": ABSENT}
+    wanted |= {"version": "TLSv12", "cipher": "TLS_ECDHE_ECDSA_WITH_AES_128_GCM_SHA256", "established": True, "outcome": "full", "ssl_history": FULL, "gap": ABSENT}
     wanted |= stream_lengths(end, is_orig)
     if talk and talk.tls.server_side is False and talk.tls.getpeercert(binary_form=True):
         wanted["cert_chain_fps"] = [hashlib.sha256(talk.tls.getpeercert(binary_form=True)).hexdigest()]

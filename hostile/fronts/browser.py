@@ -105,7 +105,7 @@ def lines(file: Path, connection_id: int = 0) -> list[Line]:
     segments = packets.read(file.read_bytes())
     of_orig = segments[0].source
     records = {side: sum(count(one.payload, connection_id) for one in segments if (one.source == of_orig) == side) for side in (True, False)}
-    certain = {"version": "DTLSv13", "cipher": "0x1301", "established": True, "outcome": "tls13"}
+    certain = {"version": "DTLSv13", "cipher": "TLS_AES_128_GCM_SHA256", "established": True, "outcome": "tls13"}
     by_hand = {"orig_records": records[True], "resp_records": records[False]}
     if found.get("retried"):
         # tshark names the HelloRetryRequest of DTLS as a ServerHello.

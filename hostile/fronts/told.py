@@ -6,7 +6,7 @@ import json
 from collections.abc import Iterable
 from pathlib import Path
 
-from hostile import packets, wanted
+from hostile import packets, suite_names, wanted
 from hostile.shapes import Line
 
 NAMES = {"TLSv1.2": "TLSv12", "TLSv1.3": "TLSv13"}
@@ -64,7 +64,7 @@ def suites_of(hello: bytes) -> list[str]:
     """The suites of a hello in SSL 2.0's form, by its bytes: those of TLS have a first byte of 0 (RFC 5246, appendix E.2)."""
     behind = hello[11 : 11 + int.from_bytes(hello[5:7], "big")]
     parts = [behind[at : at + 3] for at in range(0, len(behind), 3)]
-    return ["0x" + (part[1:] if part[0] == 0 else part).hex() for part in parts]
+    return [suite_names.named("0x" + (part[1:] if part[0] == 0 else part).hex()) for part in parts]
 
 
 def of_old_hello(file: Path, hello: bytes, fault: str) -> list[Line]:

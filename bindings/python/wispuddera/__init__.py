@@ -25,6 +25,9 @@ from ._log import Connection, LogError, Stop, log
 # Both sides of a conversation.
 from ._conversation import Conversation, ConversationEvent, ConversationStop
 
+# Names of numbers.
+from ._suites import cipher_suite_name
+
 Data = Union[bytes, bytearray, memoryview]
 
 __all__ = [
@@ -61,6 +64,7 @@ __all__ = [
     "X509Name",
     "best_version",
     "certificates",
+    "cipher_suite_name",
     "client_hello",
     "dtls_client_hello",
     "dtls_message",

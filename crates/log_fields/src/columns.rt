@@ -171,7 +171,7 @@ pub static DETAILS: &[Column<Detail>] = columns! {
     /// as above
     "san.email": Texts = Detail::Certificate(Certified::Emails);
     /// as above
-    "san.ip": Texts = Detail::Certificate(Certified::Addresses);
+    "san.ip": Addresses = Detail::Certificate(Certified::Addresses);
     /// those of other kinds there
     /// absent: there are none
     "san.other": Texts = Detail::Certificate(Certified::OtherNames);

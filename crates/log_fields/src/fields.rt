@@ -90,6 +90,7 @@ pub enum Chain {
     ClientLengths,
     ClientPrints,
     NameMatches,
+    Validation,
     ServerFaults,
     ClientFaults,
 }
@@ -181,9 +182,9 @@ macro_rules! rows {
                 /// Zeek: `version`
                 /// absent: no ServerHello
                 "version": Text = Version => |told| Ok(some_version(told.handshake.version()));
-                /// the cipher suite that the server chose
+                /// the cipher suite that the server chose, by its name in IANA's registry, or else its number
                 /// RFC: 8446, 4.1.3
-                /// Zeek: `cipher`, by name
+                /// Zeek: `cipher`
                 /// absent: no ServerHello
                 "cipher": Text = Cipher => |told| Ok(told.suites.some_text(told.handshake.cipher()));
                 /// the group of the key exchange, from the server's key share or its ServerKeyExchange
@@ -311,9 +312,9 @@ macro_rules! rows {
             Offer {
                 /// the version field of the ClientHello, `TLSv12` in TLS 1.3
                 /// RFC: 8446, 4.1.2
-                /// Zeek: `client_version`, a number
+                /// Zeek: the same; with `--format zeek` a number, as there
                 /// absent: no ClientHello (as for all of the client's fields)
-                "client_version": Text = Version => |told| some_version(told.handshake.client_version());
+                "client_version": Version = Version => |told| some_version(told.handshake.client_version());
                 /// the versions that it offers in supported_versions
                 /// RFC: 8446, 4.2.1
                 /// Zeek: the same
@@ -324,15 +325,15 @@ macro_rules! rows {
                 /// RFC: 5246, 7.4.1.2
                 /// absent: it is empty
                 "client_session_id": Text = SessionId => |told| some_digits(told.handshake.client_session_id());
-                /// the cipher suites that it offers, in its order; of a hello in the form of SSL 2.0 its CipherSpecs: those of TLS as these, others by 6 digits,
-                /// as `0x010080`
+                /// the cipher suites that it offers, in its order, as `cipher`; of a hello in the form of SSL 2.0 its CipherSpecs: those of TLS as these, others by
+                /// 6 digits, as `0x010080`
                 /// RFC: 8446, 4.1.2; 5246, E.2
                 /// Zeek: `client_ciphers`
                 "client_ciphers": Texts = Ciphers => |told| some_texts(client_suites(told.suites, told.handshake));
                 /// its compression methods, by number
                 /// RFC: 3749, 2
-                /// Zeek: the same, by name
-                "client_comp_methods": Counts = Compressions =>
+                /// Zeek: the same; with `--format zeek` by name, as there
+                "client_comp_methods": Methods = Compressions =>
                     |told| some_numbers(Numbers::Codes(told.handshake.client_compressions().bytes()));
                 /// the types of its extensions, in order
                 /// RFC: 8446, 4.2
@@ -347,9 +348,9 @@ macro_rules! rows {
                 "client_curves": Texts = Groups => |told| some_texts(Texts::Groups(told.handshake.client_groups()));
                 /// the point formats that it offers, by number: 0 is uncompressed
                 /// RFC: 8422, 5.1.2
-                /// Zeek: the same, by name
+                /// Zeek: the same; with `--format zeek` by name, as there
                 /// absent: no such extension
-                "point_formats": Counts = PointFormats =>
+                "point_formats": PointFormats = PointFormats =>
                     |told| some_numbers(Numbers::Codes(told.handshake.client_point_formats()));
                 /// the signature schemes that it offers
                 /// RFC: 8446, 4.2.3
@@ -371,9 +372,9 @@ macro_rules! rows {
                     |told| some_texts(Texts::Shares(told.handshake.client_key_shares().bytes()));
                 /// by number: 0 is psk_ke, 1 psk_dhe_ke
                 /// RFC: 8446, 4.2.9
-                /// Zeek: the same, by name
+                /// Zeek: the same; with `--format zeek` by name, as there
                 /// absent: no such extension
-                "psk_key_exchange_modes": Counts = PskModes =>
+                "psk_key_exchange_modes": Modes = PskModes =>
                     |told| some_numbers(Numbers::Codes(told.handshake.client_psk_modes()));
                 /// `true`: it has the extension pre_shared_key, early_data
                 /// RFC: 8446, 4.2.11, 4.2.10
@@ -406,17 +407,17 @@ macro_rules! rows {
             Answer {
                 /// the version field of the ServerHello
                 /// RFC: 8446, 4.1.3
-                /// Zeek: `server_version`, a number
+                /// Zeek: the same; with `--format zeek` a number, as there
                 /// absent: no ServerHello (as for all of the server's fields)
-                "server_version": Text = Version => |told| some_version(told.handshake.server_version());
+                "server_version": Version = Version => |told| some_version(told.handshake.server_version());
                 /// the session id, in hexadecimal
                 /// RFC: 5246, 7.4.1.3
                 /// absent: it is empty
                 "server_session_id": Text = SessionId => |told| some_digits(told.handshake.server_session_id());
                 /// the compression method, by number
                 /// RFC: 3749, 2
-                /// Zeek: the same, by name
-                "comp_method": Count = Compression => |told| compression(told.handshake);
+                /// Zeek: the same; with `--format zeek` by name, as there
+                "comp_method": Method = Compression => |told| compression(told.handshake);
                 /// the types of its extensions, in order
                 /// RFC: 8446, 4.2
                 /// Zeek: the same
@@ -494,7 +495,7 @@ macro_rules! rows {
                 /// absent: it has none
                 "san_dns": Texts = DnsNames;
                 /// as above
-                "san_ip": Texts = Addresses;
+                "san_ip": Addresses = Addresses;
                 /// its public key: `rsa`, `ecdsa`, `dsa`, `ed25519`, `ed448` or `unknown`; the bits of its modulus or its curve; the curve
                 /// RFC: 3279, 2.3; 5480, 2; 8410, 3
                 /// Zeek: `certificate.key_type`, `key_length`, `curve`
@@ -522,6 +523,10 @@ macro_rules! rows {
                 /// Zeek: the same
                 /// absent: no `server_name`
                 "sni_matches_cert": Mark = NameMatches => |told| Ok(match_cell(told.handshake, told.server.certificate()));
+                /// whether the server's chain is valid: `tlslog` validates no certificate, so this is unset, for readers of Zeek's logs
+                /// Zeek: the same
+                /// absent: always
+                "validation_status": Text = Validation => |_told| Ok(None);
                 /// the server's certificates that aren't read, each by its place in the chain (the server's own has 0) and why, as `0:verify`
                 /// RFC: 5280, 4.1
                 /// absent: all are read

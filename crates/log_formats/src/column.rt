@@ -19,10 +19,28 @@ pub enum Type {
     Mark,
     /// a number
     Count,
+<<<<<<< HEAD
+=======
+    /// the version's number
+    Version,
+    /// the method's name, `NULL`, `DEFLATE` or `LZS`; of any other `unknown-` and its number
+    Method,
+    /// the names of methods, as that of one, with `,` between them
+    Methods,
+    /// `uncompressed`, `ansiX962_compressed_prime`, `ansiX962_compressed_char2`, or `unknown-` and the number, with `,` between them
+    PointFormats,
+    /// `psk_ke`, `psk_dhe_ke`, or `unknown-` and the number, with `,` between them
+    Modes,
+>>>>>>> 69785f431819c53c466453698342bbb405a62c59
     /// texts, with `,` between them
     Texts,
     /// numbers, with `,` between them
     Counts,
+<<<<<<< HEAD
+=======
+    /// addresses, with `,` between them
+    Addresses,
+>>>>>>> 69785f431819c53c466453698342bbb405a62c59
     /// JSON, since it has fields of its own
     Fields,
 }

@@ -14,11 +14,50 @@ fn in_memory<T, E: Drop>(made: Result<T, E>) -> Result<T, AllocError> {
     }
 }
 
+<<<<<<< HEAD
 /// A cell as comma-separated values have it: nothing, text as it stands, or else JSON.
 fn field_text(alloc: Global, cell: &Option<Cell<'_>>) -> Result<String, AllocError> {
     match cell {
         None => Ok(String::new(alloc)),
         Some(Cell::Text(text)) => text.to_string(alloc),
+=======
+/// How texts are written that a spreadsheet takes for formulas.
+#[derive(Clone, Copy, Debug, PartialEq, Eq)]
+pub enum Formulas {
+    /// With `'` in front, so that a spreadsheet shows them.
+    Marked,
+    /// As they are.
+    Raw,
+}
+
+/// Whether a spreadsheet takes a text for a formula.
+fn is_formula(text: &str) -> bool {
+    matches!(
+        text.as_bytes().first(),
+        Some(b'=' | b'+' | b'-' | b'@' | b'\t' | b'\r')
+    )
+}
+
+/// A text as a cell of a spreadsheet.
+fn cell_text(alloc: Global, text: String, formulas: Formulas) -> Result<String, AllocError> {
+    if formulas == Formulas::Raw || !is_formula(text.as_str()) {
+        return Ok(text);
+    }
+    let mut marked = String::from_str(alloc, "'")?;
+    marked.push_str(text.as_str())?;
+    Ok(marked)
+}
+
+/// A cell as comma-separated values have it: nothing, text as it stands, or else JSON.
+fn field_text(
+    alloc: Global,
+    cell: &Option<Cell<'_>>,
+    formulas: Formulas,
+) -> Result<String, AllocError> {
+    match cell {
+        None => Ok(String::new(alloc)),
+        Some(Cell::Text(text)) => cell_text(alloc, text.to_string(alloc)?, formulas),
+>>>>>>> 69785f431819c53c466453698342bbb405a62c59
         Some(other) => json_text(alloc, other, 32),
     }
 }
@@ -36,10 +75,17 @@ fn record(alloc: Global, fields: &[String]) -> Result<Vec<u8>, AllocError> {
 }
 
 /// A record of comma-separated values, of a row.
+<<<<<<< HEAD
 pub fn line(alloc: Global, row: &Row<'_>) -> Result<Vec<u8>, AllocError> {
     let mut fields = Vec::new(alloc);
     for (_name, cell) in &row.cells {
         add_text(&mut fields, field_text(alloc, cell))?;
+=======
+pub fn line(alloc: Global, row: &Row<'_>, formulas: Formulas) -> Result<Vec<u8>, AllocError> {
+    let mut fields = Vec::new(alloc);
+    for (_name, cell) in &row.cells {
+        add_text(&mut fields, field_text(alloc, cell, formulas))?;
+>>>>>>> 69785f431819c53c466453698342bbb405a62c59
     }
     record(alloc, fields.as_slice())
 }

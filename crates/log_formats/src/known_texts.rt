@@ -20,7 +20,10 @@ const MOST_NUMBERS: usize = 128;
 /// Nothing is kept of a certificate that has more bytes.
 const LONGEST_CERTIFICATE: usize = 4096;
 
-/// No text is kept that has more.
+/// No text of a list is kept that has more: the names of 100 cipher suites have some 4,000.
+const LONGEST_LIST: usize = 4096;
+
+/// No text of a certificate is kept that has more.
 const LONGEST: usize = 2048;
 
 /// What stands in a list as a number of 2 bytes, maybe with more behind it.
@@ -142,7 +145,7 @@ impl KnownLists {
         for one in list.take(MOST_NUMBERS + 1) {
             numbers.push(T::code(&one))?;
         }
-        if numbers.len() > MOST_NUMBERS || text.len() > LONGEST {
+        if numbers.len() > MOST_NUMBERS || text.len() > LONGEST_LIST {
             return Ok(());
         }
         for _ in self.sets.len()..SETS as usize {

@@ -1,7 +1,7 @@
 //! Lists in a line. They are walked where they are written.
 use crate::cell::Cell;
 use crate::suites::Suites;
-use crate::text::{Text, extension, group, version};
+use crate::text::{Text, extension, group};
 use layouts::{Counted1, InPlace, Items};
 use serde::{Described, Serialize, Serializer};
 use ssl2_hello::CipherSpec;
@@ -67,7 +67,7 @@ fn hand_versions<T: TakesTexts>(
     taker: &mut T,
 ) -> Result<(), T::Error> {
     for one in list {
-        taker.take_text(&version(one))?;
+        taker.take_text(&Text::Version(one))?;
     }
     Ok(())
 }

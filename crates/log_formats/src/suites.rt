@@ -1,15 +1,25 @@
 //! Names of cipher suites.
 use crate::cell::Cell;
-use crate::text::Text;
+use crate::text::{Text, name_or_number};
 use ssl2_hello::CipherSpec;
 use std::alloc::{AllocError, Global};
 use std::collections::BTreeMap;
 use tls_base::TlsCipherSuiteID;
 
-/// Names of cipher suites, by their numbers.
+/// How suites are written that a list has no name for.
+#[derive(Clone, Copy, Debug, PartialEq, Eq)]
+pub enum OtherSuites {
+    /// By the names of IANA's registry; those that have none there by their numbers.
+    Named,
+    /// By their numbers.
+    Numbered,
+}
+
+/// Names of cipher suites: those of a list, by their numbers, and how all others are written.
 #[derive(Drop)]
 pub struct Suites {
     names: BTreeMap<u16, String>,
+    others: OtherSuites,
 }
 
 /// The number and the name that a line begins with, as in `c02f:TLS_ECDHE_RSA_WITH_AES_128_GCM_SHA256:..`.
@@ -25,17 +35,22 @@ fn named(line: &str) -> Option<(u16, &str)> {
 }
 
 impl Suites {
-    /// None has a name.
-    pub fn new(alloc: Global) -> Suites {
+    /// No list: all are written in this way.
+    pub fn new(alloc: Global, others: OtherSuites) -> Suites {
         Suites {
             names: BTreeMap::new(alloc),
+            others,
         }
     }
 
     /// Those of a list with a line for each: its number in hexadecimal, and its name, each with `:` behind. Empty lines and those that begin
     /// with `#` say nothing. `None` where a line has another form.
-    pub fn read(alloc: Global, list: &str) -> Result<Option<Suites>, AllocError> {
-        let mut suites = Suites::new(alloc);
+    pub fn read(
+        alloc: Global,
+        others: OtherSuites,
+        list: &str,
+    ) -> Result<Option<Suites>, AllocError> {
+        let mut suites = Suites::new(alloc, others);
         for line in list.lines() {
             if !suites.add(alloc, line)? {
                 return Ok(None);
@@ -59,11 +74,19 @@ impl Suites {
         }
     }
 
+    /// Whether suites without a name in the list are written by their numbers.
+    pub fn are_numbered(&self) -> bool {
+        matches!(self.others, OtherSuites::Numbered)
+    }
+
     /// A suite by its name, or else its number.
     pub fn text(&self, suite: TlsCipherSuiteID) -> Text<'_> {
         match self.names.get(&suite.0) {
             Some(name) => Text::Plain(name.as_str()),
-            None => Text::Code(suite.0),
+            None => match self.others {
+                OtherSuites::Named => name_or_number(suite.registered_name(), suite.0),
+                OtherSuites::Numbered => Text::Code(suite.0),
+            },
         }
     }
 

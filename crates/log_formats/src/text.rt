@@ -32,6 +32,8 @@ pub enum Text<'a> {
     Placed(usize, &'a str),
     /// A signature scheme by its name, or else its number.
     Scheme(u16),
+    /// A version by its name, or else its number.
+    Version(TlsVersion),
     /// An address.
     Address(IpAddr),
 }
@@ -101,6 +103,14 @@ fn write_scheme<W: fmt::Write>(f: &mut Formatter<W>, scheme: u16) -> fmt::Result
     }
 }
 
+/// Writes a version.
+fn write_version<W: fmt::Write>(f: &mut Formatter<W>, version: TlsVersion) -> fmt::Result {
+    match zeek_version(version) {
+        Some(name) => f.write_str(name),
+        None => write_code(f, version.0),
+    }
+}
+
 impl Display for Text<'_> {
     fn fmt<W: fmt::Write>(&self, f: &mut Formatter<W>) -> fmt::Result {
         match self {
@@ -116,6 +126,7 @@ impl Display for Text<'_> {
             }
             Text::Placed(place, name) => write!(f, "{place}:{name}"),
             Text::Scheme(scheme) => write_scheme(f, *scheme),
+            Text::Version(version) => write_version(f, *version),
             Text::Address(address) => write!(f, "{address}"),
         }
     }
@@ -128,6 +139,7 @@ impl Text<'_> {
             Text::Plain(text) => Some(*text),
             Text::Owned(text) => Some(text.as_str()),
             Text::Escaped(bytes) => plain_text(bytes),
+            Text::Version(version) => zeek_version(*version),
             _ => None,
         }
     }
@@ -204,6 +216,14 @@ fn serialize_scheme<S: Serializer>(scheme: u16, out: &mut S) -> Result<(), S::Er
     }
 }
 
+/// Sends a version.
+fn serialize_version<S: Serializer>(version: TlsVersion, out: &mut S) -> Result<(), S::Error> {
+    match zeek_version(version) {
+        Some(name) => out.str(name),
+        None => serialize_code(version.0, out),
+    }
+}
+
 impl Serialize for Text<'_> {
     fn serialize<S: Serializer>(&self, out: &mut S) -> Result<(), S::Error> {
         match self {
@@ -212,6 +232,7 @@ impl Serialize for Text<'_> {
             Text::Code(code) => serialize_code(*code, out),
             Text::Digits(bytes) => serialize_digits(bytes, out),
             Text::Scheme(scheme) => serialize_scheme(*scheme, out),
+            Text::Version(version) => serialize_version(*version, out),
             Text::Address(address) => serialize_address(*address, out),
             Text::Escaped(bytes) => match plain_text(bytes) {
                 Some(text) => out.str(text),
@@ -228,11 +249,6 @@ pub fn name_or_number<'a>(name: Option<&'a str>, n: u16) -> Text<'a> {
         Some(name) => Text::Plain(name),
         None => Text::Code(n),
     }
-}
-
-/// A version.
-pub fn version<'a>(version: TlsVersion) -> Text<'a> {
-    name_or_number(zeek_version(version), version.0)
 }
 
 /// A group.
@@ -266,7 +282,7 @@ pub fn some_name<'a>(name: Option<&'static str>) -> Option<Cell<'a>> {
 /// A version, where there is one.
 pub fn some_version<'a>(chosen: Option<TlsVersion>) -> Option<Cell<'a>> {
     match chosen {
-        Some(chosen) => Some(Cell::Text(version(chosen))),
+        Some(chosen) => Some(Cell::Text(Text::Version(chosen))),
         None => None,
     }
 }

@@ -26,13 +26,58 @@ impl Type {
             Type::Address => "addr",
             Type::Port => "port",
             Type::Enum => "enum",
-            Type::Text | Type::Fields => "string",
+            Type::Text | Type::Fields | Type::Method => "string",
             Type::Mark => "bool",
-            Type::Count => "count",
-            Type::Texts => "vector[string]",
+            Type::Count | Type::Version => "count",
+            Type::Texts | Type::Methods | Type::PointFormats | Type::Modes => "vector[string]",
             Type::Counts => "vector[count]",
+            Type::Addresses => "vector[addr]",
         }
     }
+}
+
+/// The names of compression methods (RFC 3749, section 2, and RFC 3943, section 3).
+static METHODS: &[(u64, &str)] = &[(0, "NULL"), (1, "DEFLATE"), (64, "LZS")];
+
+/// The names of point formats (RFC 8422, section 5.1.2).
+static POINT_FORMATS: &[(u64, &str)] = &[
+    (0, "uncompressed"),
+    (1, "ansiX962_compressed_prime"),
+    (2, "ansiX962_compressed_char2"),
+];
+
+/// The names of modes of keys that both sides know before (RFC 8446, section 4.2.9).
+static MODES: &[(u64, &str)] = &[(0, "psk_ke"), (1, "psk_dhe_ke")];
+
+/// Adds a code by its name.
+fn add_code(
+    alloc: Global,
+    line: &mut String,
+    names: &'static [(u64, &'static str)],
+    code: u64,
+) -> Result<(), AllocError> {
+    match names.iter().find(|row| row.0 == code) {
+        Some(row) => line.push_str(row.1),
+        None => line.push_str(format!(in alloc; "unknown-{code}")?.as_str()),
+    }
+}
+
+/// Adds codes by their names, with `,` between them.
+fn add_codes(
+    alloc: Global,
+    line: &mut String,
+    names: &'static [(u64, &'static str)],
+    codes: &Numbers<'_>,
+) -> Result<(), AllocError> {
+    for place in 0..codes.len() {
+        if place > 0 {
+            line.push(',')?;
+        }
+        if let Some(code) = codes.get(place) {
+            add_code(alloc, line, names, code)?;
+        }
+    }
+    Ok(())
 }
 
 /// A time as its lines have it, as 2026-11-26-17-00-00, in UTC.
@@ -237,15 +282,44 @@ fn add_cell(alloc: Global, line: &mut String, cell: &Option<Cell<'_>>) -> Result
     }
 }
 
-/// A line, without its line break.
-pub fn line(alloc: Global, row: &Row<'_>) -> Result<String, AllocError> {
+/// Adds what a field of that type says: by a name or a number where Zeek has another of these than JSON.
+fn add_typed(
+    alloc: Global,
+    line: &mut String,
+    kind: Type,
+    cell: &Option<Cell<'_>>,
+) -> Result<(), AllocError> {
+    match (kind, cell) {
+        (Type::Version, Some(Cell::Text(Text::Version(version)))) => {
+            line.push_str(format!(in alloc; "{}", version.0)?.as_str())
+        }
+        (Type::Method, Some(Cell::Number(code))) => add_code(alloc, line, METHODS, *code),
+        (Type::Methods, Some(Cell::Numbers(codes))) => add_codes(alloc, line, METHODS, codes),
+        (Type::PointFormats, Some(Cell::Numbers(codes))) => {
+            add_codes(alloc, line, POINT_FORMATS, codes)
+        }
+        (Type::Modes, Some(Cell::Numbers(codes))) => add_codes(alloc, line, MODES, codes),
+        _ => add_cell(alloc, line, cell),
+    }
+}
+
+/// A line of the fields at these places, without its line break.
+pub fn line<T>(
+    alloc: Global,
+    table: &[Column<T>],
+    places: &[usize],
+    row: &Row<'_>,
+) -> Result<String, AllocError> {
     let mut line = String::new(alloc);
     let mut is_first = true;
-    for (_name, cell) in &row.cells {
+    for (place, (_name, cell)) in places.iter().zip(&row.cells) {
         if !is_first {
             line.push('\t')?;
         }
-        add_cell(alloc, &mut line, cell)?;
+        match table.get(*place) {
+            Some(column) => add_typed(alloc, &mut line, column.1, cell)?,
+            None => add_cell(alloc, &mut line, cell)?,
+        }
         is_first = false;
     }
     Ok(line)

@@ -10,6 +10,10 @@ use log_fields::summary::Summary;
 use log_fields::told::Told;
 use log_formats::cell::Row;
 use log_formats::column::Column;
+<<<<<<< HEAD
+=======
+use log_formats::comma::Formulas;
+>>>>>>> 69785f431819c53c466453698342bbb405a62c59
 use log_formats::known_texts::KnownTexts;
 use log_formats::objects::json_row;
 use log_formats::suites::Suites;
@@ -26,7 +30,7 @@ pub enum Format {
     /// An object of JSON.
     Json,
     /// A record of comma-separated values (RFC 4180), behind one of the names.
-    Csv,
+    Csv(Formulas),
     /// Values with tabs between them, as Zeek writes them, behind lines that name the fields and say what they are, and in front of one that tells the end.
     Zeek,
     /// An event of Suricata's eve.json, of a connection alone.
@@ -81,6 +85,8 @@ pub enum StyleError<'a> {
     UnknownDetail(&'a str),
     /// Both messages and certificates are to have lines.
     TwoKinds,
+    /// Messages are to have lines, and cipher suites numbers.
+    NumbersOfMessages,
     /// Suricata's events are asked for, which have fields of their own, and some of the log's.
     FieldsOfSuricata,
     /// Suricata's events are asked for, and that messages or certificates have lines.
@@ -133,6 +139,9 @@ impl Display for StyleError<'_> {
             }
             StyleError::TwoKinds => {
                 f.write_str("--messages and --certificates don't go together")
+            }
+            StyleError::NumbersOfMessages => {
+                f.write_str("--numbers doesn't go with --messages, which has names")
             }
             StyleError::FieldsOfSuricata => {
                 f.write_str(
@@ -219,6 +228,15 @@ fn zeek_header(alloc: Global, lines: &Lines, opened: i64) -> Result<String, Allo
     }
 }
 
+/// A line of a log of Zeek's.
+fn zeek_line(alloc: Global, lines: &Lines, row: &Row<'_>) -> Result<String, AllocError> {
+    match lines {
+        Lines::Connections(places) => zeek::line(alloc, FIELDS, places.as_slice(), row),
+        Lines::Messages(places) => zeek::line(alloc, PARTS, places.as_slice(), row),
+        Lines::Certificates(places) => zeek::line(alloc, DETAILS, places.as_slice(), row),
+    }
+}
+
 /// The line of names in front of comma-separated values.
 fn csv_header(alloc: Global, lines: &Lines) -> Result<Vec<u8>, AllocError> {
     match lines {
@@ -239,6 +257,9 @@ impl Style {
         names: Option<&str>,
         suites: Suites,
     ) -> Result<Style, StyleError<'_>> {
+        if kind == LineKind::Messages && suites.are_numbered() {
+            return Err(StyleError::NumbersOfMessages);
+        }
         if matches!(format, Format::Suricata) {
             if kind != LineKind::Connections {
                 return Err(StyleError::KindOfSuricata);
@@ -260,7 +281,7 @@ impl Style {
     pub fn header(&self, alloc: Global, opened: i64) -> Result<Option<Vec<u8>>, AllocError> {
         match self.format {
             Format::Json | Format::Suricata => Ok(None),
-            Format::Csv => Ok(Some(csv_header(alloc, &self.lines)?)),
+            Format::Csv(_) => Ok(Some(csv_header(alloc, &self.lines)?)),
             Format::Zeek => Ok(Some(zeek_header(alloc, &self.lines, opened)?.into_bytes())),
         }
     }
@@ -269,7 +290,7 @@ impl Style {
     pub fn footer(&self, alloc: Global, closed: i64) -> Result<Option<Vec<u8>>, AllocError> {
         match self.format {
             Format::Zeek => Ok(Some(zeek::footer(alloc, closed)?.into_bytes())),
-            Format::Json | Format::Csv | Format::Suricata => Ok(None),
+            Format::Json | Format::Csv(_) | Format::Suricata => Ok(None),
         }
     }
 
@@ -282,8 +303,13 @@ impl Style {
     fn line(&self, alloc: Global, row: &Row<'_>) -> Result<Vec<u8>, AllocError> {
         match self.format {
             Format::Json | Format::Suricata => json_row(alloc, row),
+<<<<<<< HEAD
             Format::Csv => comma::line(alloc, row),
             Format::Zeek => Ok(zeek::line(alloc, row)?.into_bytes()),
+=======
+            Format::Csv(formulas) => comma::line(alloc, row, formulas),
+            Format::Zeek => Ok(zeek_line(alloc, &self.lines, row)?.into_bytes()),
+>>>>>>> 69785f431819c53c466453698342bbb405a62c59
         }
     }
 
@@ -299,7 +325,11 @@ impl Style {
         match self.format {
             Format::Suricata => suricata::line(alloc, self, summary),
             Format::Json => json_line(alloc, self, places, summary, room),
+<<<<<<< HEAD
             Format::Csv | Format::Zeek => {
+=======
+            Format::Csv(_) | Format::Zeek => {
+>>>>>>> 69785f431819c53c466453698342bbb405a62c59
                 let row = row_of(&mut self.told(alloc, summary), places)?;
                 self.line(alloc, &row)
             }

@@ -1,14 +1,22 @@
 //! Connections as Suricata's eve.json has them (docs.suricata.io, "EVE JSON Format", event type TLS).
 use crate::style::Style;
 use connection_ids::flow_id;
+<<<<<<< HEAD
 use connections::Protocol;
+=======
+use connections::{Protocol, Side};
+>>>>>>> 69785f431819c53c466453698342bbb405a62c59
 use log_fields::columns::Certified;
 use log_fields::connection::{cell_of, end_cell, microseconds};
 use log_fields::fields::{End, Field, Named, Offer, Print};
 use log_fields::summary::Summary;
 use log_fields::told::{Moment, Told};
 use log_formats::cell::{Cell, PrintCell, Row};
+<<<<<<< HEAD
 use log_formats::lists::Texts;
+=======
+use log_formats::lists::{Texts, some_texts};
+>>>>>>> 69785f431819c53c466453698342bbb405a62c59
 use log_formats::objects::{LINE_LEN, json_bytes};
 use log_formats::text::{
     Text, add_text, hexadecimal, name_cell, name_or_number, some_mark, some_text,
@@ -20,50 +28,71 @@ use std::alloc::{AllocError, Global};
 use tls_summary::HandshakeSummary;
 use x509_text::time_text;
 
-/// A field of the object `tls`.
-enum Said {
-    /// The same as one of the log's own fields.
-    Same(Field),
-    Version,
-    Resumed,
+/// What the certificate of a side's own says.
+#[derive(Clone, Copy)]
+enum OwnField {
+    Subject,
+    Issuer,
     Serial,
     Fingerprint,
     NotBefore,
     NotAfter,
+}
+
+/// A field of the object `tls`.
+enum Said {
+    /// The same as one of the log's own fields.
+    Same(Field),
+    /// What the server's certificate says.
+    Own(OwnField),
+    AlternativeNames,
+    Version,
+    Resumed,
     Ja3,
     Ja3s,
     Chosen,
 }
 
-/// The fields of the object `tls`, in their order.
+/// The fields of the object `tls` in front of the object `client`, in their order.
 static TLS: &[(&str, Said)] = &[
-    (
-        "subject",
-        Said::Same(Field::ServerCertificate(Certified::Subject)),
-    ),
-    (
-        "issuerdn",
-        Said::Same(Field::ServerCertificate(Certified::Issuer)),
-    ),
+    ("subject", Said::Own(OwnField::Subject)),
+    ("issuerdn", Said::Own(OwnField::Issuer)),
+    ("subjectaltname", Said::AlternativeNames),
     ("session_resumed", Said::Resumed),
-    ("serial", Said::Serial),
-    ("fingerprint", Said::Fingerprint),
+    ("serial", Said::Own(OwnField::Serial)),
+    ("fingerprint", Said::Own(OwnField::Fingerprint)),
     ("sni", Said::Same(Field::Named(Named::ServerName))),
     ("version", Said::Version),
-    ("notbefore", Said::NotBefore),
-    ("notafter", Said::NotAfter),
+    ("notbefore", Said::Own(OwnField::NotBefore)),
+    ("notafter", Said::Own(OwnField::NotAfter)),
     ("ja3", Said::Ja3),
     ("ja3s", Said::Ja3s),
     ("ja4", Said::Same(Field::Print(Print::Ja4))),
+];
+
+/// Those behind it.
+static PROTOCOLS: &[(&str, Said)] = &[
     ("client_alpns", Said::Same(Field::Offer(Offer::Protocols))),
     ("server_alpns", Said::Chosen),
 ];
 
-/// An event of eve.json: what any event has, and the object `tls`.
+/// The fields of the object `client`, in their order: what the client's certificate says.
+static CLIENT: &[(&str, OwnField)] = &[
+    ("subject", OwnField::Subject),
+    ("issuerdn", OwnField::Issuer),
+    ("fingerprint", OwnField::Fingerprint),
+    ("serial", OwnField::Serial),
+    ("notbefore", OwnField::NotBefore),
+    ("notafter", OwnField::NotAfter),
+];
+
+/// An event of eve.json: what any event has, and the object `tls`, which has the object `client` within, where the client sent a certificate.
 #[derive(Drop)]
 struct Event<'a> {
     front: Row<'static>,
     tls: Row<'a>,
+    client: Option<Row<'a>>,
+    protocols: Row<'a>,
 }
 
 impl Described for Event<'_> {}
@@ -73,7 +102,14 @@ impl Serialize for Event<'_> {
         out.begin_map(None)?;
         self.front.serialize_fields(out)?;
         out.key("tls")?;
-        self.tls.serialize(out)?;
+        out.begin_map(None)?;
+        self.tls.serialize_fields(out)?;
+        if let Some(client) = &self.client {
+            out.key("client")?;
+            client.serialize(out)?;
+        }
+        self.protocols.serialize_fields(out)?;
+        out.end_map()?;
         out.end_map()
     }
 }
@@ -96,9 +132,114 @@ fn with_colons(alloc: Global, digits: &str) -> Result<String, AllocError> {
     Ok(text)
 }
 
+/// The places of the signs between the attributes of a name: of each `,` and `+` that isn't escaped.
+fn places_of_signs(alloc: Global, text: &[u8]) -> Result<Vec<usize>, AllocError> {
+    let mut places = Vec::new(alloc);
+    let mut is_escaped = false;
+    for (place, byte) in text.iter().enumerate() {
+        if !is_escaped && matches!(*byte, b',' | b'+') {
+            places.push(place)?;
+        }
+        is_escaped = !is_escaped && *byte == b'\\';
+    }
+    Ok(places)
+}
+
+/// Adds ASCII.
+fn add_ascii(text: &mut String, bytes: Option<&[u8]>) -> Result<(), AllocError> {
+    for byte in bytes.unwrap_or(&[]) {
+        text.push(char::from(*byte))?;
+    }
+    Ok(())
+}
+
+/// A name from its first set of attributes to the last, as Suricata has it, by the text that RFC 4514 has from the last on.
+fn forward_name(alloc: Global, text: &[u8]) -> Result<String, AllocError> {
+    let mut forward = String::new(alloc);
+    let mut places = places_of_signs(alloc, text)?;
+    let mut end = text.len();
+    while let Some(place) = places.pop() {
+        add_ascii(&mut forward, text.get(place.saturating_add(1)..end))?;
+        let sign = if text.get(place) == Some(&b'+') {
+            " + "
+        } else {
+            ", "
+        };
+        forward.push_str(sign)?;
+        end = place;
+    }
+    add_ascii(&mut forward, text.get(..end))?;
+    Ok(forward)
+}
+
+/// The field of a side's certificate.
+fn field_of(side: Side, field: Certified) -> Field {
+    match side {
+        Side::Originator => Field::ClientCertificate(field),
+        Side::Responder => Field::ServerCertificate(field),
+    }
+}
+
+/// The bytes of a side's own certificate.
+fn own_bytes<'a>(handshake: &'a HandshakeSummary, side: Side) -> Option<&'a [u8]> {
+    match side {
+        Side::Originator => handshake.client_certificate.as_deref(),
+        Side::Responder => handshake.server_certificate.as_deref(),
+    }
+}
+
+/// A name of a side's certificate.
+fn name_cell_of<'a>(
+    alloc: Global,
+    told: &mut Told<'_>,
+    side: Side,
+    field: Certified,
+) -> Result<Option<Cell<'a>>, AllocError> {
+    match cell_of(told, &field_of(side, field))? {
+        Some(Cell::Text(Text::Owned(name))) => some_text(forward_name(alloc, name.as_bytes())),
+        _ => Ok(None),
+    }
+}
+
+/// Adds the names of one kind in the server's subjectAltName.
+fn add_names(
+    told: &mut Told<'_>,
+    field: Certified,
+    all: &mut Vec<String>,
+) -> Result<(), AllocError> {
+    if let Some(Cell::Texts(Texts::Owned(names))) = cell_of(
+        told,
+        &Field::ServerCertificate(field),
+    )? {
+        for name in names {
+            all.push(name)?;
+        }
+    }
+    Ok(())
+}
+
+/// The DNS names and then the addresses in the server's subjectAltName.
+fn alternative_names<'a>(
+    alloc: Global,
+    told: &mut Told<'_>,
+) -> Result<Option<Cell<'a>>, AllocError> {
+    let mut all = Vec::new(alloc);
+    add_names(told, Certified::DnsNames, &mut all)?;
+    add_names(told, Certified::Addresses, &mut all)?;
+    Ok(some_texts(Texts::Owned(all)))
+}
+
 /// The bytes of its serial number.
-fn serial_cell<'a>(alloc: Global, told: &mut Told<'_>) -> Result<Option<Cell<'a>>, AllocError> {
-    match told.server.certificate() {
+fn serial_cell<'a>(
+    alloc: Global,
+    told: &mut Told<'_>,
+    side: Side,
+) -> Result<Option<Cell<'a>>, AllocError> {
+    let own = match side {
+        Side::Originator => &mut told.client,
+        Side::Responder => &mut told.server,
+    };
+    match own.certificate() {
         Some(certificate) => {
             let digits = hex::encode_upper(alloc, certificate.tbs_certificate.serial_number)?;
             some_text(with_colons(alloc, digits.as_str()))
@@ -107,28 +248,49 @@ fn serial_cell<'a>(alloc: Global, told: &mut Told<'_>) -> Result<Option<Cell<'a>
     }
 }
 
-/// The SHA-1 of the certificate.
+/// The SHA-1 of a certificate.
 fn fingerprint_cell<'a>(
     alloc: Global,
-    handshake: &HandshakeSummary,
+    bytes: Option<&[u8]>,
 ) -> Result<Option<Cell<'a>>, AllocError> {
-    match &handshake.server_certificate {
+    match bytes {
         Some(bytes) => {
-            let digits = hexadecimal(alloc, &Sha1::digest(bytes.as_slice()))?;
+            let digits = hexadecimal(alloc, &Sha1::digest(bytes))?;
             some_text(with_colons(alloc, digits.as_str()))
         }
         None => Ok(None),
     }
 }
 
-/// A time of the certificate, without its time zone, which is UTC.
-fn date_cell<'a>(told: &mut Told<'_>, field: Certified) -> Result<Option<Cell<'a>>, AllocError> {
-    match cell_of(told, &Field::ServerCertificate(field))? {
+/// A time of a side's certificate, without its time zone, which is UTC.
+fn date_cell<'a>(
+    told: &mut Told<'_>,
+    side: Side,
+    field: Certified,
+) -> Result<Option<Cell<'a>>, AllocError> {
+    match cell_of(told, &field_of(side, field))? {
         Some(Cell::Text(Text::Owned(mut text))) => {
             text.pop();
             Ok(Some(Cell::Text(Text::Owned(text))))
         }
         _ => Ok(None),
+    }
+}
+
+/// What one field says of a side's certificate.
+fn own_cell<'a>(
+    alloc: Global,
+    told: &mut Told<'_>,
+    side: Side,
+    field: OwnField,
+) -> Result<Option<Cell<'a>>, AllocError> {
+    match field {
+        OwnField::Subject => name_cell_of(alloc, told, side, Certified::Subject),
+        OwnField::Issuer => name_cell_of(alloc, told, side, Certified::Issuer),
+        OwnField::Serial => serial_cell(alloc, told, side),
+        OwnField::Fingerprint => fingerprint_cell(alloc, own_bytes(told.handshake, side)),
+        OwnField::NotBefore => date_cell(told, side, Certified::NotBefore),
+        OwnField::NotAfter => date_cell(told, side, Certified::NotAfter),
     }
 }
 
@@ -172,12 +334,10 @@ fn said_cell<'a>(
     let summary = told.summary;
     match said {
         Said::Same(field) => cell_of(told, field),
+        Said::Own(field) => own_cell(alloc, told, Side::Responder, *field),
+        Said::AlternativeNames => alternative_names(alloc, told),
         Said::Version => Ok(version_cell(summary.handshake)),
         Said::Resumed => Ok(some_mark(summary.is_resumed)),
-        Said::Serial => serial_cell(alloc, told),
-        Said::Fingerprint => fingerprint_cell(alloc, summary.handshake),
-        Said::NotBefore => date_cell(told, Certified::NotBefore),
-        Said::NotAfter => date_cell(told, Certified::NotAfter),
         Said::Ja3 => print_cell(alloc, told, Print::Ja3, Print::Ja3Text),
         Said::Ja3s => print_cell(alloc, told, Print::Ja3s, Print::Ja3sText),
         Said::Chosen => chosen_cell(alloc, summary.handshake),
@@ -241,13 +401,29 @@ static FRONT: &[(&str, End)] = &[
     ("dest_port", End::ResponderPort),
 ];
 
-/// The object `tls`.
-fn tls_row<'a>(alloc: Global, told: &mut Told<'a>) -> Result<Row<'a>, AllocError> {
-    let mut cells = Vec::with_capacity(alloc, TLS.len())?;
-    for (name, said) in TLS {
+/// Fields of the object `tls`.
+fn tls_row<'a>(
+    alloc: Global,
+    told: &mut Told<'a>,
+    fields: &'static [(&'static str, Said)],
+) -> Result<Row<'a>, AllocError> {
+    let mut cells = Vec::with_capacity(alloc, fields.len())?;
+    for (name, said) in fields {
         cells.push((*name, said_cell(alloc, told, said)?))?;
     }
     Ok(Row { cells })
+}
+
+/// The object `client`, where the client sent a certificate.
+fn client_row<'a>(alloc: Global, told: &mut Told<'a>) -> Result<Option<Row<'a>>, AllocError> {
+    if own_bytes(told.handshake, Side::Originator).is_none() {
+        return Ok(None);
+    }
+    let mut cells = Vec::with_capacity(alloc, CLIENT.len())?;
+    for (name, field) in CLIENT {
+        cells.push((*name, own_cell(alloc, told, Side::Originator, *field)?))?;
+    }
+    Ok(Some(Row { cells }))
 }
 
 /// The event of a connection, without a line break.
@@ -259,7 +435,9 @@ pub fn line<'a>(
     let mut told = style.told(alloc, summary);
     let event = Event {
         front: front_row(alloc, summary)?,
-        tls: tls_row(alloc, &mut told)?,
+        tls: tls_row(alloc, &mut told, TLS)?,
+        client: client_row(alloc, &mut told)?,
+        protocols: tls_row(alloc, &mut told, PROTOCOLS)?,
     };
     json_bytes(alloc, &event, LINE_LEN)
 }

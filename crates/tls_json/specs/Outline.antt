@@ -18,6 +18,8 @@ use Rattle.serde_json.specs.Data.{
   no_members,
   member,
 }
+use Rattle.tls_base.specs.Names.{look_up}
+use Rattle.tls_base.specs.RegisteredSuites.{registered_suites}
 use Rattle.tls_json.specs.Views.{view}
 use Rattle.tls_json.specs.declared.json.Value.{Value}
 use Rattle.tls_json.specs.declared.table.Table.{Table}
@@ -60,12 +62,24 @@ object_of es = object (members es)
 abbrev pub number_text : ℕ → List ℕ
 number_text n = codes "0x" ++ encode_lower (n / 256 ∷ n % 256 ∷ [])
 
+-- A name, or else the number.
+abbrev pub name_or_number : Option (List ℕ) → ℕ → List ℕ
+name_or_number None n = number_text n
+name_or_number (Some name) n = name
+
+-- A cipher suite: the name that IANA's registry has for it, or else its number.
+unfoldable pub suite_text : ℕ → List ℕ
+suite_text n = name_or_number (look_up registered_suites n) n
+
 -- The fields of each form of value.
 abbrev pub decimal : List ℕ → ℕ → List ℕ × Data
 decimal name n = (name, number (unsigned n))
 
 abbrev pub hexadecimal : List ℕ → ℕ → List ℕ × Data
 hexadecimal name n = (name, string (number_text n))
+
+abbrev pub suite : List ℕ → ℕ → List ℕ × Data
+suite name n = (name, string (suite_text n))
 
 abbrev pub bytes : List ℕ → List ℕ → List ℕ × Data
 bytes name b = (name, string (encode_lower b))

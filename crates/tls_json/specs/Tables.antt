@@ -26,6 +26,7 @@ use Rattle.tls_json.specs.Outline.{
   object_of,
   decimal,
   hexadecimal,
+  suite,
   bytes,
   list,
   some_decimal,
@@ -80,7 +81,7 @@ server_hello_fields hello = object_of (
     hexadecimal (codes "server_version") hello.version.0
     ∷ bytes (codes "random") hello.random.now
     ∷ bytes (codes "session_id") (id_bytes hello.session_id)
-    ∷ hexadecimal (codes "cipher_suite") hello.cipher.0
+    ∷ suite (codes "cipher_suite") hello.cipher.0
     ∷ decimal (codes "compression_method") hello.compression.0
     ∷ extensions_fields hello.ext)
 
@@ -89,14 +90,14 @@ abbrev pub draft_hello_fields : TlsServerHelloV13Draft18Contents → Data
 draft_hello_fields hello = object_of (
     hexadecimal (codes "server_version") hello.version.0
     ∷ bytes (codes "random") hello.random.now
-    ∷ hexadecimal (codes "cipher_suite") hello.cipher.0
+    ∷ suite (codes "cipher_suite") hello.cipher.0
     ∷ extensions_fields hello.ext)
 
 -- A HelloRetryRequest (draft-ietf-tls-tls13-19, section 4.1.4).
 abbrev pub retry_fields : TlsHelloRetryRequestContents → Data
 retry_fields request = object_of (
     hexadecimal (codes "server_version") request.version.0
-    ∷ hexadecimal (codes "cipher_suite") request.cipher.0
+    ∷ suite (codes "cipher_suite") request.cipher.0
     ∷ extensions_fields request.ext)
 
 -- A certificate chain in the bytes of its list, what its certificates say, and what it leaves of them (RFC 5246, section 7.4.2).

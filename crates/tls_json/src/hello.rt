@@ -6,8 +6,9 @@ ghost use Rattle.tls_json.specs.Tables.{id_bytes, client_hello_fields, server_he
 use crate::content::Sender;
 use crate::extension::with_extensions;
 use crate::json::Value;
+use crate::suite::suite_values;
 use crate::table::Table;
-use crate::text::{codes, numbers};
+use crate::text::codes;
 use std::alloc::{AllocError, Global};
 use tls_hs::{
     ClientHelloView, TlsHelloRetryRequestContents, TlsServerHelloContents,
@@ -37,7 +38,7 @@ pub fn client_hello(
         .bytes("random", hello.random)
         .bytes("session_id", id(hello.session_id))
         .bytes_if("cookie", cookie)
-        .add("cipher_suites", numbers(alloc, hello.ciphers.bytes()))
+        .add("cipher_suites", suite_values(alloc, hello.ciphers))
         .add("compression_methods", codes(alloc, hello.comp.bytes()));
     with_extensions(alloc, table, Sender::Client, hello.ext).finish()
 }
@@ -50,7 +51,7 @@ pub fn server_hello(alloc: Global, hello: &TlsServerHelloContents<'_>) -> Result
         .hexadecimal("server_version", hello.version.0)
         .bytes("random", hello.random)
         .bytes("session_id", id(hello.session_id))
-        .hexadecimal("cipher_suite", hello.cipher.0)
+        .suite("cipher_suite", hello.cipher)
         .decimal("compression_method", u64::from(hello.compression.0));
     with_extensions(alloc, table, Sender::Server, hello.ext).finish()
 }
@@ -65,7 +66,7 @@ pub fn server_hello_of_draft(
     let table = Table::new(alloc)
         .hexadecimal("server_version", hello.version.0)
         .bytes("random", hello.random)
-        .hexadecimal("cipher_suite", hello.cipher.0);
+        .suite("cipher_suite", hello.cipher);
     with_extensions(alloc, table, Sender::Server, hello.ext).finish()
 }
 
@@ -78,6 +79,6 @@ pub fn hello_retry_request(
 {
     let table = Table::new(alloc)
         .hexadecimal("server_version", request.version.0)
-        .hexadecimal("cipher_suite", request.cipher.0);
+        .suite("cipher_suite", request.cipher);
     with_extensions(alloc, table, Sender::Server, request.ext).finish()
 }

@@ -1,7 +1,7 @@
 //! Messages of TLS and DTLS for people and programs that read JSON: each field by the name that its RFC gives it.
 //!
 //! [`Message`] is a handshake message, [`AlertMessage`] an alert, [`ChangeCipherSpec`] and [`HeartbeatMessage`] are those. All are
-//! written by `serde`: numbers that stand for a thing are hexadecimal, as `0xc02f`, counts and codes of one byte are decimal, bytes are
+//! written by `serde`: a cipher suite is its name in IANA's registry; other numbers that stand for a thing, and suites without a name, are hexadecimal, as `0xc02f`; counts and codes of one byte are decimal, bytes are
 //! hexadecimal without `0x`, and names that a peer sent are text in which whatever is no printable ASCII is escaped, as `\xff`.
 //!
 //! A message is a table of its fields, which one printer writes; which fields a message has stands in `specs/Tables.antt`.
@@ -26,6 +26,7 @@ mod json;
 mod key_exchange;
 mod message;
 mod offers;
+mod suite;
 mod table;
 mod text;
 

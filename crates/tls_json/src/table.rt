@@ -1,11 +1,13 @@
 //! Tables of fields, and lists, as they are put together.
 ghost use Rattle.std.specs.Prelude.{IfOk, ◌++◌, ◌∷◌, [], List, ℕ};
 ghost use Rattle.serde_json.specs.Data.{Data, array, no_items};
-ghost use Rattle.tls_json.specs.Outline.{Shows, Entries, object_of, decimal, hexadecimal, bytes, some_decimal, some_hexadecimal, some_bytes, bytes_if, some_name, HasNames, HasEntries, IsNamed, HasFields, HasFieldNames};
+ghost use Rattle.tls_json.specs.Outline.{Shows, Entries, object_of, decimal, hexadecimal, suite, bytes, some_decimal, some_hexadecimal, some_bytes, bytes_if, some_name, HasNames, HasEntries, IsNamed, HasFields, HasFieldNames};
 
 use crate::json::{Field, Value};
+use crate::suite::suite_value;
 use crate::text::{blob, code_text};
 use std::alloc::{AllocError, Global};
+use tls_base::TlsCipherSuiteID;
 
 /// The fields of an object, in their order; or that memory ran out, which stays so up to the end.
 #[derive(Drop)]
@@ -86,6 +88,14 @@ impl Table {
             Some(code) => self.hexadecimal(name, code),
             None => self,
         }
+    }
+
+    /// With a cipher suite, by its name or else its number.
+    pub fn suite(self, name: &'static str, code: TlsCipherSuiteID) -> Table
+        ensures { (es : Entries) → HasFields es self → HasFields (es ++ suite name.now code.0 ∷ []) result }
+    {
+        let text = suite_value(self.alloc, code);
+        self.add(name, text)
     }
 
     /// With bytes, in hexadecimal.

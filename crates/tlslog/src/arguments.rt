@@ -4,7 +4,12 @@ use crate::help::AFTER_OPTIONS;
 use clap::{Arg, ArgAction, ArgMatches, Command};
 use connection_parts::Part;
 use log_connections::Checksums;
+<<<<<<< HEAD
 use log_formats::suites::Suites;
+=======
+use log_formats::comma::Formulas;
+use log_formats::suites::{OtherSuites, Suites};
+>>>>>>> 69785f431819c53c466453698342bbb405a62c59
 use log_lines::{Format, LineKind, Style, StyleError};
 use std::alloc::{AllocError, Global};
 use std::fmt::{self, Display, Formatter};
@@ -125,8 +130,26 @@ fn fields<'a>(alloc: Global) -> Arg<'a> {
 
 /// The names of cipher suites.
 fn ciphers<'a>(alloc: Global) -> Arg<'a> {
-    let help = "Names of cipher suites: lines as c02f:TLS_ECDHE_RSA_WITH_AES_128_GCM_SHA256:..";
+    let help = "More names of cipher suites: lines as ff01:OUR_SUITE; they win over the registry's";
     option(alloc, "ciphers", "FILE", help)
+}
+
+/// Whether cipher suites have numbers.
+fn numbers<'a>(alloc: Global) -> Arg<'a> {
+    Arg::new(alloc, "numbers")
+        .long("numbers")
+        .help("Print cipher suites by their numbers, as 0xc02f, but for those that --ciphers names")
+        .action(ArgAction::SetTrue)
+}
+
+/// Whether texts stand as they are where a spreadsheet takes them for formulas.
+fn csv_raw<'a>(alloc: Global) -> Arg<'a> {
+    Arg::new(alloc, "csv-raw")
+        .long("csv-raw")
+        .help(
+            "With --format csv: no ' in front of texts that a spreadsheet would take for formulas",
+        )
+        .action(ArgAction::SetTrue)
 }
 
 /// Which checksums count.
@@ -181,6 +204,8 @@ pub fn matches<'a>(alloc: Global, words: &'a [String]) -> Result<ArgMatches<'a>,
         .arg(format(alloc))?
         .arg(fields(alloc))?
         .arg(ciphers(alloc))?
+        .arg(numbers(alloc))?
+        .arg(csv_raw(alloc))?
         .arg(checksums(alloc))?
         .arg(join(alloc))?
         .arg(part(alloc))?
@@ -189,22 +214,44 @@ pub fn matches<'a>(alloc: Global, words: &'a [String]) -> Result<ArgMatches<'a>,
         .try_get_matches_from(words)
 }
 
+/// How suites are written that have no name in a file.
+fn other_suites(matches: &ArgMatches<'_>) -> OtherSuites {
+    if matches.get_flag("numbers") {
+        OtherSuites::Numbered
+    } else {
+        OtherSuites::Named
+    }
+}
+
 /// The names of cipher suites in a file.
-fn suites_of<'a, R: Runtime + AllocGlobal>(rt: &R, path: &'a str) -> Result<Suites, Refusal<'a>> {
+fn suites_of<'a, R: Runtime + AllocGlobal>(
+    rt: &R,
+    others: OtherSuites,
+    path: &'a str,
+) -> Result<Suites, Refusal<'a>> {
     let list = match fs::read_to_string(rt, path) {
         Ok(list) => list,
         Err(e) => return Err(Refusal::Reading(path, e)),
     };
-    match Suites::read(rt.alloc(), list.as_str())? {
+    match Suites::read(rt.alloc(), others, list.as_str())? {
         Some(suites) => Ok(suites),
         None => Err(Refusal::NoList(path)),
+    }
+}
+
+/// How texts are written that a spreadsheet takes for formulas.
+fn formulas_of(matches: &ArgMatches<'_>) -> Formulas {
+    if matches.get_flag("csv-raw") {
+        Formulas::Raw
+    } else {
+        Formulas::Marked
     }
 }
 
 /// How lines are written.
 fn format_of(matches: &ArgMatches<'_>) -> Format {
     match matches.get_str("format") {
-        Some("csv") => Format::Csv,
+        Some("csv") => Format::Csv(formulas_of(matches)),
         Some("zeek") => Format::Zeek,
         Some("suricata") => Format::Suricata,
         _ => Format::Json,
@@ -259,9 +306,10 @@ pub fn style_of<'a, R: Runtime + AllocGlobal>(
     matches: &ArgMatches<'a>,
 ) -> Result<Style, Refusal<'a>> {
     let kind = kind_of(matches)?;
+    let others = other_suites(matches);
     let suites = match matches.get_str("ciphers") {
-        Some(path) => suites_of(rt, path)?,
-        None => Suites::new(rt.alloc()),
+        Some(path) => suites_of(rt, others, path)?,
+        None => Suites::new(rt.alloc(), others),
     };
     let (format, fields) = (format_of(matches), matches.get_str("fields"));
     Ok(Style::new(rt.alloc(), format, kind, fields, suites)?)

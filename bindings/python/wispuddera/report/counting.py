@@ -28,7 +28,7 @@ def kind_of_version(version: Optional[str]) -> int:
 
 @lru_cache(maxsize=1024)
 def faults_of(suite: str) -> tuple[suites.Fault, ...]:
-    return suites.faults_of(suites.name_of(suite))
+    return suites.faults_of(suite)
 
 
 class Host(Entry):
@@ -175,7 +175,7 @@ class Counts:
         self.newest += kind == V13
         self.old += is_old
         self.weak += bool(faults)
-        self.unjudged += it.suite is not None and not suites.is_judged(suites.name_of(it.suite))
+        self.unjudged += it.suite is not None and not suites.is_judged(it.suite)
         if not is_old and not faults:
             return
         poor = self.poor.add(it.server)

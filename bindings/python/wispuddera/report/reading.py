@@ -7,7 +7,7 @@ from collections import Counter
 from collections.abc import Callable, Iterator
 from typing import Any, BinaryIO, NamedTuple, NoReturn, Optional
 
-from . import text
+from . import suites, text
 
 # A longer line isn't read. The lines of tlslog are shorter: what a hello holds is counted in 2 bytes, and each byte takes 5 as text.
 LONGEST_LINE = 4 << 20
@@ -122,6 +122,8 @@ class Reader:
 
     def _connection(self, fields: dict[str, Any]) -> Connection:
         version, suite, group, host, outcome, alert, ja4, client, address = [self._text(fields.get(name), name) for name in TEXTS]
+        # Lines with numbers and lines with names count as one.
+        suite = suites.name_of(suite) if suite is not None else None
         server = self._server(address, fields) if address is not None else None
         stop = self._stop(fields) if "stop" in fields else None
         certificate = self._certificate(fields) if "not_after" in fields else None

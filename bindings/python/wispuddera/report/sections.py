@@ -91,9 +91,9 @@ def _faults(found: Sequence[suites.Fault]) -> str:
 def _suite(value: Optional[str]) -> Cell:
     if value is None or not value:
         return words(value, _NONE)
-    name = suites.name_of(value)
-    number_told = f" {aside(value)}" if name != value else ""
-    return Cell(f"{breakable(name)}{number_told} {_faults(suites.faults_of(name))}".rstrip())
+    number = suites.number_of_suite(value)
+    behind = f" {aside(number)}" if number else ""
+    return Cell(f"{breakable(value)}{behind} {_faults(suites.faults_of(value))}".rstrip())
 
 
 def suite_table(counts: Counts) -> str:
@@ -158,10 +158,9 @@ def poor_servers(counts: Counts) -> str:
     ranking = Ranking("poor", title, "first by grade and connections", "server", counts.poor.total, columns)
 
     def row(key: Optional[str], entry: Poor) -> list[Cell]:
-        named = tuple(map(suites.name_of, entry.suites))
         style, told = ("bad", "must not") if entry.rank == MUST_NOT else ("poor", "should not")
         grade = Cell(f'<span class="{style}">{told}</span>', entry.rank)
-        weak = Cell(f"{some(sorted(named), 2).html} {_faults(suites.faults_in(named))}") if named else words(None)
+        weak = Cell(f"{some(sorted(entry.suites), 2).html} {_faults(suites.faults_in(entry.suites))}") if entry.suites else words(None)
         last = Cell(text.time(entry.last), entry.last) if entry.last is not None else words(None)
         front = [words(key, "no address in the line"), counted(entry), grade, some(suites.in_order(entry.versions))]
         return [*front, weak, some(sorted(entry.hosts), 2), last]

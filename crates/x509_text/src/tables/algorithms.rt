@@ -1,8 +1,8 @@
-//! Algorithms of keys and of signatures (RFC 3279, RFC 4055, RFC 5758, RFC 8410, FIPS 186-4, RFC 9215, GM/T 0006).
+//! Algorithms of keys and of signatures (RFC 3279, RFC 4055, RFC 5758, RFC 8410, FIPS 186-4, RFC 9881, RFC 9909, RFC 9935, RFC 9215, GM/T 0006).
 
 use super::{Object, objects};
 
-/// Algorithms of keys and of signatures (RFC 3279, RFC 4055, RFC 5758, RFC 8410, FIPS 186-4, RFC 9215, GM/T 0006).
+/// Algorithms of keys and of signatures (RFC 3279, RFC 4055, RFC 5758, RFC 8410, FIPS 186-4, RFC 9881, RFC 9909, RFC 9935, RFC 9215, GM/T 0006).
 #[rattlefmt::skip]
 pub(crate) static ALGORITHMS: &[Object] = objects!(
     b"\x2a\x86\x48\x86\xf7\x0d\x01\x01\x01" "rsaEncryption" "rsaEncryption", // 1.2.840.113549.1.1.1
@@ -56,6 +56,24 @@ pub(crate) static ALGORITHMS: &[Object] = objects!(
     b"\x60\x86\x48\x01\x65\x03\x04\x03\x0e" "id-rsassa-pkcs1-v1_5-with-sha3-256" "RSA-SHA3-256", // 2.16.840.1.101.3.4.3.14
     b"\x60\x86\x48\x01\x65\x03\x04\x03\x0f" "id-rsassa-pkcs1-v1_5-with-sha3-384" "RSA-SHA3-384", // 2.16.840.1.101.3.4.3.15
     b"\x60\x86\x48\x01\x65\x03\x04\x03\x10" "id-rsassa-pkcs1-v1_5-with-sha3-512" "RSA-SHA3-512", // 2.16.840.1.101.3.4.3.16
+    b"\x60\x86\x48\x01\x65\x03\x04\x03\x11" "id-ml-dsa-44" "ML-DSA-44", // 2.16.840.1.101.3.4.3.17
+    b"\x60\x86\x48\x01\x65\x03\x04\x03\x12" "id-ml-dsa-65" "ML-DSA-65", // 2.16.840.1.101.3.4.3.18
+    b"\x60\x86\x48\x01\x65\x03\x04\x03\x13" "id-ml-dsa-87" "ML-DSA-87", // 2.16.840.1.101.3.4.3.19
+    b"\x60\x86\x48\x01\x65\x03\x04\x03\x14" "id-slh-dsa-sha2-128s" "SLH-DSA-SHA2-128s", // 2.16.840.1.101.3.4.3.20
+    b"\x60\x86\x48\x01\x65\x03\x04\x03\x15" "id-slh-dsa-sha2-128f" "SLH-DSA-SHA2-128f", // 2.16.840.1.101.3.4.3.21
+    b"\x60\x86\x48\x01\x65\x03\x04\x03\x16" "id-slh-dsa-sha2-192s" "SLH-DSA-SHA2-192s", // 2.16.840.1.101.3.4.3.22
+    b"\x60\x86\x48\x01\x65\x03\x04\x03\x17" "id-slh-dsa-sha2-192f" "SLH-DSA-SHA2-192f", // 2.16.840.1.101.3.4.3.23
+    b"\x60\x86\x48\x01\x65\x03\x04\x03\x18" "id-slh-dsa-sha2-256s" "SLH-DSA-SHA2-256s", // 2.16.840.1.101.3.4.3.24
+    b"\x60\x86\x48\x01\x65\x03\x04\x03\x19" "id-slh-dsa-sha2-256f" "SLH-DSA-SHA2-256f", // 2.16.840.1.101.3.4.3.25
+    b"\x60\x86\x48\x01\x65\x03\x04\x03\x1a" "id-slh-dsa-shake-128s" "SLH-DSA-SHAKE-128s", // 2.16.840.1.101.3.4.3.26
+    b"\x60\x86\x48\x01\x65\x03\x04\x03\x1b" "id-slh-dsa-shake-128f" "SLH-DSA-SHAKE-128f", // 2.16.840.1.101.3.4.3.27
+    b"\x60\x86\x48\x01\x65\x03\x04\x03\x1c" "id-slh-dsa-shake-192s" "SLH-DSA-SHAKE-192s", // 2.16.840.1.101.3.4.3.28
+    b"\x60\x86\x48\x01\x65\x03\x04\x03\x1d" "id-slh-dsa-shake-192f" "SLH-DSA-SHAKE-192f", // 2.16.840.1.101.3.4.3.29
+    b"\x60\x86\x48\x01\x65\x03\x04\x03\x1e" "id-slh-dsa-shake-256s" "SLH-DSA-SHAKE-256s", // 2.16.840.1.101.3.4.3.30
+    b"\x60\x86\x48\x01\x65\x03\x04\x03\x1f" "id-slh-dsa-shake-256f" "SLH-DSA-SHAKE-256f", // 2.16.840.1.101.3.4.3.31
+    b"\x60\x86\x48\x01\x65\x03\x04\x04\x01" "id-alg-ml-kem-512" "ML-KEM-512", // 2.16.840.1.101.3.4.4.1
+    b"\x60\x86\x48\x01\x65\x03\x04\x04\x02" "id-alg-ml-kem-768" "ML-KEM-768", // 2.16.840.1.101.3.4.4.2
+    b"\x60\x86\x48\x01\x65\x03\x04\x04\x03" "id-alg-ml-kem-1024" "ML-KEM-1024", // 2.16.840.1.101.3.4.4.3
     b"\x2a\x81\x1c\xcf\x55\x01\x83\x75" "SM2-SM3" "SM2-with-SM3", // 1.2.156.10197.1.501
     b"\x2a\x81\x1c\xcf\x55\x01\x83\x78" "RSA-SM3" "sm3WithRSAEncryption", // 1.2.156.10197.1.504
     b"\x2a\x85\x03\x02\x02\x03" "id-GostR3411-94-with-GostR3410-2001" "GOST R 34.11-94 with GOST R 34.10-2001", // 1.2.643.2.2.3

@@ -1,0 +1,33 @@
+//! How cipher suites are written.
+ghost use Rattle.std.specs.Prelude.{IfOk};
+ghost use Rattle.serde_json.specs.Data.{string, array, no_items};
+ghost use Rattle.tls_json.specs.Outline.{Shows, suite_text};
+
+use crate::json::Value;
+use crate::table::Values;
+use crate::text::code_text;
+use layouts::Items;
+use std::alloc::{AllocError, Global};
+use tls_base::TlsCipherSuiteID;
+
+/// A cipher suite by the name that IANA's registry has for it, as `TLS_AES_128_GCM_SHA256`, or else its number, as `0x1234`.
+#[tactic(auto, unfolding(crate::specs::Outline::suite_text))]
+pub fn suite_value(alloc: Global, suite: TlsCipherSuiteID) -> Result<Value, AllocError>
+    ensures { IfOk result (Shows (string (suite_text suite.0))) }
+{
+    match suite.registered_name() {
+        Some(name) => Ok(Value::Name(name)),
+        None => code_text(alloc, suite.0),
+    }
+}
+
+/// Cipher suites in their order, each by its name or else its number.
+pub fn suite_values(alloc: Global, list: Items<'_, TlsCipherSuiteID>) -> Result<Value, AllocError>
+    ensures { IfOk result (Shows (array no_items)) }
+{
+    let mut all = Values::new(alloc);
+    for one in list {
+        all = all.add(suite_value(alloc, one));
+    }
+    all.finish()
+}
