@@ -19,8 +19,6 @@ pub enum Type {
     Mark,
     /// a number
     Count,
-<<<<<<< HEAD
-=======
     /// the version's number
     Version,
     /// the method's name, `NULL`, `DEFLATE` or `LZS`; of any other `unknown-` and its number
@@ -31,16 +29,12 @@ pub enum Type {
     PointFormats,
     /// `psk_ke`, `psk_dhe_ke`, or `unknown-` and the number, with `,` between them
     Modes,
->>>>>>> 69785f431819c53c466453698342bbb405a62c59
     /// texts, with `,` between them
     Texts,
     /// numbers, with `,` between them
     Counts,
-<<<<<<< HEAD
-=======
     /// addresses, with `,` between them
     Addresses,
->>>>>>> 69785f431819c53c466453698342bbb405a62c59
     /// JSON, since it has fields of its own
     Fields,
 }

@@ -14,13 +14,6 @@ fn in_memory<T, E: Drop>(made: Result<T, E>) -> Result<T, AllocError> {
     }
 }
 
-<<<<<<< HEAD
-/// A cell as comma-separated values have it: nothing, text as it stands, or else JSON.
-fn field_text(alloc: Global, cell: &Option<Cell<'_>>) -> Result<String, AllocError> {
-    match cell {
-        None => Ok(String::new(alloc)),
-        Some(Cell::Text(text)) => text.to_string(alloc),
-=======
 /// How texts are written that a spreadsheet takes for formulas.
 #[derive(Clone, Copy, Debug, PartialEq, Eq)]
 pub enum Formulas {
@@ -57,7 +50,6 @@ fn field_text(
     match cell {
         None => Ok(String::new(alloc)),
         Some(Cell::Text(text)) => cell_text(alloc, text.to_string(alloc)?, formulas),
->>>>>>> 69785f431819c53c466453698342bbb405a62c59
         Some(other) => json_text(alloc, other, 32),
     }
 }
@@ -75,17 +67,10 @@ fn record(alloc: Global, fields: &[String]) -> Result<Vec<u8>, AllocError> {
 }
 
 /// A record of comma-separated values, of a row.
-<<<<<<< HEAD
-pub fn line(alloc: Global, row: &Row<'_>) -> Result<Vec<u8>, AllocError> {
-    let mut fields = Vec::new(alloc);
-    for (_name, cell) in &row.cells {
-        add_text(&mut fields, field_text(alloc, cell))?;
-=======
 pub fn line(alloc: Global, row: &Row<'_>, formulas: Formulas) -> Result<Vec<u8>, AllocError> {
     let mut fields = Vec::new(alloc);
     for (_name, cell) in &row.cells {
         add_text(&mut fields, field_text(alloc, cell, formulas))?;
->>>>>>> 69785f431819c53c466453698342bbb405a62c59
     }
     record(alloc, fields.as_slice())
 }

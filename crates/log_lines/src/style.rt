@@ -10,10 +10,7 @@ use log_fields::summary::Summary;
 use log_fields::told::Told;
 use log_formats::cell::Row;
 use log_formats::column::Column;
-<<<<<<< HEAD
-=======
 use log_formats::comma::Formulas;
->>>>>>> 69785f431819c53c466453698342bbb405a62c59
 use log_formats::known_texts::KnownTexts;
 use log_formats::objects::json_row;
 use log_formats::suites::Suites;
@@ -303,13 +300,8 @@ impl Style {
     fn line(&self, alloc: Global, row: &Row<'_>) -> Result<Vec<u8>, AllocError> {
         match self.format {
             Format::Json | Format::Suricata => json_row(alloc, row),
-<<<<<<< HEAD
-            Format::Csv => comma::line(alloc, row),
-            Format::Zeek => Ok(zeek::line(alloc, row)?.into_bytes()),
-=======
             Format::Csv(formulas) => comma::line(alloc, row, formulas),
             Format::Zeek => Ok(zeek_line(alloc, &self.lines, row)?.into_bytes()),
->>>>>>> 69785f431819c53c466453698342bbb405a62c59
         }
     }
 
@@ -325,11 +317,7 @@ impl Style {
         match self.format {
             Format::Suricata => suricata::line(alloc, self, summary),
             Format::Json => json_line(alloc, self, places, summary, room),
-<<<<<<< HEAD
-            Format::Csv | Format::Zeek => {
-=======
             Format::Csv(_) | Format::Zeek => {
->>>>>>> 69785f431819c53c466453698342bbb405a62c59
                 let row = row_of(&mut self.told(alloc, summary), places)?;
                 self.line(alloc, &row)
             }

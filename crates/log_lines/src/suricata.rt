@@ -1,22 +1,14 @@
 //! Connections as Suricata's eve.json has them (docs.suricata.io, "EVE JSON Format", event type TLS).
 use crate::style::Style;
 use connection_ids::flow_id;
-<<<<<<< HEAD
-use connections::Protocol;
-=======
 use connections::{Protocol, Side};
->>>>>>> 69785f431819c53c466453698342bbb405a62c59
 use log_fields::columns::Certified;
 use log_fields::connection::{cell_of, end_cell, microseconds};
 use log_fields::fields::{End, Field, Named, Offer, Print};
 use log_fields::summary::Summary;
 use log_fields::told::{Moment, Told};
 use log_formats::cell::{Cell, PrintCell, Row};
-<<<<<<< HEAD
-use log_formats::lists::Texts;
-=======
 use log_formats::lists::{Texts, some_texts};
->>>>>>> 69785f431819c53c466453698342bbb405a62c59
 use log_formats::objects::{LINE_LEN, json_bytes};
 use log_formats::text::{
     Text, add_text, hexadecimal, name_cell, name_or_number, some_mark, some_text,

@@ -4,12 +4,8 @@ use crate::help::AFTER_OPTIONS;
 use clap::{Arg, ArgAction, ArgMatches, Command};
 use connection_parts::Part;
 use log_connections::Checksums;
-<<<<<<< HEAD
-use log_formats::suites::Suites;
-=======
 use log_formats::comma::Formulas;
 use log_formats::suites::{OtherSuites, Suites};
->>>>>>> 69785f431819c53c466453698342bbb405a62c59
 use log_lines::{Format, LineKind, Style, StyleError};
 use std::alloc::{AllocError, Global};
 use std::fmt::{self, Display, Formatter};
