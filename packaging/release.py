@@ -31,12 +31,12 @@ def epoch():
     return calendar.timegm(time.strptime(_section()[0], "%Y-%m-%d"))
 
 
-def debian_changelog():
-    """The changelog in Debian's form."""
+def debian_changelog(version: str) -> str:
+    """The changelog in Debian's form, for that version of the packages."""
     items = re.sub(r"\n {2}(?=\S)", " ", _section()[1])
     lines = "\n".join(_folded(item) for item in re.findall(r"^- (.*)$", items, re.M))
     date = formatdate(epoch(), usegmt=False).replace("-0000", "+0000")
-    return f"{SOURCE} ({DEBIAN_VERSION}) unstable; urgency=medium\n\n{lines}\n\n -- {MAINTAINER}  {date}\n"
+    return f"{SOURCE} ({version}) unstable; urgency=medium\n\n{lines}\n\n -- {MAINTAINER}  {date}\n"
 
 
 def _folded(item):
