@@ -56,6 +56,8 @@ box.addEventListener("input", () => {
   }
   const is_asked = words.length !== 0;
   for (const foot of document.querySelectorAll("main tfoot")) foot.hidden = is_asked;
-  for (const part of document.querySelectorAll("main .block, main section")) part.hidden = is_asked && part.querySelector("tbody tr:not([hidden])") === null;
+  for (const part of document.querySelectorAll("main .block, main section")) {
+    part.hidden = is_asked ? part.querySelector("tbody tr:not([hidden])") === null : false;
+  }
   found.textContent = is_asked ? `${count} ${count === 1 ? "row" : "rows"}` : "";
 });

@@ -101,6 +101,7 @@ FIELDS = {"ts", "resumed", "stop", "not_after", "sni_matches_cert", "client_vers
 OF_MESSAGES = {"content_type", "side", "place"}
 # The first bytes of captures: pcap in either order of bytes, in microseconds and nanoseconds, and pcapng.
 _CAPTURES = (b"\xd4\xc3\xb2\xa1", b"\xa1\xb2\xc3\xd4", b"\x4d\x3c\xb2\xa1", b"\xa1\xb2\x3c\x4d", b"\x0a\x0d\x0d\x0a")
+_IS_CAPTURE = "this is a capture: run tlslog CAPTURE | tlslog-report -"
 _TO_JSON = "the report reads JSON: run tlslog CAPTURE > LOG"
 
 
@@ -108,7 +109,7 @@ def other_format(line: bytes) -> Optional[str]:
     """What the first line of a log is where that isn't the JSON of connections, and what to run; nothing of a line that could be in such a
     log, too."""
     if line.startswith(_CAPTURES):
-        return "this is a capture: run tlslog CAPTURE | tlslog-report -"
+        return _IS_CAPTURE
     if line.startswith(b"#"):
         return f"this is a log in Zeek's format, and {_TO_JSON}"
     if not line.lstrip().startswith(b"{"):
@@ -170,7 +171,12 @@ class Reader:
 
     def _lines(self, log: BinaryIO) -> Iterator[bytes]:
         """Each line that isn't too long, but for blank ones."""
+        blank = b""
         while line := log.readline(LONGEST_LINE + 1):
+            # A file of pcapng begins with two blank lines.
+            blank += line if line.isspace() and len(blank) < 4 else b""
+            if blank == _CAPTURES[-1]:
+                raise OtherFormat(_IS_CAPTURE)
             if len(line) > LONGEST_LINE and not line.endswith(b"\n"):
                 while line and not line.endswith(b"\n"):
                     line = log.readline(LONGEST_LINE + 1)
