@@ -16,7 +16,7 @@ from datetime import datetime, timezone
 from pathlib import Path
 
 sys.path.insert(0, str(Path(__file__).resolve().parents[1]))
-from hostile import script  # noqa: E402
+from hostile import script, suite_names  # noqa: E402
 from hostile.shapes import Line
 
 TOP = Path(__file__).resolve().parent.parent
@@ -63,12 +63,15 @@ def _time(chance: random.Random) -> float:
 
 
 def _certificate(name: str, number: int) -> Line:
-    """What a server sends: 90 days, of which some end soon."""
+    """What a server sends: 90 days, of which some end soon. Some are self-signed, and some have another name."""
     left = 5 + number * 37 % 85 if number % 29 else -3
     print_of = f"{random.Random(name).getrandbits(256):064x}"
     names = [name, f"www.{name}", *(f"alias-{place}.{name}" for place in range(number % 7))]
+    if number % 23 == 5:
+        names = [f"other.{name}"]
+    issuer = f"CN={name}" if number % 31 == 7 else ISSUERS[number % len(ISSUERS)]
     return {
-        "subject": f"CN={name}", "issuer": ISSUERS[number % len(ISSUERS)], "not_after": moment(START + DAYS * DAY + left * DAY + number % DAY),
+        "subject": f"CN={name}", "issuer": issuer, "self_issued": issuer == f"CN={name}", "not_after": moment(START + DAYS * DAY + left * DAY + number % DAY),
         "san_dns": names, "cert_chain_fps": [print_of],
     }
 
@@ -87,6 +90,7 @@ def made(count: int, is_distinct: bool = False) -> Iterator[Line]:
     for number in range(count):
         at = chance.choices(range(len(HOSTS)), weights)[0]
         line = dict(chance.choice(spoken[at]))
+        line["uid"] = f"Cmade{number:013d}"
         line["ts"] = _time(chance)
         is_own = is_distinct and number % 2
         name = f"h{number}.distinct.example" if is_own else HOSTS[at]
@@ -101,6 +105,20 @@ def made(count: int, is_distinct: bool = False) -> Iterator[Line]:
             line["server_name"] = name
         if "cert_chain_fps" in line:
             line.update(_certificate(name, number if is_own else at))
+            line.pop("sni_matches_cert", None)
+            if "server_name" in line:
+                line["sni_matches_cert"] = name in line["san_dns"]
+        yield line
+
+
+def numbered(lines: Iterable[Line]) -> Iterator[Line]:
+    """The lines with the numbers of suites in place of their names, as `--numbers` has them."""
+    for line in lines:
+        line = dict(line)
+        if "cipher" in line:
+            line["cipher"] = suite_names.numbered(line["cipher"])
+        if "client_ciphers" in line:
+            line["client_ciphers"] = list(map(suite_names.numbered, line["client_ciphers"]))
         yield line
 
 
@@ -120,7 +138,7 @@ NAMES = [
 def hostile_fields() -> Iterator[Line]:
     """Objects with values of any type in each field that is read, and names that do harm where they aren't escaped."""
     names = [
-        "ts", "id.orig_h", "id.orig_p", "id.resp_h", "id.resp_p", "version", "cipher", "curve", "server_name", "outcome", "resumed", "last_alert", "stop",
+        "ts", "uid", "client_version", "client_supported_versions", "client_ciphers", "sni_matches_cert", "self_issued", "id.orig_h", "id.orig_p", "id.resp_h", "id.resp_p", "version", "cipher", "curve", "server_name", "outcome", "resumed", "last_alert", "stop",
         "ja4", "subject", "issuer", "not_after", "san_dns", "cert_chain_fps",
     ]
     values = [None, True, False, 0, -1, 1 << 70, 1.5, 1e300, -1e300, [], ["a"], [1], [[]], {}]

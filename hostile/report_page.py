@@ -4,18 +4,20 @@ from __future__ import annotations
 
 import json
 import re
+import subprocess
 import xml.etree.ElementTree as ElementTree
 from collections import Counter
 from collections.abc import Callable
 from datetime import datetime, timezone
 from html.parser import HTMLParser
+from pathlib import Path
 from typing import Any
 
 from hostile import suite_names
 from hostile.shapes import Line
 
 ROWS, SOON, DAY = 100, 30, 86400
-VOID = {"meta", "wbr", "br"}
+VOID = {"meta", "wbr", "br", "input"}
 COMPLETED = ("full", "resumed", "tls13")
 VERSIONS = {"SSLv3": "SSL 3.0", "TLSv10": "TLS 1.0", "TLSv11": "TLS 1.1", "TLSv12": "TLS 1.2", "TLSv13": "TLS 1.3"}
 VERSIONS |= {"DTLSv10": "DTLS 1.0", "DTLSv12": "DTLS 1.2", "DTLSv13": "DTLS 1.3"}
@@ -24,6 +26,12 @@ OLD = {"SSLv3", "TLSv10", "TLSv11", "DTLSv10", "0x0100"}
 WEAK = {"0x0000", "0x0004", "0x0005", "0x000a", "0x0018", "0x002f", "0x0035", "0x009c", "0xc00a", "0xc014"}
 FORBIDDEN = {"0x0000", "0x0004", "0x0005", "0x0018"}
 STRONG = {"0x1301", "0x1302", "0x1303", "0x009e", "0x009f", "0xc02b", "0xc02c", "0xc02f", "0xc030", "0xcca8", "0xcca9"}
+# The lists of suites of the stored lines with nothing but weak ones, judged by hand: of SSL 2.0, of RSA key transport, of CBC with SHA-1. Each other
+# list has a suite of TLS 1.3, or one with forward secrecy and GCM, CCM or CBC with SHA-256.
+WEAK_LISTS = (
+    {"0x002f"}, {"0x010080", "0x0700c0"}, {"0x009c", "0x00ff"}, {"0x002f", "0x0035", "0x003c", "0x00ff", "0x010080", "0x0700c0"},
+    {"0xc00a", "0xc014", "0x0039", "0xc009", "0xc013", "0x0033", "0x0035", "0x002f", "0x00ff"},
+)
 NONE = "none in the line"
 
 
@@ -43,6 +51,9 @@ class Page(HTMLParser):
         super().__init__()
         self.open, self.rows, self.ids, self.titles = [], {}, {}, []
         self.tags, self.attributes, self.order = Counter(), Counter(), {}
+        # The commands of each row, by the table, and its rows that are hidden.
+        self.commands, self.hidden = {}, Counter()
+        self.is_command = False
         self.table = self.part = None
         self.feed(text)
         self.close()
@@ -64,10 +75,15 @@ class Page(HTMLParser):
         if tag == "table":
             self.table = given["id"]
             self.rows[self.table] = {"thead": [], "tbody": [], "tfoot": []}
+            self.commands[self.table] = []
         elif tag in ("thead", "tbody", "tfoot"):
             self.part = self.rows[self.table][tag]
         elif tag == "tr":
             self.part.append([])
+            self.hidden[self.table] += "hidden" in given
+        elif given.get("class") == "command":
+            self.is_command = True
+            self.commands[self.table].append("")
         elif tag in ("td", "th"):
             want(tag == "td" or given.get("scope") in ("row", "col"), "a head without a scope")
             self.part[-1].append("")
@@ -79,6 +95,7 @@ class Page(HTMLParser):
     def handle_endtag(self, tag: str) -> None:
         want(self.open and self.open[-1][0] == tag, f"</{tag}> ends", self.open[-1:])
         self.open.pop()
+        self.is_command = self.is_command and tag != "code"
         if tag == "table":
             self.table = self.part = None
 
@@ -88,6 +105,8 @@ class Page(HTMLParser):
             self.titles[-1] += data
         elif "svg" not in tags and {"td", "th"} & set(tags):
             self.part[-1][-1] += data
+            if self.is_command:
+                self.commands[self.table][-1] += data
         for _, name in self.open:
             if name is not None:
                 self.ids[name] += data
@@ -166,15 +185,15 @@ def at(seconds: float) -> str:
     return datetime.fromtimestamp(int(seconds), timezone.utc).strftime("%Y-%m-%d %H:%M:%S")
 
 
+def number_of_suite(line: Line) -> str | None:
+    """The number of the suite in a line, which has that or the name."""
+    return suite_names.numbered(line["cipher"]) if "cipher" in line else None
+
+
 def is_weak(line: Line) -> bool:
     suite = number_of_suite(line)
     want(suite is None or suite in WEAK | STRONG, "a suite that wasn't judged by hand:", suite)
     return suite in WEAK
-
-
-def number_of_suite(line: Line) -> str | None:
-    """The number of the suite in a line, which has that or the name."""
-    return suite_names.numbered(line["cipher"]) if "cipher" in line else None
 
 
 def check_figures(page: Page, lines: list[Line]) -> None:
@@ -208,15 +227,67 @@ def check_fields(page: Page, lines: list[Line]) -> None:
 
 
 def check_names(page: Page, lines: list[Line]) -> None:
-    for table, field in (("hosts", "server_name"), ("clients", "ja4")):
+    for table, field in (("hosts", "server_name"), ("programs", "ja4")):
         some = [line for line in lines if field in line]
         same_shares(page, table, len(lines))
         same_table(page, table, Counter(line[field] for line in some))
-        broken = Counter(line[field] for line in some if line["outcome"] == "broken_off")
-        for row in page.rows[table]["tbody"]:
-            want(number_of(row[3]) == broken[row[0]], table, row, "broken off:", broken[row[0]])
-            addresses = len({line["id.orig_h"] for line in some if line[field] == row[0]})
-            want(row[4] == ("> 16" if addresses > 16 else str(addresses)), table, row, "addresses:", addresses)
+        check_others(page, table, some, lambda line: line[field], lambda line: line["id.orig_h"], 4)
+
+
+def check_others(page: Page, table: str, lines: list[Line], key: Callable[[Line], str], other: Callable[[Line], str], at: int) -> None:
+    """How many were broken off, and how many different ones there are of another kind."""
+    broken, others = Counter(), {}
+    for line in lines:
+        broken[key(line)] += line["outcome"] == "broken_off"
+        others.setdefault(key(line), set()).add(other(line))
+    for row in page.rows[table]["tbody"]:
+        want(number_of(row[3]) == broken[row[0]], table, row, "broken off:", broken[row[0]])
+        want(number_of(row[at]) == len(others[row[0]]), table, row, "different ones:", len(others[row[0]]))
+
+
+def check_addresses(page: Page, lines: list[Line]) -> None:
+    for table, key, other in (("clients", lambda line: line["id.orig_h"], server_of), ("servers", server_of, lambda line: line["id.orig_h"])):
+        same_shares(page, table, len(lines))
+        same_table(page, table, Counter(map(key, lines)))
+        check_others(page, table, lines, key, other, 4)
+    some = [line for line in lines if "server_name" in line]
+    check_others(page, "hosts", some, lambda line: line["server_name"], server_of, 5)
+
+
+def is_weak_offer(line: Line) -> bool:
+    offered = set(map(suite_names.numbered, line.get("client_ciphers", [])))
+    return offered in WEAK_LISTS
+
+
+def old_offers(line: Line) -> set[str]:
+    return (OLD | {"0x0002"}) & set(line.get("client_supported_versions") or [line.get("client_version")])
+
+
+def check_offers(page: Page, lines: list[Line]) -> None:
+    some = [line for line in lines if old_offers(line) or is_weak_offer(line)]
+    want(("offers" in page.rows) == bool(some), "offers:", len(some))
+    if some:
+        same_table(page, "offers", Counter(line["id.orig_h"] for line in some))
+    for row in page.rows["offers"]["tbody"] if some else []:
+        own = [line for line in some if line["id.orig_h"] == row[0]]
+        versions = {VERSIONS.get(name, name) for line in own for name in old_offers(line)}
+        want(row[2] == "–" if not versions else set(row[2].split(" and ")[0].split(", ")) <= versions, "offers", row, versions)
+        want((row[3] != "–") == any(map(is_weak_offer, own)), "offers of suites", row)
+
+
+def check_trust(page: Page, lines: list[Line]) -> None:
+    """Certificates without the host's name, and those whose subject is their issuer."""
+    some = [line for line in lines if line.get("sni_matches_cert") is False]
+    want(("mismatches" in page.rows) == bool(some), "wrong names:", len(some))
+    wanted = Counter((line["server_name"], server_of(line)) for line in some)
+    rows = page.rows["mismatches"]["tbody"] if some else []
+    found = [((row[0], row[2]), number_of(row[1])) for row in rows]
+    want(found == ranked(wanted)[:ROWS] or cut_equals(found, ranked(wanted)) or sorted(found) == sorted(wanted.items()), "wrong names", found, ranked(wanted))
+    some = [line for line in lines if "subject" in line and line["subject"] == line["issuer"]]
+    want(("self-signed" in page.rows) == bool(some), "self-signed:", len(some))
+    wanted = Counter(line["cert_chain_fps"][0] for line in some)
+    found = [(row[6], number_of(row[1])) for row in page.rows["self-signed"]["tbody"]] if some else []
+    want(sorted(found) == sorted(ranked(wanted)[:ROWS]), "self-signed", found, wanted)
 
 
 def check_failures(page: Page, lines: list[Line]) -> None:
@@ -250,9 +321,14 @@ def check_certificates(page: Page, lines: list[Line]) -> None:
     want(page.number("expiring") == len(soon), "certificates:", page.ids["expiring"], "where this is wanted:", len(soon))
     subjects = {line["cert_chain_fps"][0]: line.get("subject", "none told") for line in some}
     counts = Counter(line["cert_chain_fps"][0] for line in some)
-    wanted = sorted((ends, subjects[print_of], counts[print_of], int((ends - last) // DAY)) for print_of, ends in soon.items())
+    servers = {}
+    for line in some:
+        servers.setdefault(line["cert_chain_fps"][0], set()).add(server_of(line))
+    wanted = sorted((ends, subjects[print_of], counts[print_of], int((ends - last) // DAY), print_of) for print_of, ends in soon.items())
     rows = page.rows["certificates"]["tbody"] if soon else []
-    found = [(row[2], row[0], number_of(row[1]), number_of(row[3].removeprefix("expired "))) for row in rows]
+    found = [(row[2], row[0], number_of(row[1]), number_of(row[3].removeprefix("expired ")), row[7]) for row in rows]
+    for row in rows:
+        want(set(row[6].split(" and ")[0].split(", ")) <= servers[row[7]], "certificates: servers", row, servers[row[7]])
     want(sorted(found) == sorted((at(ends), *row) for ends, *row in wanted[:ROWS]), "certificates", found, "where these are wanted:", wanted[:ROWS])
 
 
@@ -275,7 +351,43 @@ def check_times(page: Page, lines: list[Line]) -> None:
         want(found == wanted, "bars", found, "where these are wanted:", wanted)
 
 
-CHECKS = (check_figures, check_fields, check_names, check_failures, check_servers, check_certificates, check_times)
+def check_commands(page: Page, log: Path, step: int = 1) -> int:
+    """The command of each row, or of each so many, prints the `uid`s of as many connections as the row counts, and those that the row shows.
+    All are asked at once, since a command reads the whole log; the first of each table is run as it is written, too."""
+    rows = []
+    for name, commands in page.commands.items():
+        body = page.rows[name]["tbody"]
+        want(len(commands) in (0, len(body)), name, "has", len(commands), "commands for", len(body), "rows")
+        rows += [(name, row, command) for row, command in list(zip(body, commands))[::step]]
+    parts = [re.fullmatch(r"jq -r 'select\((.*)\) \| \.uid' (\S+)", command) for _, _, command in rows]
+    want(all(parts), "a command of another form:", [row[2] for row, part in zip(rows, parts) if not part][:1])
+    program = "[" + ", ".join(f"({part[1]})" for part in parts) + "] as $is | [.uid, ($is | to_entries | map(select(.value) | .key))]"
+    listed: list[list[str]] = [[] for _ in rows]
+    for line in run_jq(["jq", "-c", program, log]).splitlines():
+        uid, places = json.loads(line)
+        for place in places:
+            listed[place].append(uid)
+    tried = set()
+    for (name, row, command), found in zip(rows, listed):
+        count = number_of(row[2 if name == "rule" else 1])
+        want(len(found) == count, name, row, "has a command that lists", len(found), "connections:", command)
+        shown = re.findall(r"C\w{17}", row[-1].split("jq -r")[0])
+        want(shown == found[: len(shown)] and len(shown) == min(count, 3), name, row, "shows", shown, "of", found[:4])
+        if name not in tried:
+            want(run_jq(["bash", "-c", command], log.parent).splitlines() == found, name, "has a command that lists otherwise by the shell:", command)
+        tried.add(name)
+    return len(rows)
+
+
+def run_jq(words: list[str | Path], folder: Path | None = None) -> str:
+    done = subprocess.run(words, cwd=folder, stdout=subprocess.PIPE, stderr=subprocess.PIPE, text=True)
+    want(done.returncode == 0, words, "ends with status", done.returncode, done.stderr[-600:])
+    return done.stdout
+
+
+CHECKS = (
+    check_figures, check_fields, check_names, check_addresses, check_failures, check_servers, check_offers, check_certificates, check_trust, check_times,
+)
 
 
 def check(page: Page, lines: list[Line]) -> int:

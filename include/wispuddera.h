@@ -1,8 +1,35 @@
-/* Reading TLS and DTLS without memory: the proved library, for C99 and C++.
+/* Reads TLS and DTLS in the caller's bytes, for C99 and C++. It prints the host that the ClientHello in a record asks for:
  *
- * Bytes come as a pointer and a count, what is read goes into a struct of the caller's, and the answer is a status. Nothing is
+ *     #include "wispuddera.h"
+ *     #include <stdio.h>
+ *     int main(void) {
+ *         uint8_t bytes[16645]; wispuddera_found name = WISPUDDERA_EMPTY;
+ *         size_t count = fread(bytes, 1, sizeof bytes, stdin);
+ *         uint32_t status = wispuddera_find_server_name_in_record(bytes, count, &name);
+ *         if (status == WISPUDDERA_READ) printf("%.*s\n", (int)name.place.length, (const char *)bytes + name.place.offset);
+ *         else printf("no host: %s\n", wispuddera_status_text(status));
+ *     }
+ *
+ * The calls, each without the prefix wispuddera_:
+ *
+ *     is it TLS?            looks_like_tls
+ *     records               read_record, read_dtls_record; in pieces: feed, next_record
+ *     handshake messages    read_message, read_dtls_message, find_body; in pieces: feed, next_message
+ *     hellos                read_client_hello, read_server_hello, read_dtls_client_hello, read_dtls_server_hello
+ *     host names            find_server_name_in_record, find_server_name_in_hello, find_server_name_in_extensions
+ *     extensions            read_extension, find_extension, find_protocols, read_protocol, find_key_shares, read_key_share
+ *     lists of numbers      number_at, cipher_suite_at, dtls_cipher_suite_at, version_at, group_at, signature_scheme_at, best_version
+ *     certificates          find_certificates, read_certificate, read_x509, read_x509_extension, find_x509_names, read_x509_name
+ *     fingerprints          ja3, ja3s, ja4, dtls_ja3, dtls_ja3s, dtls_ja4, quic_ja4
+ *     both sides' bytes     conversation_start, conversation_feed, conversation_next, conversation_outcome, conversation_stop,
+ *                           conversation_established, conversation_resumed
+ *     events                event_of_message, event_of_dtls_message, event_of_alert, outcome, flow_start, flow_step, flow_outcome
+ *     texts                 status_text, event_text, outcome_text
+ *     this header           struct_size, field_offset
+ *
+ * Bytes come as a pointer and a count, what is read goes into a struct of the caller's, and the call returns a status. Nothing is
  * allocated and nothing is kept between calls, so calls may run in several threads at once. Each function is proved in
- * crates/wispuddera_c; nothing checks that a caller keeps the following:
+ * crates/wispuddera_c, but for those that are defined here; nothing checks that a caller keeps the following:
  *
  * - The pointer leads to `count` bytes that nobody writes during the call. NULL with a count of 0 is no bytes.
  * - `out` isn't NULL, overlaps nothing else that is passed, and was given a value before: write `= WISPUDDERA_EMPTY`.
@@ -25,6 +52,13 @@ extern "C" {
 #else
 #include <stdbool.h>
 #define WISPUDDERA_EMPTY {0}
+#endif
+
+/* A name that stays for programs that have it; the text is the name to use. */
+#if defined(__GNUC__) || defined(__clang__)
+#define WISPUDDERA_DEPRECATED(text) __attribute__((deprecated(text)))
+#else
+#define WISPUDDERA_DEPRECATED(text)
 #endif
 
 /* What a call answers. */
@@ -263,13 +297,21 @@ uint32_t wispuddera_read_dtls_server_hello(const uint8_t *bytes, size_t count, w
  * answers as wispuddera_find_server_name_in_hello. */
 uint32_t wispuddera_find_server_name_in_record(const uint8_t *bytes, size_t count, wispuddera_found *out);
 
-/* The same, of the body of a ClientHello (RFC 5246, section 7.4.1.2). It refuses as wispuddera_read_client_hello:
- * WISPUDDERA_INCOMPLETE, WISPUDDERA_VERIFY, WISPUDDERA_LENGTH_VALUE; and of the hello's extensions as wispuddera_find_server_name. */
+/* The name of the host in the body of a ClientHello, without the header of its message (RFC 5246, section 7.4.1.2). It refuses as
+ * wispuddera_read_client_hello: WISPUDDERA_INCOMPLETE, WISPUDDERA_VERIFY, WISPUDDERA_LENGTH_VALUE; and of the hello's extensions as
+ * wispuddera_find_server_name_in_extensions. */
 uint32_t wispuddera_find_server_name_in_hello(const uint8_t *bytes, size_t count, wispuddera_found *out);
 
-/* The same, of a block of extensions: the first name of the list in its first server_name, whatever its NameType (RFC 6066 has one, 0,
+/* The name in a block of extensions: the first name of the list in its first server_name, whatever its NameType (RFC 6066 has one, 0,
  * a host_name). WISPUDDERA_INCOMPLETE where an extension up to that one isn't whole, or its content has fewer bytes
  * than its list says; WISPUDDERA_NONE too where the list has no name, or its first name isn't whole. */
+uint32_t wispuddera_find_server_name(const uint8_t *bytes, size_t count, wispuddera_found *out);
+static inline uint32_t wispuddera_find_server_name_in_extensions(const uint8_t *bytes, size_t count, wispuddera_found *out) {
+    return wispuddera_find_server_name(bytes, count, out);
+}
+
+/* The older name of wispuddera_find_server_name_in_extensions. */
+WISPUDDERA_DEPRECATED("wispuddera_find_server_name_in_extensions")
 uint32_t wispuddera_find_server_name(const uint8_t *bytes, size_t count, wispuddera_found *out);
 
 /* The list of protocols' names in the first application_layer_protocol_negotiation of a block of extensions (RFC 7301, section 3.1),
@@ -410,6 +452,34 @@ enum {
     WISPUDDERA_EVENT_UNKNOWN = 21              /* and any higher number: a record or message that is refused */
 };
 
+/* A kind of event in words. */
+static inline const char *wispuddera_event_text(uint8_t kind) {
+    static const char *const texts[] = {"HelloRequest",
+                                        "ClientHello",
+                                        "HelloVerifyRequest",
+                                        "ServerHello",
+                                        "HelloRetryRequest",
+                                        "ServerHello of TLS 1.3",
+                                        "NewSessionTicket",
+                                        "Certificate",
+                                        "ServerKeyExchange",
+                                        "CertificateRequest",
+                                        "ServerHelloDone",
+                                        "CertificateVerify",
+                                        "ClientKeyExchange",
+                                        "CertificateStatus",
+                                        "ChangeCipherSpec",
+                                        "encrypted record",
+                                        "warning",
+                                        "alert no_certificate",
+                                        "fatal alert or close_notify",
+                                        "heartbeat",
+                                        "other message",
+                                        "unknown or refused"};
+    const size_t last = sizeof texts / sizeof *texts - 1;
+    return texts[kind < last ? kind : last];
+}
+
 /* What a side said. */
 typedef struct {
     uint8_t kind;
@@ -442,6 +512,21 @@ enum {
     WISPUDDERA_TLS13_EARLY = 8,         /* the same, and the client sent early data */
     WISPUDDERA_TLS13_RETRIED_EARLY = 9  /* both */
 };
+
+/* An outcome in words. */
+static inline const char *wispuddera_outcome_text(uint32_t outcome) {
+    static const char *const texts[] = {"a handshake is under way",
+                                        "full handshake",
+                                        "session resumed",
+                                        "broken off by an alert",
+                                        "a message that isn't known",
+                                        "no handshake",
+                                        "TLS 1.3, up to the ServerHello",
+                                        "TLS 1.3, after a retry",
+                                        "TLS 1.3, with early data",
+                                        "TLS 1.3, after a retry, with early data"};
+    return outcome < sizeof texts / sizeof *texts ? texts[outcome] : "no outcome";
+}
 
 /* How a conversation of these events stands (RFC 5246, section 7.3; RFC 8446, section 2; RFC 6347, section 4.2): one of the outcomes.
  * Nothing is refused. */
@@ -491,7 +576,7 @@ typedef struct {
                                * bytes first */
     uint32_t fault; /* of a fault: the status that refuses a record, as WISPUDDERA_SWITCH where its type is none of TLS,
                      * WISPUDDERA_TOO_LARGE or WISPUDDERA_VERIFY; WISPUDDERA_ABOVE_LIMIT or WISPUDDERA_INTERRUPTED; else 0 */
-    uint8_t form;
+    uint8_t form; /* one of WISPUDDERA_SAID_ */
     uint8_t kind; /* one of WISPUDDERA_EVENT_; of a fault WISPUDDERA_EVENT_UNKNOWN */
 } wispuddera_said;
 

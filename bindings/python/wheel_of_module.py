@@ -12,15 +12,34 @@ from pathlib import Path
 HERE = Path(__file__).resolve().parent
 NAME = "wispuddera"
 LIBRARY = HERE / NAME / "libwispuddera.so"
-VERSION = re.search(r'^version = "(.*)"$', (HERE / "pyproject.toml").read_text(), re.MULTILINE)[1]
+PROJECT = (HERE / "pyproject.toml").read_text()
+VERSION = re.search(r'^version = "(.*)"$', PROJECT, re.MULTILINE)[1]
 INFO = f"{NAME}-{VERSION}.dist-info"
-METADATA = f"""Metadata-Version: 2.1
-Name: {NAME}
-Version: {VERSION}
-Summary: TLS and DTLS read in place, by a proved library
-License: MIT
-Requires-Python: >=3.9
-"""
+# The licence, and those of what the library is linked with.
+LICENSES = [file for file in (HERE.parents[1] / "LICENSE", HERE.parents[1] / "packaging/THIRD_PARTY") if file.is_file()]
+
+
+def _list_of(name):
+    """A list of texts in pyproject.toml, which Python reads by itself from 3.11 on alone."""
+    return re.findall(r'"(.*?)"', re.search(rf"^{name} = \[(.*?)\]$", PROJECT, re.MULTILINE | re.DOTALL)[1])
+
+
+def metadata():
+    """The wheel's description, from pyproject.toml and the readme beside it."""
+    summary = re.search(r'^description = "(.*)"$', PROJECT, re.MULTILINE)[1]
+    lines = ["Metadata-Version: 2.1", f"Name: {NAME}", f"Version: {VERSION}", f"Summary: {summary}", "License: MIT"]
+    lines += [f"License-File: {file.name}" for file in LICENSES]
+    lines += [f"Keywords: {','.join(_list_of('keywords'))}", *(f"Classifier: {one}" for one in _list_of("classifiers"))]
+    lines += ["Requires-Python: >=3.9", "Description-Content-Type: text/markdown"]
+    return "\n".join(lines) + "\n\n" + (HERE / "README.md").read_text()
+
+
+def entry_points():
+    """The commands that an installer makes."""
+    found = re.search(r"^\[project\.scripts\]\n(.*?)(?=^\[|\Z)", PROJECT, re.MULTILINE | re.DOTALL)[1]
+    return "[console_scripts]\n" + "".join(f"{name} = {call}\n" for name, call in re.findall(r'^(\S+) = "(.*)"$', found, re.MULTILINE))
+
+
 # The first time that a zip file can tell.
 FIRST = 315532800
 
@@ -37,13 +56,12 @@ def write_wheel(folder, library, platform, epoch):
     sources = [file for file in sorted((HERE / NAME).rglob("*")) if file.suffix in {".py", ".typed", ".css", ".js"}]
     files = {file.relative_to(HERE).as_posix(): file.read_bytes() for file in sources}
     files[f"{NAME}/{LIBRARY.name}"] = library.read_bytes()
-    files[f"{INFO}/METADATA"] = METADATA.encode()
+    files[f"{INFO}/METADATA"] = metadata().encode()
     tags = "".join(f"Tag: py3-none-{one}\n" for one in platform.split("."))
     files[f"{INFO}/WHEEL"] = f"Wheel-Version: 1.0\nGenerator: {NAME}\nRoot-Is-Purelib: false\n{tags}".encode()
-    # The license, and those of what the library is linked with.
-    for license_file in (HERE.parents[1] / "LICENSE", HERE.parents[1] / "packaging/THIRD_PARTY"):
-        if license_file.is_file():
-            files[f"{INFO}/{license_file.name}"] = license_file.read_bytes()
+    files[f"{INFO}/entry_points.txt"] = entry_points().encode()
+    for license_file in LICENSES:
+        files[f"{INFO}/{license_file.name}"] = license_file.read_bytes()
     record = [f"{name},sha256={_hash(text)},{len(text)}\n" for name, text in files.items()]
     files[f"{INFO}/RECORD"] = "".join([*record, f"{INFO}/RECORD,,\n"]).encode()
     wheel = f"{NAME}-{VERSION}-py3-none-{platform}.whl"

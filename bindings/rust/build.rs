@@ -7,7 +7,10 @@ fn main() {
     let here = PathBuf::from(env::var_os("CARGO_MANIFEST_DIR").expect("Cargo tells it"));
     let folder = env::var_os("WISPUDDERA_LIB").map_or_else(|| here.join("../out"), PathBuf::from);
     let library = folder.join("libwispuddera.a");
-    assert!(library.is_file(), "{} isn't there: bindings/build makes it, and WISPUDDERA_LIB names its folder", library.display());
+    // The documentation needs no library; a program that is linked does, and this says where it comes from.
+    if !library.is_file() {
+        println!("cargo:warning={} isn't there: bindings/build makes it, and WISPUDDERA_LIB names its folder", library.display());
+    }
     println!("cargo:rerun-if-changed={}", library.display());
     println!("cargo:rustc-link-search=native={}", folder.display());
     println!("cargo:rustc-link-lib=static=wispuddera");

@@ -275,10 +275,20 @@ static void test_found(void) {
     PLACE(f.place, 67, 3);
     IS(wispuddera_find_server_name_in_hello(record + BODY, BODY_LENGTH, &f), WISPUDDERA_READ);
     PLACE(f.place, 58, 3);
+    IS(wispuddera_find_server_name_in_extensions(record + BLOCK, BLOCK_LENGTH, &f), WISPUDDERA_READ);
+    PLACE(f.place, 9, 3);
+/* The older name stays. */
+#if defined(__GNUC__) || defined(__clang__)
+#pragma GCC diagnostic push
+#pragma GCC diagnostic ignored "-Wdeprecated-declarations"
+#endif
     IS(wispuddera_find_server_name(record + BLOCK, BLOCK_LENGTH, &f), WISPUDDERA_READ);
     PLACE(f.place, 9, 3);
-    IS(wispuddera_find_server_name(record + 70, 30, &f), WISPUDDERA_NONE);
-    IS(wispuddera_find_server_name(record + 70, 29, &f), WISPUDDERA_INCOMPLETE);
+#if defined(__GNUC__) || defined(__clang__)
+#pragma GCC diagnostic pop
+#endif
+    IS(wispuddera_find_server_name_in_extensions(record + 70, 30, &f), WISPUDDERA_NONE);
+    IS(wispuddera_find_server_name_in_extensions(record + 70, 29, &f), WISPUDDERA_INCOMPLETE);
     IS(f.missing, 1);
     IS(wispuddera_find_protocols(record + BLOCK, BLOCK_LENGTH, &f), WISPUDDERA_READ);
     PLACE(f.place, 18, 3);
@@ -628,14 +638,14 @@ static void test_conversation_stops(void) {
 static void test_refusals_of_finds(void) {
     wispuddera_found f = WISPUDDERA_EMPTY;
     /* A list without a name, one whose first name isn't whole, a name of another type, no content, and a content that isn't whole. */
-    IS(wispuddera_find_server_name(BYTES("\x00\x00\x00\x02\x00\x00"), &f), WISPUDDERA_NONE);
-    IS(wispuddera_find_server_name(BYTES("\x00\x00\x00\x06\x00\x04\x00\x00\x09\x61"), &f), WISPUDDERA_NONE);
-    IS(wispuddera_find_server_name(BYTES("\x00\x00\x00\x06\x00\x04\x07\x00\x01\x61"), &f), WISPUDDERA_READ);
+    IS(wispuddera_find_server_name_in_extensions(BYTES("\x00\x00\x00\x02\x00\x00"), &f), WISPUDDERA_NONE);
+    IS(wispuddera_find_server_name_in_extensions(BYTES("\x00\x00\x00\x06\x00\x04\x00\x00\x09\x61"), &f), WISPUDDERA_NONE);
+    IS(wispuddera_find_server_name_in_extensions(BYTES("\x00\x00\x00\x06\x00\x04\x07\x00\x01\x61"), &f), WISPUDDERA_READ);
     PLACE(f.place, 9, 1);
-    IS(wispuddera_find_server_name(BYTES("\x00\x00\x00\x00"), &f), WISPUDDERA_NONE);
-    IS(wispuddera_find_server_name(BYTES("\x00\x00\x00\x03\x00\x04\x00"), &f), WISPUDDERA_INCOMPLETE);
+    IS(wispuddera_find_server_name_in_extensions(BYTES("\x00\x00\x00\x00"), &f), WISPUDDERA_NONE);
+    IS(wispuddera_find_server_name_in_extensions(BYTES("\x00\x00\x00\x03\x00\x04\x00"), &f), WISPUDDERA_INCOMPLETE);
     IS(f.missing, 3);
-    IS(wispuddera_find_server_name(NULL, 0, &f), WISPUDDERA_NONE);
+    IS(wispuddera_find_server_name_in_extensions(NULL, 0, &f), WISPUDDERA_NONE);
     IS(f.missing, 0);
     /* An extension that isn't whole is seen where nothing was found in front of it. */
     IS(wispuddera_find_extension(BYTES("\x00\x17\x00\x00\x00\x0a\x00"), 10, &f), WISPUDDERA_INCOMPLETE);
@@ -894,6 +904,15 @@ int main(void) {
         IS(strcmp(wispuddera_status_text(status), "no status") != 0, 1);
     }
     IS(strcmp(wispuddera_status_text(status), "no status"), 0);
+    IS(strcmp(wispuddera_outcome_text(WISPUDDERA_WAITING), "a handshake is under way"), 0);
+    IS(strcmp(wispuddera_outcome_text(WISPUDDERA_BROKEN_OFF), "broken off by an alert"), 0);
+    IS(strcmp(wispuddera_outcome_text(WISPUDDERA_TLS13_RETRIED_EARLY), "TLS 1.3, after a retry, with early data"), 0);
+    IS(strcmp(wispuddera_outcome_text(WISPUDDERA_TLS13_RETRIED_EARLY + 1), "no outcome"), 0);
+    IS(strcmp(wispuddera_event_text(WISPUDDERA_EVENT_HELLO_REQUEST), "HelloRequest"), 0);
+    IS(strcmp(wispuddera_event_text(WISPUDDERA_EVENT_SERVER_DONE), "ServerHelloDone"), 0);
+    IS(strcmp(wispuddera_event_text(WISPUDDERA_EVENT_HEARTBEAT), "heartbeat"), 0);
+    IS(strcmp(wispuddera_event_text(WISPUDDERA_EVENT_UNKNOWN), "unknown or refused"), 0);
+    IS(strcmp(wispuddera_event_text(255), "unknown or refused"), 0);
     test_layout();
     test_record();
     test_parts();

@@ -4,13 +4,18 @@ A program of a few lines stands in for tlslog, and writes the stored lines; wher
 """
 
 import dataclasses
+import io
 import itertools
 import json
 import os
 import pathlib
 import re
+import signal
+import subprocess
 import sys
 import tempfile
+import threading
+import time
 import typing
 from pathlib import Path
 
@@ -97,6 +102,83 @@ def test_program():
         assert told.more["words"] == ["--format", "json", "--ciphers", "suites.txt", "--checksums", "ignore", "--", "-a.pcap", "b.pcap"]
 
 
+WORDS = """import json
+print(json.dumps({'ts': 1, 'uid': 'C', 'id.orig_h': '', 'id.orig_p': 1, 'id.resp_h': '', 'id.resp_p': 1, 'proto': 'tcp', 'words': sys.argv[1:]}))"""
+
+
+def test_options():
+    with tempfile.TemporaryDirectory() as folder:
+        program = stand_in(folder, WORDS)
+        front = ["--format", "json"]
+        for options, words in (
+            ({"memory": "64M", "join": True}, ["--memory", "64M", "--join"]), ({"memory": 1 << 26}, ["--memory", "67108864"]),
+            ({"fields": ["ts", "uid"]}, ["--fields", "ts,uid"]), ({"fields": "ts"}, ["--fields", "ts"]),
+        ):
+            (told,) = w.log("a.pcap", program=program, **options)
+            assert type(told) is w.Connection and told.more["words"] == [*front, *words, "--", "a.pcap"], told
+        for options, words in (({"messages": True}, ["--messages"]), ({"certificates": True, "fields": "ts"}, ["--fields", "ts", "--certificates"])):
+            (told,) = w.log("a.pcap", program=program, **options)
+            assert type(told) is dict and told["words"] == [*front, *words, "--", "a.pcap"], told
+        (told,) = w.log("a.pcap", program=stand_in(folder, """print('{"version":"TLSv12","id.resp_p":443}')"""), fields="version,id.resp_p")
+        assert (told.version, told.id_resp_p, told.ts, told.uid, told.more) == ("TLSv12", 443, None, None, {})
+        for wrong in ({"messages": True, "certificates": True},):
+            try:
+                w.log("a.pcap", program=program, **wrong)
+                raise AssertionError(wrong)
+            except ValueError:
+                pass
+        try:
+            w.log(io.BytesIO(b""), "b.pcap", program=program)
+            raise AssertionError("an open capture beside another")
+        except ValueError:
+            pass
+
+
+def test_streams():
+    """What is open comes to the program as its input, however much it is, and from where it stands."""
+    with tempfile.TemporaryDirectory() as folder:
+        program = stand_in(folder, "print('{\"bytes\":%d}' % len(sys.stdin.buffer.read()))")
+        capture = pathlib.Path(folder) / "capture"
+        capture.write_bytes(bytes(3_000_001))
+
+        def count(source):
+            (told,) = w.log(source, program=program, fields="bytes")
+            return told.more["bytes"]
+
+        assert count(io.BytesIO(bytes(1_000_000))) == 1_000_000
+        with capture.open("rb") as opened:
+            opened.read(1)
+            assert count(opened) == 3_000_000
+        with subprocess.Popen(["cat", capture], stdout=subprocess.PIPE) as writer:
+            assert count(writer.stdout) == 3_000_001
+        # A program that ends before its input does.
+        assert list(w.log(io.BytesIO(bytes(1_000_000)), program=stand_in(folder, ""))) == []
+
+
+def test_interrupts():
+    """Ctrl-C ends a stream: what is open then comes, and the loop ends. Where a file is read it is raised."""
+    with tempfile.TemporaryDirectory() as folder:
+        line = LINES[0].decode()
+        program = stand_in(folder, f"print({line!r}, flush=True)\nsys.stdin.buffer.read()\nprint({line!r})")
+        with subprocess.Popen(["sleep", "60"], stdout=subprocess.PIPE) as writer:
+            found, timer = [], threading.Timer(1, os.kill, [os.getpid(), signal.SIGINT])
+            for connection in w.log(writer.stdout, program=program):
+                found.append(connection)
+                if len(found) == 1:
+                    timer.start()
+            writer.kill()
+        assert len(found) == 2
+        for connection in found:
+            is_line(connection, line)
+        threading.Timer(1, os.kill, [os.getpid(), signal.SIGINT]).start()
+        begun = time.monotonic()
+        try:
+            list(w.log("a.pcap", program=stand_in(folder, "import time\ntime.sleep(60)")))
+            raise AssertionError("no Ctrl-C")
+        except KeyboardInterrupt:
+            assert time.monotonic() - begun < 30
+
+
 def test_errors():
     with tempfile.TemporaryDirectory() as folder:
         line = LINES[0].decode()
@@ -147,6 +229,8 @@ def test_built_program():
         assert e.status != 0 and e.message
 
 
+# (a job that a shell has put into the background ignores it)
+signal.signal(signal.SIGINT, signal.default_int_handler)
 tests = [test for name, test in sorted(globals().items()) if name.startswith("test_")]
 for test in tests:
     test()

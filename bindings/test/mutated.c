@@ -69,7 +69,7 @@ static void call_parts(const uint8_t *b, size_t n, size_t at) {
     static const part_reader readers[] = {wispuddera_read_message, wispuddera_read_extension, wispuddera_read_key_share,
                                           wispuddera_read_protocol, wispuddera_read_certificate};
     static const finder finders[] = {wispuddera_find_server_name_in_record, wispuddera_find_server_name_in_hello,
-                                     wispuddera_find_server_name, wispuddera_find_protocols, wispuddera_find_key_shares,
+                                     wispuddera_find_server_name_in_extensions, wispuddera_find_protocols, wispuddera_find_key_shares,
                                      wispuddera_find_certificates};
     static const number_reader numbers[] = {wispuddera_number_at, wispuddera_cipher_suite_at, wispuddera_dtls_cipher_suite_at,
                                             wispuddera_version_at, wispuddera_group_at, wispuddera_signature_scheme_at};

@@ -14,8 +14,8 @@ sys.path.insert(0, str(Path(__file__).resolve().parents[2]))
 from hostile import script  # noqa: E402
 
 script.answer_help(__doc__)
-from wispuddera.report import drawing, suites, tallies, text  # noqa: E402
-from wispuddera.report.reading import LONGEST_LINE, Reader, Unread  # noqa: E402
+from wispuddera.report import commands, distinct, drawing, offers, suites, tallies, text  # noqa: E402
+from wispuddera.report.reading import LONGEST_LINE, OtherFormat, Reader, Unread, other_format  # noqa: E402
 
 START = 1795392000
 
@@ -27,27 +27,33 @@ def read(*lines):
 
 def test_fields():
     line = {
+        "uid": "C1", "client_version": "TLSv12", "client_supported_versions": ["TLSv13", "TLSv10"], "client_ciphers": ["0x1301"], "sni_matches_cert": False,
         "ts": 1.5, "id.orig_h": "192.0.2.1", "id.resp_h": "2001:db8::1", "id.resp_p": 443, "version": "TLSv12", "cipher": "0xc02f", "curve": "x25519",
         "server_name": "a.example", "outcome": "full", "resumed": True, "last_alert": "unknown_ca", "stop": {"message": "alert", "sender": "client"},
         "ja4": "t", "subject": "CN=a", "issuer": "CN=b", "not_after": "2026-11-25T12:00:00Z", "san_dns": list("abcdef"), "cert_chain_fps": ["00", "11"],
     }
     reader, (it,) = read(line)
-    assert (it.time, it.client, it.server) == (1.5, "192.0.2.1", "[2001:db8::1]:443")
+    assert (it.uid, it.time, it.client, it.server) == ("C1", 1.5, "192.0.2.1", ("2001:db8::1", 443, "[2001:db8::1]:443"))
+    assert (it.offered_versions, it.offered_suites, it.has_name) == (("TLSv13", "TLSv10"), ("0x1301",), False)
     assert (it.version, it.suite, it.group, it.host, it.outcome) == ("TLSv12", "TLS_ECDHE_RSA_WITH_AES_128_GCM_SHA256", "x25519", "a.example", "full")
     assert (it.is_resumed, it.alert, it.stop, it.ja4) == (True, "unknown_ca", ("alert", "client"), "t")
-    assert it.certificate == ("00", "CN=a", "CN=b", 1795608000, tuple("abcd"), 6)
+    assert it.certificate == ("00", "00", "CN=a", "CN=b", "2026-11-25T12:00:00Z", 1795608000, False, tuple("abcd"), 6)
     assert not reader.misfits and not reader.unread and reader.cut == 0
     # A suite that a log has by its name is the same, and one that has no name stays as it is.
     for suite in (it.suite, "0x0a0a", "private"):
         assert read({**line, "cipher": suite})[1][0].suite == suite
     reader, (it,) = read({"ts": 0})
-    assert it == (0, *[None] * 12)
+    assert it == (None, 0, *[None] * 11, (), (), None, None)
+    assert read({"client_version": "TLSv11"})[1][0].offered_versions == ("TLSv11",)
+    for fields, is_self_signed in (({"issuer": "CN=a"}, True), ({"issuer": "CN=a", "self_issued": False}, False), ({"self_issued": True}, True), ({}, False)):
+        it = read({"subject": "CN=a", "not_after": "2026-11-25T12:00:00Z", **fields})[1][0]
+        assert it.certificate.is_self_signed == is_self_signed and it.certificate.fingerprint is None
 
 
 def test_misfits():
     wrong = {"ts": "now", "id.orig_h": 1, "id.resp_h": "::1", "id.resp_p": 1.5, "version": [], "cipher": {}, "stop": "alert", "resumed": 0, "not_after": "soon"}
     reader, (it,) = read(wrong)
-    assert it.server == "::1" and it._replace(server=None) == (None,) * 13
+    assert it.server == ("::1", None, "::1") and it._replace(server=None) == (*[None] * 13, (), (), None, None)
     assert reader.misfits == Counter({name: 1 for name in wrong if name != "id.resp_h"})
     for seconds in (True, -1, text.END_OF_TIME, float("1e300")):
         assert read({"ts": seconds})[1][0].time is None
@@ -70,6 +76,68 @@ def test_unread():
     whole = json.dumps({"ts": 3, "server_name": ""}).encode()
     whole = whole.replace(b'""', b'"' + b"y" * (LONGEST_LINE - len(whole)) + b'"')
     assert len(whole) == LONGEST_LINE and [it.time for it in read(whole, {"ts": 4})[1]] == [3, 4] and len(read(whole)[1]) == 1
+    assert [it.time for it in Reader(io.BytesIO(b'{"ts":1}'), io.BytesIO(b""), io.BytesIO(b'{"ts":2}'))] == [1, 2]
+
+
+def test_other_formats():
+    for line, told in (
+        (b"ts,uid,version", "comma-separated"), (b"#separator \\x09", "Zeek"), (b'{"timestamp":"x","event_type":"tls"}', "Suricata"),
+        (b'{"@timestamp":"x"}', "Elastic"), (b'{"content_type":22,"side":"client"}', "--messages"), (b'{"fingerprint":"00","side":"client"}', "--certificates"),
+        (b"\xd4\xc3\xb2\xa1\x02\0", "capture"), (b"\n\r\r\n", "capture"),
+    ):
+        assert told in other_format(line), line
+        try:
+            read(line)
+            raise AssertionError(line)
+        except OtherFormat as fault:
+            assert told in str(fault) and "run tlslog" in str(fault), fault
+    for line in (b"{", b'{"ts":1,"side":"client"}', b"x,y", b"", b"[1]", b'{"ts":1}'):
+        assert other_format(line) is None, line
+    # No line of it is read.
+    for line in (b"{", b"x y", b"[]"):
+        try:
+            read(line)
+            raise AssertionError(line)
+        except OtherFormat as fault:
+            assert "no line" in str(fault)
+    assert read()[1] == []
+
+
+def test_distinct():
+    """Beside an exact count: right up to the limit, and near behind it. The room is given back."""
+    room = distinct.Room(30000)
+    for count in (0, 1, 5000, distinct.EXACT, distinct.EXACT + 1, 30000, 300000):
+        counter = distinct.Distinct(room)
+        for number in range(count):
+            counter.add(f"192.0.{number}")
+            counter.add(f"192.0.{number // 2}")
+        counter.add(None)
+        assert counter.is_exact == (count <= distinct.EXACT)
+        assert len(counter) == count if counter.is_exact else abs(len(counter) - count) < 4 * distinct.ERROR * count, (count, len(counter))
+        counter.release()
+        assert room.free == 30000
+    full = distinct.Distinct(distinct.Room(2))
+    for number in range(100):
+        full.add(str(number))
+    assert not full.is_exact and abs(len(full) - 100) <= 4, len(full)
+
+
+def test_offers():
+    assert offers.old_of(("TLSv13", "TLSv12", "TLSv11", "0x0a0a", "0x0002")) == ("TLSv11", "0x0002")
+    weak = ("0x0a0a", "0x002f", "TLS_RSA_WITH_RC4_128_SHA", "0x00ff", "TLS_FALLBACK_SCSV", "0x010080")
+    assert offers.weak_of(weak) == ("TLS_RSA_WITH_AES_128_CBC_SHA", "TLS_RSA_WITH_RC4_128_SHA", "0x010080")
+    for other in ("0xc02f", "TLS_AES_128_GCM_SHA256", "0xfefe", "private"):
+        assert offers.weak_of((*weak, other)) == ()
+    assert offers.weak_of(()) == offers.weak_of(("0x0a0a", "0x00ff")) == ()
+
+
+def test_commands():
+    of = commands.Commands(["a log", "-x", "-"], True).of
+    assert of(commands.equals("server_name", "it's")) == "jq -r 'select(.server_name == \"it\\u0027s\") | .uid' 'a log' ./-x LOG"
+    assert commands.Commands(["l"], False).of("true") == "jq -c 'select(true)' l"
+    assert commands.equals("id.orig_h", None) == '.["id.orig_h"] == null' and commands.equals("stop.message", "alert") == '.stop.message == "alert"'
+    assert commands.equals("ja4", text.cut("x" * 300)) == f'(.ja4 // "" | startswith("{"x" * 255}"))'
+    assert commands.is_one_of("cipher", ["a", "b"]) == '(.cipher | IN("a", "b"))'
 
 
 def test_tally():

@@ -22,6 +22,10 @@ from . import _library as _c
 # Lines of tlslog.
 from ._log import Connection, LogError, Stop, log
 
+# Numbers of the protocol, by name.
+from ._numbers import AlertDescription, ContentType, HandshakeType
+from ._version import __version__
+
 # Both sides of a conversation.
 from ._conversation import Conversation, ConversationEvent, ConversationStop
 
@@ -31,9 +35,10 @@ from ._suites import cipher_suite_name
 Data = Union[bytes, bytearray, memoryview]
 
 __all__ = [
-    "Certificate",
+    "AlertDescription",
     "ClientHello",
     "Connection",
+    "ContentType",
     "Conversation",
     "ConversationEvent",
     "ConversationStop",
@@ -44,6 +49,7 @@ __all__ = [
     "EventKind",
     "Extension",
     "Flow",
+    "HandshakeType",
     "Incomplete",
     "KeyKind",
     "KeyShare",
@@ -62,6 +68,7 @@ __all__ = [
     "X509",
     "X509Extension",
     "X509Name",
+    "__version__",
     "best_version",
     "certificates",
     "cipher_suite_name",

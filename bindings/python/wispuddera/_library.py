@@ -201,7 +201,10 @@ class Conversation(ctypes.Structure):
 
 
 def _refuse(*_):
-    raise OSError(f"the library of wispuddera isn't there: {_missing}")
+    raise OSError(
+        f"the library of wispuddera isn't there: {_missing}. The wheel of a release has it, and bindings/build of the repository makes it; "
+        "the environment variable WISPUDDERA_LIBRARY names a libwispuddera.so elsewhere"
+    )
 
 
 def _function(name, *arguments, answer=_U32):

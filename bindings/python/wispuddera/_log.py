@@ -9,11 +9,13 @@ import shutil
 import signal
 import subprocess
 import tempfile
-from collections.abc import Iterator
+import threading
+from collections.abc import Callable, Iterable, Iterator
 from dataclasses import dataclass, field
-from typing import Any, Optional, Union
+from typing import Any, BinaryIO, Literal, Optional, Union, overload
 
 StrPath = Union[str, "os.PathLike[str]"]
+Line = dict[str, Any]
 
 
 class LogError(RuntimeError):
@@ -153,9 +155,10 @@ class Connection:
     @classmethod
     def of_line(cls, line: Union[str, bytes]) -> Connection:
         """The connection of a line of `tlslog --format json`. `ValueError` where the line isn't one."""
-        values = json.loads(line)
-        if not isinstance(values, dict):
-            raise ValueError("a line of the log is a JSON object")
+        return cls._of_values(_values_of(line))
+
+    @classmethod
+    def _of_values(cls, values: Line) -> Connection:
         known: dict[str, Any] = {}
         more: dict[str, Any] = {}
         for name, value in values.items():
@@ -168,6 +171,13 @@ class Connection:
             return cls(**known, more=more)
         except TypeError as reason:
             raise ValueError(f"a line without a field that each has: {reason}") from None
+
+
+def _values_of(line: Union[str, bytes]) -> Line:
+    values = json.loads(line)
+    if not isinstance(values, dict):
+        raise ValueError("a line of the log is a JSON object")
+    return values
 
 
 _ATTRIBUTES = frozenset(f.name for f in dataclasses.fields(Connection)) - {"more"}
@@ -185,39 +195,143 @@ def _program(given: Optional[StrPath]) -> str:
     return found
 
 
+@overload
+def log(path: Union[StrPath, BinaryIO], *others: StrPath, messages: Literal[True], **options: Any) -> Iterator[Line]: ...
+
+
+@overload
+def log(path: Union[StrPath, BinaryIO], *others: StrPath, certificates: Literal[True], **options: Any) -> Iterator[Line]: ...
+
+
+@overload
+def log(path: Union[StrPath, BinaryIO], *others: StrPath, **options: Any) -> Iterator[Connection]: ...
+
+
 def log(
-    path: StrPath,
+    path: Union[StrPath, BinaryIO],
     *others: StrPath,
     program: Optional[StrPath] = None,
     ciphers: Optional[StrPath] = None,
     checksums: Optional[str] = None,
-) -> Iterator[Connection]:
-    """The connections of captures, each as soon as it ends, from the program `tlslog`; the path `-` is standard input.
+    messages: bool = False,
+    certificates: bool = False,
+    fields: Union[str, Iterable[str], None] = None,
+    memory: Union[str, int, None] = None,
+    join: bool = False,
+) -> Iterator[Any]:
+    """The connections of captures, each as soon as it ends, from the program `tlslog`.
 
-    The program is `program`, else the one beside this module, else the first in PATH: `FileNotFoundError` where there is none. `ciphers`
-    and `checksums` are its options. Where it ends with a status that isn't 0, `LogError` is raised behind the connections that it told
-    before. It is ended where the iterator is closed early.
+    A capture is a path, `-` for standard input, or an object that is open for reading in binary: a file, a pipe such as the output of
+    tcpdump, or an `io.BytesIO`. An object comes alone.
+
+    With `messages` or `certificates` there is a `dict` for each message, or certificate, by the names of docs/TLSLOG.md. With `fields`, names or one
+    text with commas between them, the lines have these alone, and other attributes are `None`. `ciphers`, `checksums`, `memory` and `join` are the
+    options of the program.
+
+    The program is `program`, else the one beside this module, else the first in PATH: `FileNotFoundError` where there is none. Where it ends with a
+    status that isn't 0, `LogError` is raised behind the connections that it told before. It is ended where the iterator is closed early. At the first
+    Ctrl-C while a stream is read, the stream ends there: the open connections come, and the iterator ends.
     """
+    if messages and certificates:
+        raise ValueError("messages and certificates don't go together")
+    options = {"--ciphers": ciphers and os.fspath(ciphers), "--checksums": checksums, "--memory": None if memory is None else str(memory)}
+    if fields is not None:
+        options["--fields"] = fields if isinstance(fields, str) else ",".join(fields)
     command = [_program(program), "--format", "json"]
-    if ciphers is not None:
-        command += ["--ciphers", os.fspath(ciphers)]
-    if checksums is not None:
-        command += ["--checksums", checksums]
-    command += ["--", os.fspath(path), *map(os.fspath, others)]
-    return _connections(command)
+    command += [word for name, value in options.items() if value is not None for word in (name, value)]
+    command += [name for name, is_asked in (("--messages", messages), ("--certificates", certificates), ("--join", join)) if is_asked]
+    is_stream = hasattr(path, "read")
+    if is_stream and others:
+        raise ValueError("an open capture comes alone")
+    names = ["-"] if is_stream else [os.fspath(path), *map(os.fspath, others)]  # type: ignore[arg-type]
+    shown = _values_of if messages or certificates else Connection.of_line if fields is None else _some_of_line
+    return _items([*command, "--", *names], path if is_stream else None, "-" in names, shown)  # type: ignore[arg-type]
 
 
-def _connections(command: list[str]) -> Iterator[Connection]:
-    # What it writes of errors goes into a file, since a pipe that nobody reads would stop it.
-    with tempfile.TemporaryFile() as errors, subprocess.Popen(command, stdout=subprocess.PIPE, stderr=errors) as process:
+_ALWAYS = {f.name: None for f in dataclasses.fields(Connection) if f.default is dataclasses.MISSING and f.name != "more"}
+
+
+def _some_of_line(line: bytes) -> Connection:
+    """A connection of which the line has some fields."""
+    values = _values_of(line)
+    known = {name.replace(".", "_") for name in values}
+    return Connection._of_values({**{name: None for name in _ALWAYS if name not in known}, **values})
+
+
+class _Feed(threading.Thread):
+    """Copies an open capture into the program, until either ends or `stop` is called."""
+
+    def __init__(self, source: BinaryIO, target: BinaryIO) -> None:
+        super().__init__(name="wispuddera.log", daemon=True)
+        self._read = getattr(source, "read1", source.read)
+        self._target = target
+        self._lock = threading.Lock()
+        self.fault: Optional[BaseException] = None
+        self.start()
+
+    def run(self) -> None:
+        try:
+            while piece := self._read(65536):
+                view = memoryview(piece)
+                while view:
+                    view = view[self._target.write(view) :]
+        except (BrokenPipeError, ValueError):
+            # The program ended, or the input was stopped.
+            pass
+        except OSError as fault:
+            self.fault = fault
+        finally:
+            self.stop()
+
+    def stop(self) -> None:
+        with self._lock:
+            self._target.close()
+
+
+def _items(command: list[str], source: Optional[BinaryIO], is_stream: bool, shown: Callable[[bytes], Any]) -> Iterator[Any]:
+    # What it writes of errors goes into a file, since a pipe that nobody reads would stop it. In a session of its own Ctrl-C doesn't reach it.
+    given: dict[str, Any] = {"stdin": subprocess.PIPE, "bufsize": 0} if source is not None else {}
+    feed = None
+    with tempfile.TemporaryFile() as errors:
+        process = subprocess.Popen(command, stdout=subprocess.PIPE, stderr=errors, start_new_session=True, **given)
         assert process.stdout is not None
         try:
-            for line in process.stdout:
-                yield Connection.of_line(line)
+            if source is not None:
+                assert process.stdin is not None
+                feed = _Feed(source, process.stdin)  # type: ignore[arg-type]
+            for line in _lines(process.stdout.fileno(), feed, is_stream):
+                yield shown(line)
+            status = process.wait()
         except BaseException:
             process.kill()
+            process.wait()
             raise
-        status = process.wait()
+        finally:
+            process.stdout.close()
         if status != 0:
             errors.seek(0)
             raise LogError(command[0], status, errors.read().decode("utf-8", "backslashreplace").strip())
+        if feed is not None and feed.fault is not None:
+            raise feed.fault
+
+
+def _lines(descriptor: int, feed: Optional[_Feed], is_stream: bool) -> Iterator[bytes]:
+    """The lines of the program. Ctrl-C ends its input once, if that is a stream."""
+    rest = b""
+    while True:
+        try:
+            # (a signal loses nothing of what is read so)
+            piece = os.read(descriptor, 65536)
+        except KeyboardInterrupt:
+            if not is_stream:
+                raise
+            is_stream = False
+            if feed is not None:
+                feed.stop()
+            continue
+        if not piece:
+            break
+        *whole, rest = (rest + piece).split(b"\n")
+        yield from whole
+    if rest:
+        yield rest

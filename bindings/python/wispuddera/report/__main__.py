@@ -1,31 +1,72 @@
-"""The command: python3 -m wispuddera.report LOG > report.html"""
+"""The command tlslog-report, and python3 -m wispuddera.report: LOG.. > report.html"""
 
 from __future__ import annotations
 
 import argparse
 import os
 import sys
-from typing import NoReturn
+from contextlib import ExitStack
+from pathlib import Path
+from typing import BinaryIO, NoReturn
 
-from . import report
+from . import OtherFormat, report
 
+NAME = "tlslog-report"
 # As tlslog ends: where something can't be read, and where the page can't be written.
 NOT_READ, NOT_WRITTEN = 2, 3
+EPILOG = """\
+examples:
+  tlslog capture.pcap > log
+  tlslog-report log > report.html
+  tlslog capture.pcap | tlslog-report --capture capture.pcap - > report.html
+  tlslog-report monday tuesday > report.html
+
+exit status:
+  0  the page was written
+  2  the arguments are wrong, or a log can't be read or isn't the JSON of tlslog
+  3  the page can't be written
+
+docs/REPORT.md describes the page.
+"""
 
 
-def _fail(status: int, told: str, reason: OSError) -> NoReturn:
-    print(f"wispuddera.report: {told}: {(reason.strerror or str(reason)).lower()}", file=sys.stderr)
+class _Reading:
+    """A log, which knows its name where a fault ends the reading."""
+
+    def __init__(self, name: str, log: BinaryIO, at: list[str]) -> None:
+        self.name, self._log, self._at = name, log, at
+
+    def readline(self, most: int) -> bytes:
+        self._at[0] = self.name
+        return self._log.readline(most)
+
+
+def _fail(status: int, told: str) -> NoReturn:
+    print(f"{NAME}: {told}", file=sys.stderr)
     sys.exit(status)
 
 
-def _page_of(name: str) -> str:
+def _reason(fault: OSError) -> str:
+    return (fault.strerror or str(fault)).lower()
+
+
+def _shown(name: str) -> str:
+    return "standard input" if name == "-" else name
+
+
+def _page_of(names: list[str], capture: str) -> str:
+    at = [names[0]]
     try:
-        if name == "-":
-            return report(sys.stdin.buffer)
-        with open(name, "rb") as log:
-            return report(log)
-    except OSError as reason:
-        _fail(NOT_READ, f"{'standard input' if name == '-' else name}: cannot read", reason)
+        with ExitStack() as opened:
+            logs = []
+            for name in names:
+                at[0] = name
+                logs.append(_Reading(name, sys.stdin.buffer if name == "-" else opened.enter_context(open(name, "rb")), at))
+            return report(*logs, names=names, capture=capture)
+    except OSError as fault:
+        _fail(NOT_READ, f"{_shown(at[0])}: cannot read: {_reason(fault)}")
+    except OtherFormat as fault:
+        _fail(NOT_READ, f"{_shown(at[0])}: {fault}")
 
 
 def _write(page: str) -> None:
@@ -33,17 +74,29 @@ def _write(page: str) -> None:
     try:
         sys.stdout.buffer.write(page.encode())
         sys.stdout.buffer.flush()
-    except OSError as reason:
+    except OSError as fault:
         # Nothing is left to be written where Python ends.
         os.dup2(os.open(os.devnull, os.O_WRONLY), sys.stdout.fileno())
-        if not isinstance(reason, BrokenPipeError):
-            _fail(NOT_WRITTEN, "standard output: cannot write", reason)
+        if not isinstance(fault, BrokenPipeError):
+            _fail(NOT_WRITTEN, f"standard output: cannot write: {_reason(fault)}")
 
 
 def main() -> None:
-    parser = argparse.ArgumentParser(prog="wispuddera.report", description="Writes a page of HTML about a log of tlslog to standard output.")
-    parser.add_argument("log", metavar="LOG", help="the lines that tlslog printed, as JSON; - is standard input")
-    _write(_page_of(parser.parse_args().log))
+    parser = argparse.ArgumentParser(
+        prog=NAME, description="Writes a page of HTML about logs of tlslog to standard output.", epilog=EPILOG,
+        formatter_class=argparse.RawDescriptionHelpFormatter,
+    )
+    parser.add_argument("logs", metavar="LOG", nargs="+", help="lines that tlslog printed, as JSON; - is standard input")
+    parser.add_argument("--capture", metavar="NAME", default="", help="the name of the capture, for the page's title; otherwise that of the log")
+    asked = parser.parse_args()
+    if asked.logs.count("-") > 1:
+        parser.error("standard input is named twice")
+    if sys.stdin.isatty() and "-" in asked.logs:
+        print(f"{NAME}: reads standard input, a terminal: end it by Ctrl-D", file=sys.stderr)
+    try:
+        _write(_page_of(asked.logs, Path(asked.capture).name))
+    except KeyboardInterrupt:
+        sys.exit(130)
 
 
 if __name__ == "__main__":

@@ -6,9 +6,13 @@ from collections.abc import Iterable
 from functools import lru_cache
 from typing import Optional
 
-from . import suites
-from .reading import Certificate, Connection
-from .tallies import Entry, Soonest, Tally, Timeline, Values, with_value
+from . import offers, suites
+from .distinct import Distinct, Room
+from .reading import Certificate, Connection, Server
+from .tallies import UIDS, Entry, Soonest, Tally, Timeline, Values, with_value
+
+# How many suites of a client are kept: a list of nothing but weak ones has fewer.
+OFFERED = 64
 
 # The outcomes of docs/HANDSHAKES.md, as the timeline has them; the others are neither.
 COMPLETED, BROKEN_OFF, OTHER = range(3)
@@ -31,40 +35,76 @@ def faults_of(suite: str) -> tuple[suites.Fault, ...]:
     return suites.faults_of(suite)
 
 
-class Host(Entry):
-    """The connections of a host."""
+class Counted(Entry):
+    """The connections of a value, and how many different values of another kind they have; `Counts` sets `others`."""
 
-    __slots__ = ("broken_off", "clients", "servers", "versions")
+    __slots__ = ("broken_off", "others")
 
     def __init__(self, missed: int) -> None:
         super().__init__(missed)
         self.broken_off = 0
-        self.clients: Values = ()
-        self.servers: Values = ()
+        self.others: tuple[Distinct, ...] = ()
+
+    def release(self) -> None:
+        for one in self.others:
+            one.release()
+
+
+class Host(Counted):
+    """The connections of a host; `others` are its clients and its servers."""
+
+    __slots__ = ("versions",)
+
+    def __init__(self, missed: int) -> None:
+        super().__init__(missed)
         self.versions: Values = ()
 
-    def note(self, it: Connection) -> None:
-        self.broken_off += it.outcome == "broken_off"
-        self.clients = with_value(self.clients, it.client)
-        self.servers = with_value(self.servers, it.server)
-        self.versions = with_value(self.versions, it.version)
 
+class Program(Counted):
+    """The connections of a client program; `others` are its addresses."""
 
-class Program(Entry):
-    """The connections of a client program."""
-
-    __slots__ = ("broken_off", "clients", "hosts")
+    __slots__ = ("hosts",)
 
     def __init__(self, missed: int) -> None:
         super().__init__(missed)
-        self.broken_off = 0
-        self.clients: Values = ()
         self.hosts: Values = ()
 
-    def note(self, it: Connection) -> None:
-        self.broken_off += it.outcome == "broken_off"
-        self.clients = with_value(self.clients, it.client)
-        self.hosts = with_value(self.hosts, it.host)
+
+class Address(Counted):
+    """The connections of the address of a client, whose servers `others` are, or of a server, whose clients they are."""
+
+    __slots__ = ("hosts", "versions")
+
+    def __init__(self, missed: int) -> None:
+        super().__init__(missed)
+        self.hosts: Values = ()
+        self.versions: Values = ()
+
+
+class Offer(Entry):
+    """The connections in which a client offered an old version, or no suite but weak ones."""
+
+    __slots__ = ("versions", "suites", "listed", "hosts", "last")
+
+    def __init__(self, missed: int) -> None:
+        super().__init__(missed)
+        self.versions: Values = ()
+        # The names of the weak ones, and all that stood in these lists.
+        self.suites: dict[str, None] = {}
+        self.listed: dict[str, None] = {}
+        self.hosts: Values = ()
+        self.last: Optional[float] = None
+
+
+class Mismatch(Entry):
+    """The connections to a host with a certificate that doesn't have its name."""
+
+    __slots__ = ("subjects", "names")
+
+    def __init__(self, missed: int) -> None:
+        super().__init__(missed)
+        self.subjects: Values = ()
+        self.names: Values = ()
 
 
 class Failure(Entry):
@@ -78,6 +118,10 @@ class Failure(Entry):
 
 
 MUST_NOT, SHOULD_NOT = range(2)
+
+
+def name_of(server: Optional[Server]) -> Optional[str]:
+    return server.name if server is not None else None
 
 
 class Poor(Entry):
@@ -97,11 +141,30 @@ class Poor(Entry):
 class Issued:
     """A certificate, and the connections in which it was sent."""
 
-    __slots__ = ("certificate", "count", "servers")
+    __slots__ = ("certificate", "count", "missed", "servers", "uids")
 
     def __init__(self, certificate: Certificate) -> None:
-        self.certificate, self.count = certificate, 0
+        self.certificate, self.count, self.missed = certificate, 0, 0
         self.servers: Values = ()
+        self.uids: Values = ()
+
+    def note(self, it: Connection) -> None:
+        self.count += 1
+        self.servers = with_value(self.servers, name_of(it.server))
+        if len(self.uids) < UIDS and it.uid is not None:
+            self.uids = (*self.uids, it.uid)
+
+
+class SelfSigned(Entry):
+    """The connections with a certificate whose subject is its issuer."""
+
+    __slots__ = ("certificate", "servers", "hosts")
+
+    def __init__(self, missed: int) -> None:
+        super().__init__(missed)
+        self.certificate: Optional[Certificate] = None
+        self.servers: Values = ()
+        self.hosts: Values = ()
 
 
 Way = tuple[Optional[str], Optional[str], Optional[str], Optional[str]]
@@ -116,16 +179,24 @@ class Counts:
         self.versioned = self.newest = self.old = 0
         self.first: Optional[float] = None
         self.last: Optional[float] = None
+        self.has_uid = False
+        self.room = Room()
         self.outcomes: Tally[Optional[str], Entry] = Tally(Entry)
         self.versions: Tally[Optional[str], Entry] = Tally(Entry)
         self.suites: Tally[Optional[str], Entry] = Tally(Entry)
         self.groups: Tally[Optional[str], Entry] = Tally(Entry)
         self.hosts: Tally[str, Host] = Tally(Host)
-        self.clients: Tally[str, Program] = Tally(Program)
+        self.programs: Tally[str, Program] = Tally(Program)
+        self.clients: Tally[str, Address] = Tally(Address)
+        self.servers: Tally[Server, Address] = Tally(Address)
         # By outcome, last alert, the message that ended it, and who sent that.
         self.failures: Tally[Way, Failure] = Tally(Failure)
-        self.poor: Tally[Optional[str], Poor] = Tally(Poor)
-        self.weak = self.unjudged = self.certified = 0
+        self.poor: Tally[Optional[Server], Poor] = Tally(Poor)
+        self.offers: Tally[Optional[str], Offer] = Tally(Offer)
+        self.weak = self.unjudged = self.certified = self.old_offers = self.weak_offers = 0
+        # By the host and the server.
+        self.mismatches: Tally[tuple[Optional[str], Optional[Server]], Mismatch] = Tally(Mismatch)
+        self.self_signed: Tally[str, SelfSigned] = Tally(SelfSigned)
         self.certificates: Soonest[str, Issued] = Soonest()
         self.by_outcome, self.by_version = Timeline(3), Timeline(4)
 
@@ -139,21 +210,17 @@ class Counts:
         self.completed += kind == COMPLETED
         self.broken_off += kind == BROKEN_OFF
         self.resumed += it.is_resumed is True
-        self.outcomes.add(it.outcome)
-        self.versions.add(it.version)
-        self.suites.add(it.suite)
-        self.groups.add(it.group)
+        self.has_uid = self.has_uid or it.uid is not None
+        for tally, value in ((self.outcomes, it.outcome), (self.versions, it.version), (self.suites, it.suite), (self.groups, it.group)):
+            tally.add(value, it.uid)
         if it.time is not None:
             self._add_time(it.time, kind, it)
-        if it.host is not None:
-            self.hosts.add(it.host).note(it)
-        if it.ja4 is not None:
-            self.clients.add(it.ja4).note(it)
+        self._add_ends(it)
         if it.stop is not None or it.outcome in FAILED:
             self._add_failure(it)
         self._judge(it)
-        if it.certificate is not None:
-            self._add_certificate(it.certificate, it)
+        self._judge_offer(it)
+        self._add_certificate(it)
 
     def _add_time(self, time: float, kind: int, it: Connection) -> None:
         self.first = time if self.first is None else min(self.first, time)
@@ -161,10 +228,37 @@ class Counts:
         self.by_outcome.add(time, kind)
         self.by_version.add(time, kind_of_version(it.version))
 
+    def _add_ends(self, it: Connection) -> None:
+        server = name_of(it.server)
+        if it.host is not None:
+            host = self.hosts.add(it.host, it.uid)
+            self._count(host, it, it.client, server)
+            host.versions = with_value(host.versions, it.version)
+        if it.ja4 is not None:
+            program = self.programs.add(it.ja4, it.uid)
+            self._count(program, it, it.client)
+            program.hosts = with_value(program.hosts, it.host)
+        if it.client is not None:
+            self._count_address(self.clients.add(it.client, it.uid), it, server)
+        if it.server is not None:
+            self._count_address(self.servers.add(it.server, it.uid), it, it.client)
+
+    def _count(self, entry: Counted, it: Connection, *others: Optional[str]) -> None:
+        entry.broken_off += it.outcome == "broken_off"
+        if not entry.others:
+            entry.others = tuple(Distinct(self.room) for _ in others)
+        for counter, value in zip(entry.others, others):
+            counter.add(value)
+
+    def _count_address(self, entry: Address, it: Connection, other: Optional[str]) -> None:
+        self._count(entry, it, other)
+        entry.hosts = with_value(entry.hosts, it.host)
+        entry.versions = with_value(entry.versions, it.version)
+
     def _add_failure(self, it: Connection) -> None:
         message, sender = it.stop if it.stop is not None else (None, None)
-        failure = self.failures.add((it.outcome, it.alert, message, sender))
-        failure.servers = with_value(failure.servers, it.host or it.server)
+        failure = self.failures.add((it.outcome, it.alert, message, sender), it.uid)
+        failure.servers = with_value(failure.servers, it.host or name_of(it.server))
 
     def _judge(self, it: Connection) -> None:
         """Counts what the server shouldn't have chosen."""
@@ -178,18 +272,49 @@ class Counts:
         self.unjudged += it.suite is not None and not suites.is_judged(it.suite)
         if not is_old and not faults:
             return
-        poor = self.poor.add(it.server)
+        poor = self.poor.add(it.server, it.uid)
         if is_old or any(fault.is_forbidden for fault in faults):
             poor.rank = MUST_NOT
         poor.versions = with_value(poor.versions, it.version if is_old else None)
         poor.suites = with_value(poor.suites, it.suite if faults else None)
         poor.hosts = with_value(poor.hosts, it.host)
-        if it.time is not None:
-            poor.last = it.time if poor.last is None else max(poor.last, it.time)
+        poor.last = _later(poor.last, it.time)
 
-    def _add_certificate(self, certificate: Certificate, it: Connection) -> None:
+    def _judge_offer(self, it: Connection) -> None:
+        """Counts what the client shouldn't offer."""
+        old, weak = offers.old_of(it.offered_versions), offers.weak_of(it.offered_suites)
+        self.old_offers += bool(old)
+        self.weak_offers += bool(weak)
+        if not old and not weak:
+            return
+        offer = self.offers.add(it.client, it.uid)
+        for version in old:
+            offer.versions = with_value(offer.versions, version)
+        if weak and len(offer.listed) <= OFFERED:
+            offer.suites.update(dict.fromkeys(weak))
+            offer.listed.update(dict.fromkeys(it.offered_suites))
+        offer.hosts = with_value(offer.hosts, it.host)
+        offer.last = _later(offer.last, it.time)
+
+    def _add_certificate(self, it: Connection) -> None:
+        certificate = it.certificate
+        if it.has_name is False:
+            mismatch = self.mismatches.add((it.host, it.server), it.uid)
+            mismatch.subjects = with_value(mismatch.subjects, certificate.subject if certificate is not None else None)
+            for name in certificate.names if certificate is not None else ():
+                mismatch.names = with_value(mismatch.names, name)
+        if certificate is None:
+            return
         self.certified += 1
         issued = self.certificates.entry(certificate.key, certificate.not_after, lambda: Issued(certificate))
         if issued is not None:
-            issued.count += 1
-            issued.servers = with_value(issued.servers, it.host or it.server)
+            issued.note(it)
+        if certificate.is_self_signed:
+            own = self.self_signed.add(certificate.key, it.uid)
+            own.certificate = certificate
+            own.servers = with_value(own.servers, name_of(it.server))
+            own.hosts = with_value(own.hosts, it.host)
+
+
+def _later(last: Optional[float], time: Optional[float]) -> Optional[float]:
+    return time if last is None else last if time is None else max(last, time)

@@ -16,15 +16,15 @@ class Series(NamedTuple):
     style: str
 
 
-# The picture of a timeline, in its own units, and the room around the bars.
-WIDTH, HEIGHT = 1000, 190
-LEFT, RIGHT, TOP, BOTTOM = 60, 6, 12, 26
+# The height of a timeline in pixels, and the room above and below its bars. Places along it are in percent, so that it fits any width.
+HEIGHT = 190
+TOP, BOTTOM = 12, 26
 # The fewest bars for which there is room: less would be blocks.
 FEWEST = 24
 # Seconds between marks of the time axis, of which there are at most so many.
 _MARKS: tuple[int, ...] = (1, 5, 10, 15, 30, 60, 120, 300, 600, 900, 1800, 3600, 7200, 10800, 21600, 43200, 86400, 172800, 345600, 604800, 1209600)
 _MARKS += (2419200, 4838400, 15724800, 31449600, 62899200, 314496000, 628992000, 3144960000, 62899200000)
-MOST_MARKS = 7
+MOST_MARKS, MOST_ON_NARROW = 7, 3
 
 
 def bar(part: int, whole: int, title: str, style: str = "share") -> str:
@@ -50,12 +50,14 @@ def timeline(name: str, title: str, line: Timeline, series: tuple[Series, ...]) 
     first, count = line.first, max(line.last - line.first + 1, FEWEST)
     highest = max(sum(counts) for counts in line.intervals.values())
     top, marks = scale(highest)
-    parts = [f'<svg class="timeline" viewBox="0 0 {WIDTH} {HEIGHT}" role="img" aria-labelledby="{name}-title">']
-    parts += [f'<title id="{name}-title">{text.escaped(title)}</title>', *_grid(top, marks), *_times(first * line.step, count * line.step)]
-    room = (WIDTH - LEFT - RIGHT) / count
+    start, span = first * line.step, count * line.step
+    parts = [f'<div class="timeline">{_axis(top, marks)}<svg class="plot" role="img" aria-labelledby="{name}-title">']
+    parts += [f'<title id="{name}-title">{text.escaped(title)}</title>', *_grid(top, marks)]
+    for style, most in (("wide", MOST_MARKS), ("narrow", MOST_ON_NARROW)):
+        parts += [f'<g class="{style}">', *_times(start, span, most), "</g>"]
     for place, counts in sorted(line.intervals.items()):
-        parts.append(_bar(LEFT + (place - first) * room, room, place * line.step, line.step, counts, top, series))
-    return "".join([*parts, "</svg>"])
+        parts.append(_bar(100 * (place - first) / count, 100 / count, place * line.step, line.step, counts, top, series))
+    return "".join([*parts, "</svg></div>"])
 
 
 def scale(highest: int) -> tuple[int, list[int]]:
@@ -73,27 +75,38 @@ def _height(value: int, top: int) -> float:
     return (HEIGHT - TOP - BOTTOM) * value / top
 
 
+def _height_of(mark: int, top: int) -> str:
+    return f"{HEIGHT - BOTTOM - _height(mark, top):.1f}"
+
+
+def _axis(top: int, marks: list[int]) -> str:
+    """The numbers in front of the bars."""
+    told = "".join(f'<text x="100%" y="{_height_of(mark, top)}" dy="4">{text.number(mark)}</text>' for mark in marks)
+    return f'<svg class="axis" aria-hidden="true">{told}</svg>'
+
+
 def _grid(top: int, marks: list[int]) -> Iterator[str]:
     for mark in marks:
-        y = HEIGHT - BOTTOM - _height(mark, top)
-        yield f'<line class="grid" x1="{LEFT}" x2="{WIDTH - RIGHT}" y1="{y:.1f}" y2="{y:.1f}"/>'
-        yield f'<text class="of-y" x="{LEFT - 8}" y="{y + 4:.1f}">{text.number(mark)}</text>'
+        y = _height_of(mark, top)
+        yield f'<line class="grid" x1="0" x2="100%" y1="{y}" y2="{y}"/>'
 
 
-def _times(start: int, span: int) -> Iterator[str]:
-    """Marks at whole multiples of their distance; a day is written where it begins, and at the first one."""
-    distance = next((mark for mark in _MARKS if span // mark < MOST_MARKS), _MARKS[-1])
+def _times(start: int, span: int, most: int) -> Iterator[str]:
+    """Marks at whole multiples of their distance, so many at most; a day is written where it begins, and at the first one."""
+    distance = next((mark for mark in _MARKS if span // mark < most), _MARKS[-1])
     days: set[str] = set()
     for at in range(-(-start // distance) * distance, min(start + span, text.END_OF_TIME), distance):
-        x = LEFT + (WIDTH - LEFT - RIGHT) * (at - start) / span
+        x = 100 * (at - start) / span
         day, time = text.time(at).split(" ")
         words = [] if day in days else [day]
         if distance % text.DAY:
             words.append(time if distance % 60 else time[:5])
         days.add(day)
-        yield f'<line class="mark" x1="{x:.1f}" x2="{x:.1f}" y1="{HEIGHT - BOTTOM}" y2="{HEIGHT - BOTTOM + 4}"/>'
-        anchor = "start" if x - LEFT < 40 else "end" if WIDTH - x < 40 else "middle"
-        yield f'<text class="of-x" text-anchor="{anchor}" x="{x:.1f}" y="{HEIGHT - 6}">{" ".join(words)}</text>'
+        yield f'<line class="mark" x1="{x:.2f}%" x2="{x:.2f}%" y1="{HEIGHT - BOTTOM}" y2="{HEIGHT - BOTTOM + 4}"/>'
+        # A text at an end stays in the picture.
+        edge = 12 if most > MOST_ON_NARROW else 30
+        anchor = "start" if x < edge / 2 else "end" if x > 100 - edge / 2 else "middle"
+        yield f'<text text-anchor="{anchor}" x="{x:.2f}%" y="{HEIGHT - 6}">{" ".join(words)}</text>'
 
 
 def _bar(x: float, room: float, start: int, step: int, counts: list[int], top: int, series: tuple[Series, ...]) -> str:
@@ -101,9 +114,9 @@ def _bar(x: float, room: float, start: int, step: int, counts: list[int], top: i
     told = ", ".join(f"{text.number(count)} {one.name.lower()}" for one, count in zip(series, counts))
     parts = [f"<g><title>{text.time(start)}, {text.duration(step)}: {text.escaped(told)}</title>"]
     y = float(HEIGHT - BOTTOM)
-    width = max(room - (1 if room > 3 else 0), 0.5)
+    width = 0.85 * room
     for one, count in zip(series, counts):
         if count:
             y -= _height(count, top)
-            parts.append(f'<rect class="{one.style}" x="{x:.2f}" y="{y:.2f}" width="{width:.2f}" height="{_height(count, top):.2f}"/>')
+            parts.append(f'<rect class="{one.style}" x="{x:.2f}%" y="{y:.2f}" width="{width:.2f}%" height="{_height(count, top):.2f}"/>')
     return "".join([*parts, "</g>"])

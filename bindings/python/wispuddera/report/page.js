@@ -34,3 +34,30 @@ function compare(a, b) {
   if (typeof a !== typeof b) return typeof a === "number" ? -1 : 1;
   return a === b ? 0 : a > b ? 1 : -1;
 }
+
+// The box in front of the tables hides each row that doesn't have all of its words, and what is empty then.
+const rows = [...document.querySelectorAll("main tbody tr")].map((row) => [row, row.textContent.toLowerCase()]);
+const box = document.createElement("input");
+box.type = "search";
+box.placeholder = "Search all rows: a host, an address, a suite, a uid ..";
+box.setAttribute("aria-label", "Search all rows");
+const found = document.createElement("output");
+const search = document.createElement("div");
+search.className = "search";
+search.setAttribute("role", "search");
+search.append(box, found);
+document.querySelector("main").prepend(search);
+box.addEventListener("input", () => {
+  const words = box.value.toLowerCase().split(/\s+/).filter((word) => word !== "");
+  let count = 0;
+  for (const [row, text] of rows) {
+    row.hidden = !words.every((word) => text.includes(word));
+    count += row.hidden ? 0 : 1;
+  }
+  const is_asked = words.length !== 0;
+  for (const foot of document.querySelectorAll("main tfoot")) foot.hidden = is_asked;
+  for (const part of document.querySelectorAll("main .block, main section")) {
+    part.hidden = is_asked ? part.querySelector("tbody tr:not([hidden])") === null : false;
+  }
+  found.textContent = is_asked ? `${count} ${count === 1 ? "row" : "rows"}` : "";
+});

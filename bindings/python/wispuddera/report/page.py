@@ -4,11 +4,12 @@ from __future__ import annotations
 
 import base64
 import hashlib
-from collections.abc import Iterator
+from collections.abc import Iterator, Sequence
 from importlib import resources
 from typing import Any, BinaryIO
 
-from . import drawing, sections, text
+from . import distinct, drawing, sections, text, weak
+from .commands import Commands
 from .counting import Counts
 from .drawing import Series
 from .reading import Reader
@@ -19,11 +20,12 @@ _BY_OUTCOME = (Series("Completed", "good"), Series("Broken off", "broken"), Seri
 _BY_VERSION = (Series("1.3", "newest"), Series("1.2", "newer"), Series("Older", "older"), Series("None or another", "other"))
 
 
-def report(log: BinaryIO) -> str:
-    """The page of a log."""
-    reader, counts = Reader(log), Counts()
+def report(*logs: BinaryIO, names: Sequence[str] = (), capture: str = "") -> str:
+    """The page of logs, which are open in binary. `names` are those of the logs, for the commands on the page, and `capture` is that of the
+    capture, for its title: without it the title has the names of the logs. `OtherFormat` where a log isn't the JSON of connections."""
+    reader, counts = Reader(*logs), Counts()
     counts.add_all(reader)
-    return _page(reader, counts)
+    return _Page(reader, counts, names or ["-"] * len(logs), capture).text()
 
 
 def _hash(source: str) -> str:
@@ -34,27 +36,37 @@ def _source(name: str) -> str:
     return resources.files(__package__).joinpath(name).read_text(encoding="utf-8")
 
 
-def _page(reader: Reader, counts: Counts) -> str:
-    style, script = _source("page.css"), _source("page.js")
-    policy = f"default-src 'none'; style-src {_hash(style)}; script-src {_hash(script)}; base-uri 'none'; form-action 'none'"
-    body = "\n".join([*_header(reader, counts), "<main>", *_main(reader, counts), "</main>"])
-    return (
-        '<!DOCTYPE html>\n<html lang="en"><head><meta charset="utf-8"/>\n'
-        f'<meta http-equiv="Content-Security-Policy" content="{policy}"/>\n'
-        '<meta name="viewport" content="width=device-width, initial-scale=1"/><meta name="color-scheme" content="light dark"/>\n'
-        f"<title>{text.escaped(_title(counts))}</title>\n<style>{style}</style></head>\n<body>\n{body}\n<script>{script}</script>\n</body></html>\n"
-    )
+class _Page:
+    """What the parts of the page are made of."""
+
+    def __init__(self, reader: Reader, counts: Counts, names: Sequence[str], capture: str) -> None:
+        self.reader, self.counts = reader, counts
+        self.commands = Commands(names, counts.has_uid)
+        self.of = text.cut(capture or ", ".join(name.rsplit("/", 1)[-1] for name in names if name != "-"))
+
+    def text(self) -> str:
+        style, script = _source("page.css"), _source("page.js")
+        policy = f"default-src 'none'; style-src {_hash(style)}; script-src {_hash(script)}; base-uri 'none'; form-action 'none'"
+        body = "\n".join([*_header(self), "<main>", *_main(self), "</main>"])
+        return (
+            '<!DOCTYPE html>\n<html lang="en"><head><meta charset="utf-8"/>\n'
+            f'<meta http-equiv="Content-Security-Policy" content="{policy}"/>\n'
+            '<meta name="viewport" content="width=device-width, initial-scale=1"/><meta name="color-scheme" content="light dark"/>\n'
+            f"<title>{text.escaped(self.title())}</title>\n<style>{style}</style></head>\n<body>\n{body}\n<script>{script}</script>\n</body></html>\n"
+        )
+
+    def title(self) -> str:
+        of = f" of {self.of}" if self.of else ""
+        if self.counts.first is None or self.counts.last is None:
+            return f"TLS connections{of}"
+        first, last = text.day(self.counts.first), text.day(self.counts.last)
+        return f"TLS connections{of}, {first}" if first == last else f"TLS connections{of}, {first} to {last}"
 
 
-def _title(counts: Counts) -> str:
-    if counts.first is None or counts.last is None:
-        return "TLS connections"
-    first, last = text.day(counts.first), text.day(counts.last)
-    return f"TLS connections, {first}" if first == last else f"TLS connections, {first} to {last}"
-
-
-def _header(reader: Reader, counts: Counts) -> Iterator[str]:
-    yield "<header><h1>TLS connections</h1>"
+def _header(page: _Page) -> Iterator[str]:
+    counts, reader = page.counts, page.reader
+    of = f' <span class="of">of <span id="capture">{text.escaped(page.of)}</span></span>' if page.of else ""
+    yield f"<header><h1>TLS connections{of}</h1>"
     if counts.first is not None and counts.last is not None:
         first, last = text.time(counts.first), text.time(counts.last)
         span = text.duration(counts.last - counts.first)
@@ -79,21 +91,18 @@ def _figures(counts: Counts) -> str:
     for name, title, count in of_versioned:
         rows.append(_figure(name, title, text.number(count), f"{text.share(count, counts.versioned)} of those with a ServerHello"))
     is_told = counts.certified and counts.last is not None
-    value, more = (text.number(len(sections.expiring(counts))), "or expired before") if is_told else ("–", "the log doesn’t tell")
-    rows.append(_figure("expiring", f"Certificates expiring in {sections.SOON} days", value, more))
+    value, more = (text.number(len(weak.expiring(counts))), "or expired before") if is_told else ("–", "the log doesn’t tell")
+    rows.append(_figure("expiring", f"Certificates expiring in {weak.SOON} days", value, more))
     return f'<dl class="figures">{"".join(rows)}</dl>'
 
 
-def _main(reader: Reader, counts: Counts) -> Iterator[str]:
+def _main(page: _Page) -> Iterator[str]:
+    counts, commands = page.counts, page.commands
     yield _figures(counts)
     yield from _over_time(counts)
-    yield _chosen(counts)
-    yield _failures(counts)
-    yield _hosts(counts)
-    yield _clients(counts)
-    yield _poor(counts)
-    yield _certificates(counts)
-    yield _about(reader, counts)
+    for section in (_chosen, _failures, _poor_servers, _poor_clients, _expiring, _unproven, _hosts, _programs, _addresses):
+        yield section(counts, commands)
+    yield _about(page.reader, counts)
 
 
 def _section(name: str, title: str, content: str) -> str:
@@ -117,13 +126,13 @@ def _over_time(counts: Counts) -> Iterator[str]:
     yield _section("time", "Over time", "".join(pictures))
 
 
-def _chosen(counts: Counts) -> str:
-    left, right = sections.outcomes(counts) + sections.groups(counts), sections.versions(counts)
-    pair = f'<div class="pair"><div>{left}</div><div>{right}</div></div>'
-    return _section("chosen", "Outcomes and what was negotiated", pair + sections.suite_table(counts))
+def _chosen(counts: Counts, commands: Commands) -> str:
+    left = sections.outcomes(counts, commands) + sections.groups(counts, commands)
+    pair = f'<div class="pair"><div>{left}</div><div>{sections.versions(counts, commands)}</div></div>'
+    return _section("chosen", "Outcomes and what was negotiated", pair + sections.suite_table(counts, commands))
 
 
-def _failures(counts: Counts) -> str:
+def _failures(counts: Counts, commands: Commands) -> str:
     title = "Failed handshakes, and why"
     if not counts.failures.total:
         return _section("broken", title, _paragraph("No handshake failed."))
@@ -131,7 +140,7 @@ def _failures(counts: Counts) -> str:
         f"{text.counted(counts.failures.total, 'handshake')} failed. The last alert says why a side gave up. The message that ended the handshake is that "
         "alert, or one that should not have come. In TLS 1.3 alerts after the ServerHello are encrypted, so they aren’t here."
     )
-    return _section("broken", title, _paragraph(told) + sections.failures(counts))
+    return _section("broken", title, _paragraph(told) + sections.failures(counts, commands))
 
 
 def _kinds(tally: Tally[Any, Any], noun: str) -> str:
@@ -139,22 +148,32 @@ def _kinds(tally: Tally[Any, Any], noun: str) -> str:
     return f"{'More than ' if tally.missed else ''}{text.counted(len(tally.entries), 'different ' + noun)}"
 
 
-def _hosts(counts: Counts) -> str:
+def _hosts(counts: Counts, commands: Commands) -> str:
     if not counts.hosts.total:
         return _section("by-host", "Hosts", _paragraph("No line has a server_name."))
     without = counts.connections - counts.hosts.total
     told = f"{_kinds(counts.hosts, 'host')}. {text.counted(without, 'connection')} asked for none. Clients and servers are counted by address."
-    return _section("by-host", "Hosts", _paragraph(told) + sections.hosts(counts))
+    return _section("by-host", "Hosts", _paragraph(told) + sections.hosts(counts, commands))
 
 
-def _clients(counts: Counts) -> str:
-    if not counts.clients.total:
-        return _section("by-client", "Clients", _paragraph("No line has a ja4."))
-    told = f"{_kinds(counts.clients, 'JA4 fingerprint')}. Programs that use the same library in the same way share one."
-    return _section("by-client", "Clients", _paragraph(told) + sections.clients(counts))
+def _programs(counts: Counts, commands: Commands) -> str:
+    if not counts.programs.total:
+        return _section("by-program", "Client programs", _paragraph("No line has a ja4."))
+    told = f"{_kinds(counts.programs, 'JA4 fingerprint')}. Programs that use the same library in the same way share one."
+    return _section("by-program", "Client programs", _paragraph(told) + sections.programs(counts, commands))
 
 
-def _poor(counts: Counts) -> str:
+def _addresses(counts: Counts, commands: Commands) -> str:
+    title = "Clients and servers"
+    if not counts.clients.total and not counts.servers.total:
+        return _section("by-address", title, _paragraph("No line has an address (id.orig_h, id.resp_h)."))
+    told = f"{_kinds(counts.clients, 'client')} and {_kinds(counts.servers, 'server').lower()}."
+    found = sections.clients(counts, commands) if counts.clients.total else ""
+    found += sections.servers(counts, commands) if counts.servers.total else ""
+    return _section("by-address", title, _paragraph(told) + found)
+
+
+def _poor_servers(counts: Counts, commands: Commands) -> str:
     title = "Servers with old versions or weak suites"
     told = (
         f"{text.counted(counts.old, 'connection')} with an old version (below TLS 1.2 or DTLS 1.2, RFC 8996), {text.number(counts.weak)} with a weak "
@@ -162,33 +181,55 @@ def _poor(counts: Counts) -> str:
     )
     if counts.unjudged:
         told += f" Suites of {text.counted(counts.unjudged, 'connection')} have no name here, and weren’t judged."
-    rule = f"<details><summary>The rule for suites</summary>{sections.rule()}</details>"
-    found = sections.poor_servers(counts) if counts.poor.total else ""
+    rule = f"<details><summary>The rule for suites</summary>{weak.rule()}</details>"
+    found = weak.poor_servers(counts, commands) if counts.poor.total else ""
     return _section("weak-servers", title, _paragraph(told) + found + rule)
 
 
-def _certificates(counts: Counts) -> str:
+def _poor_clients(counts: Counts, commands: Commands) -> str:
+    told = (
+        f"{text.counted(counts.old_offers, 'ClientHello')} offered TLS 1.1, DTLS 1.0 or older: in supported_versions, or as the version of a hello "
+        f"without it. {text.number(counts.weak_offers)} offered no suite that the rule above calls good."
+    )
+    found = weak.poor_clients(counts, commands) if counts.offers.total else ""
+    return _section("weak-clients", "Clients with old versions or weak suites", _paragraph(told) + found)
+
+
+def _expiring(counts: Counts, commands: Commands) -> str:
     title = "Certificates that expire soon"
     if not counts.certified:
         return _section("expiry", title, _paragraph("No line has a not_after: the log tells nothing of certificates, or TLS 1.3 encrypted them all."))
     if counts.last is None:
         return _section("expiry", title, _paragraph("No line has a time (ts), so nothing tells what is soon."))
-    found = sections.expiring(counts)
+    found = weak.expiring(counts)
     more = "more than " if counts.certificates.latest is not None else ""
     kept = f"{more}{text.counted(len(counts.certificates.entries), 'certificate')}"
     told = (
-        f"{kept} in {text.counted(counts.certified, 'connection')}; {text.number(len(found))} have expired or expire within {sections.SOON} days. Days are "
+        f"{kept} in {text.counted(counts.certified, 'connection')}; {text.number(len(found))} have expired or expire within {weak.SOON} days. Days are "
         f"counted from the last time in the log, {text.time(counts.last)} UTC, not from today: the same log always gives the same page. TLS 1.3 encrypts "
         "certificates, so only those of earlier versions are here."
     )
-    return _section("expiry", title, _paragraph(told[0].upper() + told[1:]) + (sections.certificates(counts) if found else ""))
+    return _section("expiry", title, _paragraph(told[0].upper() + told[1:]) + (weak.certificates(counts, commands) if found else ""))
+
+
+def _unproven(counts: Counts, commands: Commands) -> str:
+    told = (
+        f"{text.counted(counts.mismatches.total, 'connection')} got a certificate that doesn’t have the name that was asked for (RFC 6125), and "
+        f"{text.number(counts.self_signed.total)} one whose subject is its issuer. No signature was verified."
+    )
+    found = weak.mismatches(counts, commands) if counts.mismatches.total else ""
+    found += weak.self_signed(counts, commands) if counts.self_signed.total else ""
+    return _section("unproven", "Wrong names and self-signed certificates", _paragraph(told) + found)
 
 
 def _about(reader: Reader, counts: Counts) -> str:
     lines, connections = text.counted(reader.lines, "line"), text.counted(counts.connections, "connection")
     told = [
         f"{lines} of the log, {connections}. The time of a connection is that of its first packet.",
-        f"Tables have at most {ROWS} rows. Click the head of a column to sort by it.",
+        f"Tables have at most {ROWS} rows. Click the head of a column to sort by it. The last column has the uid of a row’s connections and the command "
+        "that lists them all.",
+        f"Numbers of clients, servers and addresses are exact up to {text.number(distinct.EXACT)}. Those with ≈ are estimates by HyperLogLog with "
+        f"{text.number(distinct.REGISTERS)} registers: the standard error is {100 * distinct.ERROR:.1f}%.",
         f"Characters of the log that can’t be seen are escaped. Text is cut at {text.LONGEST} characters: {text.counted(reader.cut, 'value')}.",
         *_limits(counts),
     ]
@@ -199,7 +240,9 @@ def _about(reader: Reader, counts: Counts) -> str:
 def _limits(counts: Counts) -> Iterator[str]:
     """Which limits were reached, and what that does to the counts."""
     tallies: tuple[tuple[str, Tally[Any, Any]], ...] = (
-        ("hosts", counts.hosts), ("client programs", counts.clients), ("servers", counts.poor), ("reasons", counts.failures),
+        ("hosts", counts.hosts), ("client programs", counts.programs), ("clients", counts.clients), ("servers", counts.servers),
+        ("servers with old versions or weak suites", counts.poor), ("clients with old versions or weak suites", counts.offers),
+        ("hosts with wrong names", counts.mismatches), ("self-signed certificates", counts.self_signed), ("reasons", counts.failures),
         ("outcomes", counts.outcomes), ("versions", counts.versions), ("suites", counts.suites), ("groups", counts.groups),
     )
     reached = [(name, tally.missed) for name, tally in tallies if tally.missed]

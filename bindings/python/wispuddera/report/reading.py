@@ -1,10 +1,12 @@
-"""The lines of a log, read one at a time: what the report takes of each, and why others aren't read."""
+"""Reads the lines of logs one at a time: what the report takes of each, and why others aren't read."""
 
 from __future__ import annotations
 
 import json
+import re
 from collections import Counter
-from collections.abc import Callable, Iterator
+from collections.abc import Callable, Iterable, Iterator
+from functools import lru_cache
 from typing import Any, BinaryIO, NamedTuple, NoReturn, Optional
 
 from . import suites, text
@@ -23,6 +25,10 @@ class Unread:
     NO_FIELD = "none of the fields that the report reads"
 
 
+class OtherFormat(ValueError):
+    """The log is no JSON of `tlslog`. The text names what it is and the command that makes one that can be read."""
+
+
 class Stop(NamedTuple):
     """The message that ended a handshake without success."""
 
@@ -30,23 +36,41 @@ class Stop(NamedTuple):
     sender: Optional[str]
 
 
+class Server(NamedTuple):
+    """The address of a server, and its port where the line has it."""
+
+    address: str
+    port: Optional[int]
+    name: str  # both, as a page has them
+
+    def __str__(self) -> str:
+        return self.name
+
+
 class Certificate(NamedTuple):
     """The server's certificate, as far as the line has it."""
 
-    key: str  # tells it from others
+    key: str  # its fingerprint where the line has that, else what tells it from others
+    fingerprint: Optional[str]
     subject: Optional[str]
     issuer: Optional[str]
+    end: str  # `not_after`, and the same in seconds
     not_after: int
+    is_self_signed: bool
     names: tuple[str, ...]  # the first ones of `san_dns`
     name_count: int
+
+
+Values = tuple[str, ...]
 
 
 class Connection(NamedTuple):
     """What the report takes of a line; `None` is what the line doesn't have."""
 
+    uid: Optional[str]
     time: Optional[float]
     client: Optional[str]
-    server: Optional[str]
+    server: Optional[Server]
     version: Optional[str]
     suite: Optional[str]
     group: Optional[str]
@@ -56,6 +80,9 @@ class Connection(NamedTuple):
     alert: Optional[str]
     stop: Optional[Stop]
     ja4: Optional[str]
+    offered_versions: Values
+    offered_suites: Values
+    has_name: Optional[bool]  # whether the host is one of the certificate's names
     certificate: Optional[Certificate]
 
 
@@ -64,38 +91,95 @@ def _refuse(constant: str) -> NoReturn:
 
 
 _DECODER = json.JSONDecoder(parse_constant=_refuse)
+_STR = {str}
 # Of how many names a certificate is told.
 NAMES = 4
 # The fields of docs/TLSLOG.md that are read, each once.
-TEXTS = ("version", "cipher", "curve", "server_name", "outcome", "last_alert", "ja4", "id.orig_h", "id.resp_h")
-FIELDS = {"ts", "resumed", "stop", "not_after", *TEXTS}
+TEXTS = ("uid", "version", "cipher", "curve", "server_name", "outcome", "last_alert", "ja4", "id.orig_h", "id.resp_h")
+FIELDS = {"ts", "resumed", "stop", "not_after", "sni_matches_cert", "client_version", "client_supported_versions", "client_ciphers", *TEXTS}
 # Fields of a message that no connection has.
 OF_MESSAGES = {"content_type", "side", "place"}
+# The first bytes of captures: pcap in either order of bytes, in microseconds and nanoseconds, and pcapng.
+_CAPTURES = (b"\xd4\xc3\xb2\xa1", b"\xa1\xb2\xc3\xd4", b"\x4d\x3c\xb2\xa1", b"\xa1\xb2\x3c\x4d", b"\x0a\x0d\x0d\x0a")
+_IS_CAPTURE = "this is a capture: run tlslog CAPTURE | tlslog-report -"
+_TO_JSON = "the report reads JSON: run tlslog CAPTURE > LOG"
+
+
+def other_format(line: bytes) -> Optional[str]:
+    """What the first line of a log is where that isn't the JSON of connections, and what to run; nothing of a line that could be in such a
+    log, too."""
+    if line.startswith(_CAPTURES):
+        return _IS_CAPTURE
+    if line.startswith(b"#"):
+        return f"this is a log in Zeek's format, and {_TO_JSON}"
+    if not line.lstrip().startswith(b"{"):
+        columns = line.decode(errors="replace").strip().split(",")
+        is_csv = len(columns) > 1 and not FIELDS.isdisjoint(columns)
+        return f"these are comma-separated values, and {_TO_JSON}" if is_csv else None
+    return _other_lines(line)
+
+
+def _other_lines(line: bytes) -> Optional[str]:
+    try:
+        fields = _DECODER.decode(line.decode())
+    except (ValueError, RecursionError):
+        return None
+    if not isinstance(fields, dict):
+        return None
+    if "event_type" in fields:
+        return f"these are Suricata's events, and {_TO_JSON}"
+    if "@timestamp" in fields:
+        return f"these are events by Elastic's names, and {_TO_JSON}"
+    if "content_type" in fields and "side" in fields:
+        return "these are messages, and the report reads connections: run tlslog CAPTURE > LOG, without --messages"
+    if "fingerprint" in fields and "side" in fields:
+        return "these are certificates, and the report reads connections: run tlslog CAPTURE > LOG, without --certificates"
+    return None
+
+
+@lru_cache(maxsize=65536)
+def _server_at(address: str, port: Optional[int]) -> Server:
+    if port is None:
+        return Server(address, None, address)
+    return Server(address, port, f"[{address}]:{port}" if ":" in address else f"{address}:{port}")
 
 
 class Reader:
-    """The connections of a log. What was left out is counted: lines that aren't read, by reason; values of another type than the field
-    has, by field; and values that were cut."""
+    """The connections of logs. What was left out is counted: lines that aren't read, by reason; values of another type than the field
+    has, by field; and values that were cut. `OtherFormat` where a log isn't the JSON of connections."""
 
-    def __init__(self, log: BinaryIO) -> None:
-        self._log = log
+    def __init__(self, *logs: BinaryIO) -> None:
+        self._logs = logs
         self.lines = 0
         self.unread: Counter[str] = Counter()
         self.misfits: Counter[str] = Counter()
         self.cut = 0
 
     def __iter__(self) -> Iterator[Connection]:
-        for line in self._lines():
-            fields = self._object(line)
-            if fields is not None:
-                yield self._connection(fields)
+        for log in self._logs:
+            before = self.lines - sum(self.unread.values())
+            is_empty = True
+            for line in self._lines(log):
+                if is_empty and (reason := other_format(line)):
+                    raise OtherFormat(reason)
+                is_empty = False
+                fields = self._object(line)
+                if fields is not None:
+                    yield self._connection(fields)
+            if not is_empty and before == self.lines - sum(self.unread.values()):
+                raise OtherFormat(f"no line of it is a connection, and {_TO_JSON}")
 
-    def _lines(self) -> Iterator[bytes]:
+    def _lines(self, log: BinaryIO) -> Iterator[bytes]:
         """Each line that isn't too long, but for blank ones."""
-        while line := self._log.readline(LONGEST_LINE + 1):
+        blank = b""
+        while line := log.readline(LONGEST_LINE + 1):
+            # A file of pcapng begins with two blank lines.
+            blank += line if line.isspace() and len(blank) < 4 else b""
+            if blank == _CAPTURES[-1]:
+                raise OtherFormat(_IS_CAPTURE)
             if len(line) > LONGEST_LINE and not line.endswith(b"\n"):
                 while line and not line.endswith(b"\n"):
-                    line = self._log.readline(LONGEST_LINE + 1)
+                    line = log.readline(LONGEST_LINE + 1)
                 self.lines += 1
                 self.unread[Unread.TOO_LONG] += 1
             elif not line.isspace():
@@ -121,14 +205,23 @@ class Reader:
         return fields
 
     def _connection(self, fields: dict[str, Any]) -> Connection:
-        version, suite, group, host, outcome, alert, ja4, client, address = [self._text(fields.get(name), name) for name in TEXTS]
+        uid, version, suite, group, host, outcome, alert, ja4, client, address = [self._text(fields.get(name), name) for name in TEXTS]
         # Lines with numbers and lines with names count as one.
         suite = suites.name_of(suite) if suite is not None else None
-        server = self._server(address, fields) if address is not None else None
-        stop = self._stop(fields) if "stop" in fields else None
-        certificate = self._certificate(fields) if "not_after" in fields else None
-        time, is_resumed = self._value(fields.get("ts"), "ts", _is_time), self._value(fields.get("resumed"), "resumed", _is_flag)
-        return Connection(time, client, server, version, suite, group, host, outcome, is_resumed, alert, stop, ja4, certificate)
+        return Connection(
+            uid, self._value(fields.get("ts"), "ts", _is_time), client, self._server(address, fields) if address is not None else None,
+            version, suite, group, host, outcome, self._value(fields.get("resumed"), "resumed", _is_flag), alert,
+            self._stop(fields) if "stop" in fields else None, ja4, self._versions(fields), self._texts(fields, "client_ciphers"),
+            self._value(fields.get("sni_matches_cert"), "sni_matches_cert", _is_flag),
+            self._certificate(fields) if "not_after" in fields else None,
+        )
+
+    def _versions(self, fields: dict[str, Any]) -> Values:
+        """The versions that the client offers: in its extension, or the one of its hello."""
+        if "client_supported_versions" in fields:
+            return self._texts(fields, "client_supported_versions")
+        version = self._text(fields.get("client_version"), "client_version")
+        return (version,) if version is not None else ()
 
     def _value(self, value: Any, name: str, fits: Callable[[Any], bool]) -> Any:
         """What the line has in the field of that name, if it is of the field's type."""
@@ -136,6 +229,10 @@ class Reader:
             return value
         self.misfits[name] += 1
         return None
+
+    def _texts(self, fields: dict[str, Any], name: str) -> Values:
+        value = fields.get(name)
+        return tuple(self._value(value, name, _are_texts) or ()) if value is not None else ()
 
     def _text(self, value: Any, name: str) -> Optional[str]:
         if value is None:
@@ -151,12 +248,8 @@ class Reader:
         self.cut += 1
         return text.cut(value)
 
-    def _server(self, address: str, fields: dict[str, Any]) -> str:
-        """Its address, with the port if that is known."""
-        port = self._value(fields.get("id.resp_p"), "id.resp_p", _is_port)
-        if port is None:
-            return address
-        return f"[{address}]:{port}" if ":" in address else f"{address}:{port}"
+    def _server(self, address: str, fields: dict[str, Any]) -> Server:
+        return _server_at(address, self._value(fields.get("id.resp_p"), "id.resp_p", _is_port))
 
     def _stop(self, fields: dict[str, Any]) -> Optional[Stop]:
         value = self._value(fields["stop"], "stop", _is_object)
@@ -170,10 +263,15 @@ class Reader:
             return None
         end = text.seconds_of(not_after) or 0
         subject, issuer = [self._text(fields.get(name), name) for name in ("subject", "issuer")]
-        prints = self._value(fields.get("cert_chain_fps"), "cert_chain_fps", _are_texts)
-        key = text.cut(prints[0]) if prints else f"{not_after}\n{subject}\n{issuer}"
+        prints = self._texts(fields, "cert_chain_fps")
+        fingerprint = text.cut(prints[0]) if prints else None
+        is_self_issued = self._value(fields.get("self_issued"), "self_issued", _is_flag)
+        is_self_signed = is_self_issued if is_self_issued is not None else subject is not None and subject == issuer
         names = self._value(fields.get("san_dns"), "san_dns", _are_texts) or ()
-        return Certificate(key, subject, issuer, end, tuple(map(self._within, names[:NAMES])), len(names))
+        return Certificate(
+            fingerprint or f"{not_after}\n{subject}\n{issuer}", fingerprint, subject, issuer, not_after, end, is_self_signed,
+            tuple(map(self._within, names[:NAMES])), len(names),
+        )
 
 
 def _is_flag(value: Any) -> bool:
@@ -197,4 +295,4 @@ def _is_moment(value: Any) -> bool:
 
 
 def _are_texts(value: Any) -> bool:
-    return type(value) is list and all(type(item) is str for item in value)
+    return type(value) is list and set(map(type, value)) <= _STR

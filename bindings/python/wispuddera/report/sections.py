@@ -1,20 +1,23 @@
-"""The tables of the page, each from what was counted."""
+"""The tables of what was negotiated, what failed, and who spoke, each from what was counted."""
 
 from __future__ import annotations
 
 from collections.abc import Callable, Sequence
 from typing import Any, NamedTuple, Optional
 
+from . import commands as jq
 from . import suites, text
-from .counting import MUST_NOT, Counts, Failure, Host, Issued, Poor, Program, Way
-from .tables import ROWS, Cell, Column, aside, breakable, counted, how_many, number, share, some, table, words
+from .commands import Commands
+from .counting import Address, Counts, Failure, Host, Program, Way
+from .reading import Server
+from .tables import ROWS, Cell, Column, aside, behind, breakable, counted, how_many, number, share, some, table, words
 from .tallies import Entry, Tally
 
-# A certificate that expires within so many days expires soon.
-SOON = 30
-_CONNECTIONS = Column("Connections", True, "descending")
+CONNECTIONS = Column("Connections", True, "descending")
+BEHIND = Column("uid")
 _SHARE = Column("Share", True)
-_NONE = "none in the line"
+_BROKEN_OFF = Column("Broken off", True)
+NONE = "none in the line"
 
 OUTCOMES = {
     "full": "full handshake",
@@ -58,150 +61,139 @@ class Ranking(NamedTuple):
         return [counted(entry), share(entry.count, self.whole)]
 
 
-def _of_field(name: str, title: str, column: str, tally: Tally[Optional[str], Entry], cell: Callable[[Optional[str]], Cell]) -> str:
+def of_entry(entry: Any, commands: Commands, *conditions: str) -> Cell:
+    """The connections of an entry: those that meet all the conditions."""
+    return behind(entry.uids, entry.count + entry.missed, commands.of(jq.all_of(*conditions)))
+
+
+def _of_field(
+    name: str, title: str, column: str, tally: Tally[Optional[str], Any], cell: Callable[[Optional[str]], Cell], list_of: Callable[[Any, Any], Cell],
+) -> str:
     """A table of the values of one field."""
-    ranking = Ranking(name, title, "most frequent", "value", tally.total, (Column(column), _CONNECTIONS, _SHARE))
-    return ranking.table(tally, lambda key, entry: [cell(key), *ranking.counts(entry)])
+    ranking = Ranking(name, title, "most frequent", "value", tally.total, (Column(column), CONNECTIONS, _SHARE, BEHIND))
+    return ranking.table(tally, lambda key, entry: [cell(key), *ranking.counts(entry), list_of(key, entry)])
 
 
-def outcomes(counts: Counts) -> str:
+def _having(field: str, commands: Commands) -> Callable[[Any, Any], Cell]:
+    return lambda key, entry: of_entry(entry, commands, jq.equals(field, key))
+
+
+def outcomes(counts: Counts, commands: Commands) -> str:
     def cell(value: Optional[str]) -> Cell:
         if value is None:
-            return words(None, _NONE)
+            return words(None, NONE)
         return Cell(f"<code>{text.escaped(value)}</code> {aside(OUTCOMES[value])}") if value in OUTCOMES else words(value)
 
-    return _of_field("outcomes", "Outcome of the handshake", "Outcome", counts.outcomes, cell)
+    return _of_field("outcomes", "Outcome of the handshake", "Outcome", counts.outcomes, cell, _having("outcome", commands))
 
 
-def versions(counts: Counts) -> str:
+def versions(counts: Counts, commands: Commands) -> str:
     def cell(value: Optional[str]) -> Cell:
         """A version in words, marked if it is old."""
         if value is None or not value:
-            return words(value, _NONE)
+            return words(value, NONE)
         name = text.escaped(suites.name_of_version(value))
         return Cell(f'{name} <span class="bad">old</span>' if suites.is_old(value) else name)
 
-    return _of_field("versions", "Version that the server chose", "Version", counts.versions, cell)
+    return _of_field("versions", "Version that the server chose", "Version", counts.versions, cell, _having("version", commands))
 
 
-def _faults(found: Sequence[suites.Fault]) -> str:
+def faults(found: Sequence[suites.Fault]) -> str:
     return " ".join(f'<span class="{"bad" if one.is_forbidden else "poor"}">{text.escaped(one.reason)}</span>' for one in found)
 
 
-def _suite(value: Optional[str]) -> Cell:
-    if value is None or not value:
-        return words(value, _NONE)
-    number = suites.number_of_suite(value)
-    behind = f" {aside(number)}" if number else ""
-    return Cell(f"{breakable(value)}{behind} {_faults(suites.faults_of(value))}".rstrip())
+def suite_table(counts: Counts, commands: Commands) -> str:
+    def cell(name: Optional[str]) -> Cell:
+        if name is None or not name:
+            return words(name, NONE)
+        number = suites.number_of_suite(name)
+        return Cell(f"{breakable(name)}{f' {aside(number)}' if number else ''} {faults(suites.faults_of(name))}".rstrip())
+
+    def list_of(name: Optional[str], entry: Entry) -> Cell:
+        return of_entry(entry, commands, jq.is_one_of("cipher", spellings([name])) if name is not None else jq.equals("cipher", None))
+
+    return _of_field("suites", "Cipher suite that the server chose", "Suite", counts.suites, cell, list_of)
 
 
-def suite_table(counts: Counts) -> str:
-    return _of_field("suites", "Cipher suite that the server chose", "Suite", counts.suites, _suite)
+def spellings(names: Sequence[str]) -> list[str]:
+    """The suites by name and by number, as a log may have either."""
+    return [one for name in names for one in (name, suites.number_of_suite(name)) if one is not None]
 
 
-def groups(counts: Counts) -> str:
-    return _of_field("groups", "Group of the key exchange", "Group", counts.groups, lambda value: words(value, _NONE))
+def groups(counts: Counts, commands: Commands) -> str:
+    return _of_field("groups", "Group of the key exchange", "Group", counts.groups, lambda value: words(value, NONE), _having("curve", commands))
 
 
-def failures(counts: Counts) -> str:
+def failures(counts: Counts, commands: Commands) -> str:
     columns = (
-        Column("Last alert"), _CONNECTIONS, _SHARE, Column("Outcome"), Column("Ended by the message"), Column("Sent by"), Column("Where"),
+        Column("Last alert"), CONNECTIONS, _SHARE, Column("Outcome"), Column("Ended by the message"), Column("Sent by"), Column("Where"), BEHIND,
     )
     ranking = Ranking("failures", "Failed handshakes by reason", "most frequent", "reason", counts.failures.total, columns)
 
     def row(key: Way, entry: Failure) -> list[Cell]:
         outcome, alert, message, sender = key
+        fields = (("outcome", outcome), ("last_alert", alert), ("stop.message", message), ("stop.sender", sender))
+        listed = of_entry(entry, commands, *(jq.equals(name, value) for name, value in fields))
         where = some(sorted(entry.servers))
-        return [words(alert, "none"), *ranking.counts(entry), words(outcome), words(message), words(sender), where]
+        return [words(alert, "none"), *ranking.counts(entry), words(outcome), words(message), words(sender), where, listed]
 
     return ranking.table(counts.failures, row)
 
 
-def hosts(counts: Counts) -> str:
+def hosts(counts: Counts, commands: Commands) -> str:
     columns = (
-        Column("Host (server_name)"), _CONNECTIONS, _SHARE, Column("Broken off", True), Column("Clients", True), Column("Servers", True),
-        Column("Versions"),
+        Column("Host (server_name)"), CONNECTIONS, _SHARE, _BROKEN_OFF, Column("Clients", True), Column("Servers", True), Column("Versions"), BEHIND,
     )
     ranking = Ranking("hosts", "Hosts", "asked for most often", "host", counts.connections, columns)
 
     def row(key: str, entry: Host) -> list[Cell]:
-        addresses = [how_many(entry.clients), how_many(entry.servers)]
-        versions_told = some(suites.in_order(entry.versions), 4)
-        return [words(key), *ranking.counts(entry), number(entry.broken_off, entry.missed), *addresses, versions_told]
+        broken_off = number(entry.broken_off, entry.missed)
+        told = some(suites.in_order(entry.versions), 4)
+        return [words(key), *ranking.counts(entry), broken_off, *map(how_many, entry.others), told, of_entry(entry, commands, jq.equals("server_name", key))]
 
     return ranking.table(counts.hosts, row)
 
 
-def clients(counts: Counts) -> str:
+def programs(counts: Counts, commands: Commands) -> str:
     columns = (
-        Column("Client program (JA4)"), _CONNECTIONS, _SHARE, Column("Broken off", True), Column("Addresses", True), Column("Hosts asked for"),
+        Column("Client program (JA4)"), CONNECTIONS, _SHARE, _BROKEN_OFF, Column("Addresses", True), Column("Hosts asked for"), BEHIND,
     )
-    ranking = Ranking("clients", "Client programs", "seen most often", "client program", counts.connections, columns)
+    ranking = Ranking("programs", "Client programs", "seen most often", "client program", counts.connections, columns)
 
     def row(key: str, entry: Program) -> list[Cell]:
         # A JA4 is shorter; a log may have anything there.
         told = f'<code class="whole">{text.escaped(key)}</code>' if len(key) <= 40 else f"<code>{breakable(key)}</code>"
         name = Cell(told) if key else words(key)
         broken_off = number(entry.broken_off, entry.missed)
-        return [name, *ranking.counts(entry), broken_off, how_many(entry.clients), some(sorted(entry.hosts))]
+        listed = of_entry(entry, commands, jq.equals("ja4", key))
+        return [name, *ranking.counts(entry), broken_off, *map(how_many, entry.others), some(sorted(entry.hosts)), listed]
 
-    return ranking.table(counts.clients, row)
+    return ranking.table(counts.programs, row)
 
 
-def poor_servers(counts: Counts) -> str:
+def _addresses(name: str, title: str, noun: str, others: str, counts: Counts, tally: Tally[Any, Address], list_of: Callable[[Any, Address], Cell]) -> str:
     columns = (
-        Column("Server"), Column("Connections", True), Column("Grade", False, "ascending"), Column("Old versions"), Column("Weak suites"),
-        Column("Hosts"), Column("Last seen (UTC)"),
+        Column(noun.capitalize()), CONNECTIONS, _SHARE, _BROKEN_OFF, Column(others, True), Column("Versions"), Column("Hosts asked for"), BEHIND,
     )
-    title = "Servers that chose an old version or a weak suite"
-    ranking = Ranking("poor", title, "first by grade and connections", "server", counts.poor.total, columns)
+    ranking = Ranking(name, title, "with the most connections", noun, counts.connections, columns)
 
-    def row(key: Optional[str], entry: Poor) -> list[Cell]:
-        style, told = ("bad", "must not") if entry.rank == MUST_NOT else ("poor", "should not")
-        grade = Cell(f'<span class="{style}">{told}</span>', entry.rank)
-        weak = Cell(f"{some(sorted(entry.suites), 2).html} {_faults(suites.faults_in(entry.suites))}") if entry.suites else words(None)
-        last = Cell(text.time(entry.last), entry.last) if entry.last is not None else words(None)
-        front = [words(key, "no address in the line"), counted(entry), grade, some(suites.in_order(entry.versions))]
-        return [*front, weak, some(sorted(entry.hosts), 2), last]
+    def row(key: object, entry: Address) -> list[Cell]:
+        broken_off = number(entry.broken_off, entry.missed)
+        told = [some(suites.in_order(entry.versions), 4), some(sorted(entry.hosts), 2)]
+        return [words(str(key)), *ranking.counts(entry), broken_off, *map(how_many, entry.others), *told, list_of(key, entry)]
 
-    return ranking.table(counts.poor, row)
+    return ranking.table(tally, row)
 
 
-def expiring(counts: Counts) -> list[Issued]:
-    """The certificates that have expired at the log's last timestamp, or expire within `SOON` days of it, in that order."""
-    if counts.last is None:
-        return []
-    limit = counts.last + SOON * text.DAY
-    return [issued for _, issued in counts.certificates.ranked() if issued.certificate.not_after <= limit]
+def clients(counts: Counts, commands: Commands) -> str:
+    def list_of(key: str, entry: Address) -> Cell:
+        return of_entry(entry, commands, jq.equals("id.orig_h", key))
+
+    return _addresses("clients", "Clients by address", "client", "Servers", counts, counts.clients, list_of)
 
 
-def certificates(counts: Counts) -> str:
-    columns = (
-        Column("Subject"), Column("Connections", True), Column("Expires (UTC)", False, "ascending"), Column("Days left", True), Column("Issuer"),
-        Column("Names"), Column("Where"),
-    )
-    now, found = counts.last or 0, expiring(counts)
+def servers(counts: Counts, commands: Commands) -> str:
+    def list_of(key: Server, entry: Address) -> Cell:
+        return of_entry(entry, commands, jq.of_server(key))
 
-    def row(issued: Issued) -> list[Cell]:
-        of = issued.certificate
-        left = int((of.not_after - now) // text.DAY)
-        told = Cell(f'<span class="bad">expired</span> {text.number(left)}', left) if of.not_after < now else Cell(text.number(left), left)
-        end = Cell(text.time(of.not_after), of.not_after)
-        names = some(of.names, 2, of.name_count)
-        return [words(of.subject, "none told"), number(issued.count), end, told, words(of.issuer), names, some(sorted(issued.servers), 2)]
-
-    more = len(found) - ROWS
-    foot = [Cell(aside(f"{text.number(more)} more, which expire later"))] + [Cell("")] * 6 if more > 0 else []
-    return table("certificates", f"Certificates that have expired, or expire within {SOON} days", columns, map(row, found[:ROWS]), foot)
-
-
-def rule() -> str:
-    """The rule for weak suites, as the suites module has it."""
-    columns = (Column("The name has"), Column("Told as"), Column("Grade"), Column("From"))
-
-    def row(one: suites.Fault) -> list[Cell]:
-        grade = words("must not" if one.is_forbidden else "should not")
-        return [Cell(f"<code>{text.escaped(one.told)}</code>"), Cell(_faults([one])), grade, words(one.reference)]
-
-    return table("rule", "Weak suites, by their names", columns, map(row, suites.FAULTS))
+    return _addresses("servers", "Servers by address and port", "server", "Clients", counts, counts.servers, list_of)

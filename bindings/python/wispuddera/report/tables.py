@@ -6,6 +6,7 @@ from collections.abc import Iterable, Sequence
 from typing import NamedTuple, Optional, Union
 
 from . import drawing, text
+from .distinct import Distinct
 from .tallies import FEW, Entry, Values
 
 # How many rows a table has at most.
@@ -49,9 +50,20 @@ def share(part: int, whole: int) -> Cell:
     return Cell(f'<span class="percent">{text.escaped(told)}</span>{drawing.bar(part, whole, told)}', part)
 
 
-def how_many(values: Values) -> Cell:
-    """How many different values there are, as far as they are told apart."""
-    return Cell(f"> {FEW}", FEW + 1) if len(values) > FEW else Cell(text.number(len(values)), len(values))
+def how_many(values: Distinct) -> Cell:
+    """How many different values there are; `≈` where that is an estimate."""
+    return Cell(f"{'' if values.is_exact else '≈ '}{text.number(len(values))}", len(values))
+
+
+def behind(uids: Values, count: int, command: str) -> Cell:
+    """The connections of a row: the `uid` of the first ones, and the command that lists them all."""
+    first, *others = uids or ("list",)
+    more = count - len(uids)
+    told = "".join(f"<br/><code>{text.escaped(one)}</code>" for one in others) + (f"<br/>{aside(f'and {text.number(more)} more')}" if uids and more > 0 else "")
+    return Cell(
+        f"<details><summary><code>{text.escaped(first)}</code></summary>{told.removeprefix('<br/>')}"
+        f'<pre><code class="command">{text.escaped_line(command)}</code></pre></details>'
+    )
 
 
 def breakable(name: str) -> str:
@@ -71,13 +83,15 @@ def some(values: Sequence[str], most: int = 3, count: int = 0) -> Cell:
 
 
 def table(name: str, caption: str, columns: Sequence[Column], rows: Iterable[Sequence[Cell]], foot: Sequence[Cell] = ()) -> str:
-    """A table whose first column names its rows; the foot stays below, however they are put in order."""
+    """A table whose first column names its rows; the foot stays below, however they are put in order. The caption is in front of what
+    scrolls, so that it can be read on a narrow screen."""
     head = "".join(_head(column) for column in columns)
     body = "".join(f"<tr>{_row(columns, row)}</tr>" for row in rows)
     end = f"<tfoot><tr>{_row(columns, foot)}</tr></tfoot>" if foot else ""
     return (
-        f'<div class="scroll" role="region" aria-label="{text.escaped(caption)}" tabindex="0"><table id="{name}"><caption>{text.escaped(caption)}'
-        f"</caption><thead><tr>{head}</tr></thead><tbody>{body}</tbody>{end}</table></div>"
+        f'<div class="block"><h3 id="{name}-caption">{text.escaped(caption)}</h3>'
+        f'<div class="scroll" role="region" aria-labelledby="{name}-caption" tabindex="0"><table id="{name}" aria-labelledby="{name}-caption">'
+        f"<thead><tr>{head}</tr></thead><tbody>{body}</tbody>{end}</table></div></div>"
     )
 
 

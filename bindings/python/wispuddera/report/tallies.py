@@ -7,20 +7,29 @@ from typing import Generic, Optional, TypeVar
 
 # Of how many different values a tally keeps counts at least, and of twice as many at most.
 MOST = 5000
-# How many different values are told apart beside a value.
+# How many different values are kept beside a value.
 FEW = 16
+# How many connections are named beside a value.
+UIDS = 3
 
 
 class Entry:
-    """How often a value was counted since it was entered (`count`), and how often at most before that (`missed`)."""
+    """How often a value was counted since it was entered (`count`), and how often at most before that (`missed`); and the `uid` of the
+    first connections."""
 
-    __slots__ = ("count", "missed")
+    __slots__ = ("count", "missed", "uids")
     # What has a lower one stands in front of others in a table.
     rank = 0
 
     def __init__(self, missed: int) -> None:
         self.count, self.missed = 0, missed
+        self.uids: Values = ()
 
+    def release(self) -> None:
+        """Frees what the entry holds of memory that is shared. Called once, when the entry is forgotten."""
+
+
+Values = tuple[str, ...]
 
 Key = TypeVar("Key")
 E = TypeVar("E", bound=Entry)
@@ -39,8 +48,8 @@ class Tally(Generic[Key, E]):
         self.total = 0
         self.missed = 0
 
-    def add(self, key: Key) -> E:
-        """Counts the value once; its entry."""
+    def add(self, key: Key, uid: Optional[str] = None) -> E:
+        """Counts the value once, of the connection that is named, and returns its entry."""
         self.total += 1
         entry = self.entries.get(key)
         if entry is None:
@@ -48,6 +57,8 @@ class Tally(Generic[Key, E]):
                 self._forget()
             entry = self.entries[key] = self.kind(self.missed)
         entry.count += 1
+        if uid is not None and len(entry.uids) < UIDS:
+            entry.uids = (*entry.uids, uid)
         return entry
 
     def _forget(self) -> None:
@@ -56,13 +67,12 @@ class Tally(Generic[Key, E]):
         first_out = ranked[self.most][1]
         self.missed = first_out.count + first_out.missed
         self.entries = dict(ranked[: self.most])
+        for _, entry in ranked[self.most :]:
+            entry.release()
 
     def ranked(self) -> list[tuple[Key, E]]:
         """All that is kept: by rank, the most frequent first, equals by their names."""
         return sorted(self.entries.items(), key=lambda item: (item[1].rank, -item[1].count, str(item[0])))
-
-
-Values = tuple[str, ...]
 
 
 def with_value(values: Values, value: Optional[str]) -> Values:

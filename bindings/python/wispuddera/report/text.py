@@ -44,6 +44,11 @@ def escaped(value: str) -> str:
     return html.escape(plain(value), quote=True)
 
 
+def escaped_line(value: str) -> str:
+    """A line of ASCII as HTML, as a command is, with no other escape."""
+    return html.escape(value, quote=True)
+
+
 def number(value: int) -> str:
     return f"{value:,}"
 
