@@ -140,6 +140,7 @@ class Connection:
     is_ca: Optional[bool] = None
     self_issued: Optional[bool] = None
     sni_matches_cert: Optional[bool] = None
+    validation_status: Optional[str] = None
     cert_error: Optional[list[str]] = None
     client_subject: Optional[str] = None
     client_issuer: Optional[str] = None
