@@ -11,6 +11,7 @@ mod counts;
 mod fragments;
 mod fronts;
 mod heard;
+mod links;
 mod log;
 mod memory;
 

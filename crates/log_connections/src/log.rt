@@ -12,7 +12,7 @@ use capture::{Content, TcpSegment, UdpDatagram};
 use connection_parts::Part;
 use connections::{
     Checksum, Connection, Connections, Datagram, End, Judgement, Kept, MAX_WAITING, Protocol,
-    Segment, Side, Stream, Told, Verdict,
+    Reason, Segment, Side, Stream, Told, Verdict,
 };
 use ip_fragments::Fragments;
 use networks::{Network, Networks};
@@ -272,7 +272,7 @@ impl<K: Keeper> Log<K> {
         match inside {
             Inside::Datagram(datagram) => return self.arrival_of(packet, datagram),
             Inside::Other => add_one(&mut self.counts.other_protocols),
-            Inside::Unread => add_one(&mut self.counts.unread),
+            Inside::Unread => self.counts.add_unread(packet.link_type),
             Inside::Deeper => add_one(&mut self.counts.in_too_many_tunnels),
         }
         Ok(None)
@@ -499,7 +499,9 @@ impl<K: Keeper> Log<K> {
             Some(false) => Ok(None),
             None => {
                 // (the last acknowledgement of a connection that is over loses nothing)
-                if segment.has_data() {
+                if segment.checksum == Checksum::Refused {
+                    add_one(&mut self.counts.damaged);
+                } else if segment.has_data() {
                     add_one(&mut self.counts.stray_segments);
                 }
                 Ok(None)
@@ -582,6 +584,9 @@ impl<K: Keeper> Log<K> {
         }
         match verdict.judgement {
             Judgement::Dropped(reason) => {
+                if reason == Reason::Checksum {
+                    add_one(&mut self.counts.damaged);
+                }
                 self.is_unsettled = segment.begins();
                 self.connections.drop_segment(segment, reason)?;
                 Ok(None)
@@ -636,11 +641,13 @@ impl<K: Keeper> Log<K> {
         datagram: &Datagram<'_>,
     ) -> Result<Option<Box<Connection<Heard<K>>>>, AllocError> {
         match self.hear_exchange(datagram)? {
-            Delivery::Heard | Delivery::Damaged => Ok(None),
+            Delivery::Heard => Ok(None),
+            Delivery::Damaged => {
+                add_one(&mut self.counts.damaged);
+                Ok(None)
+            }
             Delivery::NoneOpen => {
-                if datagram.checksum != Checksum::Refused {
-                    self.accept_datagram(datagram)?;
-                }
+                self.begin_exchange(datagram)?;
                 Ok(None)
             }
             Delivery::BeginsAnother => {
@@ -649,6 +656,15 @@ impl<K: Keeper> Log<K> {
                 Ok(over)
             }
         }
+    }
+
+    /// Lets a datagram begin an exchange, unless a checksum is wrong: it is counted then.
+    fn begin_exchange(&mut self, datagram: &Datagram<'_>) -> Result<(), AllocError> {
+        if datagram.checksum == Checksum::Refused {
+            add_one(&mut self.counts.damaged);
+            return Ok(());
+        }
+        self.accept_datagram(datagram)
     }
 
     /// Lets the exchange of a datagram hear it, which the datagram begins where none is open.

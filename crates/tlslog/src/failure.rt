@@ -3,6 +3,7 @@ ghost use Rattle.std.specs.Prelude.{◌≡◌};
 ghost use Rattle.tlslog.specs.Exit.{worse};
 ghost use Rattle.tlslog.specs.Run.{IsSameCause};
 
+use crate::front::{Fault, Front};
 use crate::output::{LineError, Refusal};
 use packets::{CaptureError, VisitError};
 use std::alloc::AllocError;
@@ -54,7 +55,7 @@ impl Exit {
 #[derive(Clone, Copy)]
 pub enum Failure {
     /// What is read is no capture, or is broken off.
-    Capture(&'static str),
+    Capture(Fault),
     /// Memory ran out.
     OutOfMemory,
     /// The file wasn't opened.
@@ -70,13 +71,13 @@ pub enum Failure {
 }
 
 impl Failure {
-    /// The same, of a source that is compressed in a form that this command unpacks: then that is why it is no capture.
-    pub fn of_source(self, compression: Option<&'static str>) -> Failure
+    /// The failure of a run over a source that begins so: why it is no capture.
+    pub fn of_source(self, front: Front) -> Failure
         ensures { IsSameCause self result }
     {
-        match (self, compression) {
-            (Failure::Capture(_), Some(hint)) => Failure::Capture(hint),
-            (failure, _) => failure,
+        match self {
+            Failure::Capture(fault) => Failure::Capture(front.explain(fault)),
+            failure => failure,
         }
     }
 }
@@ -99,7 +100,7 @@ impl Display for Reason<'_> {
 impl Display for Failure {
     fn fmt<W: fmt::Write>(&self, f: &mut Formatter<W>) -> fmt::Result {
         match self {
-            Failure::Capture(text) => f.write_str(text),
+            Failure::Capture(fault) => Display::fmt(fault, f),
             Failure::OutOfMemory => f.write_str("out of memory"),
             Failure::Opening(e) => write!(f, "cannot open: {}", Reason(e)),
             Failure::Reading(e) => write!(f, "cannot read: {}", Reason(e)),
@@ -137,14 +138,10 @@ impl From<VisitError<LineError>> for Failure {
 
     fn from(e: VisitError<LineError>) -> Failure {
         match e {
-            VisitError::Capture(CaptureError::NoCapture) => {
-                Failure::Capture("this is no capture")
-            }
-            VisitError::Capture(CaptureError::Broken) => {
-                Failure::Capture("a header or a block breaks a rule")
-            }
+            VisitError::Capture(CaptureError::NoCapture) => Failure::Capture(Fault::NoCapture),
+            VisitError::Capture(CaptureError::Broken) => Failure::Capture(Fault::Broken),
             VisitError::Capture(CaptureError::OutOfMemory) => Failure::OutOfMemory,
-            VisitError::BrokenOff => Failure::Capture("the capture is broken off"),
+            VisitError::BrokenOff => Failure::Capture(Fault::BrokenOff),
             VisitError::Reading(e) => Failure::Reading(e),
             VisitError::Endless => Failure::Endless,
             VisitError::Visitor(e) => Failure::from(e),

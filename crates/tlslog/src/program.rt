@@ -8,7 +8,7 @@ use crate::listener::{Kept, Listener, summary, take_certificates, take_messages}
 use crate::output::{LineError, Output};
 use crate::progress::{STANDARD_INPUT, Source, Watched};
 use connection_parts::Part;
-use connections::Connection;
+use connections::{Connection, Protocol};
 use log_connections::{Arrival, Checksums, Counts, Joined, Log, Pieces, add_one};
 use log_fields::summary::Summary;
 use log_lines::{Lines, Style};
@@ -63,6 +63,7 @@ fn print_line<W: Write>(
         return Ok(());
     }
     let summary = summary(connection);
+    counts.add_found(summary.protocol == Protocol::Udp, summary.outcome);
     if summary.gap().is_some() {
         add_one(&mut counts.gaps);
     }
@@ -520,7 +521,7 @@ fn log_source<R: Runtime + AllocGlobal, I: Read + Source, W: Write>(
     match log_packets(logger, reader) {
         Ok(()) => Exit::Clean,
         Err(failure) => {
-            let failure = failure.of_source(reader.compression());
+            let failure = failure.of_source(reader.front());
             tell(rt, name, failure, logger.log.counts.packets)
         }
     }

@@ -1,8 +1,10 @@
-//! What a capture is read from: how far it is read is told to who looks on, and how it is compressed is known.
+//! What a capture is read from: how far it was read is shown to who looks on, and its first bytes are kept.
+use crate::front::Front;
 use std::fs;
 use std::io::{self, Read};
 use std::os::unix::fs::FileTypeExt;
 use std::rt::Runtime;
+use std::time::Instant;
 
 /// The path of what standard input is.
 pub const STANDARD_INPUT: &str = "/dev/stdin";
@@ -10,30 +12,22 @@ pub const STANDARD_INPUT: &str = "/dev/stdin";
 /// The path of what standard error is.
 const STANDARD_ERROR: &str = "/dev/stderr";
 
-/// Of a capture with fewer bytes no progress is told.
+/// Of a capture with fewer bytes no progress is shown.
 const LONG: u64 = 100_000_000;
 
-/// How often progress is told of a capture.
-const STEPS: u64 = 20;
+/// How many bytes a megabyte has.
+const MEGABYTE: u64 = 1_000_000;
 
-/// Each form of compressed files that is known: the bytes that they begin with (RFC 1952, section 2.3.1; the XZ file format, 2.1.1.1;
-/// RFC 8878, section 3.1.1), and what to do with such a file.
-static COMPRESSIONS: [(&[u8], &str); 3] = [
-    (b"\x1f\x8b", "compressed: use zcat FILE | tlslog"),
-    (b"\xfd7zXZ\0", "compressed: use xzcat FILE | tlslog"),
-    (b"\x28\xb5\x2f\xfd", "compressed: use zstdcat FILE | tlslog"),
-];
+/// The clock is looked at each time that so many bytes were read.
+const STEP: u64 = 16 * MEGABYTE;
 
-/// What to do with a file that begins so, where it is a compressed one.
-fn compression_of(front: &[u8]) -> Option<&'static str> {
-    let found = COMPRESSIONS.iter().find(|form| front.starts_with(form.0));
-    found.map(|form| form.1)
-}
+/// Between two lines of progress there are at least so many milliseconds.
+const PAUSE: u64 = 2_000;
 
 /// What a capture is read from.
 pub trait Source {
-    /// What to do with it, where its first bytes are those of a compressed file.
-    fn compression(&self) -> Option<&'static str>;
+    /// Its first bytes, and how many were read.
+    fn front(&self) -> Front;
 }
 
 /// Whether someone looks at standard error: it is a device of characters, as a terminal is.
@@ -56,68 +50,116 @@ fn length_of<R: Runtime>(rt: &R, path: &str) -> Option<u64> {
     Some(length)
 }
 
-/// A source that tells on standard error how much of it was read, and knows whether it is compressed.
+/// How far a file is read, where that is shown.
+#[derive(Drop)]
+struct Progress {
+    // How many bytes it has.
+    length: u64,
+    begin: Instant,
+    // How many bytes were read when the clock was looked at, and by it the milliseconds at the last line.
+    looked: u64,
+    shown: u64,
+}
+
+impl Progress {
+    /// That of the file with that path, of which nothing was read; none where nobody looks on, or the file is short.
+    fn begin<R: Runtime>(rt: &R, path: &str) -> Option<Progress> {
+        if !is_looked_at(rt) {
+            return None;
+        }
+        let length = length_of(rt, path)?;
+        match Instant::now(rt) {
+            Ok(begin) => Some(Progress {
+                length,
+                begin,
+                looked: 0,
+                shown: 0,
+            }),
+            Err(_) => None,
+        }
+    }
+
+    /// How many milliseconds it took to read so many bytes, where that is to be shown now.
+    fn due<R: Runtime>(&mut self, rt: &R, read: u64) -> Option<u64> {
+        if read.saturating_sub(self.looked) < STEP {
+            return None;
+        }
+        self.looked = read;
+        let Ok(since) = self.begin.elapsed(rt) else {
+            return None;
+        };
+        let milliseconds = u64::try_from(since.as_millis()).unwrap_or(u64::MAX);
+        if milliseconds.saturating_sub(self.shown) < PAUSE {
+            return None;
+        }
+        self.shown = milliseconds;
+        Some(milliseconds)
+    }
+}
+
+/// How many bytes are read in a second, where it took so many milliseconds to read so many.
+fn rate_of(read: u64, milliseconds: u64) -> u64 {
+    match read.saturating_mul(1_000).checked_div(milliseconds) {
+        Some(rate) => rate,
+        None => 0,
+    }
+}
+
+/// A source that shows on standard error how much of it was read, and keeps its first bytes.
 #[derive(Drop)]
 pub struct Watched<'a, R, I> {
     rt: &'a R,
     name: &'a str,
     source: I,
-    // How many bytes there are, where progress is told.
-    length: Option<u64>,
-    read: u64,
-    told: u64,
-    // By its first bytes, as far as the first read gave them.
-    compression: Option<&'static str>,
+    progress: Option<Progress>,
+    front: Front,
 }
 
 impl<'a, R: Runtime, I: Read> Watched<'a, R, I> {
     /// The source under its name. `path` is where it lies.
     pub fn new(rt: &'a R, name: &'a str, path: &str, source: I) -> Watched<'a, R, I> {
-        let length = if is_looked_at(rt) {
-            length_of(rt, path)
-        } else {
-            None
-        };
         Watched {
             rt,
             name,
             source,
-            length,
-            read: 0,
-            told: 0,
-            compression: None,
+            progress: Progress::begin(rt, path),
+            front: Front::new(),
         }
     }
 
-    /// Tells the progress where a step was done since it was told.
-    fn tell(&mut self) -> io::Result<()> {
-        let Some(length) = self.length else {
+    /// Shows the progress where that is due.
+    fn show(&mut self) -> io::Result<()> {
+        let read = self.front.read();
+        let Some(progress) = &mut self.progress else {
             return Ok(());
         };
-        if self.read.saturating_sub(self.told) < length / STEPS {
+        let Some(milliseconds) = progress.due(self.rt, read) else {
             return Ok(());
+        };
+        let rate = rate_of(read, milliseconds);
+        let left = progress.length.saturating_sub(read).checked_div(rate);
+        let (done, whole, rate) = (read / MEGABYTE, progress.length / MEGABYTE, rate / MEGABYTE);
+        match left {
+            Some(left) => eprintln!(self.rt;
+                "{}: {done} of {whole} MB, {rate} MB/s, {left} s left",
+                self.name
+            ),
+            None => eprintln!(self.rt; "{}: {done} of {whole} MB", self.name),
         }
-        self.told = self.read;
-        let megabytes = self.read / 1_000_000;
-        let whole = length / 1_000_000;
-        eprintln!(self.rt; "{}: {megabytes} of {whole} MB are read", self.name)
     }
 }
 
 impl<'a, R: Runtime, I: Read> Read for Watched<'a, R, I> {
     fn read(&mut self, buf: &mut [u8]) -> io::Result<usize> {
         let n = self.source.read(buf)?;
-        if self.read == 0 {
-            self.compression = compression_of(&buf[..n]);
-        }
-        self.read = self.read.saturating_add(n as u64);
-        self.tell()?;
+        self.front.add(&buf[..n]);
+        self.show()?;
         Ok(n)
     }
 }
 
 impl<'a, R, I> Source for Watched<'a, R, I> {
-    fn compression(&self) -> Option<&'static str> {
-        self.compression
+    fn front(&self) -> Front {
+        self.front
     }
 }

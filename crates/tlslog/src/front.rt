@@ -1,0 +1,165 @@
+//! The first bytes of a source, and why they are those of no capture.
+use std::fmt::{self, Display, Formatter};
+
+/// So many of the first bytes are kept.
+const KEPT: usize = 6;
+
+/// How many of these tell the form.
+const FORM: usize = 4;
+
+/// The first bytes of each form that is read: of pcap in either order, with micro- and nanoseconds (draft-ietf-opsawg-pcap, section 4), and of pcapng
+/// (draft-ietf-opsawg-pcapng, section 4.1), each with how many bytes its header has at least.
+static FORMS: [([u8; FORM], u64); 5] = [
+    (*b"\xa1\xb2\xc3\xd4", 24),
+    (*b"\xd4\xc3\xb2\xa1", 24),
+    (*b"\xa1\xb2\x3c\x4d", 24),
+    (*b"\x4d\x3c\xb2\xa1", 24),
+    (*b"\x0a\x0d\x0d\x0a", 28),
+];
+
+/// Each form of compressed files that is known: the bytes that they begin with (RFC 1952, section 2.3.1; the XZ file format, 2.1.1.1;
+/// RFC 8878, section 3.1.1), and what to do with such a file.
+static COMPRESSIONS: [(&[u8], &str); 3] = [
+    (b"\x1f\x8b", "compressed: use zcat FILE | tlslog"),
+    (b"\xfd7zXZ\0", "compressed: use xzcat FILE | tlslog"),
+    (b"\x28\xb5\x2f\xfd", "compressed: use zstdcat FILE | tlslog"),
+];
+
+/// Why a source is no capture, or none that is read whole.
+#[derive(Clone, Copy)]
+pub enum Fault {
+    /// Its first bytes are those of no capture.
+    NoCapture,
+    /// It has no bytes.
+    Empty,
+    /// It ends in its header.
+    CutHeader,
+    /// It begins as no form of captures, with these bytes, of which there are so many.
+    OtherForm([u8; KEPT], usize),
+    /// It is a file of pcap of another version than 2.
+    OtherVersion,
+    /// It is compressed; what to do with it.
+    Compressed(&'static str),
+    /// A header or a block breaks a rule.
+    Broken,
+    /// It ends within a packet or a block.
+    BrokenOff,
+}
+
+/// Writes bytes in hexadecimal.
+fn write_digits<W: fmt::Write>(f: &mut Formatter<W>, bytes: &[u8]) -> fmt::Result {
+    for byte in bytes {
+        write!(f, "{byte:02x}")?;
+    }
+    Ok(())
+}
+
+impl Display for Fault {
+    fn fmt<W: fmt::Write>(&self, f: &mut Formatter<W>) -> fmt::Result {
+        match self {
+            Fault::NoCapture => f.write_str("this is no capture"),
+            Fault::Empty => f.write_str("this is no capture: it is empty"),
+            Fault::CutHeader => f.write_str("this is no capture: it ends in its header"),
+            Fault::OtherForm(bytes, len) => {
+                f.write_str("this is no capture: it is neither pcap nor pcapng, and begins with ")?;
+                write_digits(f, bytes.get(..*len).unwrap_or(&[]))
+            }
+            Fault::OtherVersion => {
+                f.write_str("this is no capture that is read: its version of pcap isn't 2")
+            }
+            Fault::Compressed(hint) => f.write_str(hint),
+            Fault::Broken => f.write_str("a header or a block breaks a rule"),
+            Fault::BrokenOff => f.write_str("the capture is broken off"),
+        }
+    }
+}
+
+/// The first bytes of a source, and how many were read of it.
+#[derive(Clone, Copy)]
+pub struct Front {
+    bytes: [u8; KEPT],
+    read: u64,
+}
+
+impl Front {
+    /// That of a source of which nothing was read.
+    pub fn new() -> Front {
+        Front {
+            bytes: [0; KEPT],
+            read: 0,
+        }
+    }
+
+    /// How many bytes were read.
+    pub fn read(&self) -> u64 {
+        self.read
+    }
+
+    /// How many of the first bytes are kept.
+    fn kept(&self) -> usize {
+        self.read.min(KEPT as u64) as usize
+    }
+
+    /// The first bytes, as far as they were read.
+    fn known(&self) -> &[u8] {
+        self.bytes.get(..self.kept()).unwrap_or(&[])
+    }
+
+    /// Adds bytes that were read behind those before.
+    pub fn add(&mut self, bytes: &[u8]) {
+        let kept = self.kept();
+        if kept < KEPT {
+            for (place, byte) in self.bytes.iter_mut().skip(kept).zip(bytes) {
+                *place = *byte;
+            }
+        }
+        self.read = self.read.saturating_add(bytes.len() as u64);
+    }
+
+    /// What to do with the source, where its first bytes are those of a compressed file.
+    fn compression(&self) -> Option<&'static str> {
+        let known = self.known();
+        let found = COMPRESSIONS.iter().find(|form| known.starts_with(form.0));
+        found.map(|form| form.1)
+    }
+
+    /// How long the header is at least, where the bytes are those of a form that is read, as far as there are any.
+    fn header(&self) -> Option<u64> {
+        let known = self.known();
+        let form = known.get(..FORM).unwrap_or(known);
+        let found = FORMS.iter().find(|row| row.0.starts_with(form));
+        found.map(|row| row.1)
+    }
+
+    /// Why a source that was read so far is no capture.
+    fn fault(&self) -> Fault {
+        if self.read == 0 {
+            return Fault::Empty;
+        }
+        match self.header() {
+            None => Fault::OtherForm(self.bytes, self.kept().min(FORM)),
+            Some(header) if self.read < header => Fault::CutHeader,
+            Some(_) => Fault::OtherVersion,
+        }
+    }
+
+    /// Whether a source that was read so far ends in its header.
+    fn is_header_cut(&self) -> bool {
+        match self.header() {
+            Some(header) => self.read < header,
+            None => false,
+        }
+    }
+
+    /// The fault that a reader found, by what the source begins with.
+    pub fn explain(&self, fault: Fault) -> Fault {
+        if let Some(hint) = self.compression() {
+            return Fault::Compressed(hint);
+        }
+        match fault {
+            Fault::NoCapture => self.fault(),
+            Fault::BrokenOff if self.is_header_cut() => Fault::CutHeader,
+            other => other,
+        }
+    }
+}
