@@ -12,7 +12,7 @@ from datetime import datetime, timezone
 from pathlib import Path
 from typing import Any
 
-from hostile import identifiers, packets, zeek_log
+from hostile import ecs_format, identifiers, packets, text_format, zeek_log
 from hostile.shapes import Ask, Line
 
 PATHS = {(): "ssl", ("--messages",): "tls_messages", ("--certificates",): "x509"}
@@ -48,8 +48,8 @@ VERSIONS = {
 }
 
 
-# Names that could be taken for something else, or cut a line or a column.
-NAMES = [b"-", b"(empty)", b"#close", b"#fields\ta", b"a,b", b"\t\n\r\0\x7f\xff", b"\\x2d", b"\\", b"\"'", b"--", b"(empty),", b" ", b","]
+# Names that could be taken for something else, cut a line or a column, or are orders for a terminal.
+NAMES = [b"\x1b[31m\x1b]0;title\x07", "\u202e\u0430pple.example".encode(), b"\x9b2J", b"-", b"(empty)", b"#close", b"#fields\ta", b"a,b", b"\t\n\r\0\x7f\xff", b"\\x2d", b"\\", b"\"'", b"--", b"(empty),", b" ", b","]
 
 
 def want(is_so: object, *words: object) -> None:
@@ -142,12 +142,18 @@ def with_hello(capture: Path, record: bytes) -> bytes:
     return packets.pcap([(segment.time, segment.frame()) for segment in made])
 
 
-def hostile(ask: Ask, capture: Path, room: Path) -> int:
-    """Each name, also in a list, and in front of its line, is read as the text that JSON has. The capture is one of which a hello is the first payload."""
+def hostile_captures(capture: Path, room: Path) -> list[Path]:
+    """A capture for each name, in whose hello it is the host, and stands in the list of protocols. The capture is one of which a hello is the first payload."""
     files = []
     for number, name in enumerate(NAMES):
         files.append(room / f"name-{number}.pcap")
         files[-1].write_bytes(with_hello(capture, hello(name, [name, b"h2", name])))
+    return files
+
+
+def hostile(ask: Ask, capture: Path, room: Path) -> int:
+    """Each name, also in a list, and in front of its line, is read as the text that JSON has."""
+    files = hostile_captures(capture, room)
     for words in ([], ["--fields", "server_name,orig_alpn"], ["--fields", "server_name"], ["--messages"]):
         lines = [json.loads(line) for line in rows(ask, *words, *files).splitlines()]
         log = zeek_log.Log(rows(ask, *words, "--format", "zeek", *files))
@@ -156,6 +162,7 @@ def hostile(ask: Ask, capture: Path, room: Path) -> int:
     events = [json.loads(line) for line in rows(ask, "--format", "suricata", *files).splitlines()]
     lines = [json.loads(line) for line in rows(ask, *files).splitlines()]
     want([event["tls"]["sni"] for event in events] == [line["server_name"] for line in lines], "hostile names of Suricata's")
+    want(text_format.check(ask, files) == ecs_format.check(ask, files) == len(NAMES), "hostile names as text and by ECS")
     return len(NAMES)
 
 

@@ -10,6 +10,7 @@ pub mod column;
 pub mod comma;
 pub mod known_texts;
 pub mod lists;
+pub mod nearest;
 pub mod objects;
 pub mod suites;
 pub mod text;

@@ -4,16 +4,16 @@ use tls_base::TlsVersion;
 /// The number of DTLS 1.3 (RFC 9147, section 5.3).
 const DTLS13: TlsVersion = TlsVersion(0xfefc);
 
-/// Versions, each as Zeek writes it and as Suricata does.
-static VERSIONS: [(TlsVersion, &str, &str); 8] = [
-    (TlsVersion::Ssl30, "SSLv3", "SSLv3"),
-    (TlsVersion::Tls10, "TLSv10", "TLSv1"),
-    (TlsVersion::Tls11, "TLSv11", "TLS 1.1"),
-    (TlsVersion::Tls12, "TLSv12", "TLS 1.2"),
-    (TlsVersion::Tls13, "TLSv13", "TLS 1.3"),
-    (TlsVersion::DTls10, "DTLSv10", "DTLS 1.0"),
-    (TlsVersion::DTls12, "DTLSv12", "DTLS 1.2"),
-    (DTLS13, "DTLSv13", "DTLS 1.3"),
+/// Versions, each as Zeek writes it, as Suricata does, and as the Elastic Common Schema has it: the protocol's name, and the version in it.
+static VERSIONS: [(TlsVersion, &str, &str, (&str, &str)); 8] = [
+    (TlsVersion::Ssl30, "SSLv3", "SSLv3", ("ssl", "3.0")),
+    (TlsVersion::Tls10, "TLSv10", "TLSv1", ("tls", "1.0")),
+    (TlsVersion::Tls11, "TLSv11", "TLS 1.1", ("tls", "1.1")),
+    (TlsVersion::Tls12, "TLSv12", "TLS 1.2", ("tls", "1.2")),
+    (TlsVersion::Tls13, "TLSv13", "TLS 1.3", ("tls", "1.3")),
+    (TlsVersion::DTls10, "DTLSv10", "DTLS 1.0", ("dtls", "1.0")),
+    (TlsVersion::DTls12, "DTLSv12", "DTLS 1.2", ("dtls", "1.2")),
+    (DTLS13, "DTLSv13", "DTLS 1.3", ("dtls", "1.3")),
 ];
 
 /// A version as Zeek writes it.
@@ -30,4 +30,12 @@ pub fn suricata_version(version: TlsVersion) -> Option<&'static str> {
         .iter()
         .find(|row| row.0 == version)
         .map(|row| row.2)
+}
+
+/// A version as the Elastic Common Schema has it: the protocol's name, and the version in it.
+pub fn ecs_version(version: TlsVersion) -> Option<(&'static str, &'static str)> {
+    VERSIONS
+        .iter()
+        .find(|row| row.0 == version)
+        .map(|row| row.3)
 }

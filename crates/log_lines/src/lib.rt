@@ -4,10 +4,16 @@
 //! [`Style::message_line`] that of a message, and [`Style::certificate_line`] that of a certificate.
 #![tactic(auto)]
 
+mod aligned;
+mod ecs;
+mod format;
 mod json_line;
+mod nested;
 mod presented;
 mod spoken;
+mod stamps;
 mod style;
 mod suricata;
 
-pub use style::{Format, LineKind, Lines, Style, StyleError};
+pub use format::{FORMAT_NAMES, Format};
+pub use style::{LineKind, Lines, Style, StyleError};

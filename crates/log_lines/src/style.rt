@@ -1,8 +1,9 @@
 //! What is printed, and how.
+use crate::format::Format;
 use crate::json_line::json_line;
 use crate::presented::certificate_row;
 use crate::spoken::message_row;
-use crate::suricata;
+use crate::{aligned, ecs, suricata};
 use log_fields::columns::{DETAILS, PARTS};
 use log_fields::connection::row_of;
 use log_fields::fields::FIELDS;
@@ -12,6 +13,7 @@ use log_formats::cell::Row;
 use log_formats::column::Column;
 use log_formats::comma::Formulas;
 use log_formats::known_texts::KnownTexts;
+use log_formats::nearest::nearest;
 use log_formats::objects::json_row;
 use log_formats::suites::Suites;
 use log_formats::{comma, zeek};
@@ -20,19 +22,6 @@ use std::alloc::{AllocError, Global};
 use std::cell::RefCell;
 use std::fmt::{self, Display, Formatter};
 use tls_fingerprints::KnownDigests;
-
-/// How a line is written.
-#[derive(Drop)]
-pub enum Format {
-    /// An object of JSON.
-    Json,
-    /// A record of comma-separated values (RFC 4180), behind one of the names.
-    Csv(Formulas),
-    /// Values with tabs between them, as Zeek writes them, behind lines that name the fields and say what they are, and in front of one that tells the end.
-    Zeek,
-    /// An event of Suricata's eve.json, of a connection alone.
-    Suricata,
-}
 
 /// What has a line of its own.
 #[derive(Clone, Copy, Debug, PartialEq, Eq)]
@@ -61,6 +50,8 @@ pub enum Lines {
 pub struct Style {
     /// How a line is written.
     pub format: Format,
+    /// How comma-separated values write texts that a spreadsheet takes for formulas.
+    pub formulas: Formulas,
     /// What has a line.
     pub lines: Lines,
     /// The names of cipher suites.
@@ -84,10 +75,10 @@ pub enum StyleError<'a> {
     TwoKinds,
     /// Messages are to have lines, and cipher suites numbers.
     NumbersOfMessages,
-    /// Suricata's events are asked for, which have fields of their own, and some of the log's.
-    FieldsOfSuricata,
-    /// Suricata's events are asked for, and that messages or certificates have lines.
-    KindOfSuricata,
+    /// A format with fields of its own is asked for, and some of the log's.
+    FieldsOfFormat(Format),
+    /// A format of connections alone is asked for, and that messages or certificates have lines.
+    KindOfFormat(Format),
     /// That field is named twice.
     DoubledField(&'a str),
     /// Memory ran out.
@@ -100,39 +91,35 @@ impl From<AllocError> for StyleError<'_> {
     }
 }
 
-/// Writes the names of a table's fields.
-fn write_names<T, W: fmt::Write>(table: &[Column<T>], f: &mut Formatter<W>) -> fmt::Result {
-    let mut separator = "";
-    for column in table {
-        write!(f, "{separator}{}", column.0)?;
-        separator = ", ";
+/// Where the fields are told.
+const TOLD: &str = "docs/TLSLOG.md and the manual page have all";
+
+/// Writes the field of a table whose name is nearest to that, or where all are told.
+fn write_nearest<T, W: fmt::Write>(
+    table: &[Column<T>],
+    name: &str,
+    f: &mut Formatter<W>,
+) -> fmt::Result {
+    match nearest(table, name) {
+        Some(field) => write!(f, ": did you mean {field}?"),
+        None => write!(f, ": {TOLD}"),
     }
-    Ok(())
 }
 
 impl Display for StyleError<'_> {
     fn fmt<W: fmt::Write>(&self, f: &mut Formatter<W>) -> fmt::Result {
         match self {
             StyleError::UnknownField(name) => {
-                write!(
-                    f,
-                    "there is no field {name}; the fields of a connection are "
-                )?;
-                write_names(FIELDS, f)
+                write!(f, "a connection has no field {name}")?;
+                write_nearest(FIELDS, name, f)
             }
             StyleError::UnknownPart(name) => {
-                write!(
-                    f,
-                    "no field {name} goes with --messages; the fields of a message are "
-                )?;
-                write_names(PARTS, f)
+                write!(f, "a message has no field {name}")?;
+                write_nearest(PARTS, name, f)
             }
             StyleError::UnknownDetail(name) => {
-                write!(
-                    f,
-                    "no field {name} goes with --certificates; the fields of a certificate are "
-                )?;
-                write_names(DETAILS, f)
+                write!(f, "a certificate has no field {name}")?;
+                write_nearest(DETAILS, name, f)
             }
             StyleError::TwoKinds => {
                 f.write_str("--messages and --certificates don't go together")
@@ -140,13 +127,15 @@ impl Display for StyleError<'_> {
             StyleError::NumbersOfMessages => {
                 f.write_str("--numbers doesn't go with --messages, which has names")
             }
-            StyleError::FieldsOfSuricata => {
-                f.write_str(
-                    "--fields doesn't go with --format suricata, which has fields of its own",
-                )
-            }
-            StyleError::KindOfSuricata => f.write_str(
-                "--format suricata is of connections: neither --messages nor --certificates goes with it",
+            StyleError::FieldsOfFormat(format) => write!(
+                f,
+                "--fields doesn't go with --format {}, which has fields of its own",
+                format.name()
+            ),
+            StyleError::KindOfFormat(format) => write!(
+                f,
+                "--format {} is of connections: neither --messages nor --certificates goes with it",
+                format.name()
             ),
             StyleError::DoubledField(name) => write!(f, "the field {name} is named twice"),
             StyleError::OutOfMemory => f.write_str("out of memory"),
@@ -246,10 +235,11 @@ fn csv_header(alloc: Global, lines: &Lines) -> Result<Vec<u8>, AllocError> {
 impl Style {
     /// That which is asked for.
     ///
-    /// Suricata's events are of connections alone, and have all of their fields.
+    /// A format with fields of its own is of connections alone, and has all of its fields.
     pub fn new(
         alloc: Global,
         format: Format,
+        formulas: Formulas,
         kind: LineKind,
         names: Option<&str>,
         suites: Suites,
@@ -257,16 +247,17 @@ impl Style {
         if kind == LineKind::Messages && suites.are_numbered() {
             return Err(StyleError::NumbersOfMessages);
         }
-        if matches!(format, Format::Suricata) {
+        if format.has_own_fields() {
             if kind != LineKind::Connections {
-                return Err(StyleError::KindOfSuricata);
+                return Err(StyleError::KindOfFormat(format));
             }
             if names.is_some() {
-                return Err(StyleError::FieldsOfSuricata);
+                return Err(StyleError::FieldsOfFormat(format));
             }
         }
         Ok(Style {
             format,
+            formulas,
             lines: Lines::new(alloc, kind, names)?,
             suites,
             digests: RefCell::new(KnownDigests::new(alloc)),
@@ -277,8 +268,9 @@ impl Style {
     /// What stands in front of all lines, without its last line break, if there is something. The log begins at this time, in seconds since 1970-01-01 00:00 UTC.
     pub fn header(&self, alloc: Global, opened: i64) -> Result<Option<Vec<u8>>, AllocError> {
         match self.format {
-            Format::Json | Format::Suricata => Ok(None),
-            Format::Csv(_) => Ok(Some(csv_header(alloc, &self.lines)?)),
+            Format::Json | Format::Suricata | Format::Ecs => Ok(None),
+            Format::Text => Ok(Some(aligned::header(alloc)?)),
+            Format::Csv => Ok(Some(csv_header(alloc, &self.lines)?)),
             Format::Zeek => Ok(Some(zeek_header(alloc, &self.lines, opened)?.into_bytes())),
         }
     }
@@ -287,7 +279,7 @@ impl Style {
     pub fn footer(&self, alloc: Global, closed: i64) -> Result<Option<Vec<u8>>, AllocError> {
         match self.format {
             Format::Zeek => Ok(Some(zeek::footer(alloc, closed)?.into_bytes())),
-            Format::Json | Format::Csv(_) | Format::Suricata => Ok(None),
+            Format::Json | Format::Csv | Format::Text | Format::Suricata | Format::Ecs => Ok(None),
         }
     }
 
@@ -299,8 +291,8 @@ impl Style {
     /// A line, without its line break.
     fn line(&self, alloc: Global, row: &Row<'_>) -> Result<Vec<u8>, AllocError> {
         match self.format {
-            Format::Json | Format::Suricata => json_row(alloc, row),
-            Format::Csv(formulas) => comma::line(alloc, row, formulas),
+            Format::Json | Format::Text | Format::Suricata | Format::Ecs => json_row(alloc, row),
+            Format::Csv => comma::line(alloc, row, self.formulas),
             Format::Zeek => Ok(zeek_line(alloc, &self.lines, row)?.into_bytes()),
         }
     }
@@ -315,9 +307,11 @@ impl Style {
         room: Vec<u8>,
     ) -> Result<Vec<u8>, AllocError> {
         match self.format {
+            Format::Text => aligned::line(alloc, self, summary),
             Format::Suricata => suricata::line(alloc, self, summary),
+            Format::Ecs => ecs::line(alloc, self, summary),
             Format::Json => json_line(alloc, self, places, summary, room),
-            Format::Csv(_) | Format::Zeek => {
+            Format::Csv | Format::Zeek => {
                 let row = row_of(&mut self.told(alloc, summary), places)?;
                 self.line(alloc, &row)
             }

@@ -1,4 +1,5 @@
 //! Connections as Suricata's eve.json has them (docs.suricata.io, "EVE JSON Format", event type TLS).
+use crate::stamps::stamp_cell;
 use crate::style::Style;
 use connection_ids::flow_id;
 use connections::{Protocol, Side};
@@ -18,7 +19,9 @@ use serde::{Described, Serialize, Serializer};
 use sha1::Sha1;
 use std::alloc::{AllocError, Global};
 use tls_summary::HandshakeSummary;
-use x509_text::time_text;
+
+/// The time zone of times: UTC.
+const ZONE: &str = "+0000";
 
 /// What the certificate of a side's own says.
 #[derive(Clone, Copy)]
@@ -336,17 +339,6 @@ fn said_cell<'a>(
     }
 }
 
-/// The time of the first packet, as 2026-11-26T17:00:00.000000+0000.
-fn timestamp_cell(alloc: Global, time: u64) -> Result<Option<Cell<'static>>, AllocError> {
-    let Some(mut text) = time_text(alloc, (time / 1_000_000_000) as i64)? else {
-        return Ok(None);
-    };
-    text.pop();
-    let part = microseconds(time) % 1_000_000;
-    text.push_str(format!(in alloc; ".{part:06}+0000")?.as_str())?;
-    Ok(Some(Cell::Text(Text::Owned(text))))
-}
-
 fn proto_name(protocol: Protocol) -> &'static str {
     match protocol {
         Protocol::Tcp => "TCP",
@@ -373,7 +365,7 @@ fn front_row(alloc: Global, summary: &Summary<'_>) -> Result<Row<'static>, Alloc
         time,
     };
     let mut cells = Vec::with_capacity(alloc, 9)?;
-    cells.push(("timestamp", timestamp_cell(alloc, time)?))?;
+    cells.push(("timestamp", stamp_cell(alloc, time, ZONE)?))?;
     cells.push(("flow_id", Some(Cell::Number(flow_number(summary)))))?;
     cells.push(("event_type", Some(name_cell("tls"))))?;
     for (name, end) in FRONT {

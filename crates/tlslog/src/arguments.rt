@@ -6,7 +6,7 @@ use connection_parts::Part;
 use log_connections::Checksums;
 use log_formats::comma::Formulas;
 use log_formats::suites::{OtherSuites, Suites};
-use log_lines::{Format, LineKind, Style, StyleError};
+use log_lines::{FORMAT_NAMES, Format, LineKind, Style, StyleError};
 use std::alloc::{AllocError, Global};
 use std::fmt::{self, Display, Formatter};
 use std::rt::Runtime;
@@ -72,9 +72,6 @@ impl Refusal<'_> {
     }
 }
 
-/// The names of formats.
-static FORMATS: [&str; 4] = ["json", "csv", "zeek", "suricata"];
-
 /// The names of what checksums count, the default first.
 static CHECKSUMS: [&str; 3] = ["auto", "check", "ignore"];
 
@@ -114,7 +111,7 @@ fn option<'a>(alloc: Global, name: &'a str, value: &'a str, help: &'a str) -> Ar
 /// How lines are written.
 fn format<'a>(alloc: Global) -> Arg<'a> {
     option(alloc, "format", "FORMAT", "How lines are written")
-        .value_parser(FORMATS.as_slice())
+        .value_parser(FORMAT_NAMES)
         .default_value("json")
 }
 
@@ -246,12 +243,11 @@ fn formulas_of(matches: &ArgMatches<'_>) -> Formulas {
 
 /// How lines are written.
 fn format_of(matches: &ArgMatches<'_>) -> Format {
-    match matches.get_str("format") {
-        Some("csv") => Format::Csv(formulas_of(matches)),
-        Some("zeek") => Format::Zeek,
-        Some("suricata") => Format::Suricata,
-        _ => Format::Json,
-    }
+    let named = match matches.get_str("format") {
+        Some(name) => Format::named(name),
+        None => None,
+    };
+    named.unwrap_or(Format::Json)
 }
 
 /// Which checksums count.
@@ -308,5 +304,6 @@ pub fn style_of<'a, R: Runtime + AllocGlobal>(
         None => Suites::new(rt.alloc(), others),
     };
     let (format, fields) = (format_of(matches), matches.get_str("fields"));
-    Ok(Style::new(rt.alloc(), format, kind, fields, suites)?)
+    let formulas = formulas_of(matches);
+    Ok(Style::new(rt.alloc(), format, formulas, kind, fields, suites)?)
 }

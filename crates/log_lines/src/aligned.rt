@@ -1,0 +1,242 @@
+//! Connections for eyes: one a line, in columns, of at most 160 characters. Values that are longer than their column are cut.
+use crate::style::Style;
+use connections::End;
+use log_fields::connection::{cell_of, microseconds};
+use log_fields::fields::{Course, Field, Named, Print};
+use log_fields::summary::Summary;
+use log_fields::told::Told;
+use log_formats::cell::Cell;
+use log_formats::objects::json_text;
+use std::alloc::{AllocError, Global};
+use std::net::IpAddr;
+use x509_text::time_text;
+
+/// What stands for a value that is missing.
+const UNSET: &str = "-";
+
+/// What stands for the part of a value that is cut off.
+const CUT: &str = "..";
+
+/// What a column shows.
+#[derive(Clone, Copy)]
+enum Shown {
+    /// A field of the connection's line.
+    Same(Field),
+    /// When it began.
+    Time,
+    /// The originator's address.
+    Client,
+    /// The responder's address and port.
+    Server,
+    /// The cipher suite without the `TLS_` in front.
+    Suite,
+    /// How many seconds it took.
+    Duration,
+}
+
+/// Which end of a value is left where it is cut.
+#[derive(Clone, Copy)]
+enum Left {
+    Front,
+    Back,
+}
+
+/// The columns: the name, how wide it is, which end of a value is left, and what it shows.
+static COLUMNS: [(&str, usize, Left, Shown); 10] = [
+    ("time (UTC)", 14, Left::Front, Shown::Time),
+    ("client", 15, Left::Back, Shown::Client),
+    ("server", 21, Left::Back, Shown::Server),
+    (
+        "host",
+        18,
+        Left::Back,
+        Shown::Same(Field::Named(Named::ServerName)),
+    ),
+    (
+        "version",
+        7,
+        Left::Front,
+        Shown::Same(Field::Named(Named::Version)),
+    ),
+    ("suite", 18, Left::Back, Shown::Suite),
+    (
+        "alpn",
+        6,
+        Left::Front,
+        Shown::Same(Field::Named(Named::NextProtocol)),
+    ),
+    (
+        "ja4",
+        36,
+        Left::Front,
+        Shown::Same(Field::Print(Print::Ja4)),
+    ),
+    ("secs", 6, Left::Front, Shown::Duration),
+    (
+        "outcome",
+        10,
+        Left::Front,
+        Shown::Same(Field::Course(Course::Outcome)),
+    ),
+];
+
+/// A value as text.
+fn cell_text(alloc: Global, cell: Option<Cell<'_>>) -> Result<String, AllocError> {
+    match cell {
+        None => String::from_str(alloc, UNSET),
+        Some(Cell::Text(text)) => text.to_string(alloc),
+        Some(other) => json_text(alloc, &other, 32),
+    }
+}
+
+/// The month, day and time of day of the first packet.
+fn time_of(alloc: Global, summary: &Summary<'_>) -> Result<String, AllocError> {
+    let seconds = (summary.first_time / 1_000_000_000) as i64;
+    let Some(whole) = time_text(alloc, seconds)? else {
+        return String::from_str(alloc, UNSET);
+    };
+    let mut text = String::new(alloc);
+    for byte in whole.as_bytes().iter().skip(5).take(14) {
+        text.push(match *byte {
+            b'T' => ' ',
+            other => char::from(other),
+        })?;
+    }
+    Ok(text)
+}
+
+/// An address and port; one of IPv6 in brackets (RFC 3986, section 3.2.2).
+fn end_text(alloc: Global, end: End) -> Result<String, AllocError> {
+    match end.address {
+        IpAddr::V4(address) => format!(in alloc; "{address}:{}", end.port),
+        IpAddr::V6(address) => format!(in alloc; "[{address}]:{}", end.port),
+    }
+}
+
+/// How many seconds a connection took, in at most 6 characters up to 11 days.
+fn duration_text(alloc: Global, summary: &Summary<'_>) -> Result<String, AllocError> {
+    let duration = summary.last_time.saturating_sub(summary.first_time);
+    let milliseconds = microseconds(duration) / 1000;
+    let (seconds, part) = (milliseconds / 1000, milliseconds % 1000);
+    match seconds {
+        0..=99 => format!(in alloc; "{seconds}.{part:03}"),
+        100..=999 => format!(in alloc; "{seconds}.{:02}", part / 10),
+        _ => format!(in alloc; "{seconds}"),
+    }
+}
+
+/// The cipher suite.
+fn suite_text(alloc: Global, told: &mut Told<'_>) -> Result<String, AllocError> {
+    let text = cell_text(alloc, cell_of(told, &Field::Named(Named::Cipher))?)?;
+    match text.as_str().strip_prefix("TLS_") {
+        Some(name) => String::from_str(alloc, name),
+        None => Ok(text),
+    }
+}
+
+/// What a column shows of a connection.
+fn shown_text(alloc: Global, told: &mut Told<'_>, shown: Shown) -> Result<String, AllocError> {
+    let summary = told.summary;
+    match shown {
+        Shown::Same(field) => cell_text(alloc, cell_of(told, &field)?),
+        Shown::Time => time_of(alloc, summary),
+        Shown::Client => format!(in alloc; "{}", summary.originator.end.address),
+        Shown::Server => end_text(alloc, summary.responder.end),
+        Shown::Suite => suite_text(alloc, told),
+        Shown::Duration => duration_text(alloc, summary),
+    }
+}
+
+/// The text, in which each byte that isn't printable ASCII is told by its digits: so a terminal takes nothing of it for an order.
+fn printable(alloc: Global, text: &str) -> Result<String, AllocError> {
+    let mut shown = String::new(alloc);
+    for byte in text.as_bytes() {
+        match *byte {
+            b' '..=b'~' => shown.push(char::from(*byte))?,
+            other => shown.push_str(format!(in alloc; "\\x{other:02x}")?.as_str())?,
+        }
+    }
+    Ok(shown)
+}
+
+/// Adds these bytes, which are printable ASCII.
+fn add_bytes(line: &mut String, bytes: &[u8]) -> Result<(), AllocError> {
+    for byte in bytes {
+        line.push(char::from(*byte))?;
+    }
+    Ok(())
+}
+
+/// Adds a text of printable ASCII in so many characters, of which one end is left where it is longer.
+fn add_cut(line: &mut String, text: &[u8], width: usize, left: Left) -> Result<(), AllocError> {
+    let room = width.saturating_sub(CUT.len());
+    if text.len() <= width {
+        return add_bytes(line, text);
+    }
+    match left {
+        Left::Front => {
+            add_bytes(line, text.get(..room).unwrap_or(&[]))?;
+            line.push_str(CUT)
+        }
+        Left::Back => {
+            let begin = text.len().saturating_sub(room);
+            line.push_str(CUT)?;
+            add_bytes(line, text.get(begin..).unwrap_or(&[]))
+        }
+    }
+}
+
+/// Adds a text as the next column of so many characters, behind a blank.
+fn add_column(
+    alloc: Global,
+    line: &mut String,
+    text: &str,
+    width: usize,
+    left: Left,
+) -> Result<(), AllocError> {
+    let text = printable(alloc, text)?;
+    if !line.is_empty() {
+        line.push(' ')?;
+    }
+    add_cut(line, text.as_bytes(), width, left)?;
+    for _ in text.len()..width {
+        line.push(' ')?;
+    }
+    Ok(())
+}
+
+/// The line without the blanks at its end.
+fn without_end(line: String) -> Vec<u8> {
+    let mut bytes = line.into_bytes();
+    'blanks: for _ in 0..bytes.len() {
+        match bytes.last() {
+            Some(b' ') => bytes.pop(),
+            _ => break,
+        };
+    }
+    bytes
+}
+
+/// The names of the columns, without a line break.
+pub fn header(alloc: Global) -> Result<Vec<u8>, AllocError> {
+    let mut line = String::new(alloc);
+    for (name, width, left, _shown) in &COLUMNS {
+        add_column(alloc, &mut line, name, *width, *left)?;
+    }
+    Ok(without_end(line))
+}
+
+/// The line of a connection, without a line break.
+pub fn line<'a>(
+    alloc: Global,
+    style: &'a Style,
+    summary: &'a Summary<'a>,
+) -> Result<Vec<u8>, AllocError> {
+    let mut told = style.told(alloc, summary);
+    let mut line = String::new(alloc);
+    for (_name, width, left, shown) in &COLUMNS {
+        let text = shown_text(alloc, &mut told, *shown)?;
+        add_column(alloc, &mut line, text.as_str(), *width, *left)?;
+    }
+    Ok(without_end(line))
+}

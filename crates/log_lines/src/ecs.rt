@@ -1,0 +1,433 @@
+//! Connections by the names of the Elastic Common Schema (elastic.co/docs/reference/ecs), as Filebeat sends them.
+use crate::nested::{Nested, Path};
+use crate::stamps::stamp_cell;
+use crate::style::Style;
+use connections::{Protocol, Side};
+use log_fields::columns::Certified;
+use log_fields::connection::cell_of;
+use log_fields::fields::{Chain, Course, End, Field, Named, Offer, Print, Sent};
+use log_fields::summary::Summary;
+use log_fields::told::Told;
+use log_formats::cell::{Cell, Row};
+use log_formats::lists::{Texts, some_texts};
+use log_formats::objects::{LINE_LEN, json_bytes};
+use log_formats::text::{name_cell, name_or_number, some_name, some_text};
+use log_formats::versions::ecs_version;
+use std::alloc::{AllocError, Global};
+use std::net::IpAddr;
+use tls_flow::Outcome;
+
+/// The version of the schema whose names these are.
+const SCHEMA: &str = "8.11.0";
+
+/// The time zone of times: UTC.
+const ZONE: &str = "Z";
+
+/// What a name says.
+#[derive(Clone, Copy)]
+enum Said {
+    /// A field of the connection's line.
+    Same(Field),
+    /// What the certificate says.
+    Certified(Certified),
+    /// Digits that the certificate says, in upper case.
+    Digits(Certified),
+    /// A number that the certificate says.
+    Number(Certified),
+    /// The names in its subjectAltName.
+    AlternativeNames,
+    /// Its digest.
+    Sha256,
+    /// A word that each event has.
+    Word(&'static str),
+    /// A list of one such word, or of two.
+    Words(&'static [&'static str]),
+    Begin,
+    End,
+    Duration,
+    Success,
+    NetworkType,
+    NetworkProtocol,
+    /// What both sides sent, counted.
+    Both(Sent),
+    Version,
+    VersionProtocol,
+}
+
+/// Whose certificate a row tells of.
+#[derive(Clone, Copy)]
+enum Owner {
+    Nobody,
+    Client,
+    Server,
+}
+
+/// The names in an object, each with what it says.
+type Rows = &'static [(&'static str, Said)];
+
+const EVENT: Rows = &[
+    ("kind", Said::Word("event")),
+    ("category", Said::Words(&["network"])),
+    ("type", Said::Words(&["connection", "protocol"])),
+    ("dataset", Said::Word("tlslog.connection")),
+    ("id", Said::Same(Field::End(End::Uid))),
+    ("outcome", Said::Success),
+    ("start", Said::Begin),
+    ("end", Said::End),
+    ("duration", Said::Duration),
+];
+
+const SOURCE: Rows = &[
+    ("ip", Said::Same(Field::End(End::Originator))),
+    ("port", Said::Same(Field::End(End::OriginatorPort))),
+    (
+        "bytes",
+        Said::Same(Field::Sent(Side::Originator, Sent::Bytes)),
+    ),
+    (
+        "packets",
+        Said::Same(Field::Sent(Side::Originator, Sent::Packets)),
+    ),
+];
+
+const DESTINATION: Rows = &[
+    ("ip", Said::Same(Field::End(End::Responder))),
+    ("port", Said::Same(Field::End(End::ResponderPort))),
+    (
+        "bytes",
+        Said::Same(Field::Sent(Side::Responder, Sent::Bytes)),
+    ),
+    (
+        "packets",
+        Said::Same(Field::Sent(Side::Responder, Sent::Packets)),
+    ),
+];
+
+const NETWORK: Rows = &[
+    ("transport", Said::Same(Field::End(End::Protocol))),
+    ("type", Said::NetworkType),
+    ("protocol", Said::NetworkProtocol),
+    ("community_id", Said::Same(Field::End(End::CommunityId))),
+    ("bytes", Said::Both(Sent::Bytes)),
+    ("packets", Said::Both(Sent::Packets)),
+];
+
+const TLS: Rows = &[
+    ("version", Said::Version),
+    ("version_protocol", Said::VersionProtocol),
+    ("cipher", Said::Same(Field::Named(Named::Cipher))),
+    ("curve", Said::Same(Field::Named(Named::Curve))),
+    (
+        "established",
+        Said::Same(Field::Course(Course::Established)),
+    ),
+    ("resumed", Said::Same(Field::Course(Course::Resumed))),
+    (
+        "next_protocol",
+        Said::Same(Field::Named(Named::NextProtocol)),
+    ),
+];
+
+const CLIENT: Rows = &[
+    ("server_name", Said::Same(Field::Named(Named::ServerName))),
+    ("ja3", Said::Same(Field::Print(Print::Ja3))),
+    (
+        "supported_ciphers",
+        Said::Same(Field::Offer(Offer::Ciphers)),
+    ),
+    ("subject", Said::Certified(Certified::Subject)),
+    ("issuer", Said::Certified(Certified::Issuer)),
+    ("not_before", Said::Certified(Certified::NotBefore)),
+    ("not_after", Said::Certified(Certified::NotAfter)),
+];
+
+const SERVER: Rows = &[
+    ("ja3s", Said::Same(Field::Print(Print::Ja3s))),
+    ("subject", Said::Certified(Certified::Subject)),
+    ("issuer", Said::Certified(Certified::Issuer)),
+    ("not_before", Said::Certified(Certified::NotBefore)),
+    ("not_after", Said::Certified(Certified::NotAfter)),
+];
+
+const HASH: Rows = &[("sha256", Said::Sha256)];
+
+const X509: Rows = &[
+    ("version_number", Said::Certified(Certified::Version)),
+    ("serial_number", Said::Digits(Certified::Serial)),
+    ("not_before", Said::Certified(Certified::NotBefore)),
+    ("not_after", Said::Certified(Certified::NotAfter)),
+    ("alternative_names", Said::AlternativeNames),
+    (
+        "public_key_algorithm",
+        Said::Certified(Certified::KeyAlgorithm),
+    ),
+    ("public_key_size", Said::Certified(Certified::KeyLength)),
+    ("public_key_exponent", Said::Number(Certified::Exponent)),
+    ("public_key_curve", Said::Certified(Certified::Curve)),
+    (
+        "signature_algorithm",
+        Said::Certified(Certified::SignatureAlgorithm),
+    ),
+];
+
+const SUBJECT: Rows = &[("distinguished_name", Said::Certified(Certified::Subject))];
+
+const ISSUER: Rows = &[("distinguished_name", Said::Certified(Certified::Issuer))];
+
+/// What the schema has no names for.
+const OWN: Rows = &[
+    ("ja4", Said::Same(Field::Print(Print::Ja4))),
+    ("outcome", Said::Same(Field::Course(Course::Outcome))),
+    ("last_alert", Said::Same(Field::Named(Named::LastAlert))),
+    ("gap", Said::Same(Field::Course(Course::Gap))),
+];
+
+/// The objects of an event, in their order.
+static OBJECTS: &[(Path, Owner, Rows)] = &[
+    (&[], Owner::Nobody, &[("@timestamp", Said::Begin)]),
+    (&["ecs"], Owner::Nobody, &[("version", Said::Word(SCHEMA))]),
+    (&["event"], Owner::Nobody, EVENT),
+    (&["source"], Owner::Nobody, SOURCE),
+    (&["destination"], Owner::Nobody, DESTINATION),
+    (&["network"], Owner::Nobody, NETWORK),
+    (&["tls"], Owner::Nobody, TLS),
+    (&["tls", "client"], Owner::Client, CLIENT),
+    (&["tls", "client", "hash"], Owner::Client, HASH),
+    (&["tls", "client", "x509"], Owner::Client, X509),
+    (
+        &["tls", "client", "x509", "subject"],
+        Owner::Client,
+        SUBJECT,
+    ),
+    (&["tls", "client", "x509", "issuer"], Owner::Client, ISSUER),
+    (&["tls", "server"], Owner::Server, SERVER),
+    (&["tls", "server", "hash"], Owner::Server, HASH),
+    (&["tls", "server", "x509"], Owner::Server, X509),
+    (
+        &["tls", "server", "x509", "subject"],
+        Owner::Server,
+        SUBJECT,
+    ),
+    (&["tls", "server", "x509", "issuer"], Owner::Server, ISSUER),
+    (&["tlslog"], Owner::Nobody, OWN),
+];
+
+/// What a field of that certificate says.
+fn certified_cell<'a>(
+    told: &mut Told<'a>,
+    owner: Owner,
+    field: Certified,
+) -> Result<Option<Cell<'a>>, AllocError> {
+    match owner {
+        Owner::Nobody => Ok(None),
+        Owner::Client => cell_of(told, &Field::ClientCertificate(field)),
+        Owner::Server => cell_of(told, &Field::ServerCertificate(field)),
+    }
+}
+
+/// The same in upper case.
+fn digits_cell<'a>(
+    told: &mut Told<'_>,
+    owner: Owner,
+    field: Certified,
+) -> Result<Option<Cell<'a>>, AllocError> {
+    let alloc = told.alloc;
+    match certified_cell(told, owner, field)? {
+        Some(Cell::Text(text)) => {
+            some_text(text.to_string(alloc)?.as_str().to_ascii_uppercase(alloc))
+        }
+        _ => Ok(None),
+    }
+}
+
+/// The same as a number, where the text is one.
+fn number_cell<'a>(
+    told: &mut Told<'_>,
+    owner: Owner,
+    field: Certified,
+) -> Result<Option<Cell<'a>>, AllocError> {
+    let alloc = told.alloc;
+    let Some(Cell::Text(text)) = certified_cell(told, owner, field)? else {
+        return Ok(None);
+    };
+    match text.to_string(alloc)?.as_str().parse::<u64>() {
+        Ok(number) => Ok(Some(Cell::Number(number))),
+        Err(_) => Ok(None),
+    }
+}
+
+/// Adds the names of one kind in that certificate.
+fn add_names(
+    told: &mut Told<'_>,
+    owner: Owner,
+    field: Certified,
+    all: &mut Vec<String>,
+) -> Result<(), AllocError> {
+    if let Some(Cell::Texts(Texts::Owned(names))) = certified_cell(told, owner, field)? {
+        'names: for name in names {
+            all.push(name)?;
+        }
+    }
+    Ok(())
+}
+
+/// The names in that certificate: its DNS names, addresses, mail addresses and URIs.
+fn alternative_names_cell<'a>(
+    told: &mut Told<'_>,
+    owner: Owner,
+) -> Result<Option<Cell<'a>>, AllocError> {
+    let mut all = Vec::new(told.alloc);
+    add_names(told, owner, Certified::DnsNames, &mut all)?;
+    add_names(told, owner, Certified::Addresses, &mut all)?;
+    add_names(told, owner, Certified::Emails, &mut all)?;
+    add_names(told, owner, Certified::Uris, &mut all)?;
+    Ok(some_texts(Texts::Owned(all)))
+}
+
+/// The SHA-256 of that certificate, in upper case.
+fn sha256_cell<'a>(told: &mut Told<'_>, owner: Owner) -> Result<Option<Cell<'a>>, AllocError> {
+    let alloc = told.alloc;
+    let prints = match owner {
+        Owner::Nobody => return Ok(None),
+        Owner::Client => Chain::ClientPrints,
+        Owner::Server => Chain::ServerPrints,
+    };
+    let Some(Cell::Texts(Texts::Prints(chain))) = cell_of(told, &Field::Chain(prints))? else {
+        return Ok(None);
+    };
+    match chain.first() {
+        Some(own) => some_text(hex::encode_upper(alloc, &own.sha256)),
+        None => Ok(None),
+    }
+}
+
+/// A list of words.
+fn words_cell<'a>(alloc: Global, words: &[&str]) -> Result<Option<Cell<'a>>, AllocError> {
+    let mut all = Vec::new(alloc);
+    for word in words {
+        all.push(String::from_str(alloc, word)?)?;
+    }
+    Ok(some_texts(Texts::Owned(all)))
+}
+
+/// Whether the connection came to what its sides wanted.
+fn success_of(summary: &Summary<'_>) -> &'static str {
+    match summary.outcome {
+        Outcome::Full | Outcome::Resumed | Outcome::Tls13 { .. } => "success",
+        Outcome::BrokenOff => "failure",
+        Outcome::Waiting | Outcome::Unknown | Outcome::NoHandshake => "unknown",
+    }
+}
+
+fn network_type(summary: &Summary<'_>) -> &'static str {
+    match summary.originator.end.address {
+        IpAddr::V4(_) => "ipv4",
+        IpAddr::V6(_) => "ipv6",
+    }
+}
+
+fn network_protocol(protocol: Protocol) -> &'static str {
+    match protocol {
+        Protocol::Tcp => "tls",
+        Protocol::Udp => "dtls",
+    }
+}
+
+/// A count of one side.
+fn count_of(told: &mut Told<'_>, side: Side, counted: Sent) -> Result<u64, AllocError> {
+    match cell_of(told, &Field::Sent(side, counted))? {
+        Some(Cell::Number(count)) => Ok(count),
+        _ => Ok(0),
+    }
+}
+
+/// The same of both.
+fn both_cell<'a>(told: &mut Told<'_>, counted: Sent) -> Result<Option<Cell<'a>>, AllocError> {
+    let from_originator = count_of(told, Side::Originator, counted)?;
+    let from_responder = count_of(told, Side::Responder, counted)?;
+    Ok(Some(Cell::Number(from_originator.saturating_add(from_responder))))
+}
+
+/// The version without the protocol's name, or its number.
+fn version_cell<'a>(told: &Told<'_>) -> Option<Cell<'a>> {
+    let version = told.handshake.version()?;
+    let name = ecs_version(version).map(|(_protocol, name)| name);
+    Some(Cell::Text(name_or_number(name, version.0)))
+}
+
+/// The name of the protocol without the version.
+fn version_protocol_cell<'a>(told: &Told<'_>) -> Option<Cell<'a>> {
+    let version = told.handshake.version()?;
+    some_name(ecs_version(version).map(|(protocol, _name)| protocol))
+}
+
+/// What a name says of the connection itself.
+fn summary_cell<'a>(
+    alloc: Global,
+    summary: &Summary<'_>,
+    said: Said,
+) -> Result<Option<Cell<'a>>, AllocError> {
+    match said {
+        Said::Begin => stamp_cell(alloc, summary.first_time, ZONE),
+        Said::End => stamp_cell(alloc, summary.last_time, ZONE),
+        Said::Duration => Ok(Some(Cell::Number(
+            summary.last_time.saturating_sub(summary.first_time),
+        ))),
+        Said::Success => Ok(Some(name_cell(success_of(summary)))),
+        Said::NetworkType => Ok(Some(name_cell(network_type(summary)))),
+        Said::NetworkProtocol => Ok(Some(name_cell(network_protocol(summary.protocol)))),
+        Said::Word(word) => Ok(Some(name_cell(word))),
+        Said::Words(words) => words_cell(alloc, words),
+        _ => Ok(None),
+    }
+}
+
+/// What a name says of a connection, and of that certificate.
+fn said_cell<'a>(
+    told: &mut Told<'a>,
+    owner: Owner,
+    said: Said,
+) -> Result<Option<Cell<'a>>, AllocError> {
+    match said {
+        Said::Same(field) => cell_of(told, &field),
+        Said::Certified(field) => certified_cell(told, owner, field),
+        Said::Digits(field) => digits_cell(told, owner, field),
+        Said::Number(field) => number_cell(told, owner, field),
+        Said::AlternativeNames => alternative_names_cell(told, owner),
+        Said::Sha256 => sha256_cell(told, owner),
+        Said::Both(counted) => both_cell(told, counted),
+        Said::Version => Ok(version_cell(told)),
+        Said::VersionProtocol => Ok(version_protocol_cell(told)),
+        Said::Begin
+        | Said::End
+        | Said::Duration
+        | Said::Success
+        | Said::NetworkType
+        | Said::NetworkProtocol
+        | Said::Word(_)
+        | Said::Words(_) => summary_cell(told.alloc, told.summary, said),
+    }
+}
+
+/// What the names in an object say.
+fn object_row<'a>(told: &mut Told<'a>, owner: Owner, rows: Rows) -> Result<Row<'a>, AllocError> {
+    let mut cells = Vec::with_capacity(told.alloc, rows.len())?;
+    for (name, said) in rows {
+        cells.push((*name, said_cell(told, owner, *said)?))?;
+    }
+    Ok(Row { cells })
+}
+
+/// The event of a connection, without a line break.
+pub fn line<'a>(
+    alloc: Global,
+    style: &'a Style,
+    summary: &'a Summary<'a>,
+) -> Result<Vec<u8>, AllocError> {
+    let mut told = style.told(alloc, summary);
+    let mut rows = Vec::with_capacity(alloc, OBJECTS.len())?;
+    for (path, owner, names) in OBJECTS {
+        rows.push((*path, object_row(&mut told, *owner, names)?))?;
+    }
+    json_bytes(alloc, &Nested { rows }, LINE_LEN)
+}
