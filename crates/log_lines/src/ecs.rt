@@ -1,4 +1,5 @@
 //! Connections by the names of the Elastic Common Schema (elastic.co/docs/reference/ecs), as Filebeat sends them.
+use crate::listed::listed_cell;
 use crate::nested::{Nested, Path};
 use crate::stamps::stamp_cell;
 use crate::style::Style;
@@ -256,32 +257,32 @@ fn number_cell<'a>(
     }
 }
 
-/// Adds the names of one kind in that certificate.
-fn add_names(
-    told: &mut Told<'_>,
-    owner: Owner,
-    field: Certified,
-    all: &mut Vec<String>,
-) -> Result<(), AllocError> {
-    if let Some(Cell::Texts(Texts::Owned(names))) = certified_cell(told, owner, field)? {
-        'names: for name in names {
-            all.push(name)?;
-        }
-    }
-    Ok(())
-}
+/// The names in the client's certificate, kind by kind.
+static CLIENT_NAMES: [Field; 4] = [
+    Field::ClientCertificate(Certified::DnsNames),
+    Field::ClientCertificate(Certified::Addresses),
+    Field::ClientCertificate(Certified::Emails),
+    Field::ClientCertificate(Certified::Uris),
+];
 
-/// The names in that certificate: its DNS names, addresses, mail addresses and URIs.
+/// The names in the server's, kind by kind.
+static SERVER_NAMES: [Field; 4] = [
+    Field::ServerCertificate(Certified::DnsNames),
+    Field::ServerCertificate(Certified::Addresses),
+    Field::ServerCertificate(Certified::Emails),
+    Field::ServerCertificate(Certified::Uris),
+];
+
+/// The names in that certificate.
 fn alternative_names_cell<'a>(
     told: &mut Told<'_>,
     owner: Owner,
 ) -> Result<Option<Cell<'a>>, AllocError> {
-    let mut all = Vec::new(told.alloc);
-    add_names(told, owner, Certified::DnsNames, &mut all)?;
-    add_names(told, owner, Certified::Addresses, &mut all)?;
-    add_names(told, owner, Certified::Emails, &mut all)?;
-    add_names(told, owner, Certified::Uris, &mut all)?;
-    Ok(some_texts(Texts::Owned(all)))
+    match owner {
+        Owner::Nobody => Ok(None),
+        Owner::Client => listed_cell(told, &CLIENT_NAMES),
+        Owner::Server => listed_cell(told, &SERVER_NAMES),
+    }
 }
 
 /// The SHA-256 of that certificate, in upper case.
@@ -292,11 +293,11 @@ fn sha256_cell<'a>(told: &mut Told<'_>, owner: Owner) -> Result<Option<Cell<'a>>
         Owner::Client => Chain::ClientPrints,
         Owner::Server => Chain::ServerPrints,
     };
-    let Some(Cell::Texts(Texts::Prints(chain))) = cell_of(told, &Field::Chain(prints))? else {
+    let Some(Cell::Texts(Texts::Digests(chain))) = cell_of(told, &Field::Chain(prints))? else {
         return Ok(None);
     };
     match chain.first() {
-        Some(own) => some_text(hex::encode_upper(alloc, &own.sha256)),
+        Some(own) => some_text(hex::encode_upper(alloc, own.as_slice())),
         None => Ok(None),
     }
 }

@@ -8,6 +8,7 @@ mod aligned;
 mod ecs;
 mod format;
 mod json_line;
+mod listed;
 mod nested;
 mod presented;
 mod spoken;

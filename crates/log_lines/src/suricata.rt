@@ -1,4 +1,5 @@
 //! Connections as Suricata's eve.json has them (docs.suricata.io, "EVE JSON Format", event type TLS).
+use crate::listed::listed_cell;
 use crate::stamps::stamp_cell;
 use crate::style::Style;
 use connection_ids::flow_id;
@@ -9,7 +10,7 @@ use log_fields::fields::{End, Field, Named, Offer, Print};
 use log_fields::summary::Summary;
 use log_fields::told::{Moment, Told};
 use log_formats::cell::{Cell, PrintCell, Row};
-use log_formats::lists::{Texts, some_texts};
+use log_formats::lists::Texts;
 use log_formats::objects::{LINE_LEN, json_bytes};
 use log_formats::text::{
     Text, add_text, hexadecimal, name_cell, name_or_number, some_mark, some_text,
@@ -196,33 +197,11 @@ fn name_cell_of<'a>(
     }
 }
 
-/// Adds the names of one kind in the server's subjectAltName.
-fn add_names(
-    told: &mut Told<'_>,
-    field: Certified,
-    all: &mut Vec<String>,
-) -> Result<(), AllocError> {
-    if let Some(Cell::Texts(Texts::Owned(names))) = cell_of(
-        told,
-        &Field::ServerCertificate(field),
-    )? {
-        for name in names {
-            all.push(name)?;
-        }
-    }
-    Ok(())
-}
-
 /// The DNS names and then the addresses in the server's subjectAltName.
-fn alternative_names<'a>(
-    alloc: Global,
-    told: &mut Told<'_>,
-) -> Result<Option<Cell<'a>>, AllocError> {
-    let mut all = Vec::new(alloc);
-    add_names(told, Certified::DnsNames, &mut all)?;
-    add_names(told, Certified::Addresses, &mut all)?;
-    Ok(some_texts(Texts::Owned(all)))
-}
+static NAMES: [Field; 2] = [
+    Field::ServerCertificate(Certified::DnsNames),
+    Field::ServerCertificate(Certified::Addresses),
+];
 
 /// The bytes of its serial number.
 fn serial_cell<'a>(
@@ -330,7 +309,7 @@ fn said_cell<'a>(
     match said {
         Said::Same(field) => cell_of(told, field),
         Said::Own(field) => own_cell(alloc, told, Side::Responder, *field),
-        Said::AlternativeNames => alternative_names(alloc, told),
+        Said::AlternativeNames => listed_cell(told, &NAMES),
         Said::Version => Ok(version_cell(summary.handshake)),
         Said::Resumed => Ok(some_mark(summary.is_resumed)),
         Said::Ja3 => print_cell(alloc, told, Print::Ja3, Print::Ja3Text),

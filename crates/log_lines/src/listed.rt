@@ -1,0 +1,29 @@
+//! Several lists of a line as one.
+use log_fields::connection::cell_of;
+use log_fields::fields::Field;
+use log_fields::told::Told;
+use log_formats::cell::Cell;
+use log_formats::lists::{Texts, some_texts};
+use std::alloc::AllocError;
+
+/// Adds the texts of a field that is a list.
+fn add_listed(told: &mut Told<'_>, field: &Field, all: &mut Vec<String>) -> Result<(), AllocError> {
+    if let Some(Cell::Texts(Texts::Owned(texts))) = cell_of(told, field)? {
+        'texts: for text in texts {
+            all.push(text)?;
+        }
+    }
+    Ok(())
+}
+
+/// The texts of these fields, which are lists, one behind the other; nothing where there are none.
+pub fn listed_cell<'a>(
+    told: &mut Told<'_>,
+    fields: &[Field],
+) -> Result<Option<Cell<'a>>, AllocError> {
+    let mut all = Vec::new(told.alloc);
+    for field in fields {
+        add_listed(told, field, &mut all)?;
+    }
+    Ok(some_texts(Texts::Owned(all)))
+}
