@@ -261,11 +261,13 @@ impl Counts {
             Counted(self.packets, "packet")
         )?;
         for (link_type, count) in self.other_links.rows() {
-            let packets = Counted(count, "packet");
-            eprintln!(rt;
-                "{name}: left out: {packets} of link type {}, which is not supported",
-                LinkName(link_type)
-            )?;
+            if count > 0 {
+                let what = Counted(count, "packet");
+                eprintln!(rt;
+                    "{name}: left out: {what} of link type {}, which is not supported",
+                    LinkName(link_type)
+                )?;
+            }
         }
         for (count, noun, why) in self.left_out() {
             if count > 0 {
