@@ -224,7 +224,7 @@ macro_rules! rows {
                 "last_alert": Text = LastAlert => |told| Ok(some_alert(told.handshake.last_alert));
             }
             Course {
-                /// the state of the handshake: `full`, `resumed`, `tls13`, `broken_off`, `waiting`, `unknown`, `no_handshake` (docs/HANDSHAKES.md)
+                /// the state of the handshake: `full`, `resumed`, `tls13`, `broken_off`, `waiting`, `unknown`, `no_handshake` ("Outcomes", below)
                 "outcome": Text = Outcome => |told| Some(name_cell(outcome_name(told.summary.outcome)));
                 /// the message that ended the handshake without success: `message` (its kind), `sender`, and `messages_before` (how many messages came before it)
                 /// absent: it didn't end so

@@ -33,34 +33,34 @@ macro_rules! formats {
 }
 
 /// Their names.
-macro_rules! names {
+macro_rules! names_of {
     ($($name:literal $format:ident $has_own:literal;)*) => {
         &[$($name),*]
     };
 }
 
 /// Their rows.
-macro_rules! rows {
+macro_rules! rows_of {
     ($($name:literal $format:ident $has_own:literal;)*) => {
         &[$(($name, Format::$format, $has_own)),*]
     };
 }
 
 /// The names of the formats, the default first.
-pub static FORMAT_NAMES: &[&str] = formats!(names);
+pub static FORMAT_NAMES: &[&str] = formats!(names_of);
 
-static FORMATS: &[(&str, Format, bool)] = formats!(rows);
+static TABLE: &[(&str, Format, bool)] = formats!(rows_of);
 
 impl Format {
     /// That of this name.
     pub fn named(name: &str) -> Option<Format> {
-        let found = FORMATS.iter().find(|row| row.0 == name);
+        let found = TABLE.iter().find(|row| row.0 == name);
         found.map(|row| row.1)
     }
 
     /// Its name.
     pub fn name(self) -> &'static str {
-        match FORMATS.iter().find(|row| row.1 == self) {
+        match TABLE.iter().find(|row| row.1 == self) {
             Some(row) => row.0,
             None => "",
         }
@@ -68,6 +68,6 @@ impl Format {
 
     /// Whether it has fields of its own, and lines for connections alone.
     pub fn has_own_fields(self) -> bool {
-        FORMATS.iter().any(|row| row.1 == self && row.2)
+        TABLE.iter().any(|row| row.1 == self && row.2)
     }
 }
