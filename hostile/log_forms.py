@@ -106,7 +106,7 @@ def suites(ask: Ask, files: list[Path], lines: list[Line], room: Path) -> None:
         want(status == 0 and [json.loads(row) for row in text.splitlines()] == with_suites(lines, other), *words, status, text[-300:])
     for words, wanted in [
         (["--ciphers", bad], 2), (["--ciphers", room / "none"], 3), (["--fields", "no_such_field"], 2), (["--fields", "ts,ts"], 2),
-        (["--fields", ""], 2), (["--messages", "--fields", "version"], 2), (["--format", "xml"], 2), (["--format"], 2),
+        (["--fields", ""], 2), (["--messages", "--fields", "version"], 2), (["--messages", "--numbers"], 2), (["--format", "xml"], 2), (["--format"], 2),
     ]:
         status, text, told = ask([*words, *files])
         want((status, text) == (wanted, "") and told, *words, "status", status, text, told)
