@@ -1,4 +1,4 @@
-"""The rows of crates/tlscall/data (docs/ROWS.md), and those of certificates beside this file, through the Python module: values, places, kinds of refusals, and missing counts.
+"""The rows of tests/rows/data (docs/ROWS.md), and those of certificates beside this file, through the Python module: values, places, kinds of refusals, and missing counts.
 
     rows.py [PROGRAM]
 
@@ -24,7 +24,7 @@ script.answer_help(__doc__)
 import wispuddera as w  # noqa: E402
 
 HERE = Path(__file__).resolve().parent
-DATA = HERE.parent.parent / "crates/tlscall/data"
+DATA = HERE.parent.parent / "tests/rows/data"
 CLAUSE = re.compile(r"\s(=>|cut:|within:|inside:|written:)")
 
 

@@ -1,1 +1,1 @@
-"""The rows of tlscall as inputs of views."""
+"""The rows of tests/rows as inputs of views."""

@@ -1,4 +1,4 @@
-"""Rows of crates/tlscall/data (docs/ROWS.md), read as inputs of groups of calls, and written as a source of text.
+"""Rows of tests/rows/data (docs/ROWS.md), read as inputs of groups of calls, and written as a source of text.
 
 An input is the bytes of a row of a call that reads the group's layout, or a part of them that does: the body of a message, the
 content of an extension.
@@ -11,7 +11,7 @@ from collections.abc import Iterable, Iterator
 from pathlib import Path
 from typing import NamedTuple
 
-DATA = Path(__file__).resolve().parent.parent.parent / "crates/tlscall/data"
+DATA = Path(__file__).resolve().parent.parent.parent / "tests/rows/data"
 # Inputs up to so many bytes are cut at every place.
 SHORT = 600
 # On each side of the ends of a longer one, and of its repeated parts, it is cut at so many places.

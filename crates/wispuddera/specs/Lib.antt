@@ -81,9 +81,9 @@ pub use Rattle.dtls_stream.specs.Datagrams
 pub use Rattle.dtls_stream.specs.Ciphertext
 pub use Rattle.dtls_stream.specs.Ack
 pub use Rattle.dtls_stream.specs.DatagramRecord
-pub use Rattle.tls_conversations.specs.Events as BothEvents
-pub use Rattle.tls_conversations.specs.Ears
-pub use Rattle.tls_conversations.specs.Conversations as BothConversations
+pub mod BothEvents
+pub use Rattle.tls_stream.specs.Ears
+pub use Rattle.tls_stream.specs.Conversations as BothConversations
 pub use Rattle.der.specs.Element
 pub use Rattle.der.specs.Values
 pub use Rattle.der.specs.ObjectIdentifier

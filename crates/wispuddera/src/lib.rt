@@ -23,14 +23,15 @@
 //! their impls too.
 #![tactic(auto)]
 
+pub mod conversations;
+pub mod events;
+pub mod fragments;
+
 pub use der as elements;
-pub use dtls_messages as fragments;
 pub use dtls_stream as datagrams;
 pub use layouts as fields;
 pub use tls_base as numbers;
-pub use tls_conversations as conversations;
 pub use tls_detection as detection;
-pub use tls_events as events;
 pub use tls_ext as extensions;
 pub use tls_flow as flows;
 pub use tls_hs as handshakes;

@@ -1,1 +1,0 @@
-pub use Rattle.layouts.proofs.EndLemmas.{ends_after, ends, AreBytes-rest}

@@ -1,1 +1,0 @@
-pub use Rattle.layouts.proofs.FramedLemmas.{list1_walked, items_of_windows}

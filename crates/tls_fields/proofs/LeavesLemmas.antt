@@ -1,1 +1,0 @@
-pub use Rattle.layouts.proofs.LeavesLemmas.{Leaves, leaves, BeginsWithNumber, LeavesFewer, takes_byte}

@@ -1,1 +1,0 @@
-pub use Rattle.layouts.proofs.ListLemmas.{ListRead, list_none, map_same}

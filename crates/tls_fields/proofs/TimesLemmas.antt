@@ -1,1 +1,0 @@
-pub use Rattle.layouts.proofs.TimesLemmas.{TimesRead}

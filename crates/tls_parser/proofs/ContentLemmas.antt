@@ -1,1 +1,0 @@
-pub use Rattle.tls_records.proofs.ContentLemmas.{plaintext_is_raw_then_content, dtls_plaintext_is_raw_then_content}

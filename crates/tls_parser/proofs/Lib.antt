@@ -1,4 +1,0 @@
-pub mod ContentLemmas
-pub mod FurtherLemmas
-pub mod RawRecordLemmas
-pub mod CallerLemmas

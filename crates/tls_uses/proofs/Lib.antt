@@ -1,6 +1,0 @@
-pub mod MissingLemmas
-pub mod AlertLemmas
-pub mod MappedLemmas
-pub mod ProxyLemmas
-pub mod ConversationLemmas
-mod MonitorLemmas

@@ -1,0 +1,8 @@
+//! Both sides together: what they say, and how the handshake ended. Conversations are `tls_stream`'s, and the events of DTLS are made by `dtls_stream`.
+
+pub use dtls_stream::{datagram_message, dtls_event, dtls_event_with};
+pub use tls_flow::{Direction, Flow, Kind, Outcome, Stop};
+pub use tls_stream::{
+    Conversation, DEFAULT_LIMIT, Event, Fault, Said, chooses_tls13, outcome_of, said_event_with,
+    said_message, tls_event,
+};
