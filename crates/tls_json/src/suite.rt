@@ -1,7 +1,8 @@
 //! How cipher suites are written.
 ghost use Rattle.std.specs.Prelude.{IfOk};
+ghost use Rattle.std.specs.Option.{option_map};
 ghost use Rattle.serde_json.specs.Data.{string, array, no_items};
-ghost use Rattle.tls_json.specs.Outline.{Shows, suite_text};
+ghost use Rattle.tls_json.specs.Outline.{Shows, name_or_number, suite_text};
 
 use crate::json::Value;
 use crate::table::Values;
@@ -10,15 +11,22 @@ use layouts::Items;
 use std::alloc::{AllocError, Global};
 use tls_base::TlsCipherSuiteID;
 
+/// A name, or else the number, as `0x1234`.
+fn name_or_code(alloc: Global, name: Option<&'static str>, code: u16) -> Result<Value, AllocError>
+    ensures { IfOk result (Shows (string (name_or_number (option_map (λ t. t.now) name.entry) code))) }
+{
+    match name {
+        Some(name) => Ok(Value::Name(name)),
+        None => code_text(alloc, code),
+    }
+}
+
 /// A cipher suite by the name that IANA's registry has for it, as `TLS_AES_128_GCM_SHA256`, or else its number, as `0x1234`.
 #[tactic(auto, unfolding(crate::specs::Outline::suite_text))]
 pub fn suite_value(alloc: Global, suite: TlsCipherSuiteID) -> Result<Value, AllocError>
     ensures { IfOk result (Shows (string (suite_text suite.0))) }
 {
-    match suite.registered_name() {
-        Some(name) => Ok(Value::Name(name)),
-        None => code_text(alloc, suite.0),
-    }
+    name_or_code(alloc, suite.registered_name(), suite.0)
 }
 
 /// Cipher suites in their order, each by its name or else its number.
