@@ -3,9 +3,8 @@
 from __future__ import annotations
 
 import json
-import re
 from collections import Counter
-from collections.abc import Callable, Iterable, Iterator
+from collections.abc import Callable, Iterator
 from functools import lru_cache
 from typing import Any, BinaryIO, NamedTuple, NoReturn, Optional
 
@@ -157,16 +156,14 @@ class Reader:
 
     def __iter__(self) -> Iterator[Connection]:
         for log in self._logs:
-            before = self.lines - sum(self.unread.values())
-            is_empty = True
+            lines, unread = self.lines, sum(self.unread.values())
             for line in self._lines(log):
-                if is_empty and (reason := other_format(line)):
+                if self.lines == lines + 1 and (reason := other_format(line)):
                     raise OtherFormat(reason)
-                is_empty = False
                 fields = self._object(line)
                 if fields is not None:
                     yield self._connection(fields)
-            if not is_empty and before == self.lines - sum(self.unread.values()):
+            if self.lines > lines and self.lines - lines == sum(self.unread.values()) - unread:
                 raise OtherFormat(f"no line of it is a connection, and {_TO_JSON}")
 
     def _lines(self, log: BinaryIO) -> Iterator[bytes]:

@@ -36,7 +36,7 @@ def _fingerprint(of: Certificate) -> Cell:
     if of.fingerprint is None:
         return words(None)
     parts = [of.fingerprint[at : at + _DIGITS] for at in range(0, len(of.fingerprint), _DIGITS)]
-    return Cell(f"<code>{'<wbr/>'.join(map(text.escaped, parts))}</code>")
+    return Cell(f"<code class=\"digits\">{'<wbr/>'.join(map(text.escaped, parts))}</code>")
 
 
 def poor_servers(counts: Counts, commands: Commands) -> str:
