@@ -208,12 +208,13 @@ def serial_of(digits: str | None) -> str | None:
     return digits and colons("00" + digits if int(digits[0], 16) >= 8 else digits)
 
 
-def event_of(line: Line, prints: dict[str, str], own: Line | None) -> Line:
-    """The event that is wanted of a connection, whose client sent a certificate of its own."""
+def event_of(line: Line, prints: dict[str, str], certificates: dict[str, Line]) -> Line:
+    """The event that is wanted of a connection. A client's certificate is told by its line, by the SHA-256."""
     time = datetime.fromtimestamp(round(line["ts"] * 1_000_000) // 1_000_000, timezone.utc)
     chain, of_client = line.get("cert_chain_fps"), line.get("client_cert_chain_fps")
     pair = lambda name: {"hash": line[name], "string": line[f"{name}_string"]} if name in line else None  # noqa: E731
     some = lambda given: {name: value for name, value in given.items() if value is not None}  # noqa: E731
+    own = certificates[of_client[0]] if of_client else {}
     client = own and some({
         "subject": forward(line.get("client_subject")), "issuerdn": forward(line.get("client_issuer")), "fingerprint": of_client and colons(prints[of_client[0]]),
         "serial": serial_of(own.get("certificate.serial")), "notbefore": day(own.get("certificate.not_valid_before")),
@@ -226,7 +227,7 @@ def event_of(line: Line, prints: dict[str, str], own: Line | None) -> Line:
         "fingerprint": chain and colons(prints[chain[0]]), "sni": line.get("server_name"),
         "version": VERSIONS.get(line.get("version"), line.get("version")),
         "notbefore": date(line.get("not_before")), "notafter": date(line.get("not_after")), "ja3": pair("ja3"), "ja3s": pair("ja3s"),
-        "ja4": line.get("ja4"), "client": client, "client_alpns": line.get("orig_alpn"), "server_alpns": [line["next_protocol"]] if "next_protocol" in line else None,
+        "ja4": line.get("ja4"), "client": client or None, "client_alpns": line.get("orig_alpn"), "server_alpns": [line["next_protocol"]] if "next_protocol" in line else None,
     }
     return {
         "timestamp": f"{time:%Y-%m-%dT%H:%M:%S}.{round(line['ts'] * 1_000_000) % 1_000_000:06}+0000", "flow_id": identifiers.flow_id(line), "event_type": "tls",
@@ -241,10 +242,9 @@ def suricata(ask: Ask, files: list[Path]) -> int:
     prints = own_certificates(json.loads(line) for line in rows(ask, "--messages", *files).splitlines())
     events = [json.loads(line) for line in rows(ask, "--format", "suricata", *files).splitlines()]
     want(len(events) == len(lines), len(events), "events of", len(lines), "connections")
-    certificates = [json.loads(line) for line in rows(ask, "--certificates", *files).splitlines()]
-    own = {one["uid"]: one for one in certificates if one["side"] == "client" and one["place"] == 0}
+    certificates = {one["fingerprint"]: one for one in map(json.loads, rows(ask, "--certificates", *files).splitlines())}
     for event, line in zip(events, lines):
-        wanted = event_of(line, prints, own.get(line["uid"]))
+        wanted = event_of(line, prints, certificates)
         want(event == wanted and list(event) == list(wanted) and list(event["tls"]) == list(wanted["tls"]), "suricata:", event, "wanted is", wanted)
     for words, told in [(["--fields", "ts"], "--fields doesn't go with"), (["--messages"], "neither --messages"), (["--certificates"], "nor --certificates")]:
         status, text, error = ask(["--format", "suricata", *words, *files])

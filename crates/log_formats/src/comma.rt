@@ -50,6 +50,7 @@ fn field_text(
     match cell {
         None => Ok(String::new(alloc)),
         Some(Cell::Text(text)) => cell_text(alloc, text.to_string(alloc)?, formulas),
+        Some(Cell::Json(text)) => String::from_str(alloc, text.as_str()),
         Some(other) => json_text(alloc, other, 32),
     }
 }
