@@ -202,7 +202,10 @@ class Reader:
         return fields
 
     def _connection(self, fields: dict[str, Any]) -> Connection:
-        uid, version, suite, group, host, outcome, alert, ja4, client, address = [self._text(fields.get(name), name) for name in TEXTS]
+        # (most texts are short, and need no call)
+        uid, version, suite, group, host, outcome, alert, ja4, client, address = [
+            value if type(value := fields.get(name)) is str and len(value) <= text.LONGEST else self._text(value, name) for name in TEXTS
+        ]
         # Lines with numbers and lines with names count as one.
         suite = suites.name_of(suite) if suite is not None else None
         return Connection(

@@ -11,7 +11,7 @@ from .commands import Commands
 from .counting import MUST_NOT, OFFERED, Counts, Issued, Mismatch, Offer, Poor, SelfSigned
 from .reading import Certificate, Server
 from .sections import BEHIND, CONNECTIONS, Ranking, faults, of_entry, spellings
-from .tables import ROWS, Cell, Column, aside, breakable, counted, number, some, table, words
+from .tables import ROWS, Cell, Column, aside, counted, number, some, table, words
 
 # A certificate that expires within so many days expires soon.
 SOON = 30
@@ -107,7 +107,7 @@ def certificates(counts: Counts, commands: Commands) -> str:
 
     def row(issued: Issued) -> list[Cell]:
         of = issued.certificate
-        front = [words(of.subject, "none told"), number(issued.count), *_days_left(of, now), words(of.issuer), some(of.names, 2, of.name_count)]
+        front = [words(of.subject, "none told"), number(issued.count), *_days_left(of, now), words(of.issuer), some(of.names, 1, of.name_count)]
         return [*front, some(sorted(issued.servers), 2), _fingerprint(of), of_entry(issued, commands, jq.of_certificate(of))]
 
     more = len(found) - ROWS
