@@ -63,7 +63,7 @@ def is_line(connection, line):
 
 def test_fields_of_the_page():
     page = (TOP / "docs/TLSLOG.md").read_text()
-    table = page[page.index("## Fields of a connection") : page.index("### Names")]
+    table = page[page.index("<!-- made by docs/fields: connections -->") :].split("<!-- end -->")[0]
     named = [name for row in re.findall(r"^\| (`.*?) \|", table, re.M) for name in re.findall(r"`([^`]+)`", row)]
     assert [name.replace(".", "_") for name in named] == [name for name in FIELDS if name != "more"]
 
@@ -159,7 +159,7 @@ def test_interrupts():
     """Ctrl-C ends a stream: what is open then comes, and the loop ends. Where a file is read it is raised."""
     with tempfile.TemporaryDirectory() as folder:
         line = LINES[0].decode()
-        program = stand_in(folder, f"print({line!r}, flush=True)\nsys.stdin.buffer.read()\nprint({line!r})")
+        program = stand_in(folder, f"print({line!r}, flush=True)\nsys.stdin.buffer.read()\nprint({line!r})\nsys.exit(1)")
         with subprocess.Popen(["sleep", "60"], stdout=subprocess.PIPE) as writer:
             found, timer = [], threading.Timer(1, os.kill, [os.getpid(), signal.SIGINT])
             for connection in w.log(writer.stdout, program=program):

@@ -259,6 +259,10 @@ def _some_of_line(line: bytes) -> Connection:
     return Connection._of_values({**{name: None for name in _ALWAYS if name not in known}, **values})
 
 
+# The status of tlslog where a capture is cut.
+_CUT = 1
+
+
 class _Feed(threading.Thread):
     """Copies an open capture into the program, until either ends or `stop` is called."""
 
@@ -300,7 +304,8 @@ def _items(command: list[str], source: Optional[BinaryIO], is_stream: bool, show
             if source is not None:
                 assert process.stdin is not None
                 feed = _Feed(source, process.stdin)  # type: ignore[arg-type]
-            for line in _lines(process.stdout.fileno(), feed, is_stream):
+            output = _Output(process.stdout.fileno(), feed, is_stream)
+            for line in output:
                 yield shown(line)
             status = process.wait()
         except BaseException:
@@ -309,30 +314,37 @@ def _items(command: list[str], source: Optional[BinaryIO], is_stream: bool, show
             raise
         finally:
             process.stdout.close()
-        if status != 0:
+        # A stream that Ctrl-C ended may end within a packet, which the program tells by its status.
+        if status != 0 and not (output.was_interrupted and status == _CUT):
             errors.seek(0)
             raise LogError(command[0], status, errors.read().decode("utf-8", "backslashreplace").strip())
         if feed is not None and feed.fault is not None:
             raise feed.fault
 
 
-def _lines(descriptor: int, feed: Optional[_Feed], is_stream: bool) -> Iterator[bytes]:
+class _Output:
     """The lines of the program. Ctrl-C ends its input once, if that is a stream."""
-    rest = b""
-    while True:
+
+    def __init__(self, descriptor: int, feed: Optional[_Feed], is_stream: bool) -> None:
+        self._descriptor, self._feed, self._is_stream = descriptor, feed, is_stream
+        self.was_interrupted = False
+
+    def __iter__(self) -> Iterator[bytes]:
+        rest = b""
+        while piece := self._read():
+            *whole, rest = (rest + piece).split(b"\n")
+            yield from whole
+        if rest:
+            yield rest
+
+    def _read(self) -> bytes:
         try:
             # (a signal loses nothing of what is read so)
-            piece = os.read(descriptor, 65536)
+            return os.read(self._descriptor, 65536)
         except KeyboardInterrupt:
-            if not is_stream:
+            if self.was_interrupted or not self._is_stream:
                 raise
-            is_stream = False
-            if feed is not None:
-                feed.stop()
-            continue
-        if not piece:
-            break
-        *whole, rest = (rest + piece).split(b"\n")
-        yield from whole
-    if rest:
-        yield rest
+            self.was_interrupted = True
+            if self._feed is not None:
+                self._feed.stop()
+            return self._read()
