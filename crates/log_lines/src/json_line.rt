@@ -71,10 +71,10 @@ impl Adds<'_> {
 impl<'a> TakesCell<'a> for Adds<'_> {
     #[inline(always)]
     fn take(&mut self, cell: Option<Cell<'a>>) -> Result<(), AllocError> {
-        match cell {
-            Some(Cell::Texts(texts)) => self.add_texts(&texts),
+        match &cell {
+            Some(Cell::Texts(texts)) => self.add_texts(texts),
             Some(Cell::Numbers(Numbers::Codes(codes))) => self.add_codes(codes),
-            Some(cell) => self.line.add(self.name, &cell),
+            Some(cell) => self.line.add(self.name, cell),
             None => Ok(()),
         }
     }

@@ -8,7 +8,7 @@ use log_fields::columns::Certified;
 use log_fields::connection::{cell_of, end_cell, microseconds};
 use log_fields::fields::{End, Field, Named, Offer, Print};
 use log_fields::summary::Summary;
-use log_fields::told::{Moment, Told};
+use log_fields::told::{Moment, Own, Told};
 use log_formats::cell::{Cell, PrintCell, Row};
 use log_formats::lists::Texts;
 use log_formats::objects::{LINE_LEN, json_bytes};
@@ -39,8 +39,8 @@ enum OwnField {
 enum Said {
     /// The same as one of the log's own fields.
     Same(Field),
-    /// What the server's certificate says.
-    Own(OwnField),
+    /// What the certificate of a side's own says.
+    Own(Side, OwnField),
     AlternativeNames,
     Version,
     Resumed,
@@ -51,16 +51,19 @@ enum Said {
 
 /// The fields of the object `tls` in front of the object `client`, in their order.
 static TLS: &[(&str, Said)] = &[
-    ("subject", Said::Own(OwnField::Subject)),
-    ("issuerdn", Said::Own(OwnField::Issuer)),
+    ("subject", Said::Own(Side::Responder, OwnField::Subject)),
+    ("issuerdn", Said::Own(Side::Responder, OwnField::Issuer)),
     ("subjectaltname", Said::AlternativeNames),
     ("session_resumed", Said::Resumed),
-    ("serial", Said::Own(OwnField::Serial)),
-    ("fingerprint", Said::Own(OwnField::Fingerprint)),
+    ("serial", Said::Own(Side::Responder, OwnField::Serial)),
+    (
+        "fingerprint",
+        Said::Own(Side::Responder, OwnField::Fingerprint),
+    ),
     ("sni", Said::Same(Field::Named(Named::ServerName))),
     ("version", Said::Version),
-    ("notbefore", Said::Own(OwnField::NotBefore)),
-    ("notafter", Said::Own(OwnField::NotAfter)),
+    ("notbefore", Said::Own(Side::Responder, OwnField::NotBefore)),
+    ("notafter", Said::Own(Side::Responder, OwnField::NotAfter)),
     ("ja3", Said::Ja3),
     ("ja3s", Said::Ja3s),
     ("ja4", Said::Same(Field::Print(Print::Ja4))),
@@ -73,13 +76,19 @@ static PROTOCOLS: &[(&str, Said)] = &[
 ];
 
 /// The fields of the object `client`, in their order: what the client's certificate says.
-static CLIENT: &[(&str, OwnField)] = &[
-    ("subject", OwnField::Subject),
-    ("issuerdn", OwnField::Issuer),
-    ("fingerprint", OwnField::Fingerprint),
-    ("serial", OwnField::Serial),
-    ("notbefore", OwnField::NotBefore),
-    ("notafter", OwnField::NotAfter),
+static CLIENT: &[(&str, Said)] = &[
+    ("subject", Said::Own(Side::Originator, OwnField::Subject)),
+    ("issuerdn", Said::Own(Side::Originator, OwnField::Issuer)),
+    (
+        "fingerprint",
+        Said::Own(Side::Originator, OwnField::Fingerprint),
+    ),
+    ("serial", Said::Own(Side::Originator, OwnField::Serial)),
+    (
+        "notbefore",
+        Said::Own(Side::Originator, OwnField::NotBefore),
+    ),
+    ("notafter", Said::Own(Side::Originator, OwnField::NotAfter)),
 ];
 
 /// An event of eve.json: what any event has, and the object `tls`, which has the object `client` within, where the client sent a certificate.
@@ -152,17 +161,17 @@ fn add_ascii(text: &mut String, bytes: Option<&[u8]>) -> Result<(), AllocError> 
 /// A name from its first set of attributes to the last, as Suricata has it, by the text that RFC 4514 has from the last on.
 fn forward_name(alloc: Global, text: &[u8]) -> Result<String, AllocError> {
     let mut forward = String::new(alloc);
-    let mut places = places_of_signs(alloc, text)?;
+    let places = places_of_signs(alloc, text)?;
     let mut end = text.len();
-    while let Some(place) = places.pop() {
+    for place in places.as_slice().iter().rev() {
         add_ascii(&mut forward, text.get(place.saturating_add(1)..end))?;
-        let sign = if text.get(place) == Some(&b'+') {
+        let sign = if text.get(*place) == Some(&b'+') {
             " + "
         } else {
             ", "
         };
         forward.push_str(sign)?;
-        end = place;
+        end = *place;
     }
     add_ascii(&mut forward, text.get(..end))?;
     Ok(forward)
@@ -204,15 +213,7 @@ static NAMES: [Field; 2] = [
 ];
 
 /// The bytes of its serial number.
-fn serial_cell<'a>(
-    alloc: Global,
-    told: &mut Told<'_>,
-    side: Side,
-) -> Result<Option<Cell<'a>>, AllocError> {
-    let own = match side {
-        Side::Originator => &mut told.client,
-        Side::Responder => &mut told.server,
-    };
+fn serial_cell<'a>(alloc: Global, own: &mut Own<'_>) -> Result<Option<Cell<'a>>, AllocError> {
     match own.certificate() {
         Some(certificate) => {
             let digits = hex::encode_upper(alloc, certificate.tbs_certificate.serial_number)?;
@@ -261,7 +262,10 @@ fn own_cell<'a>(
     match field {
         OwnField::Subject => name_cell_of(alloc, told, side, Certified::Subject),
         OwnField::Issuer => name_cell_of(alloc, told, side, Certified::Issuer),
-        OwnField::Serial => serial_cell(alloc, told, side),
+        OwnField::Serial => match side {
+            Side::Originator => serial_cell(alloc, &mut told.client),
+            Side::Responder => serial_cell(alloc, &mut told.server),
+        },
         OwnField::Fingerprint => fingerprint_cell(alloc, own_bytes(told.handshake, side)),
         OwnField::NotBefore => date_cell(told, side, Certified::NotBefore),
         OwnField::NotAfter => date_cell(told, side, Certified::NotAfter),
@@ -308,7 +312,7 @@ fn said_cell<'a>(
     let summary = told.summary;
     match said {
         Said::Same(field) => cell_of(told, field),
-        Said::Own(field) => own_cell(alloc, told, Side::Responder, *field),
+        Said::Own(side, field) => own_cell(alloc, told, *side, *field),
         Said::AlternativeNames => listed_cell(told, &NAMES),
         Said::Version => Ok(version_cell(summary.handshake)),
         Said::Resumed => Ok(some_mark(summary.is_resumed)),
@@ -364,7 +368,7 @@ static FRONT: &[(&str, End)] = &[
     ("dest_port", End::ResponderPort),
 ];
 
-/// Fields of the object `tls`.
+/// These fields of the object `tls`, or of one within it.
 fn tls_row<'a>(
     alloc: Global,
     told: &mut Told<'a>,
@@ -382,11 +386,7 @@ fn client_row<'a>(alloc: Global, told: &mut Told<'a>) -> Result<Option<Row<'a>>,
     if own_bytes(told.handshake, Side::Originator).is_none() {
         return Ok(None);
     }
-    let mut cells = Vec::with_capacity(alloc, CLIENT.len())?;
-    for (name, field) in CLIENT {
-        cells.push((*name, own_cell(alloc, told, Side::Originator, *field)?))?;
-    }
-    Ok(Some(Row { cells }))
+    Ok(Some(tls_row(alloc, told, CLIENT)?))
 }
 
 /// The event of a connection, without a line break.
