@@ -4,17 +4,11 @@
 //! [`Style::message_line`] that of a message, and [`Style::certificate_line`] that of a certificate.
 #![tactic(auto)]
 
-mod aligned;
-mod ecs;
 mod format;
 mod json_line;
-mod listed;
-mod nested;
 mod presented;
 mod spoken;
-mod stamps;
 mod style;
-mod suricata;
 
 pub use format::{FORMAT_NAMES, Format};
 pub use style::{LineKind, Lines, Style, StyleError};

@@ -3,7 +3,6 @@ use crate::format::Format;
 use crate::json_line::json_line;
 use crate::presented::certificate_row;
 use crate::spoken::message_row;
-use crate::{aligned, ecs, suricata};
 use log_fields::columns::{DETAILS, PARTS};
 use log_fields::connection::row_of;
 use log_fields::fields::FIELDS;
@@ -269,7 +268,7 @@ impl Style {
     pub fn header(&self, alloc: Global, opened: i64) -> Result<Option<Vec<u8>>, AllocError> {
         match self.format {
             Format::Json | Format::Suricata | Format::Ecs => Ok(None),
-            Format::Text => Ok(Some(aligned::header(alloc)?)),
+            Format::Text => Ok(Some(log_text::header(alloc)?)),
             Format::Csv => Ok(Some(csv_header(alloc, &self.lines)?)),
             Format::Zeek => Ok(Some(zeek_header(alloc, &self.lines, opened)?.into_bytes())),
         }
@@ -307,9 +306,9 @@ impl Style {
         room: Vec<u8>,
     ) -> Result<Vec<u8>, AllocError> {
         match self.format {
-            Format::Text => aligned::line(alloc, self, summary),
-            Format::Suricata => suricata::line(alloc, self, summary),
-            Format::Ecs => ecs::line(alloc, self, summary),
+            Format::Text => log_text::line(self.told(alloc, summary)),
+            Format::Suricata => log_suricata::line(self.told(alloc, summary)),
+            Format::Ecs => log_ecs::line(self.told(alloc, summary)),
             Format::Json => json_line(alloc, self, places, summary, room),
             Format::Csv | Format::Zeek => {
                 let row = row_of(&mut self.told(alloc, summary), places)?;

@@ -1,5 +1,4 @@
 //! Connections for eyes: one a line, in columns, of at most 160 characters. Values that are longer than their column are cut.
-use crate::style::Style;
 use connections::End;
 use log_fields::connection::{cell_of, microseconds};
 use log_fields::fields::{Course, Field, Named, Print};
@@ -227,12 +226,9 @@ pub fn header(alloc: Global) -> Result<Vec<u8>, AllocError> {
 }
 
 /// The line of a connection, without a line break.
-pub fn line<'a>(
-    alloc: Global,
-    style: &'a Style,
-    summary: &'a Summary<'a>,
-) -> Result<Vec<u8>, AllocError> {
-    let mut told = style.told(alloc, summary);
+pub fn line(told: Told<'_>) -> Result<Vec<u8>, AllocError> {
+    let alloc = told.alloc;
+    let mut told = told;
     let mut line = String::new(alloc);
     for (_name, width, left, shown) in &COLUMNS {
         let text = shown_text(alloc, &mut told, *shown)?;

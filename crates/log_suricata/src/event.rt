@@ -1,12 +1,11 @@
 //! Connections as Suricata's eve.json has them (docs.suricata.io, "EVE JSON Format", event type TLS).
-use crate::listed::listed_cell;
-use crate::stamps::stamp_cell;
-use crate::style::Style;
 use connection_ids::flow_id;
 use connections::{Protocol, Side};
 use log_fields::columns::Certified;
 use log_fields::connection::{cell_of, end_cell, microseconds};
 use log_fields::fields::{End, Field, Named, Offer, Print};
+use log_fields::listed::listed_cell;
+use log_fields::stamps::stamp_cell;
 use log_fields::summary::Summary;
 use log_fields::told::{Moment, Own, Told};
 use log_formats::cell::{Cell, PrintCell, Row};
@@ -390,12 +389,9 @@ fn client_row<'a>(alloc: Global, told: &mut Told<'a>) -> Result<Option<Row<'a>>,
 }
 
 /// The event of a connection, without a line break.
-pub fn line<'a>(
-    alloc: Global,
-    style: &'a Style,
-    summary: &'a Summary<'a>,
-) -> Result<Vec<u8>, AllocError> {
-    let mut told = style.told(alloc, summary);
+pub fn line(told: Told<'_>) -> Result<Vec<u8>, AllocError> {
+    let (alloc, summary) = (told.alloc, told.summary);
+    let mut told = told;
     let event = Event {
         front: front_row(alloc, summary)?,
         tls: tls_row(alloc, &mut told, TLS)?,

@@ -1,7 +1,7 @@
 //! Several lists of a line as one.
-use log_fields::connection::cell_of;
-use log_fields::fields::Field;
-use log_fields::told::Told;
+use crate::connection::cell_of;
+use crate::fields::Field;
+use crate::told::Told;
 use log_formats::cell::Cell;
 use log_formats::lists::{Texts, some_texts};
 use std::alloc::AllocError;

@@ -1,12 +1,11 @@
 //! Connections by the names of the Elastic Common Schema (elastic.co/docs/reference/ecs), as Filebeat sends them.
-use crate::listed::listed_cell;
 use crate::nested::{Nested, Path};
-use crate::stamps::stamp_cell;
-use crate::style::Style;
 use connections::{Protocol, Side};
 use log_fields::columns::Certified;
 use log_fields::connection::cell_of;
 use log_fields::fields::{Chain, Course, End, Field, Named, Offer, Print, Sent};
+use log_fields::listed::listed_cell;
+use log_fields::stamps::stamp_cell;
 use log_fields::summary::Summary;
 use log_fields::told::Told;
 use log_formats::cell::{Cell, Row};
@@ -420,12 +419,9 @@ fn object_row<'a>(told: &mut Told<'a>, owner: Owner, rows: Rows) -> Result<Row<'
 }
 
 /// The event of a connection, without a line break.
-pub fn line<'a>(
-    alloc: Global,
-    style: &'a Style,
-    summary: &'a Summary<'a>,
-) -> Result<Vec<u8>, AllocError> {
-    let mut told = style.told(alloc, summary);
+pub fn line(told: Told<'_>) -> Result<Vec<u8>, AllocError> {
+    let alloc = told.alloc;
+    let mut told = told;
     let mut rows = Vec::with_capacity(alloc, OBJECTS.len())?;
     for (path, owner, names) in OBJECTS {
         rows.push((*path, object_row(&mut told, *owner, names)?))?;

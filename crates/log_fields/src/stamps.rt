@@ -1,5 +1,5 @@
 //! Times as text, to the microsecond.
-use log_fields::connection::microseconds;
+use crate::connection::microseconds;
 use log_formats::cell::Cell;
 use log_formats::text::Text;
 use std::alloc::{AllocError, Global};
