@@ -45,8 +45,8 @@ def stored() -> list[Line]:
     found = []
     for file in ("crates/tlslog/stdout", "captures/dtls/lines"):
         found += [json.loads(line) for line in (TOP / file).read_text().splitlines()]
-    for rows in json.loads((TOP / "captures/fronts/wanted.json").read_text()).values():
-        found += [row["line"] for row in rows if ALWAYS <= set(row["line"])]
+    for one in json.loads((TOP / "captures/fronts/wanted.json").read_text()).values():
+        found += [row["line"] for row in one["lines"] if ALWAYS <= set(row["line"])]
     return found
 
 

@@ -2,10 +2,8 @@
 
 from __future__ import annotations
 
-import json
 import re
 from collections.abc import Iterable
-from pathlib import Path
 
 from hostile import packets
 from hostile.shapes import Line
@@ -41,15 +39,3 @@ def alerts(segments: list[packets.Segment]) -> list[tuple[int, ...]]:
 
 def line(fields: Line, absent: Iterable[str] = (), sources: dict[str, list[str]] | None = None) -> Line:
     return {"line": fields, "absent": list(absent), "from": sources or {}}
-
-
-def keep(folder: Path, name: str, lines: list[Line], seen: Line) -> None:
-    """Puts them into the folder's wanted.json, in place of those of that name."""
-    file = folder / "wanted.json"
-    known = json.loads(file.read_text()) if file.exists() else {}
-    known[name] = {"lines": lines, "peers": seen}
-    parts = []
-    for key in sorted(known):
-        rows = ",\n".join("   " + json.dumps(one) for one in known[key]["lines"])
-        parts.append(f' {json.dumps(key)}: {{\n  "peers": {json.dumps(known[key]["peers"])},\n  "lines": [\n{rows}\n  ]\n }}')
-    file.write_text("{\n" + ",\n".join(parts) + "\n}\n")

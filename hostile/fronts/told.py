@@ -2,7 +2,6 @@
 
 from __future__ import annotations
 
-import json
 from collections.abc import Iterable
 from pathlib import Path
 
@@ -86,12 +85,3 @@ def of_old_hello(file: Path, hello: bytes, fault: str) -> list[Line]:
     not_told = ["ja3", "ja3_string"] + ([] if fault else ["last_alert"])
     sources = {"RFC 5246, appendix E.2, by hand": [*by_hand, *not_there], "tshark": [*of_tshark, *not_told]}
     return [line(fields, sources, [*not_there, *not_told])]
-
-
-def keep(folder: Path, name: str, lines: list[Line]) -> None:
-    """Puts them into the folder's wanted.json, in place of those of that name."""
-    file = folder / "wanted.json"
-    known = json.loads(file.read_text()) if file.exists() else {}
-    known[f"{name}.pcap"] = lines
-    rows = [f" {json.dumps(key)}: [\n" + ",\n".join("  " + json.dumps(one) for one in known[key]) + "\n ]" for key in sorted(known)]
-    file.write_text("{\n" + ",\n".join(rows) + "\n}\n")
