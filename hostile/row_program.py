@@ -1,4 +1,4 @@
-"""The program of tests/rows, which makes calls on bytes and compares rows (docs/ROWS.md): compiled once, and kept in tests/rows/out.
+"""The program of tests/rows, which makes calls on bytes and compares rows (docs/TESTING.md, "Rows"): compiled once, and kept in tests/rows/out.
 
 It is put as one crate beside a copy of the others, with the callers of tests/uses as a module, and compiled by packaging/quick-build, which
 proves nothing. It is compiled again when its sources, those of a crate below it, or the toolchain changed.

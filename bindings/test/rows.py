@@ -1,4 +1,4 @@
-"""The rows of tests/rows/data (docs/ROWS.md), and those of certificates beside this file, through the Python module: values, places, kinds of refusals, and missing counts.
+"""The rows of tests/rows/data (docs/TESTING.md, "Rows"), and those of certificates beside this file, through the Python module: values, places, kinds of refusals, and missing counts.
 
     rows.py [PROGRAM]
 

@@ -1,4 +1,4 @@
-"""Rows of tests/rows/data (docs/ROWS.md), read as inputs of groups of calls, and written as a source of text.
+"""Rows of tests/rows/data (docs/TESTING.md, "Rows"), read as inputs of groups of calls, and written as a source of text.
 
 An input is the bytes of a row of a call that reads the group's layout, or a part of them that does: the body of a message, the
 content of an extension.
