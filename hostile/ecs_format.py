@@ -107,13 +107,10 @@ def names_in(value: Line, front: str = "") -> Iterator[str]:
 
 
 def told_names() -> set[str]:
-    """The names that the page tells."""
+    """The names in the table of the page, where SIDE is each of both sides."""
     table = PAGE.read_text().split("### Elastic Common Schema")[1].split("\n\n#")[0]
-    told = set()
-    for line in table.splitlines():
-        if line.startswith("| `"):
-            told.update(re.findall("`([^`]+)`", line.split("|")[1]))
-    return told
+    names = [name for line in table.splitlines() if line.startswith("| `") for name in re.findall("`([^`]+)`", line.split("|")[1])]
+    return {name.replace("SIDE", side) for name in names for side in ("client", "server")}
 
 
 def unique(pairs: list[tuple[str, Any]]) -> Line:
