@@ -12,6 +12,7 @@ import subprocess
 from collections import Counter
 from collections.abc import Callable, Iterable
 from dataclasses import replace
+from datetime import datetime
 from pathlib import Path
 from typing import Any
 
@@ -203,6 +204,10 @@ def wanted_of_uses(lines: list[Line]) -> dict[str, list[str] | None]:
     return {
         "still speaks": counted(line["id.orig_h"] for line in lines if line.get("version") in ("TLSv10", "TLSv11")),
         "hosts": counted(line["server_name"] for line in lines if "server_name" in line),
+        "have expired": sorted({
+            f"{line['not_after']}\t{line['id.resp_h']}\t{line['serial']}"
+            for line in lines if "not_after" in line and datetime.fromisoformat(line["not_after"].replace("Z", "+00:00")).timestamp() < line["ts"] + 60 * 86400
+        }),
         "changed their certificate": sorted("\t".join(server) for server, count in servers.items() if count > 1),
         "broken off": sorted(
             plain([line.get("server_name"), line.get("last_alert"), line.get("stop", {}).get("sender")])
