@@ -294,7 +294,7 @@ class _Feed(threading.Thread):
 
 
 def _items(command: list[str], source: Optional[BinaryIO], is_stream: bool, shown: Callable[[bytes], Any]) -> Iterator[Any]:
-    # What it writes of errors goes into a file, since a pipe that nobody reads would stop it. In a session of its own Ctrl-C doesn't reach it.
+    # Standard error goes to a file, since an unread pipe would block the program. Its own session keeps Ctrl-C from it.
     given: dict[str, Any] = {"stdin": subprocess.PIPE, "bufsize": 0} if source is not None else {}
     feed = None
     with tempfile.TemporaryFile() as errors:
