@@ -40,7 +40,7 @@ pub struct Fragment<'a> {
     /// fragments, in bytes. In IPv4 this is the header with its options. In IPv6 it is the
     /// extension headers between the IPv6 header and the Fragment header.
     pub in_front: usize,
-    /// Whether the IPv4 header's checksum is correct. IPv6 has none: always true.
+    /// Whether the IPv4 header's checksum is correct; IPv6 has none.
     pub is_header_right: bool,
     /// The fragment's payload.
     pub payload: &'a [u8],

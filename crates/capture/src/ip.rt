@@ -31,7 +31,7 @@ pub struct Datagram<'a> {
     pub source: Address,
     /// The destination address.
     pub destination: Address,
-    /// Whether the IPv4 header's checksum is correct. IPv6 has none: always true.
+    /// Whether the IPv4 header's checksum is correct; IPv6 has none.
     pub is_header_right: bool,
     /// The content.
     pub content: Content<'a>,

@@ -281,10 +281,10 @@ fn datagram(i: &[u8], kind: u16) -> IResult<&[u8], Option<Datagram>>
 ///
 /// Link types (LINKTYPE of tcpdump.org):
 ///
-/// - With VLAN tags, any number of them: 1 Ethernet, 113 Linux cooked (SLL), 276 SLL2.
-/// - Without: 0 null, 108 loopback, 9 PPP, 50 PPP in HDLC, 51 PPPoE, 101 raw IP, 228 IPv4, 229
-///   IPv6.
-/// - Those with EtherTypes may also carry PPPoE sessions.
+/// - 1 Ethernet, 113 Linux cooked (SLL) and 276 SLL2, each with any number of VLAN tags.
+/// - 0 null, 108 loopback, 9 PPP, 50 PPP in HDLC, 51 PPPoE, 101 raw IP, 228 IPv4, 229 IPv6.
+///
+/// Links with EtherTypes may also carry PPPoE sessions.
 ///
 /// Refusals:
 ///
