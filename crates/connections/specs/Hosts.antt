@@ -66,8 +66,8 @@ shift_of x y s =
 abbrev pub window_of : Host → Host → Segment → ℕ
 window_of x y s = s.window * 2 ^ shift_of x y s
 
--- The timestamp that the receiver has of a sender: the latest that isn't beyond what it
--- acknowledged (RFC 7323, section 4.3).
+-- The timestamp that the receiver has of a sender: the latest of a segment that doesn't begin
+-- beyond its acknowledgement (RFC 7323, section 4.3).
 abbrev pub clock_behind : Host → Host → Segment → Option ℕ
 clock_behind x y s =
     if not (is_some s.options.clock) || (is_ahead (first_of s) y.acknowledged || is_clock_behind 0 x.clock s.options.clock)

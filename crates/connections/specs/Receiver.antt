@@ -102,7 +102,7 @@ is_far_before x y s = is_ahead_by (max y.widest 65535) (awaited x y) (end_with_f
 abbrev pub is_known : Host → Host → Segment → Bool
 is_known x y s = is_ahead_by 0 (awaited x y) (end_with_fin s)
 
--- It has data after its sender's FIN, or a FIN that isn't at the same number.
+-- It has data after its sender's FIN, or a FIN at a later number.
 abbrev pub is_behind_fin : Option ℕ → Segment → Bool
 is_behind_fin None s = false
 is_behind_fin (Some fin) s = if has_data s then not (is_behind fin (first_of s)) else ends s && is_behind (behind_of s) fin

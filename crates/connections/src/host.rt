@@ -21,7 +21,7 @@ pub struct Host {
     pub(crate) first: Option<u32>,
     /// The sequence number behind all that it sent.
     pub(crate) next: Option<u32>,
-    /// The highest sequence number that it acknowledged.
+    /// The sequence number that it expects next, by its acknowledgements.
     pub(crate) acknowledged: Option<u32>,
     /// The right edge of its window.
     pub(crate) edge: Option<u32>,
@@ -29,7 +29,7 @@ pub struct Host {
     pub(crate) widest: u32,
     /// The options of its SYN.
     pub(crate) offers: Options,
-    /// Whether it acknowledged more than the other's SYN: the connection is open on its side.
+    /// Whether it acknowledged something after its SYN: the connection is open on its side.
     pub(crate) is_open: bool,
     /// Its timestamp, as the other end last saw it.
     pub(crate) clock: Option<u32>,
@@ -111,8 +111,8 @@ impl Host {
         u32::from(segment.window) << self.shift(receiver, segment)
     }
 
-    /// Returns the timestamp behind a segment: the latest that isn't beyond what the receiver
-    /// acknowledged (RFC 7323, section 4.3).
+    /// Returns the timestamp behind a segment: the latest of a segment that doesn't begin beyond
+    /// the receiver's acknowledgement (RFC 7323, section 4.3).
     fn clock_behind(&self, receiver: &Host, segment: &Segment<'_>) -> Option<u32>
         ensures { result ≡ clock_behind_of self.now receiver.now segment.now }
     {

@@ -164,8 +164,7 @@ pub(crate) fn is_known(sender: &Host, receiver: &Host, segment: &Segment<'_>) ->
     is_ahead_by(0, awaited(sender, receiver), segment.end())
 }
 
-/// Returns whether the segment has data after its sender's FIN, or a FIN at a number before an
-/// earlier FIN's.
+/// Returns whether the segment has data after its sender's FIN, or a FIN at a later number.
 pub(crate) fn is_behind_fin(sender: &Host, segment: &Segment<'_>) -> bool
     ensures { result ≡ is_behind_fin_at sender.now.fin segment.now }
 {

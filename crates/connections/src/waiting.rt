@@ -339,7 +339,7 @@ impl Waiting {
         Some(kept)
     }
 
-    /// Removes the data of a SYN to this end, which its receiver acknowledged without the data.
+    /// Removes the pending data of a SYN to this end, whose receiver acknowledged only the SYN.
     pub(crate) fn forget_data_of_syn(&mut self, receiver: End) {
         self.kept.retain(|kept| !(kept.is_of_syn() && kept.header.destination == receiver));
     }
