@@ -17,8 +17,8 @@ abbrev pub nanoseconds : TimeUnit → ℕ
 nanoseconds Microsecond = 1000
 nanoseconds Nanosecond = 1
 
--- What the magic number tells: the byte order, and the unit of the fraction of a second (section
--- 4).
+-- What the magic number stands for: the byte order, and the unit of the fraction of a second
+-- (section 4).
 pub record Format : Type 0 where
   pub order : Order
   pub unit : TimeUnit

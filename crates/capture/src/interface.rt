@@ -120,8 +120,8 @@ impl<'a, const CODE: u16, const SIZE: u16> InPlace<'a> for LittleBut<CODE, SIZE>
     }
 }
 
-/// Returns the bytes from the first option of this code and length on, or from the end of the
-/// options.
+/// Returns the bytes from the first option of this code and length on, or from where the options
+/// end or are truncated.
 fn behind_options<const CODE: u16, const SIZE: u16>(i: &[u8], order: Order) -> &[u8]
     ensures { result.now ≡ left_in (option_but_layout order CODE SIZE) i.now }
 {

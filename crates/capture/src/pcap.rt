@@ -19,7 +19,7 @@ pub enum Unit {
     Nanosecond,
 }
 
-/// What the magic number of a file tells (draft-ietf-opsawg-pcap, section 4).
+/// The format that a file's magic number stands for (draft-ietf-opsawg-pcap, section 4).
 #[derive(Clone, Copy, Debug, PartialEq, Eq)]
 pub struct Format {
     /// The byte order of the file's headers.
