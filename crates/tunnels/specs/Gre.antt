@@ -46,7 +46,7 @@ unfoldable pub copied : ℕ → Layout ℕ
 copied frame_type = choose (frame_type == 2) version_type (done (if frame_type == 0 then ETHERNET else 0))
 
 -- Type III (section 4.3): version 2 and VLAN; class of service, encapsulation, truncated, session;
--- time, group tag; frame type (5 bits, after the first). The last bit tells whether 8 bytes more
+-- time, group tag; frame type (5 bits, after the first). The last bit is set if 8 bytes more
 -- follow.
 unfoldable pub erspan3 : Layout Header
 erspan3 = do

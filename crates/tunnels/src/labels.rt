@@ -41,8 +41,8 @@ fn type_behind_labels(half: u8) -> u16
 }
 
 /// Parses MPLS labels, 4 bytes each, to the bottom of the stack (RFC 3032, section 2.1), and all
-/// the rest. The first 4 bits behind them tell the payload: an IP datagram by its version, or 0 for
-/// a control word, which an Ethernet frame follows (RFC 4448, section 4.6).
+/// the rest. The first 4 bits behind them identify the payload: an IP datagram by its version, or 0
+/// for a control word, which an Ethernet frame follows (RFC 4448, section 4.6).
 ///
 /// `Incomplete`, with the count of missing bytes of a label, of the byte behind the last, or of the
 /// control word.
