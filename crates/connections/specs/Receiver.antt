@@ -24,10 +24,10 @@ abbrev pub is_ahead_by : ℕ → Option ℕ → ℕ → Bool
 is_ahead_by least None n = false
 is_ahead_by least (Some m) n = nat_lt least (advance m n)
 
--- A wrong checksum counts as wrong, unless its sender's were wrong from its first packet on. Then
--- the capture is on the sender's own machine, whose network card writes the checksums behind it. A
--- partial one doesn't count if the packet has more data than its receiver's maximum segment size
--- (536 bytes by default): several segments were coalesced.
+-- A checksum that isn't correct counts as wrong, unless its sender's were so from its first packet
+-- on. Then the capture is on the sender's own machine, whose network card writes the checksums
+-- behind it. A partial one doesn't count if the packet has more data than its receiver's maximum
+-- segment size (536 bytes by default): several segments were coalesced.
 abbrev pub is_damaged_by : Checksum → Option Checksum → Host → ℕ → Bool
 is_damaged_by Right known y len = false
 is_damaged_by Partial None y len = false

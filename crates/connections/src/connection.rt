@@ -539,7 +539,8 @@ impl<T: Listener> Connection<T> {
     }
 
     /// Returns where the stream of a segment's sender begins if nothing of it came before: behind
-    /// the SYN, or at the receiver's acknowledgement.
+    /// the SYN, or else at the later of the receiver's acknowledgement and the segment's first
+    /// number. `None` if neither is known to be its beginning.
     fn start(receiver: &Host, segment: &Segment<'_>) -> Option<u32>
         ensures { result ≡ start_of receiver.now segment.now }
     {

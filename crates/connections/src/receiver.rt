@@ -62,11 +62,12 @@ fn is_ahead_by(least: u32, known: Option<u32>, number: u32) -> bool
     }
 }
 
-/// Returns whether a packet's checksum counts as wrong.
+/// Returns whether a packet's checksum counts as wrong:
 ///
-/// - A wrong one does, unless its sender's checksums were wrong from its first packet on.
-/// - A partial one does too, unless the packet has more data than the receiver's maximum segment
-///   size: several segments were coalesced.
+/// - [`Checksum::Refused`] always does.
+/// - Any other incorrect one does, unless its sender's were so from its first packet on.
+/// - A partial one doesn't if the packet has more data than the receiver's maximum segment size:
+///   several segments were coalesced.
 pub(crate) fn is_damaged(sender: &Host, receiver: &Host, checksum: Checksum, len: usize) -> bool
     ensures { result ≡ is_damaged_at sender.now receiver.now checksum len }
 {
