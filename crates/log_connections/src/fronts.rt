@@ -41,9 +41,9 @@ pub(crate) struct Fronts {
 /// Where TLS begins on a side, by its next bytes.
 #[derive(Clone, Copy, Debug, PartialEq, Eq)]
 pub(crate) enum Beginning {
-    /// Too few bytes came to tell.
+    /// Too few bytes came to decide.
     Waits,
-    /// Not in this many bytes; those behind them are too few to tell.
+    /// Not in this many bytes; those behind them are too few to decide.
     PassesOver(usize),
     /// Behind this many bytes.
     At(usize),

@@ -42,13 +42,13 @@ pub enum Pieces {
     Certificates,
 }
 
-/// Keeps the pieces of a connection until they are taken. It hears each event that counts.
+/// Keeps the pieces of a connection until they are taken. It gets each event that counts.
 pub trait Keeper: Drop + Witness {
     /// Returns the keeper for a new connection.
     fn begin(alloc: Global, pieces: Pieces) -> Self;
 }
 
-/// What both sides of a connection said.
+/// The analysis of both sides' bytes, by transport.
 #[derive(Drop)]
 enum Said {
     /// TLS over TCP, and the search for its beginning.
@@ -57,7 +57,7 @@ enum Said {
     Datagrams(DatagramAnalyzer),
 }
 
-/// The analysis of a connection, by what its sides said.
+/// The analysis of a connection.
 #[derive(Drop)]
 pub struct Heard<K> {
     alloc: Global,
