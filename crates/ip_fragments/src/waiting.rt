@@ -150,7 +150,7 @@ impl Waiting {
     {
         let differing = self.count_differing(fragment);
         let place = u32::from(fragment.offset);
-        // (the reassembler's limit exceeds a datagram's length, so only memory can fail)
+        // (no datagram exceeds the reassembler's limit, so only memory can fail)
         if self.segments.put(place, fragment.payload).is_err() {
             return Err(AllocError);
         }
