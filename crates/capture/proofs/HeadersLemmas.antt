@@ -1,4 +1,4 @@
--- Extension headers of IPv6, of which so many may still come.
+-- Extension headers of IPv6, by how many may still come.
 use Rattle.std.proofs.Common.{◌≡◌, ◌≢◌, ℕ, zero, suc, ◌-◌, refl, ap, arith}
 use Rattle.layouts.specs.Layout.{chain}
 use Rattle.capture.specs.Transport.{transport}

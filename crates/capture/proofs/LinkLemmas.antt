@@ -1,4 +1,4 @@
--- Link types that have no row.
+-- Link types that aren't in the table.
 use Rattle.std.proofs.Common.{◌≡◌, ◌∙◌, ap, ℕ, ◌==◌}
 use Rattle.layouts.specs.Layout.{Layout, choose, done, refuse}
 use Rattle.layouts.specs.declared.result.ErrorKind.TheVariants.{Switch}

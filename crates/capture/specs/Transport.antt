@@ -1,4 +1,4 @@
--- What stands in a datagram of the Internet Protocol: a segment of TCP (RFC 9293), a user datagram of UDP (RFC 768).
+-- The content of IP datagrams: a TCP segment (RFC 9293), a UDP datagram (RFC 768).
 use Rattle.std.specs.Prelude.{ℕ, ◌-◌, ◌*◌, ◌/◌, ◌==◌, nat_le}
 use Rattle.layouts.specs.Bytes.{Bytes}
 use Rattle.layouts.specs.Layout.{Layout, done, number, block, rest, test, choose, mapped, ◌>>=◌, ◌>>◌}
@@ -134,9 +134,9 @@ udp = do
 pub data Content : Type 0 where
   Tcp : Segment → Content
   Udp : UserDatagram → Content
-  -- a part of a datagram that was cut
+  -- a part of a fragmented datagram
   Fragment : Content
-  -- of that protocol, and the bytes of it
+  -- another protocol: its number and its bytes
   Other : ℕ → Bytes → Content
 
 abbrev pub view_content : LentContent → Content
@@ -145,7 +145,7 @@ view_content (content.Udp d) = Udp (view_datagram d)
 view_content content.Fragment = Fragment
 view_content (content.Other n p) = Other n p.now
 
--- By the number of the protocol (IANA, Assigned Internet Protocol Numbers).
+-- The content, by protocol number (IANA, Assigned Internet Protocol Numbers).
 unfoldable pub transport : ℕ → Layout Content
 transport protocol =
     choose (protocol == 6) (mapped Tcp tcp) (

@@ -1,4 +1,4 @@
--- What a connection comes to by a segment.
+-- What a segment does to a connection.
 use Rattle.std.proofs.Common.{◌≡◌, ◌∙◌, ap, refl, subst, sym, true, false, Option, Result, Ok, Err}
 use Rattle.std.specs.Prelude.{OnErr, OnOk}
 use Rattle.connections.specs.Segment.{begins}
@@ -11,7 +11,7 @@ use Rattle.connections.specs.declared.five_tuple.End.{End}
 use Rattle.connections.specs.declared.receiver.Judgement.{Judgement}
 use Rattle.connections.specs.declared.segment.Segment.{Segment}
 
--- What follows from an answer's value or its error holds where there is one.
+-- What follows from a value or from an error also follows for a result of either kind.
 
 pub where_ok : {A E P Q : Type 0} → (r : Result A E) → (P → Q) → OnOk r P → OnOk r Q
 where_ok (Ok a) f h = f h
@@ -21,7 +21,7 @@ pub where_err : {A E P Q : Type 0} → (r : Result A E) → (P → Q) → OnErr 
 where_err (Ok a) f h = _
 where_err (Err e) f h = f h
 
--- Who sent a segment stays known as it is counted.
+-- A segment's side stays the same when it is counted.
 same_side : {T : Type 0} → (side : Side) (s : Segment) (c : Connection T) (sender : End)
     → side_of (counted_from side s c) sender ≡ side_of c sender
 same_side Originator s c sender = refl

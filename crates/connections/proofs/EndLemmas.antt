@@ -1,4 +1,4 @@
--- The ends of a connection are the same in both directions, and no others have them.
+-- Both directions of a connection have the same five-tuple, and no others have it.
 use Rattle.std.proofs.Common.{Ordering, ℕ, ◌≡◌, ◌⊎◌, Bool, true, false, Some, ap, ◌∙◌, inl, inr, rules}
 use Rattle.std.specs.Prelude.{if◌then◌else◌}
 use Rattle.std.specs.Ordering.{partial_le, ordering_reverse}

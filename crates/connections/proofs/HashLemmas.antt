@@ -1,4 +1,4 @@
--- A table by ends with their hashes does what one by the ends alone does.
+-- A table by hashed five-tuples does what one by five-tuples does.
 use Rattle.std.proofs.Common.{◌≡◌, ◌-◌, ℕ, zero, suc, Bool, true, false, cond, ◌&&◌, nat_eq, Option, Some, None, List, [], ◌∷◌, length, take, option_map, slice_get, refl, sym, ap, ◌∙◌, subst, rules}
 use Rattle.std.proofs.lemmas.List.{length-map, take-map}
 use Rattle.std.proofs.lemmas.Option.{slice_get-map}
@@ -41,7 +41,7 @@ module _ {V : Type 0} where
   last_entry-unhashed xs = sym (slice_get-map unhashed_entry xs (length xs - 1)) ∙ ap (λ n. slice_get (unhashed xs) (n - 1)) (sym (length-map xs unhashed_entry))
 
 module _ (keys : HashKeys) (e : FiveTuple) (k : HashedEnds) (is : k ≡ hashed_ends keys e) where
-  -- The test of the ends with their hash.
+  -- The test for a hashed five-tuple.
   abbrev pub test : HashedEnds → Bool
   test = is_hashed_ends k
 
@@ -51,7 +51,7 @@ module _ (keys : HashKeys) (e : FiveTuple) (k : HashedEnds) (is : k ≡ hashed_e
     | false ↦ λ t. rw t (and-false _)
   ]) refl
 
-  -- It is that of the ends alone, where each hash is the one of its ends.
+  -- It is the test for the five-tuple, if each hash is that of its five-tuple.
   pub same_test : (j : HashedEnds) → IsHashed keys j → test j ≡ is_five_tuple e j.five_tuple
   same_test j h = ap (λ l. is_hashed_ends l j) is ∙ hashed_test j h
 

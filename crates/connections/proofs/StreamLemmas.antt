@@ -1,4 +1,4 @@
--- The next number of a stream is that of the place from which on it holds bytes.
+-- A stream's next number is that of the first byte that it stores.
 use Rattle.std.proofs.Common.{if◌then◌else◌, ◌≡◌, ℕ, ◌+◌, ◌%◌, ◌<◌, ◌≤◌, ◌^◌, true, false, Bool, Some, None, Option, [], ◌∷◌, refl, sym, ap, ◌∙◌, arith, subst, length, min, take, drop, ltb}
 use Rattle.std.proofs.lemmas.Bool.{ltb-true, ltb-false}
 use Rattle.std.proofs.lemmas.List.{drop_all}
@@ -23,7 +23,7 @@ begun_number first next Unbegun small h = (omega (arith, small), refl)
 begun_number first next (Open held) small h = h
 begun_number first next Over small h = h
 
--- Behind its beginning.
+-- After it begins.
 pub begun_at_number : (n : ℕ) (t : Stream) → n < 2 ^ 32 → IsNumberOf t.next t.reading
     → IsNumberOf (begun_at (Some n) t).next (begun_at (Some n) t).reading
 begun_at_number n t small h = begun_number n t.next t.reading small h
@@ -62,7 +62,7 @@ handed n next (Open held) h = let k = length (take n (run held.cells)) in
     (rw h.0 (remainder_of_sum held.first held.taken k (2 ^ 32)), h.1)
 handed n next Over h = h
 
--- Bytes that were handed on are let go.
+-- Read bytes are freed.
 pub forgotten_number : (a : Option ℕ) (t : Stream) → IsNumberOf t.next t.reading
     → IsNumberOf (forgetting a t).next (forgetting a t).reading
 forgotten_number a t h = handed (forgotten a t) t.next t.reading h
@@ -85,7 +85,7 @@ pub stopped_number : (t : Stream) → IsNumberOf t.next t.reading
     → IsNumberOf (stopped t t.reading).next (stopped t t.reading).reading
 stopped_number t h = by_reading t t.reading refl h
 
--- Behind the end of one of two byte strings none differ.
+-- Past the end of the shorter list nothing differs.
 none_unlike : (xs : Bytes) → unlike xs [] ≡ 0
 none_unlike [] = refl
 none_unlike (x ∷ xs) = refl

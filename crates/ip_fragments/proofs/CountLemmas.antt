@@ -1,4 +1,4 @@
--- At how many places bytes disagree, and where they stand.
+-- At how many offsets bytes disagree, and which bytes are there.
 use Rattle.std.proofs.Common.{◌≡◌, ℕ, zero, suc, ◌+◌, ◌-◌, ◌%◌, ◌^◌, ◌<◌, ◌≤◌, ◌==◌, not, min, Bool, true, false, cond, ltb, Option, Some, None}
 use Rattle.std.proofs.Common.{IsSome, [], ◌∷◌, length, take, drop, refl, sym, ap, ◌∙◌, arith, ltb-true, ltb-false, length-take-le}
 use Rattle.std.proofs.lemmas.List.{drop_all, length-drop, take_rest}
@@ -8,7 +8,7 @@ use Rattle.segments.specs.Pages.{written}
 use Rattle.segments.proofs.LawLemmas.{cell_put, cell_put_low, located_ahead, run_stands}
 use Rattle.ip_fragments.specs.Waiting.{unlike}
 
--- In front each byte stands.
+-- Every offset before the first gap has a byte.
 front_at : (cs : Cells) (k : ℕ) → k < length (run cs) → (x : ℕ) × (cell cs k ≡ Some x) × (drop k (run cs) ≡ x ∷ drop (suc k) (run cs))
 front_at [] k low = absurd (omega (arith, low))
 front_at (None ∷ cs) k low = absurd (omega (arith, low))
@@ -50,7 +50,7 @@ differing_split (suc n) k (y ∷ ys) cs low =
     = omega (arith, on, same) in
     all
 
--- Over the end of the front.
+-- Bytes across the end of the contiguous front.
 pub differing_over : (k : ℕ) (ys : Bytes) (cs : Cells) → k ≤ length (run cs) → length (run cs) ≤ k + length ys
     → differing k ys cs ≡ unlike (drop k (run cs)) (take (length (run cs) - k) ys)
     + differing (length (run cs)) (drop (length (run cs) - k) ys) cs
@@ -63,7 +63,7 @@ differing_over k ys cs low more =
     let behind = ap (λ m. differing m (drop n ys) cs) at in
     omega (arith, split, front, behind)
 
--- What is held of a stream from place 0 on, by a place behind the front.
+-- The bytes of a stream from offset 0 on, compared behind the contiguous front.
 pub differing_behind : (h : Held) (s : ℕ) (b : Bytes) → h.first ≡ 0 → h.taken ≡ 0 → length (run h.cells) ≤ s → s < 2 ^ 31
     → differing_in s b h ≡ differing s b h.cells
 differing_behind h s b first taken low small =
@@ -73,7 +73,7 @@ differing_behind h s b first taken low small =
     let at : w + (s - wanted h) ≡ s = omega (arith, low, taken) in
     ap (λ p. differing (w + p.0) p.1 h.cells) far ∙ ap (λ n. differing n b h.cells) at
 
--- A fragment's bytes beside a slice of the front, from an offset on.
+-- A fragment's bytes, all within the contiguous front.
 pub front_slice : (front ys : Bytes) (cs : Cells) (o : ℕ) → front ≡ run cs → o < length front
     → length ys ≤ length (take (length front - o) (drop o front))
     → unlike (take (length front - o) (drop o front)) ys ≡ differing o ys cs
@@ -83,7 +83,7 @@ front_slice front ys cs o is low short =
     let full = ap length is in
     ap (λ s. unlike s ys) (rest ∙ ap (drop o) is) ∙ sym (differing_front o ys cs (omega (arith, len, full, low, short)))
 
--- The same where they go over the front's end.
+-- A fragment's bytes, across the end of the contiguous front.
 pub over_slice : (front ys there behind : Bytes) (h : Held) (o m r s : ℕ) → h.first ≡ 0 → h.taken ≡ 0 → front ≡ run h.cells
     → o < length front → o < 2 ^ 16 → length ys < 2 ^ 16 → m ≡ length (take (length front - o) (drop o front)) → m < length ys
     → there ≡ take m ys → behind ≡ drop m ys → r ≡ unlike (take (length front - o) (drop o front)) there
@@ -102,7 +102,7 @@ over_slice front ys there behind h o m r s first taken is low early few mid more
     ∙ ap (λ l. differing w l h.cells) (b ∙ ap (λ n. drop n ys) at) in
     omega (arith, over, one, other)
 
--- Where bytes stand that are put at a place.
+-- The byte at an offset after some were dropped.
 byte_drop : (n : ℕ) (b : Bytes) (i : ℕ) → byte_at (drop n b) i ≡ byte_at b (n + i)
 byte_drop zero b i = let m : i ≡ 0 + i = omega arith in ap (byte_at b) m
 byte_drop (suc n) [] i = refl
@@ -168,7 +168,7 @@ put_bytes h place b taken i = go (ltb place (wanted h)) refl
     go true e = rw e (cut (ltb-true place (wanted h) e) (ltb i w) refl)
     go false e = rw e (whole (ltb-false place (wanted h) e) (ltb i place) refl)
 
--- Behind the shorter of two rows nothing differs.
+-- Past the end of the shorter list nothing differs.
 none_unlike : (xs : Bytes) → unlike xs [] ≡ 0
 none_unlike [] = refl
 none_unlike (x ∷ xs) = refl

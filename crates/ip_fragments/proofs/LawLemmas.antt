@@ -1,4 +1,4 @@
--- What stands of fragments that came, in whatever order.
+-- Fragments in any order.
 use Rattle.std.proofs.Common.{◌≡◌, ℕ, zero, suc, ◌+◌, ◌-◌, ◌<◌, ◌≤◌, ◌==◌, ◌||◌, ◌&&◌, not, max, List, [], ◌∷◌, ◌++◌, length}
 use Rattle.std.proofs.Common.{Option, Some, None, is_some, Bool, true, false, ltb, refl, sym, ◌∙◌, ap, subst, arith}
 use Rattle.std.proofs.Common.{eqb-true, ltb-false, length-append}
@@ -9,7 +9,7 @@ use Rattle.segments.proofs.LawLemmas.{part_byte}
 use Rattle.ip_fragments.specs.Waiting.{Waiting, end_of, given}
 use Rattle.ip_fragments.specs.Law.{AreOf, IsAfter, IsOut, first_at}
 
--- At each place stands the byte that came first.
+-- Each offset has the byte that arrived first.
 cells_first : (time : ℕ) (fs : List Fragment) (w : Waiting) → IsAfter time fs w → (i : ℕ) → cell w.cells i ≡ first_at fs i
 cells_first time [] w is i = ap (λ v. cell v.cells i) is
 cells_first time (f ∷ fs) w is i =
@@ -47,7 +47,7 @@ first_of d (f ∷ fs) i y parts told = go (first_at fs i) refl (first_of d fs i 
     go None e before = given_of d f i y parts.0 (rw e at told)
     go (Some x) e before = before (e ∙ (rw e at told))
 
--- What agrees with the datagram at each place, and is as long, is the datagram.
+-- Bytes that agree with the datagram at each offset, and are as long, are the datagram.
 run_all : (cs : Cells) (d : Bytes) → ((k y : ℕ) → cell cs k ≡ Some y → byte_at d k ≡ Some y) → length (run cs) ≡ length d
     → run cs ≡ d
 run_all [] [] h len = refl
@@ -60,7 +60,7 @@ run_all (Some x ∷ cs) (y ∷ d) h len =
     let s : x ≡ y = cc in
     ap (λ w. w ∷ run cs) s ∙ ap (λ r. y ∷ r) (run_all cs d (λ k w. h (suc k) w) (omega (arith, len)))
 
--- No fragment goes behind the end, and the last one reaches it.
+-- No fragment goes past the end, and the last one reaches it.
 part_low : (d : Bytes) (place : ℕ) (b : Bytes) → IsPart d place b → place + length b ≤ length d
 part_low d place b p =
     let all = ap length p.is ∙ length-append p.before (b ++ p.behind) in

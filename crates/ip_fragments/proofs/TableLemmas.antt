@@ -1,4 +1,4 @@
--- What a table of datagrams holds after a step.
+-- What the table holds after a step.
 use Rattle.std.proofs.Common.{◌≡◌, ℕ, zero, suc, ◌+◌, ◌-◌, ◌≤◌, Bool, true, false, cond, Some, None, [], ◌∷◌, ◌++◌, length}
 use Rattle.std.proofs.Common.{take, slice_get, refl, sym, ap, ◌∙◌, subst, arith, rules}
 use Rattle.std.specs.Prelude.{IfOk, IfSome, OnErr, Result, Ok, Err}
@@ -15,14 +15,14 @@ use Rattle.ip_fragments.specs.declared.fragments.Step.{Step}
 use Rattle.ip_fragments.specs.declared.fragments.Step.TheVariants as step
 use Rattle.ip_fragments.specs.declared.key.Key.{Key}
 
--- Equal keys are the same.
+-- Keys that compare equal are equal.
 pub the_same : (a b : Key) → are_keys a b ≡ true → a ≡ b
 the_same a b e = search rules
 
 pub are_keys-refl : (k : Key) → are_keys k k ≡ true
 are_keys-refl k = search rules
 
--- What is written is found.
+-- A datagram that was put is found.
 pub at_with : (k : Key) (t : Table) (v w : Waiting) → at k t ≡ Some v → at k (with_other k w t) ≡ Some w
 at_with k [] v w h = absurd cc
 at_with k (e ∷ t) v w h = go (are_keys k e.0) refl (at_with k t v w)
@@ -42,7 +42,7 @@ others_with k (e ∷ t) w = go (are_keys k e.0) refl (others_with k t w)
     go true p behind = rw p (rw p refl)
     go false p behind = rw p (rw p (ap (λ l. e ∷ l) behind))
 
--- Where none is found, taking it out changes nothing.
+-- Removing a key that isn't in the table changes nothing.
 pub missed : (k : Key) (t : Table) → at k t ≡ None → others k t ≡ t
 missed k [] h = refl
 missed k (e ∷ t) h = go (are_keys k e.0) refl (missed k t)
@@ -66,7 +66,7 @@ take-all zero (e ∷ t) h = absurd (omega (arith, h))
 take-all (suc n) [] h = refl
 take-all (suc n) (e ∷ t) h = ap (λ l. e ∷ l) (take-all n t (omega (arith, h)))
 
--- What is put in stands first.
+-- A new datagram comes first.
 pub put_first : (c : LruCache Key Waiting) (k : Key) (w : Waiting) → at k c.entries ≡ None → length c.entries ≤ c.cap - 1
     → put_entries are_keys c k w ≡ (k, w) ∷ c.entries
 put_first c k w h fits = rw (no_entry k c.entries h) (ap (λ l. (k, w) ∷ l) (take-all (c.cap - 1) c.entries fits))
@@ -77,7 +77,7 @@ at_first k t w = rw (are_keys-refl k) refl
 pub others_first : (k : Key) (t : Table) (w : Waiting) → others k ((k, w) ∷ t) ≡ t
 others_first k t w = rw (are_keys-refl k) refl
 
--- What they count for.
+-- The memory of the table after a datagram changes.
 pub weight_with : (k : Key) (t : Table) (v w : Waiting) → at k t ≡ Some v → weight (with_other k w t) + v.weight ≡ weight t + w.weight
 weight_with k [] v w h = absurd cc
 weight_with k (e ∷ t) v w h = go (are_keys k e.0) h (weight_with k t v w)
@@ -104,7 +104,7 @@ weight_append : (t u : Table) → weight (t ++ u) ≡ weight t + weight u
 weight_append [] u = omega arith
 weight_append (e ∷ t) u = let n = weight_append t u in omega (arith, n)
 
--- The one that stands last.
+-- The last entry of a table.
 last_of : (x : Key × Waiting) (t : Table) (p : Key × Waiting) → slice_get (x ∷ t) (length t) ≡ Some p
     → x ∷ t ≡ take (length t) (x ∷ t) ++ p ∷ []
 last_of x [] p h = cc
@@ -119,17 +119,17 @@ weight_front t k w h =
     let n = ap weight (front_and_last t (k, w) (sym h)) ∙ weight_append (take (length t - 1) t) ((k, w) ∷ []) in
     omega (arith, n)
 
--- One more is let go.
+-- Dropping one more of the oldest.
 pub last_forgotten : (time more : ℕ) (t u : Table) (k : Key) (w : Waiting) → IsForgotten time more t u → Some (k, w) ≡ last_entry u
     → IsOver time more (weight u) w.since → IsForgotten time more t (take (length u - 1) u)
 last_forgotten time more t u k w f h o = one u (take (length u - 1) u) k w f (front_and_last u (k, w) (sym h)) o
 
--- What holds anyway holds on an error.
+-- A fact that needs no error also holds on one.
 pub on_err : {A E P : Type 0} → (r : Result A E) → P → OnErr r P
 on_err (Ok x) p = _
 on_err (Err e) p = p
 
--- Where none stands last, there is none.
+-- Only an empty table has no last entry.
 there : (x : Key × Waiting) (t : Table) → slice_get (x ∷ t) (length t) ≡ None → ⊥
 there x [] h = cc
 there x (y ∷ t) h = there y t h
@@ -138,7 +138,7 @@ pub none_left : (t : Table) → last_entry t ≡ None → weight t ≡ 0
 none_left [] h = refl
 none_left (x ∷ t) h = let e : suc (length t) - 1 ≡ length t = omega arith in absurd (there x t (rw e at h))
 
--- What becomes of a fragment of which none came before.
+-- The first fragment of a datagram.
 begins : (time : ℕ) (f : Fragment) (o : Outcome) (t u : Table) → at (key_of f) t ≡ None → BeginsAt time (key_of f) f o t u → Becomes time f o t u
 begins time f (outcome.Refused r) t u none b = absurd b
 begins time f outcome.Waits t u none b =
@@ -160,7 +160,7 @@ missing_becomes time k f s (Ok o) t v u is said a b =
     let b' = subst (λ l. BeginsAt time k f o l u) a'.1 b in
     begins time f o t u (subst (λ x. at x t ≡ None) is a'.0) (subst (λ x. BeginsAt time x f o t u) is b')
 
--- What becomes of one with which all bytes came.
+-- The fragment that completes a datagram.
 ends : (time : ℕ) (f : Fragment) (o : Outcome) (t u : Table) (v w : Waiting) → at (key_of f) t ≡ Some v → IsWith f v w → is_whole w ≡ true
     → HandsOut f w o → u ≡ others (key_of f) t → Becomes time f o t u
 ends time f (outcome.Refused r) t u v w found is whole h e = absurd h

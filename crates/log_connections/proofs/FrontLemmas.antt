@@ -1,4 +1,4 @@
--- What is heard of a side from where its TLS begins.
+-- The analysis of a side from where its TLS begins.
 use Rattle.std.proofs.Common.{◌≡◌, ℕ, ◌≤◌, ◌<◌, Bool, true, false, List, length, drop, refl, sym, ◌∙◌, ap, subst, inr, arith}
 use Rattle.std.specs.Prelude.{min, nat_le, not}
 use Rattle.std.proofs.lemmas.Bool.{and_parts, leb-true, leb-false}
@@ -39,7 +39,7 @@ heard_at s d n t u z w x f y g b is its bytes heard begun taken =
     (subst (λ w. HearsAt s d n t u (said.Stream x f) w) (sym its)
     (subst (λ b. IsHeardOn x d b y) bytes heard, begun, taken))
 
--- What is behind more bytes than there are is what is behind all.
+-- Dropping more bytes than there are drops all.
 pub behind_all : (n m : ℕ) (b c : Bytes) → m ≡ min n (length b) → c ≡ drop m b → c ≡ drop n b
 behind_all n m b c e is = is ∙ go (nat_le n (length b)) refl
   where
@@ -48,7 +48,7 @@ behind_all n m b c e is = is ∙ go (nat_le n (length b)) refl
     go false h = drop_all m b (omega (arith, e, leb-false n (length b) h))
         ∙ sym (drop_all n b (omega (arith, leb-false n (length b) h)))
 
--- Of a side that is over nothing is heard, whatever comes.
+-- A side that is over is not analyzed, whatever comes.
 heard_over : (x : Analyzer) (d : Direction) (b : Bytes) → is_over x d ≡ true → IsHeardOn x d b x
 heard_over x d b over = go (hearing x d) refl
   where
@@ -71,7 +71,7 @@ not_sought : (b : Bool) → not b ≡ true → b ≡ false
 not_sought false is = refl
 not_sought true is = cc
 
--- A side that is over is read no further, and all else stays.
+-- A side that is over is read no further, and everything else stays.
 pub over_stays : (s : Side) (last : Bool) (d : Direction) (t u : Stream) (z : Said)
     → is_over_in s d z ≡ true → u ≡ stopped t t.reading → HearsStream s last d t u z z
 unfolding HearsStream HearsAt

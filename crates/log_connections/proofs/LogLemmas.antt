@@ -1,4 +1,4 @@
--- What the connection of a packet comes to.
+-- What a packet does to its connection.
 use Rattle.std.proofs.Common.{◌≡◌, refl, sym, ap, ◌∙◌, subst, Option, Some, None, List, ◌∷◌, Bool, true, false, Result, Ok, Err}
 use Rattle.std.specs.Prelude.{is_some, not}
 use Rattle.std.specs.Option.{unwrap_or}
@@ -19,7 +19,7 @@ use Rattle.log_connections.specs.Log.{HearsFrom, HearsSegment, HearsSide, LogsDa
 use Rattle.log_connections.specs.declared.heard.Heard.{Heard}
 
 module _ {X : Type 0} (e : FiveTuple) where
-  -- What stands first under these ends is found, and another value is put there.
+  -- The first entry of these ends is found, and another value is put there.
   at_first : (x : X) (xs : List (FiveTuple × X)) → at e ((e, x) ∷ xs) ≡ Some x
   at_first x xs = rw (is_five_tuple-refl e)
 
@@ -28,19 +28,19 @@ module _ {X : Type 0} (e : FiveTuple) where
 
 module _ {K : Type 0} (e : FiveTuple) (Takes : Option (Connection (Heard K)) → Connection (Heard K) → Type 0)
     (xs ys : List (FiveTuple × Connection (Heard K))) (put : IsPut e Takes xs ys) where
-  -- The connection that is lent is the one that was put.
+  -- The borrowed connection is the one that was put.
   lent : (c : Connection (Heard K)) → Some c ≡ at e ys → c ≡ put.its
   lent c found = ap (λ o. unwrap_or o c)
       (found ∙ ap (at e) put.stands ∙ at_first e put.its (others e xs))
 
-  -- One is lent.
+  -- A connection is borrowed.
   pub some_lent : at e ys ≡ None → ⊥
   some_lent none =
       let both : ◌≡◌ {A = Option (Connection (Heard K))} None (Some put.its) =
       sym none ∙ ap (at e) put.stands ∙ at_first e put.its (others e xs) in
       cc
 
-  -- What is written to it stands in its place.
+  -- A value written to it replaces it.
   written_first : (d : Connection (Heard K)) → set_value (is_five_tuple e) ys d ≡ (e, d) ∷ others e xs
   written_first d = ap (λ l. set_value (is_five_tuple e) l d) put.stands ∙ set_first e put.its d (others e xs)
 
@@ -66,7 +66,7 @@ module _ {K : Type 0} where
         closed = closed ∙ ap (λ x. closed_behind x s old) is;
       }
 
-  -- The connection that is open takes it.
+  -- The open connection takes it.
   pub heard_by_open : (s : Segment) (old : Table (Heard K)) (c put its : Connection (Heard K))
       → Some c ≡ at (five_tuple_of s) old.live → Accepts s c put → HearsSide (side_of put s.source) put its
       → HearsSegment s old (with_first (five_tuple_of s) its old)
@@ -79,7 +79,7 @@ module _ {K : Type 0} where
     closed = subst (λ o. old.closed ≡ without_if (not (is_some o)) (five_tuple_of s) old.closed) found refl;
   }
 
-  -- The same of one that is written in its place, and is let stand first then.
+  -- The open connection takes it in place, and comes first then.
   pub heard_in_place : (s : Segment) (old : Table (Heard K)) (c put its : Connection (Heard K))
       → Some c ≡ at (five_tuple_of s) old.live → Accepts s c put → HearsSide (side_of put s.source) put its
       → HearsSegment s old
@@ -106,7 +106,7 @@ module _ {K : Type 0} where
     closed = refl;
   }
 
-  -- One that is lent, and doesn't change, leaves all as it was.
+  -- A borrowed connection that doesn't change leaves the table as it was.
   pub lent_unchanged : (e : FiveTuple) (old : Table (Heard K)) (c d : Connection (Heard K)) → Some c ≡ at e old.live → d ≡ c
       → with_other e d old ≡ old
   lent_unchanged e old c d found same =

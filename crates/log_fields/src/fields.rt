@@ -1,9 +1,9 @@
-//! The fields of a connection's line: which there are, what is told of each, and what says it.
+//! The fields of a connection's line: their names, types and texts, and what computes them.
 use crate::columns::Certified;
 use connections::Side;
 use log_formats::column::{Column, Type};
 
-/// Who talks, over what, and when.
+/// The ends of a connection and its time.
 #[derive(Clone, Copy)]
 pub enum End {
     Time,
@@ -17,7 +17,7 @@ pub enum End {
     Duration,
 }
 
-/// What was chosen, asked for and said, by name.
+/// What was chosen, asked for and sent, by name.
 #[derive(Clone, Copy)]
 pub enum Named {
     Version,
@@ -29,7 +29,7 @@ pub enum Named {
     LastAlert,
 }
 
-/// What a connection came to.
+/// The course of a connection.
 #[derive(Clone, Copy)]
 pub enum Course {
     Resumed,
@@ -42,7 +42,7 @@ pub enum Course {
     Retried,
 }
 
-/// What the client offers, by its ClientHello.
+/// What the client offers in its ClientHello.
 #[derive(Clone, Copy)]
 pub enum Offer {
     Version,
@@ -66,7 +66,7 @@ pub enum Offer {
     Ssl2Hello,
 }
 
-/// What the server answers, by its ServerHello.
+/// What the server answers in its ServerHello.
 #[derive(Clone, Copy)]
 pub enum Answer {
     Version,
@@ -79,7 +79,7 @@ pub enum Answer {
     Status,
 }
 
-/// The certificates that are read.
+/// The certificate chains.
 #[derive(Clone, Copy)]
 pub enum Chain {
     ServerCount,
@@ -95,7 +95,7 @@ pub enum Chain {
     ClientFaults,
 }
 
-/// Fingerprints of hellos.
+/// The fingerprints of hellos.
 #[derive(Clone, Copy)]
 pub enum Print {
     Ja3,
@@ -105,7 +105,7 @@ pub enum Print {
     Ja4,
 }
 
-/// What a side sent, counted.
+/// What a side sent.
 #[derive(Clone, Copy)]
 pub enum Sent {
     Packets,
@@ -118,7 +118,7 @@ pub enum Sent {
     Preamble,
 }
 
-/// What a connection came in.
+/// The tunnels around a connection.
 #[derive(Clone, Copy)]
 pub enum Carried {
     Tunnels,
@@ -141,10 +141,14 @@ pub enum Field {
     Carried(Carried),
 }
 
-/// The fields of a connection's line, told once, in their order: they are handed to the macro that is named, behind the words. The names are those of Zeek's logs where
-/// Zeek has the thing. They stand in blocks, each behind the group that has the variants of its rows. A row has the field's name (of what each side has, that of the
-/// originator's and that of the responder's), what it is, its variant, and what says it: an expression on what the function of the group is given, whose names that
-/// function's file has. What a certificate says stands in certificates.rt. In front of each row stands its text, as [`columns`](crate::columns) has it.
+/// Hands the table of a connection's fields, in the order of a line, to the macro `$then`. They
+/// have the names in Zeek's logs where these have the field.
+///
+/// The rows are in blocks, each behind the enum that has the variants of its rows. A row has the
+/// field's name, or those of both sides; its type; its variant; and the closure that computes it.
+/// The closure's argument depends on the group, and its names are those of the file with the
+/// group's function. The fields of certificates are computed in certificates.rt. The comment before
+/// each row is its text, as [`columns`](crate::columns) explains.
 macro_rules! rows {
     ($then:ident $($words:tt)*) => {
         $crate::fields::$then! {
@@ -567,7 +571,7 @@ macro_rules! rows {
     };
 }
 
-/// The field of a variant: of what each side has, that of this side.
+/// Expands to the field of a variant, for one side if each side has it.
 macro_rules! field {
     (Sent $side:ident $variant:ident) => {
         Field::Sent(Side::$side, Sent::$variant)
@@ -583,7 +587,7 @@ macro_rules! field {
     };
 }
 
-/// The columns of the rows.
+/// Expands to the columns of the rows.
 macro_rules! columns {
     ($($group:ident { $(
         $(#[doc = $text:literal])+
@@ -596,9 +600,10 @@ macro_rules! columns {
     };
 }
 
-/// Has what the rows of a group say of its variant `field`, by what its function is given, taken by `to`: by that method, which takes what these rows say.
+/// Expands to a match on the variant `$field` of a group. The row's closure computes its value from
+/// `$given`, and the method `$take` of `$to` takes it.
 macro_rules! tells {
-    // the rows of the group's blocks are gathered
+    // gathers the rows of the group's blocks
     ([End $given:ident $field:ident $to:ident $take:ident $($row:tt)*] End { $($more:tt)* } $($rest:tt)*) => {
         $crate::fields::tells!([End $given $field $to $take $($row)* $($more)*] $($rest)*)
     };

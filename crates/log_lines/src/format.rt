@@ -1,24 +1,26 @@
-//! The formats of lines, by their names.
+//! The formats of lines, by name.
 
-/// How a line is written.
+/// A format of lines.
 #[derive(Clone, Copy, Debug, PartialEq, Eq)]
 pub enum Format {
-    /// An object of JSON.
+    /// A JSON object.
     Json,
-    /// A record of comma-separated values (RFC 4180), behind one of the names.
+    /// A record of comma-separated values (RFC 4180), behind one with the names.
     Csv,
-    /// Columns for eyes, behind a line of their names; of a connection alone.
+    /// Aligned columns for reading, behind a line with their names; for connections only.
     Text,
-    /// Values with tabs between them, as Zeek writes them, behind lines that name the fields and say what they are, and in front of one that tells the end.
+    /// Tab-separated values, as Zeek writes them: behind header lines with the fields' names and
+    /// types, and before a footer.
     Zeek,
-    /// An event of Suricata's eve.json, of a connection alone.
+    /// An event of Suricata's eve.json; for connections only.
     Suricata,
-    /// An event by the names of the Elastic Common Schema, of a connection alone.
+    /// An event of the Elastic Common Schema; for connections only.
     Ecs,
 }
 
-/// The formats, told once: they are handed to the macro that is named. A row has the name of the format, its variant, and whether it has fields of its own, and lines for connections
-/// alone. What writes its lines stands in style.rt, where each match has an arm for each.
+/// Hands the table of formats to the macro `$then`. A row has the format's name, its variant, and
+/// whether it has fixed fields and lines for connections only. Lines are written in style.rt, where
+/// each match has an arm for each format.
 macro_rules! formats {
     ($then:ident) => {
         $then! {
@@ -32,14 +34,14 @@ macro_rules! formats {
     };
 }
 
-/// Their names.
+/// Expands to the names of the formats.
 macro_rules! names_of {
     ($($name:literal $format:ident $has_own:literal;)*) => {
         &[$($name),*]
     };
 }
 
-/// Their rows.
+/// Expands to the rows of the table.
 macro_rules! rows_of {
     ($($name:literal $format:ident $has_own:literal;)*) => {
         &[$(($name, Format::$format, $has_own)),*]
@@ -52,13 +54,13 @@ pub static FORMAT_NAMES: &[&str] = formats!(names_of);
 static TABLE: &[(&str, Format, bool)] = formats!(rows_of);
 
 impl Format {
-    /// That of this name.
+    /// Returns the format of this name.
     pub fn named(name: &str) -> Option<Format> {
         let found = TABLE.iter().find(|row| row.0 == name);
         found.map(|row| row.1)
     }
 
-    /// Its name.
+    /// Returns the format's name.
     pub fn name(self) -> &'static str {
         match TABLE.iter().find(|row| row.1 == self) {
             Some(row) => row.0,
@@ -66,7 +68,7 @@ impl Format {
         }
     }
 
-    /// Whether it has fields of its own, and lines for connections alone.
+    /// Returns whether it has fixed fields, and lines for connections only.
     pub fn has_own_fields(self) -> bool {
         TABLE.iter().any(|row| row.1 == self && row.2)
     }

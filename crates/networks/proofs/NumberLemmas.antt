@@ -1,4 +1,4 @@
--- A number is given to one network.
+-- Each number is given to one network.
 use Rattle.std.proofs.Common.{◌≡◌, inl, inr, ℕ, ◌+◌, ◌≤◌, Bool, true, false, ◌&&◌, List, [], ◌∷◌, take, Contains, Option, Some, None, refl, sym, ap, ap₂, ◌∙◌, subst, arith, rules, le_refl, true≢false, nat_eq}
 use Rattle.std.specs.Cmp.Lexicographic.{pointwise}
 use Rattle.std.specs.Map.{lookup, lookup_entry}
@@ -18,7 +18,7 @@ use Rattle.tunnels.specs.contracts.tunnel.TunnelsPartialEq.TheImpl as tunnels_eq
 use Rattle.networks.specs.Networks.{IsSame, Numbered, Numbering, is_network, none_held, number_of, numbered, with_packet}
 use Rattle.networks.specs.declared.networks.Network.{Network}
 
--- Where none is found, one more stands first.
+-- Without an entry for the network, a new one comes first.
 no_entry : (test : Network → Bool) (es : List Numbered) → lookup test es ≡ None → lookup_entry test es ≡ None
 no_entry test [] h = refl
 no_entry test (f ∷ es) h = (elim (test f.0) as (λ y. test f.0 ≡ y → lookup_entry test (f ∷ es) ≡ None) [
@@ -47,7 +47,7 @@ same_number x y e = search rules
 same_tunnel : (a b : Tunnel) → tunnel_eq.ghosts.eq a b ≡ true → a ≡ b
 same_tunnel a b e = search rules
 
--- Equal networks are the same.
+-- Networks that compare equal are the same.
 same_vlans : (a b : VlanTags) → vlans_eq.ghosts.eq a b ≡ true → found_in a ≡ found_in b
 same_vlans a b e = let h = both (pointwise nat_eq a.slots b.slots) (nat_eq a.count b.count) e in
     ap₂ take (same_number a.count b.count h.1) (same_list nat_eq same_number a.slots b.slots h.0)
@@ -66,17 +66,17 @@ turned a b h = (sym h.0, sym h.1)
 chained : (a b c : Network) → IsSame a b → IsSame b c → IsSame a c
 chained a b c h g = (h.0 ∙ g.0, h.1 ∙ g.1)
 
--- The number of this packet's network was given, and to that alone.
+-- The number of this packet's network was given, and to no other.
 record Given (a : Numbered) (t : Numbering) : Type 0 where
   before : a.1 ≤ t.last
   alone : (f : Numbered) → Contains t.held f → f.1 ≡ a.1 → IsSame f.0 a.0
 
--- All numbers of networks that are held were given so.
+-- The numbers of all remembered networks were given to no other.
 abbrev Valid : Numbering → Type 0
 Valid t = (f : Numbered) → Contains t.held f → Given f t
 
 module _ (n : Network) (t : Numbering) where
-  -- The number of its packet, and what is held behind it, by what is found.
+  -- The packet's number and the table behind it, by whether the network is remembered.
   abbrev given : Option ℕ → ℕ
   given o = unwrap_or o (t.last + 1)
 

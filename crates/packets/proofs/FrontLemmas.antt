@@ -1,4 +1,4 @@
--- What stands in front of a capture's bytes, where further bytes follow.
+-- The item at the front of a capture's bytes, when more bytes follow.
 use Rattle.std.proofs.Common.{◌≡◌, ℕ, ◌+◌, ◌-◌, ◌<◌, [], ◌++◌, drop, length, Ok, Err, Some, None, Bool, true, false}
 use Rattle.std.proofs.Common.{cond, refl, ap, subst, sym, ◌∙◌, arith}
 use Rattle.std.specs.Prelude.{◌==◌, ⊤}
@@ -62,13 +62,13 @@ front_longer (Blocks s) b x =
     block_longer s x (reading (next_block s.order) b) (reading (next_block s.order) (b ++ x))
     (next_block_stays s.order b x)
 
--- How many steps at most bytes have: one for each byte, and one to find the form.
+-- The most steps that bytes take: one for each byte, and one to recognize the format.
 abbrev pub steps : State → Bytes → ℕ
 steps Unknown b = 1 + length b
 steps (Pcap format link) b = length b
 steps (Blocks s) b = length b
 
--- Behind it fewer steps are left.
+-- An item leaves fewer steps behind it.
 abbrev pub Takes : ℕ → Said → Type 0
 Takes n (Ok (Captured p r, s)) = steps s r < n
 Takes n (Ok (Other r, s)) = steps s r < n
@@ -110,7 +110,7 @@ front_takes Unknown b = form_takes b (reading (number 4) b)
 front_takes (Pcap format link) b = pcap_takes format link b (reading (pcap.packet format) b) (packet_less format b)
 front_takes (Blocks s) b = block_takes s b (reading (next_block s.order) b) (next_block_less s.order b)
 
--- Where the bytes are too few to say, nothing more is known.
+-- With too few bytes the state doesn't change.
 abbrev pub Waits : State → Said → Type 0
 Waits s (Ok (Wait, t)) = t ≡ s
 Waits s y = ⊤
@@ -150,7 +150,7 @@ front_waits Unknown b = form_waits b (reading (number 4) b)
 front_waits (Pcap format link) b = pcap_waits format link (reading (pcap.packet format) b)
 front_waits (Blocks s) b = block_waits s (reading (next_block s.order) b)
 
--- What follows is an end of the bytes.
+-- The bytes behind the item are an end of all bytes.
 abbrev pub FiveTuple : Bytes → Said → Type 0
 FiveTuple b (Ok (Captured p r, s)) = EndsWith b r
 FiveTuple b (Ok (Other r, s)) = EndsWith b r
@@ -193,7 +193,7 @@ front_ends (Pcap format link) b =
     pcap_ends format link b (reading (pcap.packet format) b) (leaves (pcap.packet format) (packet_stable format) b)
 front_ends (Blocks s) b = block_ends s b (reading (next_block s.order) b) (next_block_leaves s.order b)
 
--- an end of the bytes is what is left of them by its length
+-- an end of the bytes is found by its length
 pub last_bytes : (b r : Bytes) → EndsWith b r → drop (length b - length r) b ≡ r
 last_bytes b r (front, e) =
     let counted : length b - length r ≡ length front = omega (arith, ap length e, length-append front r) in

@@ -1,4 +1,4 @@
--- What the layouts of a capture leave of the bytes, and what stands of their answers where further bytes follow.
+-- The bytes that the layouts of a capture leave, and their results when more bytes follow.
 use Rattle.std.proofs.Common.{◌≡◌, ℕ, ◌-◌, ◌<◌, ◌≤◌, [], ◌∷◌, ◌++◌, length, take, drop, Ok, Err, Bool, true, false}
 use Rattle.std.proofs.Common.{cond, ltb, refl, sym, ap, subst, arith}
 use Rattle.std.specs.Prelude.{◌==◌, ⊤}
@@ -20,7 +20,7 @@ use Rattle.capture.specs.declared.order.Order.TheVariants.{Big, Little}
 use Rattle.capture.specs.Pcap as pcap
 use Rattle.capture.specs.Pcapng.{SECTION, block_by, next_block, order_next, order_of, section_order}
 
--- What is left is an end of the bytes.
+-- The rest is an end of the bytes.
 abbrev pub LeavesEnd : {A : Type 0} → Bytes → Answer A → Type 0
 LeavesEnd b (Ok x) = EndsWith b x.1
 LeavesEnd b (Err e) = ⊤
@@ -106,7 +106,7 @@ leaves (look l) h b = absurd h
 leaves (chain l f) h b = leaves_then b (λ x. reading (f x.0) x.1) (λ x. leaves (f x.0) (h.1 x.0) x.1) (reading l b)
     (leaves l h.0 b)
 
--- Its first part leaves less.
+-- The layout's first part takes bytes.
 abbrev LessFirst : {A : Type 0} → Layout A → Bytes → Type 0
 LessFirst (chain l f) b = LeavesLess b (reading l b)
 LessFirst l b = ⊥
@@ -222,14 +222,14 @@ pub packet_less : (format : pcap.Format) (b : Bytes) → LeavesLess b (reading (
 unfolding pcap.packet
 packet_less format b = less_first (pcap.packet format) (packet_stable format) b (number_by_less format.order b)
 
--- what is looked at stays
+-- bytes that are only looked at stay
 look_stays : {A : Type 0} (b s : Bytes) (x y : Answer A) → Stays s x y
     → Stays s (x and_then λ v. Ok (v.0, b)) (y and_then λ v. Ok (v.0, b ++ s))
 look_stays b s (Ok x) y e = ap (λ a. a and_then λ v. Ok (v.0, b ++ s)) e
 look_stays b s (Err (Broken k)) y e = ap (λ a. a and_then λ v. Ok (v.0, b ++ s)) e
 look_stays b s (Err (Lacks n)) y e = tt
 
--- what is computed from an answer, and leaves its rest alone
+-- a result computed from a value, which leaves the rest alone
 then_stays : {A B : Type 0} (s : Bytes) (f : A × Bytes → Answer B)
     → ((x : A × Bytes) → Stays s (f x) (f (x.0, x.1 ++ s))) → (x y : Answer A) → Stays s x y
     → Stays s (x and_then f) (y and_then f)
@@ -246,7 +246,7 @@ section_order_stable : IsStable section_order
 unfolding section_order
 section_order_stable = (tt, λ u. (tt, λ magic. order_of_stable magic))
 
--- the order of the next block, by whether it begins a section
+-- the byte order of the next block, by whether it begins a section
 picked_stays : (t : Bool) (o : Order) (b s : Bytes)
     → Stays s (reading (choose t (look section_order) (done o)) b)
     (reading (choose t (look section_order) (done o)) (b ++ s))

@@ -13,7 +13,7 @@ followed_same (Ok (Other r, s)) b n f g less same = same s r less
 followed_same (Ok (Wait, s)) b n f g less same = refl
 followed_same (Err e) b n f g less same = refl
 
--- more steps than there can be change nothing
+-- more steps than needed change nothing
 enough : (n m : ℕ) (s : State) (b : Bytes) → steps s b < n → steps s b < m → packets_in n s b ≡ packets_in m s b
 unfolding packets_in
 enough zero m s b few more = absurd (omega (arith, few))
@@ -27,7 +27,7 @@ few_steps Unknown b = omega arith
 few_steps (Pcap format link) b = omega arith
 few_steps (Blocks s) b = omega arith
 
--- what stands in front, and then the packets of what follows
+-- the item at the front, and then the packets of the bytes behind it
 pub one_step : (s : State) (b : Bytes) → packets_from s b ≡ followed (front s b) b packets_from
 unfolding packets_in packets_from
 one_step s b =
@@ -35,7 +35,7 @@ one_step s b =
     (λ t r less. enough (suc (length b)) (suc (suc (length r))) t r (omega (arith, few_steps s b, less))
     (omega (arith, few_steps t r)))
 
--- The packets of all bytes, by what stands in front of the first of them.
+-- The packets of all bytes, by the item at the front of the first of them.
 abbrev pub Stands : Bytes → Packets → Said → Type 0
 Stands x all (Ok (Captured p r, s)) = all ≡ (p ∷ (packets_from s (r ++ x)).0, (packets_from s (r ++ x)).1)
 Stands x all (Ok (Other r, s)) = all ≡ packets_from s (r ++ x)

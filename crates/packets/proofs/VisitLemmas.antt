@@ -1,4 +1,4 @@
--- What a visit keeps from step to step.
+-- What a visit keeps true from step to step.
 use Rattle.std.proofs.Common.{◌≡◌, ℕ, ◌-◌, List, [], ◌∷◌, ◌++◌, length, drop, Option, Some, None, Result, Ok, Err, Bool}
 use Rattle.std.proofs.Common.{true, false, refl, sym, ◌∙◌, ap, subst, append_assoc, arith}
 use Rattle.std.specs.Prelude.{⊤, IfSome, IfErr, OnOk}
@@ -30,17 +30,18 @@ adds_then (Some xs) (Some ys) (Some zs) ps qs h k = k ∙ ap (λ t. t ++ qs) h �
 pub adds_same : (a b c : Option (List Packet)) (ps : List Packet) → Adds a b ps → Adds b c [] → Adds a c ps
 adds_same a b c ps h k = subst (Adds a c) (append-nil ps) (adds_then a b c ps [] h k)
 
--- Packets come first, and then those that are left.
+-- The first packets, and then the remaining ones.
 abbrev pub Splits : Packets → List Packet → Packets → Type 0
 Splits all some left = (all.0 ≡ some ++ left.0) × (all.1 ≡ left.1)
 
--- The bytes that are left of those that are known.
+-- The remaining bytes of those that are known.
 abbrev pub IsLeft : Option Bytes → Option Bytes → (Bytes → Bytes → Type 0) → Type 0
 IsLeft None left P = ⊤
 IsLeft (Some xs) None P = ⊥
 IsLeft (Some xs) (Some ys) P = P xs ys
 
--- Some packets of the source were visited, and the others are those of what is held and of what the source has left.
+-- Some packets of the source were visited. The others are those of the buffer and of the source's
+-- remaining bytes.
 pub record IsOn (old now : Option (List Packet)) (known left : Option Bytes) (s : State) (b : Bytes) : Type 0 where
   pub some : List Packet
   pub adds : Adds old now some
@@ -66,7 +67,7 @@ split_packet all p q some x (e, f) is = (
 split_same : (all p q : Packets) (some : List Packet) → Splits all some p → p ≡ q → Splits all some q
 split_same all p q some h e = subst (Splits all some) e h
 
--- a packet was visited, or something else was passed
+-- a packet was visited, or another item was skipped
 went_by : (a : Said) (old mid new : Option (List Packet)) (known left : Option Bytes) (s s' : State)
     (b b' : Bytes) → ((ys : Bytes) → Stands ys (packets_from s (b ++ ys)) a) → IsOn old mid known left s b
     → Went a mid new s s' b b' true → IsOn old new known left s' b'
@@ -98,12 +99,12 @@ pub on_went : (old mid new : Option (List Packet)) (known left : Option Bytes) (
 on_went old mid new known left s s' b b' on goes = went_by (front s b) old mid new known left s s' b b' (stands s b) on
     goes
 
--- Further bytes are wanted.
+-- More bytes are needed.
 abbrev pub Wants : Said → Type 0
 Wants (Ok (Wait, t)) = ⊤
 Wants a = ⊥
 
--- nothing changed where further bytes are wanted
+-- nothing changed, since more bytes are needed
 pub record HasWaited (old new : Option (List Packet)) (s s' : State) (b b' : Bytes) : Type 0 where
   pub adds : Adds old new []
   pub known : s' ≡ s
@@ -141,7 +142,7 @@ came_left (Some xs) None left' came P e h = absurd h
 came_left (Some xs) (Some ys) None came P e h = absurd e
 came_left (Some xs) (Some ys) (Some zs) came P e h = subst (P xs) e h
 
--- what a read gave stands behind what is held
+-- the bytes of a read follow those in the buffer
 pub on_came : (old now : Option (List Packet)) (known left left' : Option Bytes) (s : State) (b b' : Bytes) (n : ℕ)
     → IsOn old now known left s b → Came b b' left left' n → IsOn old now known left' s b'
 on_came old now known left left' s b b' n on came = record {
@@ -169,7 +170,7 @@ all_of old mid new all left some end adds none (e, f) is = (
   f ∙ ap (λ t. t.1) is,
 )
 
--- nothing can be read in front
+-- the item at the front breaks a rule
 refused : (old mid new : Option (List Packet)) (known left : Option Bytes) (s : State) (b : Bytes) (k : CaptureError)
     → IsOn old mid known left s b → Adds mid new [] → front s b ≡ Err k
     → IfSome known (λ x. AddsAll old new (packets_of x) (Refused k))
@@ -214,7 +215,7 @@ none_came : (came : Bytes) → length came ≡ 0 → came ≡ []
 none_came [] e = refl
 none_came (x ∷ xs) e = absurd (omega (arith, e))
 
--- All bytes came, and none is wanted: that is the end.
+-- All bytes were read, and no more are needed: this is the end.
 pub record IsOver (old now : Option (List Packet)) (known left : Option Bytes) (end : End) : Type 0 where
   pub all : IfSome known (λ x. AddsAll old now (packets_of x) end × IsAtEnd left)
 
@@ -281,7 +282,7 @@ read_cause E old now known left (Refused k) (Err (visit.Reading e)) over is = ab
 read_cause E old now known left (Refused k) (Err visit.Endless) over is = absurd is
 read_cause E old now known left (Refused k) (Err (visit.Visitor e)) over is = absurd is
 
--- What stands in front is taken off: what is left are the bytes that follow it.
+-- The item at the front is taken off, and the bytes behind it are left.
 taken_by : (a : Said) (old new : Option (List Packet)) (s : State) (b : Bytes) (p : Packet) (r : Bytes) (t : State)
     (b' : Bytes) → FiveTuple b a → a ≡ Ok (Captured p r, t) → Adds old new (p ∷ []) → b' ≡ drop (length b - length r) b
     → Went a old new s t b b' true
@@ -299,7 +300,7 @@ other_taken old s b r t b' e is =
     subst (λ z. Went z old old s t b b' true) (sym e)
     (adds_none old, refl, is ∙ last_bytes b r (subst (FiveTuple b) e (front_ends s b)))
 
--- the same, as a run meets them
+-- a step of the visit that took an item
 pub on_if_went : (old mid new : Option (List Packet)) (known left : Option Bytes) (s s' : State) (b b' : Bytes)
     (went : Bool) → IsOn old mid known left s b → Went (front s b) mid new s s' b b' went → went ≡ true
     → IsOn old new known left s' b'

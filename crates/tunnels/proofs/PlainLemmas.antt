@@ -1,4 +1,4 @@
--- A packet in which no tunnel is found holds what it held before tunnels were followed.
+-- A packet without tunnels holds what `packet` parses, which follows none.
 use Rattle.std.proofs.Common.{◌≡◌, ℕ, zero, suc, ◌≤◌, List, [], ◌∷◌, ◌++◌, length, Bool, true, false, Option, Some, None, Ok, Err, ap, arith}
 use Rattle.std.specs.Prelude.{◌==◌, ◌||◌}
 use Rattle.std.proofs.Math.Nat.{le_refl}
@@ -31,14 +31,14 @@ answer_longer f found (Err e) some = le_refl (length found)
 one_more : (t : Tunnel) (found : List Tunnel) (n : ℕ) → length (found ++ t ∷ []) ≤ n → length found ≤ n
 one_more t found n h = omega (arith, h, length-append found (t ∷ []))
 
--- No tunnel that was found is lost.
+-- No tunnel found so far is lost.
 longer : (n : ℕ) (found : List Tunnel) (a : Answer Layer) → length found ≤ length (followed n found a).tunnels
 unfolding followed
 longer zero found a = answer_longer _ found a (λ h. le_refl (length found))
 longer (suc n) found a =
     answer_longer _ found a (λ h. one_more h.tunnel found _ (longer n (found ++ h.tunnel ∷ []) (reading (inner_layer h.kind) h.inside)))
 
--- This was found in no tunnel.
+-- The datagram was found outside all tunnels.
 record IsPlain (a : Answer Layer) (d : Datagram) : Type 0 where
   none : (followed 8 [] a).tunnels ≡ []
   holds : (followed 8 [] a).inside ≡ Held d
@@ -78,7 +78,7 @@ unfolding followed
 from_wraps (Ok x) d p = not_wrapped x.0 x.1 d p
 from_wraps (Err e) d p = false≢true (ap is_datagram p.holds)
 
--- What was read of a packet is this datagram.
+-- The packet parses as this datagram.
 record IsPackets (a : Answer (Option Datagram)) (d : Datagram) : Type 0 where
   rest : Bytes
   is : a ≡ Ok (Some d, rest)

@@ -1,4 +1,4 @@
--- What is read in front, by how many tunnels may still come.
+-- The walk from one layer, by how many tunnels may still come.
 use Rattle.std.proofs.Common.{◌≡◌, ◌≢◌, ℕ, zero, suc, ◌-◌, List, [], ◌∷◌, ◌++◌, Option, Some, None, Ok, Err, refl, ap, arith}
 use Rattle.layouts.specs.Bytes.{Bytes}
 use Rattle.layouts.specs.Meaning.{Refusal}
@@ -43,7 +43,7 @@ one_more (suc n) found h b some =
     let same : n ≡ suc n - 1 = omega arith in
     ap (λ k. followed k (found ++ h.tunnel ∷ []) (reading (inner_layer h.kind) h.inside)) same
 
--- A fragment is found.
+-- A fragment is at the front.
 pub in_front : (n : ℕ) (f : Fragment) (b : Bytes) (read : Answer Layer) → found n (Ok (f, b)) read ≡ Some f
 unfolding found
 in_front zero f b read = refl
