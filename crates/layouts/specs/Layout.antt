@@ -2,13 +2,13 @@
 -- Later parts may depend on the values of earlier ones. It corresponds to the presentation language
 -- of RFC 8446, section 3.
 --
---     in an RFC                                   here
---     uint8, uint16, uint24, uint32, uint64       number 1, number 2, number 3, number 4, number 8
---     opaque x[n]                                 block n
---     opaque x<0..2^8-1>, x<0..2^16-1>            counted 1, counted 2
---     T x<0..2^16-1>, a length and then many T    counted_window 2 (list T)
---     struct { T x; } S                           mapped S T
---     select (x) { case 1: S; case 2: T }         choose (x == 1) S (choose (x == 2) T (refuse Switch))
+--     in an RFC                              here
+--     uint8, uint16, uint24, uint32, uint64  number 1, number 2, number 3, number 4, number 8
+--     opaque x[n]                            block n
+--     opaque x<0..2^8-1>, x<0..2^16-1>       counted 1, counted 2
+--     T x<0..2^16-1>, many T after a length  counted_window 2 (list T)
+--     struct { T x; } S                      mapped S T
+--     select (x) { case 1: S; case 2: T }    choose (x == 1) S (choose (x == 2) T (refuse Switch))
 use Rattle.std.specs.Prelude.{ℕ, zero, suc, ◌/◌, ◌%◌, ◌==◌, List, [], ◌∷◌, ◌++◌, Option, Bool, true, false}
 use Rattle.layouts.specs.Bytes.{Bytes}
 use Rattle.layouts.specs.declared.result.ErrorKind.{ErrorKind}
