@@ -86,7 +86,7 @@ had_memory (failed.Incomplete n) h = tt
 had_memory (failed.Error x) h = tt
 had_memory (failed.Failure x) h = tt
 
--- These steps for what the calls return.
+-- The steps for the results of calls.
 module _ {X A : Type 0} (view : X → A) (l : Layout A) (first : List A) (b : Bytes) where
   pub list_push : (xs : List X) (m : Bytes) (x : X) (r : Bor (List ℕ)) → ListRead l first b (map view xs) m
       → GivesOrMemory view l m (Ok (r, x)) → length r.now < length m

@@ -20,12 +20,12 @@ place_is b c r (f, e) =
 pub ends_here : (b : Bytes) → EndsWith b b
 ends_here b = ([], refl)
 
--- a read leaves a suffix of what it began on
+-- if b is a suffix of w, so is the rest of a read from b
 pub ends_read : {A : Type 0} (l : Layout A) (w b : Bytes) (v : A) (r : Bytes) → EndsWith w b → Allows l b (Ok (v, r))
     → EndsWith w r
 unfolding Allows
 ends_read l w b v r at (d, s) = ends_after w b r at (ends l b v r d s)
 
--- what follows a part is a suffix too
+-- what follows a part at the end of w is a suffix too
 pub ends_behind : (w c r : Bytes) → EndsWith w (c ++ r) → EndsWith w r
 ends_behind w c r (f, e) = (f ++ c, e ∙ sym (append_assoc f c r))

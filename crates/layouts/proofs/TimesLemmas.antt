@@ -58,7 +58,7 @@ push_one n l b xs m x r h e = rw add-one (push_read n l b xs m x r h e)
 pub record TimesRead {A : Type 0} (l : Layout A) (b : Bytes) (n : ℕ) (xs : List A) (m : Bytes) : Type 0 where
   pub read : reading (times n l) b ≡ Ok (xs, m)
 
--- One more item, for what the calls return.
+-- One more item, for the results of calls.
 module _ {X A : Type 0} (view : X → A) (l : Layout A) (b : Bytes) where
   pub times_push : (n : ℕ) (xs : List X) (m : Bytes) (x : X) (r : Bor (List ℕ)) → TimesRead l b n (map view xs) m
       → Gives view l m (Ok (r, x)) → TimesRead l b (n + 1) (map view (xs ++ x ∷ [])) r.now

@@ -44,8 +44,7 @@ abbrev pub MemorySufficed : {X : Type 0} → Returned X → Type 0
 MemorySufficed (Ok x) = ⊤
 MemorySufficed (Err e) = IsNotOutOfMemory e
 
--- The answer that the result is. `view` takes a value to what it is regardless of where it lies in
--- memory.
+-- The result as an answer. `view` forgets where the value lies in memory.
 abbrev pub answer_of : {X Y : Type 0} → (X → Y) → Returned X → Answer Y
 answer_of view (Ok x) = Ok (view x.1, x.0.now)
 answer_of view (Err e) = Err (refusal_of e)

@@ -21,7 +21,7 @@ pub trait InPlace<'a> {
     /// The type of an item that was read.
     type Read: Drop;
 
-    /// The item's value, without where it lies in memory.
+    /// The item's value, regardless of its place in memory.
     ghost Value: { Type 0 };
 
     ghost view: { Self.Read → Value };

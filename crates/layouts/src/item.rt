@@ -17,7 +17,7 @@ pub trait Item<'a>: Room {
     /// The type of an item that was read.
     type Read: Drop;
 
-    /// The item's value, without where it lies in memory.
+    /// The item's value, regardless of its place in memory.
     ghost Value: { Type 0 };
 
     ghost view: { Self.Read → Value };
