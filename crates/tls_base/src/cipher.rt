@@ -48,11 +48,11 @@ pub enum TlsCipherKx {
     Srp,
     /// A secret encrypted with the server's RSA key (RFC 5246, section 7.4.7.1).
     Rsa,
-    /// Diffie-Hellman with fixed keys (the DH_.. of RFC 5246, appendix A.5).
+    /// Diffie-Hellman, not ephemeral (the DH_.. of RFC 5246, appendix A.5).
     Dh,
     /// Ephemeral Diffie-Hellman (the DHE_.. of RFC 5246, appendix A.5).
     Dhe,
-    /// Elliptic-curve Diffie-Hellman with fixed keys (RFC 4492, section 2).
+    /// Elliptic-curve Diffie-Hellman, not ephemeral (RFC 4492, section 2).
     Ecdh,
     /// Ephemeral elliptic-curve Diffie-Hellman (RFC 8422, section 2).
     Ecdhe,
@@ -239,13 +239,13 @@ pub enum TlsPRF {
     Null,
     /// HMAC with MD5 and with SHA-1 (RFC 2246, section 5).
     Md5AndSha1,
-    /// HMAC with SHA-1: RFC 5246, section 5, allows any hash.
+    /// HMAC with SHA-1, as RFC 5246, section 5, defines it for any hash.
     Sha1,
     /// HMAC with SHA-256 (RFC 5246, section 5).
     Sha256,
     /// HMAC with SHA-384 (RFC 5288, section 3).
     Sha384,
-    /// HMAC with SHA-512: RFC 5246, section 5, allows any hash.
+    /// HMAC with SHA-512, as RFC 5246, section 5, defines it for any hash.
     Sha512,
     /// HMAC with SM3 (RFC 8998).
     Sm3,

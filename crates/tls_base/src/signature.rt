@@ -10,7 +10,7 @@ use crate::sign_algorithm::SignAlgorithm;
 use layouts::{IResult, counted2};
 use std::fmt;
 
-/// The pair of algorithms behind a signature of TLS 1.2 (RFC 5246, section 7.4.1.4.1).
+/// The pair of algorithms of a TLS 1.2 signature (RFC 5246, section 7.4.1.4.1).
 #[derive(Clone, Debug, PartialEq, Drop)]
 pub struct SignatureAndHashAlgorithm {
     /// The hash algorithm.

@@ -4,10 +4,10 @@ ghost use Rattle.tls_base.specs.SuiteExchange.{is_in, is_over_curves, key_exchan
 
 use crate::cipher_suite_id::TlsCipherSuiteID;
 
-/// The public part of a key exchange.
+/// What the two sides transmit to make a key, besides the identity of a pre-shared key.
 #[derive(Clone, Copy, Debug, PartialEq, Eq)]
 pub enum Public {
-    /// None: only a pre-shared key (RFC 4279, section 2).
+    /// Nothing: there is only a pre-shared key (RFC 4279, section 2).
     Nothing,
     /// A secret that the client encrypts (RFC 5246, section 7.4.7.1).
     Rsa,
@@ -23,7 +23,7 @@ pub struct KeyExchange {
     /// Whether a pre-shared key is used, with its identity (RFC 4279, sections 2 to 4; RFC 5489,
     /// section 2).
     pub has_identity: bool,
-    /// The public part.
+    /// What else is transmitted.
     pub public: Public,
     /// Whether the server signs its public values.
     pub is_signed: bool,

@@ -6,8 +6,8 @@ ghost use Rattle.tls_base.specs.Timestamp.{serialized_timestamp, timestamp_list}
 use crate::timestamp::SignedCertificateTimestamp;
 use layouts::{IResult, Items, counted2};
 
-/// Reads a list of timestamps in place (RFC 6962, section 3.3). The answer is that of
-/// [`crate::parse_ct_signed_certificate_timestamp_list`], which allocates.
+/// Reads a list of timestamps in place (RFC 6962, section 3.3). Gives the same answer as
+/// [`crate::parse_ct_signed_certificate_timestamp_list`], but allocates nothing.
 ///
 /// `Incomplete` with the bytes missing from the length, or else from the list. Each timestamp is
 /// read when the walk reaches it.
