@@ -1,4 +1,4 @@
--- The values of extensions, without where they lie in memory (RFC 8446, section 4.2).
+-- The values of extensions, regardless of their place in memory (RFC 8446, section 4.2).
 use Rattle.std.specs.Prelude.{ℕ, List, map, Option}
 use Rattle.std.specs.Option.{option_map}
 use Rattle.std.specs.Borrow.{Bor}
