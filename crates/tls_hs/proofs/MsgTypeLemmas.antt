@@ -14,7 +14,7 @@ use Rattle.tls_hs.specs.Handshake.{certificate_status_body, next_protocol_body, 
 use Rattle.tls_hs.specs.Handshake.{body_from_finished, body_from_certificate, handshake_body}
 use Rattle.tls_hs.specs.HandshakeText.{msg_type_of}
 
--- P holds for every value of a layout, judged by the last part alone
+-- P holds for every value of a layout, as its last part alone shows
 abbrev Ends : {A : Type 0} → (A → Type 0) → Layout A → Type 0
 Ends P (done a) = P a
 Ends P (refuse e) = ⊤

@@ -252,7 +252,7 @@ pub last_ends : (o : ℕ) (x : Bytes) (v : Option (Bor (List ℕ)))
 last_ends o x None = refl
 last_ends o x (Some y) = refl
 
--- a part at a place within b is there
+-- a part at a place within b is at that place
 pub stands_there : (b : Bytes) (p : Option Place) (v : Option (Bor (List ℕ)))
     → MayStand b p (option_map (λ x. x.now) v) → StandsAt b p v
 stands_there b (Some p) (Some x) s = s.is

@@ -10,7 +10,7 @@ use Rattle.tls_hs.specs.declared.certificate.TlsCertificateContents.{TlsCertific
 use Rattle.tls_hs.specs.declared.certificate.TlsCertificateStatusContents.{TlsCertificateStatusContents}
 use Rattle.tls_hs.specs.declared.certificate_request.TlsCertificateRequestContents.{TlsCertificateRequestContents}
 
--- The value of a Certificate (RFC 5246, section 7.4.2), without where it lies in memory: its
+-- The value of a Certificate (RFC 5246, section 7.4.2), regardless of its place in memory: its
 -- ASN.1Cert certificate_list.
 abbrev pub view_certificate : TlsCertificateContents → List Bytes
 view_certificate c = map (λ x. x.bytes.now) c.cert_chain.items

@@ -15,7 +15,7 @@ use Rattle.tls_hs.specs.Session as session
 use Rattle.tls_hs.specs.declared.handshake.TlsMessageHandshake.{TlsMessageHandshake}
 use Rattle.tls_hs.specs.declared.handshake.TlsMessageHandshake.TheVariants as tls_handshake
 
--- The value of a handshake message, without where it lies in memory.
+-- The value of a handshake message, regardless of its place in memory.
 pub data Handshake : Type 0 where
   HelloRequest : Handshake
   ClientHello : hello.ClientHello → Handshake

@@ -7,7 +7,7 @@ use Rattle.layouts.specs.Layout.{Layout, done, number, block, left, maybe, mappe
 use Rattle.layouts.specs.declared.result.ErrorKind.TheVariants.{LengthValue, Verify}
 use Rattle.tls_hs.specs.declared.client_hello.TlsClientHelloContents.{TlsClientHelloContents}
 
--- The value of a ClientHello, without where it lies in memory; the extensions are one unparsed
+-- The value of a ClientHello, regardless of its place in memory; the extensions are one unparsed
 -- block. In TLS 1.3 its version is 0x0303, and the offered versions are in its extension
 -- supported_versions (RFC 8446, section 4.2.1).
 pub record ClientHello : Type 0 where

@@ -19,7 +19,7 @@ abbrev pub view_heartbeat : TlsMessageHeartbeat → HeartbeatMessage
 view_heartbeat h =
     record { heartbeat_type = h.heartbeat_type.0; payload_length = h.payload_len; payload = h.payload.now }
 
--- The value of a message, without where it lies in memory.
+-- The value of a message, regardless of its place in memory.
 pub data Message : Type 0 where
   Handshake : handshakes.Handshake → Message
   ChangeCipherSpec : Message

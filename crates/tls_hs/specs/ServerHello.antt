@@ -10,7 +10,7 @@ use Rattle.tls_hs.specs.declared.server_hello.TlsServerHelloContents.{TlsServerH
 use Rattle.tls_hs.specs.declared.server_hello.TlsServerHelloV13Draft18Contents.{TlsServerHelloV13Draft18Contents}
 use Rattle.tls_hs.specs.declared.server_hello.TlsHelloRetryRequestContents.{TlsHelloRetryRequestContents}
 
--- The value of a ServerHello (RFC 5246, section 7.4.1.3), without where it lies in memory. In TLS
+-- The value of a ServerHello (RFC 5246, section 7.4.1.3), regardless of its place in memory. In TLS
 -- 1.3 its version is 0x0303, and the version in use is in its extension supported_versions (RFC
 -- 8446, section 4.2.1).
 pub record ServerHello : Type 0 where

@@ -108,7 +108,7 @@ fn without_algorithms(alloc: Global, i: &[u8]) -> IResult<&[u8], TlsCertificateR
 ///
 /// - Certificate types of 1 byte each, after 1 byte of length;
 /// - signature algorithms of 2 bytes each, after 2 bytes of length;
-/// - names of authorities, each after 2 bytes of length, after 2 bytes of length together.
+/// - names of authorities, each after 2 bytes of length; the list is after 2 bytes of length too.
 ///
 /// If that can't be read, the form up to TLS 1.1 is tried, without the algorithms (RFC 4346,
 /// section 7.4.4).

@@ -28,8 +28,8 @@ impl<'a> InPlace<'a> for RawCertificate<'a> {
 }
 
 /// Reads the body of a Certificate up to TLS 1.2 in place (RFC 5246, section 7.4.2); the sender's
-/// certificate is first. The answer is that of [`crate::parse_tls_handshake_msg_certificate`],
-/// which allocates.
+/// certificate is first. Gives the same answer as [`crate::parse_tls_handshake_msg_certificate`],
+/// but allocates nothing.
 ///
 /// The length of the list is checked at once. Each certificate is read when the walk reaches it.
 #[tactic(auto, using(layouts::proofs::OneAnswerLemmas::read_allowed), unfolding(crate::specs::Certificate::certificate))]
@@ -109,8 +109,8 @@ fn without_algorithms(i: &[u8]) -> IResult<&[u8], CertificateRequestView>
 }
 
 impl<'a> CertificateRequestView<'a> {
-    /// Reads the body of a CertificateRequest in place. The answer is that of
-    /// [`crate::parse_tls_handshake_certificaterequest`], which allocates.
+    /// Reads the body of a CertificateRequest in place. Gives the same answer as
+    /// [`crate::parse_tls_handshake_certificaterequest`], but allocates nothing.
     ///
     /// The lengths of the lists are checked at once. Their items are read when a walk reaches them.
     #[tactic(auto, using(layouts::proofs::OneAnswerLemmas::read_allowed), unfolding(crate::specs::Certificate::certificate_request))]

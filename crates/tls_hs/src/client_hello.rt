@@ -78,7 +78,7 @@ impl<'a> TlsClientHelloContents<'a> {
         suites(alloc, table, &self.ciphers)
     }
 
-    /// Returns a copy with copied lists. Other parts share their bytes.
+    /// Returns a copy with copied lists. Slices are shared.
     ///
     /// `OutOfMemory` if a list can't be allocated.
     pub fn try_clone(&self, alloc: Global) -> Result<Self, OutOfMemory>

@@ -10,7 +10,7 @@ use tls_base::{CipherTable, TlsCipherSuite, TlsCipherSuiteID, TlsCompressionID, 
 
 /// A ClientHello of TLS or of DTLS (RFC 5246, section 7.4.1.2).
 pub trait ClientHello<'a> {
-    /// The hello's value, without where it lies in memory.
+    /// The hello's value, regardless of its place in memory.
     ghost hello: { Self → Hello };
 
     /// Returns the version that the client offers up to TLS 1.2. In TLS 1.3 it is 0x0303, and the

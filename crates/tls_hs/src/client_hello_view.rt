@@ -81,8 +81,8 @@ pub fn client_hello_fields(
 }
 
 impl<'a> ClientHelloView<'a> {
-    /// Reads the body of a ClientHello in place. The answer is that of
-    /// [`crate::parse_tls_handshake_client_hello`], which allocates.
+    /// Reads the body of a ClientHello in place. Gives the same answer as
+    /// [`crate::parse_tls_handshake_client_hello`], but allocates nothing.
     ///
     /// The whole body is checked, except for the content of the extensions, which that call doesn't
     /// check either.

@@ -115,7 +115,7 @@ impl<'a> TlsMessageHandshake<'a> {
         rows!(every_row has_row msg_type)
     }
 
-    /// Returns a copy of the message with copied lists. Other parts share their bytes.
+    /// Returns a copy of the message with copied lists. Slices are shared.
     ///
     /// `OutOfMemory` if a list can't be allocated.
     pub fn try_clone(&self, alloc: Global) -> Result<Self, OutOfMemory>

@@ -58,8 +58,8 @@ impl<'a> InPlace<'a> for RawHandshake<'a> {
     }
 }
 
-/// A message with its body parsed, as an item of a list. The answer is that of
-/// [`crate::parse_tls_message_handshake`], which allocates.
+/// A message with its body parsed, as an item of a list. Gives the same answer as
+/// [`crate::parse_tls_message_handshake`], but allocates nothing.
 impl<'a> InPlace<'a> for HandshakeView<'a> {
     type Read = Self;
 
@@ -81,9 +81,9 @@ impl<'a> InPlace<'a> for HandshakeView<'a> {
 }
 
 impl<'a> RawHandshake<'a> {
-    /// Parses the body within its bytes. The answer is that of
-    /// [`crate::parse_tls_message_handshake`] on a complete message, which allocates. The rest is
-    /// what the body leaves of its bytes.
+    /// Parses the body within its bytes. Gives the same answer as
+    /// [`crate::parse_tls_message_handshake`] on a complete message, but allocates nothing. The
+    /// rest is what the body leaves of its bytes.
     #[inline(always)]
     pub fn parse_body(self) -> IResult<&'a [u8], HandshakeView<'a>>
         ensures { Gives view_handshake_in_place (handshake_body self.entry.msg_type.0 (length self.entry.body.now)) self.entry.body.now result }

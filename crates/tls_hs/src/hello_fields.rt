@@ -65,8 +65,8 @@ pub fn listed<T: Number>(alloc: Global, items: Items<T>) -> Result<Vec<T>, Alloc
     }
 }
 
-/// Reads cipher suites in place. The answer is that of [`crate::parts::cipher_suites`], which
-/// allocates.
+/// Reads cipher suites in place. Gives the same answer as [`crate::parts::cipher_suites`], but
+/// allocates nothing.
 #[tactic(auto, using(layouts::proofs::OneAnswerLemmas::read_allowed, layouts::proofs::NumbersLemmas::numbers_in), unfolding(crate::specs::Hello::cipher_suites))]
 #[inline(always)]
 pub fn cipher_suites_in_place(i: &[u8]) -> IResult<&[u8], Items<TlsCipherSuiteID>>
@@ -82,8 +82,8 @@ pub fn cipher_suites_in_place(i: &[u8]) -> IResult<&[u8], Items<TlsCipherSuiteID
     Ok((rest, Items::new(suites)))
 }
 
-/// Reads compression methods in place. The answer is that of [`crate::parts::compressions`], which
-/// allocates.
+/// Reads compression methods in place. Gives the same answer as [`crate::parts::compressions`], but
+/// allocates nothing.
 #[tactic(auto, using(layouts::proofs::OneAnswerLemmas::read_allowed, layouts::proofs::NumbersLemmas::numbers_in), unfolding(crate::specs::Hello::compression_methods))]
 #[inline(always)]
 pub fn compressions_in_place(i: &[u8]) -> IResult<&[u8], Items<TlsCompressionID>>

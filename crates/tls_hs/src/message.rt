@@ -45,7 +45,7 @@ pub enum TlsMessage<'a> {
 }
 
 impl<'a> TlsMessage<'a> {
-    /// Returns a copy of the message with copied lists. Other parts share their bytes.
+    /// Returns a copy of the message with copied lists. Slices are shared.
     ///
     /// `OutOfMemory` if a list can't be allocated.
     pub fn try_clone(&self, alloc: Global) -> Result<Self, OutOfMemory>

@@ -159,8 +159,8 @@ impl<'a> Iterator for Messages<'a> {
     }
 }
 
-/// Reads a Heartbeat message in place. The answer is that of
-/// [`crate::parse_tls_message_heartbeat`], which allocates.
+/// Reads a Heartbeat message in place. Gives the same answer as
+/// [`crate::parse_tls_message_heartbeat`], but allocates nothing.
 #[tactic(auto, using(layouts::proofs::OneAnswerLemmas::read_allowed), unfolding(crate::specs::Message::heartbeat))]
 #[inline(always)]
 pub fn heartbeat(i: &[u8], tls_plaintext_len: u16) -> IResult<&[u8], TlsMessageHeartbeat>
