@@ -120,7 +120,7 @@ handshake_is_raw_then_body b =
     step (reading (number 3) offset.1) _ _ (λ n.
     by_window kind.0 length.0 seq.0 offset.0 n.0 (split_at n.0 n.1))))))
 
--- the same reading, with the handshake message as a message
+-- and as a message of a record
 abbrev as_message : dtls_handshake.Handshake × Bytes → Answer Message
 as_message x = Ok (dtls_record.Handshake x.0, x.1)
 

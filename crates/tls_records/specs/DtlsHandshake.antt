@@ -11,7 +11,7 @@ use Rattle.tls_records.specs.declared.dtls.handshake.DTLSMessageHandshake.{DTLSM
 use Rattle.tls_records.specs.declared.dtls.handshake.DTLSMessageHandshakeBody.{DTLSMessageHandshakeBody}
 use Rattle.tls_records.specs.declared.dtls.handshake.DTLSMessageHandshakeBody.TheVariants as dtls_body
 
--- The value of a handshake message's body, without where it lies in memory, or a fragment of one.
+-- The value of a handshake message's body, regardless of its place in memory, or a fragment of one.
 pub data Body : Type 0 where
   HelloRequest : Body
   ClientHello : dtls_hello.ClientHello → Body
@@ -92,7 +92,7 @@ whole_body kind length =
 unfoldable pub body : ℕ → ℕ → Bool → Layout Body
 body kind length is_fragment = choose is_fragment (mapped Fragment rest) (whole_body kind length)
 
--- The value of a handshake message, without where it lies in memory.
+-- The value of a handshake message, regardless of its place in memory.
 pub record Handshake : Type 0 where
   pub msg_type : ℕ
   pub length : ℕ

@@ -15,7 +15,7 @@ use Rattle.tls_records.specs.declared.dtls.record.DTLSRecordHeader.{DTLSRecordHe
 use Rattle.tls_records.specs.declared.dtls.record.DTLSRawRecord.{DTLSRawRecord}
 use Rattle.tls_records.specs.declared.dtls.record.DTLSPlaintext.{DTLSPlaintext}
 
--- The value of a message, without where it lies in memory.
+-- The value of a message, regardless of its place in memory.
 pub data Message : Type 0 where
   Handshake : dtls_handshake.Handshake → Message
   ChangeCipherSpec : Message

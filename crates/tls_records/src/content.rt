@@ -12,7 +12,7 @@ pub(crate) trait Protocol<'a> {
     /// The type of a message.
     type Message: Drop;
 
-    /// The message's value, without where it lies in memory.
+    /// The message's value, regardless of its place in memory.
     ghost Value: { Type 0 };
 
     ghost view: { Self.Message → Value };

@@ -67,8 +67,8 @@ pub fn record_header_with_further_bytes()
 {}
 
 /// Further bytes after a record whose fragment isn't parsed, encrypted or not, change neither its
-/// value nor a refusal other than for missing bytes. If bytes are missing, and fewer follow,
-/// exactly the others are still missing.
+/// value nor a refusal other than for missing bytes; they are appended to the rest. If bytes are
+/// missing, and fewer follow, exactly the others are still missing.
 #[tactic(auto, using(crate::proofs::FurtherLemmas::raw_record_decides, crate::proofs::FurtherLemmas::raw_record_counts_down))]
 pub fn raw_record_with_further_bytes()
     ensures decides { (b s : Bytes) → AreBytes b → AreBytes s → Decides tls.raw_record b s }
@@ -76,7 +76,8 @@ pub fn raw_record_with_further_bytes()
 {}
 
 /// Further bytes after a record with its messages change neither its value nor a refusal other than
-/// for missing bytes. If bytes are missing, and fewer follow, exactly the others are still missing.
+/// for missing bytes; they are appended to the rest. If bytes are missing, and fewer follow,
+/// exactly the others are still missing.
 #[tactic(auto, using(crate::proofs::FurtherLemmas::plaintext_decides, crate::proofs::FurtherLemmas::plaintext_counts_down))]
 pub fn plaintext_with_further_bytes()
     ensures decides { (b s : Bytes) → AreBytes b → AreBytes s → Decides tls.plaintext b s }
@@ -84,8 +85,8 @@ pub fn plaintext_with_further_bytes()
 {}
 
 /// Further bytes after the header of a DTLS record change neither its value nor a refusal other
-/// than for missing bytes. If bytes are missing, and fewer follow, exactly the others are still
-/// missing.
+/// than for missing bytes; they are appended to the rest. If bytes are missing, and fewer follow,
+/// exactly the others are still missing.
 #[tactic(auto, using(crate::proofs::DtlsFurtherLemmas::header_decides, crate::proofs::DtlsFurtherLemmas::header_counts_down))]
 pub fn dtls_record_header_with_further_bytes()
     ensures decides { (b s : Bytes) → AreBytes b → AreBytes s → Decides dtls.record_header b s }
@@ -93,8 +94,8 @@ pub fn dtls_record_header_with_further_bytes()
 {}
 
 /// Further bytes after a DTLS record with its messages change neither its value nor a refusal other
-/// than for missing bytes. If bytes are missing, and fewer follow, exactly the others are still
-/// missing.
+/// than for missing bytes; they are appended to the rest. If bytes are missing, and fewer follow,
+/// exactly the others are still missing.
 #[tactic(auto, using(crate::proofs::DtlsFurtherLemmas::plaintext_decides, crate::proofs::DtlsFurtherLemmas::plaintext_counts_down))]
 pub fn dtls_plaintext_with_further_bytes()
     ensures decides { (b s : Bytes) → AreBytes b → AreBytes s → Decides dtls.plaintext b s }

@@ -6,8 +6,8 @@
 //! - Each parse call returns the one answer of its layout: the value and the exact rest, or the
 //!   refusal of the leftmost part that can't be read. Slices in a value are parts of the input.
 //! - A record is incomplete exactly while its bytes aren't all present and its length isn't too
-//!   large. Memory can't run out unless it is complete (`NeedsMore`, `HasNoRecord` in
-//!   `specs/Framing.antt`).
+//!   large. Memory can't run out unless it is complete and not too large (`NeedsMore`,
+//!   `HasNoRecord` in `specs/Framing.antt`).
 //! - Each call that writes appends the encoding of the value; or it refuses the value, or runs out
 //!   of memory, and doesn't call the `Write`; or the `Write` fails, and how much it took is
 //!   unknown. `specs/RecordText.antt` and `RecordWriter` define this.

@@ -31,7 +31,7 @@ pub struct TlsPlaintext<'a> {
 }
 
 impl<'a> TlsPlaintext<'a> {
-    /// Returns a copy of the record with copied lists. Other parts share their bytes.
+    /// Returns a copy of the record with copied lists. Slices are shared.
     ///
     /// `OutOfMemory` if a list can't be allocated.
     pub fn try_clone(&self, alloc: Global) -> Result<Self, OutOfMemory>

@@ -89,8 +89,9 @@ fn fragment_judged<'a>(i: &'a [u8], hdr: &TlsRecordHeader) -> Result<(), Err<Err
     }
 }
 
-/// Returns the messages of the fragment `i` of a record with the header `hdr`, in place. The answer
-/// is that of [`crate::parse_tls_record_with_header`], which allocates; so are the refusals.
+/// Returns the messages of the fragment `i` of a record with the header `hdr`, in place. Gives the
+/// same answer as [`crate::parse_tls_record_with_header`], also if that refuses, but allocates
+/// nothing.
 ///
 /// The first message is checked, with its body. The others are read when the walk reaches them.
 #[inline(always)]
@@ -104,8 +105,8 @@ pub fn parse_tls_record_with_header_in_place<'a>(
     Ok(Messages::new(hdr.record_type, hdr.len, i))
 }
 
-/// Reads a record and its messages in place (RFC 5246, section 6.2.1). The answer is that of
-/// [`crate::parse_tls_plaintext`], which allocates; so are the refusals.
+/// Reads a record and its messages in place (RFC 5246, section 6.2.1). Gives the same answer as
+/// [`crate::parse_tls_plaintext`], also if that refuses, but allocates nothing.
 ///
 /// Only the header, its length and the first message are checked. [`crate::parse_tls_plaintext`]
 /// checks no more: it ends its list before a later message that is refused. Here the walk continues

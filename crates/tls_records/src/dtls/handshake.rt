@@ -27,7 +27,7 @@ pub struct DTLSMessageHandshake<'a> {
     pub length: u32,
     /// The message's number among those of its sender.
     pub message_seq: u16,
-    /// Where the fragment begins in the whole body, in bytes.
+    /// The offset of the fragment within the whole body, in bytes.
     pub fragment_offset: u32,
     /// The length of the fragment, in bytes. It isn't compared with `length`: if it is greater, and
     /// the offset is 0, the body is read as a whole one, within the fragment's bytes.

@@ -34,7 +34,7 @@ pub struct DTLSRawHandshake<'a> {
     pub length: u32,
     /// The message's number among those of its sender.
     pub message_seq: u16,
-    /// Where the fragment begins in the whole body, in bytes.
+    /// The offset of the fragment within the whole body, in bytes.
     pub fragment_offset: u32,
     /// The length of the fragment, in bytes.
     pub fragment_length: u32,
@@ -125,9 +125,9 @@ impl<'a> DTLSRawHandshake<'a> {
         self.fragment_offset > 0 || self.fragment_length < self.length
     }
 
-    /// Parses the body within its bytes. The answer is that of
-    /// [`crate::parse_dtls_message_handshake`] on a complete message, which allocates. The rest is
-    /// what the body leaves of its bytes.
+    /// Parses the body within its bytes. Gives the same answer as
+    /// [`crate::parse_dtls_message_handshake`] on a complete message, but allocates nothing. The
+    /// rest is what the body leaves of its bytes.
     #[inline(always)]
     pub fn parse_body(self) -> IResult<&'a [u8], DTLSBodyView<'a>>
         ensures { Gives view_body_in_place
@@ -153,8 +153,8 @@ pub struct DTLSHandshakeView<'a> {
     pub body: DTLSBodyView<'a>,
 }
 
-/// A message with its body parsed, as an item of a list. The answer is that of
-/// [`crate::parse_dtls_message_handshake`], which allocates.
+/// A message with its body parsed, as an item of a list. Gives the same answer as
+/// [`crate::parse_dtls_message_handshake`], but allocates nothing.
 impl<'a> InPlace<'a> for DTLSHandshakeView<'a> {
     type Read = Self;
 

@@ -163,9 +163,9 @@ fn fragment_judged<'a>(i: &'a [u8], hdr: &DTLSRecordHeader) -> Result<(), Err<Er
     }
 }
 
-/// Returns the messages of the fragment `i` of a DTLS record with the header `hdr`, in place. The
-/// answer is that of [`crate::parse_dtls_record_with_header`], which allocates; so are the
-/// refusals.
+/// Returns the messages of the fragment `i` of a DTLS record with the header `hdr`, in place. Gives
+/// the same answer as [`crate::parse_dtls_record_with_header`], also if that refuses, but allocates
+/// nothing.
 ///
 /// The first message is checked, with its body. The others are read when the walk reaches them.
 #[inline(always)]
@@ -179,8 +179,8 @@ pub fn parse_dtls_record_with_header_in_place<'a>(
     Ok(DTLSMessages::new(hdr.content_type, i))
 }
 
-/// Reads a DTLS record and its messages in place (RFC 6347, section 4.1). The answer is that of
-/// [`crate::parse_dtls_plaintext_record`], which allocates; so are the refusals.
+/// Reads a DTLS record and its messages in place (RFC 6347, section 4.1). Gives the same answer as
+/// [`crate::parse_dtls_plaintext_record`], also if that refuses, but allocates nothing.
 ///
 /// Only the header, its length and the first message are checked.
 #[tactic(auto, using(layouts::proofs::OneAnswerLemmas::read_allowed, crate::proofs::ContentLemmas::dtls_plaintext_is_raw_then_content, crate::proofs::DtlsInPlaceLemmas::content_read, crate::proofs::DtlsInPlaceLemmas::content_refused))]
