@@ -138,8 +138,8 @@ macro_rules! count {
     };
 }
 
-/// Expands to a match with an arm for each state, which searches its rows. The compiler makes
-/// comparisons with constants of it.
+/// Expands to a match with an arm for each state, which searches its rows. The compiler turns it
+/// into comparisons with constants.
 macro_rules! search {
     ([$at:ident $sought:ident $to:ident] $($state:ident { $($kind:ident $direction:ident => $next:ident;)* })*) => {
         match $at {
