@@ -1,4 +1,4 @@
--- What a layout leaves is an end of the bytes.
+-- The rest that a layout leaves is a suffix of the bytes.
 use Rattle.std.proofs.Common.{[], ◌∷◌, ◌++◌, Some, None, sym, ◌∙◌, ap, subst, inl, inr, append_assoc}
 use Rattle.layouts.specs.Bytes.{Bytes, AreBytes, bytes_of}
 use Rattle.layouts.specs.Layout.{
@@ -24,7 +24,7 @@ use Rattle.layouts.proofs.NumberLemmas.{AreBytes-back}
 pub ends_after : (b m r : Bytes) → EndsWith b m → EndsWith m r → EndsWith b r
 ends_after b m r (f, e) (g, h) = (f ++ g, e ∙ ap (λ x. f ++ x) h ∙ sym (append_assoc f g r))
 
--- what some spelling leaves is an end of the bytes
+-- every rest that S allows is a suffix of the bytes
 abbrev LeavesEnds : {A : Type 0} → Spelling A → Type 0
 LeavesEnds {A} S = (b : Bytes) (v : A) (r d : Bytes) → S b v r d → EndsWith b r
 

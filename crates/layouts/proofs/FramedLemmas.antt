@@ -1,4 +1,4 @@
--- What stands in a frame is read from its content alone.
+-- A framed part: its content is read from the frame's bytes alone.
 use Rattle.std.proofs.Common.{
   ◌≡◌,
   ℕ,
@@ -35,7 +35,7 @@ use Rattle.layouts.specs.Items.{items_in, left_in, value_of, list_read, decode_w
 use Rattle.layouts.specs.Framed.{Framed, framed}
 use Rattle.layouts.proofs.ItemsLemmas.{items_first, items_none, items_decoded}
 
--- so many bytes are cut off
+-- the first part of a split has n bytes
 split_size : (n : ℕ) (b : Bytes) (x : Bytes × Bytes) → split_at n b ≡ Ok x → length x.0 ≡ n
 unfolding split_at
 split_size n b x e = go (ltb (length b) n) refl e
@@ -46,9 +46,9 @@ split_size n b x e = go (ltb (length b) n) refl e
     go false h f = let pair : ◌≡◌ {A = Bytes × Bytes} (take n b, drop n b) x =
         cc in ap (λ y. length y.0) (sym pair) ∙ length-take-le n b (ltb-false (length b) n h)
 
--- a window whose value is f of what stands in it, as a layout's part
+-- a part whose window is read by `content`, and its value mapped by f
 module _ {A B : Type 0} (f : A → B) (content : ℕ → ℕ → Layout A) where
-  -- what a content of that kind is
+  -- the value of a frame's content
   abbrev pub content_of : Framed → Result B Refusal
   content_of x = value_of (reading (content x.kind (length x.content)) x.content and_then λ y. Ok (f y.0, y.1))
 
@@ -113,8 +113,8 @@ module _ {A B : Type 0} (f : A → B) (content : ℕ → ℕ → Layout A) where
   unfolding framed
   framed_decodes w k b = by_kind k (reading (number w) b)
 
--- one or more items, of which the first takes a byte, are the items that are walked; where the first is refused, none
--- is
+-- `list1` of a layout whose first item isn't empty reads the items of the walk; none if the first
+-- is refused
 pub list1_walked : {A : Type 0} (l : Layout A) (b : Bytes) → LeavesFewer (length b) (reading l b)
     → list_read (reading (list1 l) b) ≡ items_in l b
 list1_walked {A} l b fewer = go (reading l b) refl fewer
@@ -126,7 +126,7 @@ list1_walked {A} l b fewer = go (reading l b) refl fewer
     go (Err (Broken k)) e short = sym (items_none l b (Broken k) e)
     go (Err (Lacks n)) e short = sym (items_none l b (Lacks n) e)
 
--- the same where the window is the layout's last part, and its value the layout's
+-- the frame as the layout's last part, with its value the value of the layout
 same_value : {A : Type 0} (a : Answer A) → a ≡ (a and_then λ x. Ok (x.0, x.1))
 same_value (Ok x) = refl
 same_value (Err e) = refl
@@ -161,7 +161,7 @@ module _ {A : Type 0} (content : ℕ → Layout A) (k : ℕ) where
     kind ← number w
     counted_window k (content kind)
 
-  -- what a content is
+  -- the value of a frame's content
   abbrev value_in : Framed → Result A Refusal
   value_in x = value_of (reading (content x.kind) x.content)
 

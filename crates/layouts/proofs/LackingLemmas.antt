@@ -1,4 +1,4 @@
--- Missing bytes: at least one is, and where none can be.
+-- Missing bytes: if any are missing, at least one is. Which layouts never lack bytes.
 use Rattle.std.proofs.Common.{◌≡◌, ◌≢◌, ℕ, ◌-◌, ◌<◌, [], ◌∷◌, ◌++◌, length, refl, ap, inl, inr, arith}
 use Rattle.layouts.specs.Bytes.{Bytes}
 use Rattle.layouts.specs.Layout.{
@@ -60,7 +60,7 @@ lacks_some (look l) b n h = lacks_some l b n h
 lacks_some (chain l f) b n (inl h) = lacks_some l b n h
 lacks_some (chain l f) b n (inr h) = lacks_some (f h.0) h.1 n h.4
 
--- Where no bytes can be missing.
+-- Layouts that never lack bytes.
 pub never-done : {A : Type 0} (a : A) → NeverLacks (done a)
 never-done a b n h = h
 

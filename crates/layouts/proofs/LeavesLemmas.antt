@@ -1,4 +1,4 @@
--- How many bytes a layout leaves: never more than there are, and fewer where it begins with a number.
+-- How many bytes a layout leaves: never more than there are, and fewer if it begins with a number.
 use Rattle.std.proofs.Common.{
   ◌≡◌,
   ℕ,
@@ -61,7 +61,7 @@ use Rattle.layouts.specs.Reading.{
 }
 use Rattle.layouts.specs.declared.result.ErrorKind.TheVariants.{Tag}
 
--- what is read leaves at most n bytes
+-- the answer leaves at most n bytes
 abbrev pub Leaves : {A : Type 0} → ℕ → Answer A → Type 0
 Leaves n (Ok x) = length x.1 ≤ n
 Leaves n (Err e) = Unit {0}
@@ -75,7 +75,7 @@ leaves_then : {A B : Type 0} (n : ℕ) (a : Answer A) (f : A × Bytes → Answer
 leaves_then n (Ok x) f h g = leaves_fewer (length x.1) n (f x) h (g x)
 leaves_then n (Err e) f h g = tt
 
--- n bytes less, where there are so many
+-- a split leaves n bytes fewer, if there are as many
 split_leaves : (n : ℕ) (b : Bytes) → Leaves (length b - n) (split_at n b)
 unfolding split_at
 split_leaves n b = go (ltb (length b) n)
@@ -123,7 +123,7 @@ complete_leaves n (Ok x) h = h
 complete_leaves n (Err (Broken k)) h = tt
 complete_leaves n (Err (Lacks m)) h = tt
 
--- no layout leaves more than there is
+-- no layout leaves more bytes than there are
 pub leaves : {A : Type 0} (l : Layout A) (b : Bytes) → Leaves (length b) (reading l b)
 unfolding number_at ignored_at
 leaves (done a) b = le_refl _
@@ -155,13 +155,13 @@ leaves (look l) b = looked (reading l b)
     looked (Err e) = tt
 leaves (chain l f) b = leaves_then _ (reading l b) (λ x. reading (f x.0) x.1) (leaves l b) (λ x. leaves (f x.0) x.1)
 
--- its first part is a number of a byte or more
+-- the first part is a number of at least one byte
 abbrev pub BeginsWithNumber : {A : Type 0} → Layout A → Type 0
 BeginsWithNumber (number (suc k)) = Unit {0}
 BeginsWithNumber (chain l f) = BeginsWithNumber l
 BeginsWithNumber l = ⊥
 
--- what is read leaves fewer than n bytes
+-- the answer leaves fewer than n bytes
 abbrev pub LeavesFewer : {A : Type 0} → ℕ → Answer A → Type 0
 LeavesFewer n (Ok x) = length x.1 < n
 LeavesFewer n (Err e) = Unit {0}
@@ -184,7 +184,7 @@ split_fewer k b = go (ltb (length b) (suc k)) refl
     go true e = tt
     go false e = omega (arith, length-drop (suc k) b, ltb-false (length b) (suc k) e)
 
--- so it takes a byte
+-- such a layout consumes a byte
 pub takes_byte : {A : Type 0} (l : Layout A) (b : Bytes) → BeginsWithNumber l → LeavesFewer (length b) (reading l b)
 unfolding number_at
 takes_byte (number (suc k)) b h =

@@ -1,4 +1,4 @@
--- A list, read item by item.
+-- Lists, read item by item.
 use Rattle.std.proofs.Common.{
   ◌≡◌,
   ℕ,
@@ -33,7 +33,7 @@ use Rattle.layouts.specs.declared.result.Err.TheVariants as failed
 use Rattle.layouts.proofs.OneAnswerLemmas.{ltb_yes, ltb_no, read_allowed}
 use Rattle.layouts.proofs.ItemsLemmas.{none_with, items_step}
 
--- what is read from b, behind these, is xs and what is read from m
+-- what is read from b, after the items `first`, is xs followed by what is read from m
 pub record ListRead {A : Type 0} (l : Layout A) (first : List A) (b : Bytes) (xs : List A) (m : Bytes) : Type 0 where
   pub read : ◌≡◌ {A = List A × Bytes} (
     first ++ (items_at (reading l) (length b) b).0,
@@ -66,11 +66,11 @@ module _ {A : Type 0} (l : Layout A) (first : List A) (b : Bytes) (xs : List A) 
   list_end e = ap Ok (h.read ∙ ap (λ y. (xs ++ y.0, y.1)) (items_step (reading l) m ∙ e)
       ∙ ap (λ ys. (ys, m)) (append-nil xs))
 
-  -- nothing is left
+  -- no bytes are left
   list_over : length m ≤ 0 → reading (behind first (list l)) b ≡ Ok (xs, m)
   list_over none = list_end (none_with (reading l m) (λ m. items_at (reading l) (length m) m) m none)
 
-  -- the next is not read, or takes nothing
+  -- the next item can't be read, or is empty
   list_refused : (e : Refusal) → reading l m ≡ Err e → reading (behind first (list l)) b ≡ Ok (xs, m)
   list_refused e f = list_end (ap (λ a. with_items a (λ m. items_at (reading l) (length m) m) m) f)
 
@@ -86,14 +86,14 @@ had_memory (failed.Incomplete n) h = tt
 had_memory (failed.Error x) h = tt
 had_memory (failed.Failure x) h = tt
 
--- The same of what calls return.
+-- The steps for the results of calls.
 module _ {X A : Type 0} (view : X → A) (l : Layout A) (first : List A) (b : Bytes) where
   pub list_push : (xs : List X) (m : Bytes) (x : X) (r : Bor (List ℕ)) → ListRead l first b (map view xs) m
       → GivesOrMemory view l m (Ok (r, x)) → length r.now < length m
       → ListRead l first b (map view (xs ++ x ∷ [])) r.now
   list_push xs m x r h g short = rw map-append (list_more l first b (map view xs) m h (view x) r.now (g.read tt) short)
 
-  -- v has all that is read, and o is behind it
+  -- v holds all items that were read, and o is the rest
   module _ {V : Type 0} (views : V → List A) (v : V) (o : Bor (List ℕ)) (are : AreBytes b)
       (h : ListRead l first b (views v) o.now) where
     gives_list : reading (behind first (list l)) b ≡ Ok (views v, o.now)

@@ -28,7 +28,7 @@ use Rattle.std.proofs.lemmas.Nat.{div-mul-add, mod-mul-add, div_below, mul-le}
 use Rattle.std.proofs.Math.Nat.{pow-suc, add-suc, suc-add, add-zero, zero-add}
 use Rattle.layouts.specs.Bytes.{Bytes, AreBytes, bytes_of, number_from, number_of}
 
--- a front of bytes, and what is behind it
+-- a suffix of bytes is bytes
 pub AreBytes-back : (xs ys : Bytes) → AreBytes (xs ++ ys) → AreBytes ys
 AreBytes-back [] ys h = h
 AreBytes-back (x ∷ xs) ys h = AreBytes-back xs ys (λ i. h (suc i))
@@ -50,14 +50,14 @@ number_from-append : (n : ℕ) (xs ys : Bytes) → number_from n (xs ++ ys) ≡ 
 number_from-append n [] ys = refl
 number_from-append n (x ∷ xs) ys = number_from-append (n * 256 + x) xs ys
 
--- a number is that of its bytes
+-- encoding a number and decoding it gives the number
 pub number_of-bytes_of : (k x : ℕ) → x < 256 ^ k → number_of (bytes_of k x) ≡ x
 number_of-bytes_of zero x h = omega arith
 number_of-bytes_of (suc k) x h =
     number_from-append 0 (bytes_of k (x / 256)) (x % 256 ∷ [])
     ∙ rw (number_of-bytes_of k (x / 256) (div_below x 256 (256 ^ k) (omega arith) (rw pow-suc at h))) (omega arith)
 
--- bytes are those of their number, behind those of what stands in front
+-- decoding bytes and encoding the number gives the bytes, also after those of a prefix
 bytes_of-number_from : (j n : ℕ) (xs : Bytes) → AreBytes xs
     → bytes_of (j + length xs) (number_from n xs) ≡ bytes_of j n ++ xs
 bytes_of-number_from j n [] h = rw (add-zero, append-nil)
@@ -84,7 +84,7 @@ number_from-below n (x ∷ xs) h =
 pub number_of-below : (xs : Bytes) → AreBytes xs → number_of xs < 256 ^ length xs
 number_of-below xs h = omega (arith, number_from-below 0 xs h)
 
--- eight bytes, one by one
+-- the number in eight bytes, one by one
 pub number_of_8 : (b : Bytes) → length b ≡ 8
     → number_of b ≡ from_be_bytes w64
     (get_or b 0 0 ∷ get_or b 1 0 ∷ get_or b 2 0 ∷ get_or b 3 0 ∷ get_or b 4 0 ∷ get_or b 5 0 ∷ get_or b 6 0 ∷

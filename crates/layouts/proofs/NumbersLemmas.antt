@@ -54,7 +54,7 @@ use Rattle.layouts.proofs.OneAnswerLemmas.{number_read, ltb_yes}
 use Rattle.layouts.specs.Items.{items_in}
 use Rattle.layouts.proofs.ItemsLemmas.{items_first, items_none, items_still, none_in}
 
--- so many numbers of w bytes each are the items of their bytes
+-- n numbers of w bytes each are the items in their bytes
 numbers_front : (w n : ℕ) (c r : Bytes) → 0 < w → length c ≡ w * n
     → reading (times n (number w)) (c ++ r) ≡ Ok (items_in (number w) c, r)
 unfolding items_at
@@ -83,7 +83,7 @@ numbers_in w n b c r some fits is behind =
     let whole : c ++ r ≡ b = ap₂ ◌++◌ is behind ∙ take-append-drop (w * n) b in
     subst (λ m. reading (times n (number w)) m ≡ Ok (items_in (number w) c, r)) whole (numbers_front w n c r some size)
 
--- the bytes of one number hold that number
+-- two bytes hold one number
 pub one_in : (b : Bytes) (v : ℕ) (r : Bytes) → length b ≡ 2 → reading (number 2) b ≡ Ok (v, r)
     → items_in (number 2) b ≡ v ∷ []
 one_in b v r two e =
@@ -94,7 +94,7 @@ one_in b v r two e =
     let behind : length r ≡ 0 = ap (λ x. length x.1) same ∙ omega (arith, length-drop 2 b) in
     items_first (number 2) b v r e (omega arith) ∙ ap (λ xs. v ∷ xs) (none_in (number 2) r (omega arith))
 
--- a first number, and none where there are too few bytes
+-- the first number, and none if there are fewer than w bytes
 first_number : (w : ℕ) (b : Bytes) → 0 < w → w ≤ length b
     → items_in (number w) b ≡ number_of (take w b) ∷ items_in (number w) (drop w b)
 first_number w b some whole = items_first (number w) b _ _
@@ -106,7 +106,7 @@ number_lacks w b short = ap (λ t. ◌and_then◌ {Y = ℕ × Bytes}
     (cond {A = Answer Bytes} t (Err (Lacks (w - length b))) (Ok (take w b, drop w b))) (λ x. Ok (number_of x.0, x.1)))
     (ltb_yes (length b) w short)
 
--- how many numbers of w bytes there are
+-- the count of numbers of w bytes
 count_below : (n w : ℕ) (b : Bytes) → length b < n → 0 < w → length (items_in (number w) b) ≡ length b / w
 count_below zero w b short some = absurd (omega arith)
 count_below (suc n) w b short some = go (ltb (length b) w) refl (λ fewer. count_below n w (drop w b) fewer some)
@@ -127,12 +127,12 @@ count_below (suc n) w b short some = go (ltb (length b) w) refl (λ fewer. count
 pub numbers_count : (w : ℕ) (b : Bytes) → 0 < w → length (items_in (number w) b) ≡ length b / w
 numbers_count w b some = count_below (suc (length b)) w b (omega arith) some
 
--- numbers of no bytes are none: no item takes a byte
+-- there are no numbers of no bytes: such an item is empty
 pub no_width : (b : Bytes) → length (items_in (number 0) b) ≡ 0
 no_width b = ap length (items_still (number 0) b _ _ (number_read 0 b [] b 0 (omega arith) refl refl refl)
     (omega arith))
 
--- where there is a number at a place, its bytes are there
+-- if there is a number at a position, its bytes are there
 holds_first : (w : ℕ) (b : Bytes) → 0 < w → 0 < length (items_in (number w) b) → w ≤ length b
 holds_first w b some there = go (ltb (length b) w) refl
   where
@@ -158,7 +158,7 @@ some_width (suc w) i b there = omega arith
 pub place_fits : (w i : ℕ) (b : Bytes) → i < length (items_in (number w) b) → w * i + w ≤ length b
 place_fits w i b there = place_there w i b (some_width w i b there) there
 
--- the number at a place
+-- the number at a position
 number_in : (w i : ℕ) (b : Bytes) → 0 < w → i < length (items_in (number w) b)
     → slice_get (items_in (number w) b) i ≡ Some (number_of (take w (drop (w * i) b)))
 number_in w zero b some there =

@@ -1,4 +1,4 @@
--- Each layout allows one answer on given bytes, and reading gives it.
+-- Each layout allows exactly one answer on given bytes, and reading gives it.
 use Rattle.std.proofs.Common.{
   ◌≡◌,
   ◌≢◌,
@@ -97,17 +97,17 @@ use Rattle.layouts.proofs.NumberLemmas.{
 }
 use Rattle.layouts.proofs.EndLemmas.{AreBytes-rest}
 
--- what is known of a layout on some bytes
+-- what is proved of a layout on some bytes
 pub record Meets {A : Type 0} (l : Layout A) (b : Bytes) : Type 0 where
   pub allowed : Allows l b (reading l b)
   pub spelled : (v : A) (r d : Bytes) → Spells l b v r d → reading l b ≡ Ok (v, r)
   pub refused : (e : Refusal) → Refuses l b e → reading l b ≡ Err e
 
--- what is known on any bytes
+-- what is proved of a layout on any bytes
 abbrev pub MeetsAll : {A : Type 0} → Layout A → Type 0
 MeetsAll l = (b : Bytes) → AreBytes b → Meets l b
 
--- what is refused is not spelled, and what is not spelled is refused
+-- bytes that are refused encode nothing, and bytes that encode nothing are refused
 nothing : {A : Type 0} (l : Layout A) (b : Bytes) (e : Refusal) → Meets l b → Refuses l b e → SpellsNothing (Spells l) b
 nothing l b e m h =
     λ v r d s.
@@ -146,7 +146,7 @@ meets_left b = record {
   refused = λ e h. absurd h;
 }
 
--- tests
+-- results of tests
 pub ltb_yes : (m n : ℕ) → m < n → ltb m n ≡ true
 ltb_yes m n h = grind (arith, nat_tests)
 
@@ -162,7 +162,7 @@ eqb_same n = grind (arith, nat_tests)
 pub eqb_other : (m n : ℕ) → m ≢ n → eqb m n ≡ false
 eqb_other m n h = grind (arith, nat_tests)
 
--- a block, a number and a gap
+-- blocks, numbers and gaps
 split_tests : (n : ℕ) (b : Bytes) (t : Bool) → ltb (length b) n ≡ t
     → Allows (block n) b (cond t (Err (Lacks (n - length b))) (Ok (take n b, drop n b)))
 unfolding Allows split_at number_at ignored_at tag_at items_at
@@ -228,7 +228,7 @@ meets_number k b are = record {
   refused = λ e h. ap (λ a. a and_then λ x. Ok (number_of x.0, x.1)) (split_refused k b e h);
 }
 
--- what is read, from the bytes in front and the others
+-- a read from the prefix and the rest
 split_parts : (k : ℕ) (b front r : Bytes) → k ≤ length b → front ≡ take k b → r ≡ drop k b
     → split_at k b ≡ Ok (front, r)
 unfolding Allows split_at number_at ignored_at tag_at items_at
@@ -257,7 +257,7 @@ meets_ignored k b = record {
   refused = λ e h. ap (λ a. a and_then λ x. Ok (tt, x.1)) (split_refused k b e h);
 }
 
--- a tag
+-- tags
 tag_more : (x : ℕ) (t : Bytes) (y : ℕ) (b : Bytes) → x ≡ y → (a : Answer Unit) → Allows (tag t) b a
     → Allows (tag (x ∷ t)) (y ∷ b) a
 unfolding Allows split_at number_at ignored_at tag_at items_at
@@ -309,7 +309,7 @@ meets_tag t b = record {
   refused = λ e h. tag_refused t b e h;
 }
 
--- a window
+-- windows
 window_allowed : {A : Type 0} (n : ℕ) (l : Layout A) (b : Bytes) → AreBytes b → MeetsAll l → (a : Answer Bytes)
     → Allows (block n) b a → Allows (window n l) b (a and_then λ w. reading l w.0 and_then λ x. Ok (x.0, w.1))
 unfolding Allows split_at number_at ignored_at tag_at items_at
@@ -340,7 +340,7 @@ meets_window n l b are inner = record {
   refused = λ e h. window_refused n l b are inner e h;
 }
 
--- a list
+-- lists
 still : {A : Type 0} (l : Layout A) (b : Bytes) (v : A) (m d : Bytes) → Meets l b → Spells l b v m d
     → length b ≤ length m → SpellsNothing (SpellsItem (Spells l)) b
 still {A} l b v m d known s long = λ w r d2 t.
@@ -415,7 +415,7 @@ meets_list l b are known = record {
   refused = λ e h. absurd h;
 }
 
--- an option
+-- optional parts
 option_allowed : {A : Type 0} (l : Layout A) (b : Bytes) → Meets l b → (a : Answer A) → Allows l b a
     → Allows (maybe l) b (optional_at a b)
 unfolding Allows split_at number_at ignored_at tag_at items_at
@@ -436,7 +436,7 @@ meets_maybe l b known = record {
   refused = λ e h. absurd h;
 }
 
--- one of two
+-- one of two layouts
 either_allowed : {A : Type 0} (l m : Layout A) (b : Bytes) → Meets l b → Meets m b → (x y : Answer A) → Allows l b x
     → Allows m b y → Allows (either l m) b (or_else x y)
 unfolding Allows split_at number_at ignored_at tag_at items_at
@@ -462,7 +462,7 @@ meets_either l m b k1 k2 = record {
       ∙ ap Err (sym h.2);
 }
 
--- for good
+-- `complete`
 complete_allowed : {A : Type 0} (l : Layout A) (b : Bytes) (a : Answer A) → Allows l b a
     → Allows (complete l) b (completed a)
 unfolding Allows split_at number_at ignored_at tag_at items_at
@@ -483,7 +483,7 @@ meets_complete l b known = record {
   refused = complete_refused l b known;
 }
 
--- not taken
+-- `look`
 look_allowed : {A : Type 0} (l : Layout A) (b : Bytes) (a : Answer A) → Allows l b a
     → Allows (look l) b (a and_then λ x. Ok (x.0, b))
 unfolding Allows split_at number_at ignored_at tag_at items_at
@@ -499,7 +499,7 @@ meets_look l b known = record {
   refused = λ e h. ap (λ a. a and_then λ x. Ok (x.0, b)) (known.refused e h);
 }
 
--- a first part, and then a second
+-- chains
 chain_allowed : {A B : Type 0} (l : Layout A) (f : A → Layout B) (b : Bytes) → AreBytes b → ((a : A) → MeetsAll (f a))
     → (a : Answer A) → Allows l b a → Allows (chain l f) b (a and_then λ x. reading (f x.0) x.1)
 unfolding Allows split_at number_at ignored_at tag_at items_at
@@ -529,7 +529,7 @@ meets_chain l f b are first then = record {
   refused = λ e h. chain_refused l f b are first then e h;
 }
 
--- each layout, on any bytes
+-- every layout, on any bytes
 pub meets : {A : Type 0} (l : Layout A) → MeetsAll l
 meets (done a) b are = meets_done a b
 meets (refuse k) b are = meets_refuse k b
@@ -546,7 +546,7 @@ meets (complete l) b are = meets_complete l b (meets l b are)
 meets (look l) b are = meets_look l b (meets l b are)
 meets (chain l f) b are = meets_chain l f b are (meets l b are) (λ a. meets (f a))
 
--- what reading gives is allowed
+-- the answer of reading is allowed
 pub reading_allowed : {A : Type 0} (l : Layout A) (b : Bytes) → AreBytes b → Allows l b (reading l b)
 unfolding Allows split_at number_at ignored_at tag_at items_at
 reading_allowed l b are = (meets l b are).allowed
@@ -554,7 +554,7 @@ reading_allowed l b are = (meets l b are).allowed
 pub read_allowed : {A : Type 0} (l : Layout A) (b : Bytes) (a : Answer A) → AreBytes b → reading l b ≡ a → Allows l b a
 read_allowed l b a are e = subst (Allows l b) e (reading_allowed l b are)
 
--- and nothing else is
+-- no other answer is allowed
 pub only_reading : {A : Type 0} (l : Layout A) (b : Bytes) → AreBytes b → (x : Answer A) → Allows l b x
     → x ≡ reading l b
 unfolding Allows split_at number_at ignored_at tag_at items_at
@@ -569,7 +569,7 @@ pub one_answer : {A : Type 0} (l : Layout A) (b : Bytes) → AreBytes b → Allo
 unfolding Allows split_at number_at ignored_at tag_at items_at
 one_answer l b are = (reading l b, reading_allowed l b are, only_reading l b are)
 
--- what is read leaves bytes, and cuts bytes
+-- the rest of a read has only bytes, and so has a block
 pub AreBytes-read : {A : Type 0} (l : Layout A) (b : Bytes) (v : A) (r : Bytes) → AreBytes b → reading l b ≡ Ok (v, r)
     → AreBytes r
 unfolding Allows

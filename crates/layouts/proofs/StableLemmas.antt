@@ -1,4 +1,4 @@
--- What stands of an answer where further bytes follow.
+-- What further bytes can change about an answer.
 use Rattle.std.proofs.Common.{
   ◌≡◌,
   ℕ,
@@ -61,7 +61,7 @@ use Rattle.layouts.proofs.OneAnswerLemmas.{
   AreBytes-read,
 }
 
--- the answer on more bytes, where the fewer decide it
+-- y is the answer on more bytes, and x decided it
 abbrev pub Stays : {A : Type 0} → Bytes → Answer A → Answer A → Type 0
 Stays s (Ok x) y = y ≡ Ok (x.0, x.1 ++ s)
 Stays s (Err (Broken k)) y = y ≡ Err (Broken k)
@@ -91,7 +91,7 @@ tag_stays [] b s = refl
 tag_stays (x ∷ t) [] s = tt
 tag_stays (x ∷ t) (y ∷ b) s = tag_tests (eqb x y) s Tag (tag_at t b) (tag_at t (b ++ s)) (tag_stays t b s)
 
--- what is computed from an answer, and leaves its rest alone
+-- a step that computes from an answer and passes its rest on
 then_stays : {A B : Type 0} (s : Bytes) (f : A × Bytes → Answer B)
     → ((x : A × Bytes) → Stays s (f x) (f (x.0, x.1 ++ s))) → (x y : Answer A) → Stays s x y
     → Stays s (x and_then f) (y and_then f)
@@ -128,19 +128,19 @@ stays (chain l f) h b s =
     then_stays s (λ x. reading (f x.0) x.1) (λ x. stays (f x.0) (h.1 x.0) x.1 s) (reading l b) (reading l (b ++ s))
     (stays l h.0 b s)
 
--- what is read stays, with more behind it
+-- a value stays, and the rest grows
 pub read_stays : {A : Type 0} (l : Layout A) → IsStable l → (b s : Bytes) (v : A) (r : Bytes) → reading l b ≡ Ok (v, r)
     → reading l (b ++ s) ≡ Ok (v, r ++ s)
 read_stays l h b s v r e = subst (λ a. Stays s a (reading l (b ++ s))) e (stays l h b s)
 
--- and so does a broken rule
+-- a broken rule stays
 pub broken_stays : {A : Type 0} (l : Layout A) → IsStable l → (b s : Bytes) (k : ErrorKind)
     → reading l b ≡ Err (Broken k) → reading l (b ++ s) ≡ Err (Broken k)
 broken_stays l h b s k e = subst (λ a. Stays s a (reading l (b ++ s))) e (stays l h b s)
 
--- Where bytes are missing, the others are missing still.
+-- If bytes are missing, further bytes leave the others missing.
 
--- no missing bytes are found where none can be
+-- a layout that never lacks bytes isn't refused for missing ones
 none_lacks : {A : Type 0} (l : Layout A) → NeverLacks l → (b : Bytes) → AreBytes b → (n : ℕ)
     → reading l b ≡ Err (Lacks n) → ⊥
 unfolding Allows
@@ -161,13 +161,13 @@ split_counts k b s n e short = go (ltb (length b) k) refl e
         ∙ ap (λ m. Err (Lacks m)) (omega (arith, length-append b s))
     go false f g = absurd cc
 
--- a refusal in front is passed on, and a value in front is read on from
+-- a refusal comes from the first part, unless the second gave it
 refused_front : {X Y : Type 0} (a : Answer X) (f : X × Bytes → Answer Y) (e : Refusal) → a and_then f ≡ Err e
     → ((x : X × Bytes) → a ≡ Ok x → f x ≡ Err e → ⊥) → a ≡ Err e
 refused_front (Ok x) f e h none = absurd (none x refl h)
 refused_front (Err g) f e h none = let is : g ≡ e = cc in ap Err is
 
--- the same of a first part and what is read behind it
+-- a chain: its first part, and what is read after it
 chain_counts : {A B : Type 0} (s : Bytes) (f : A → Layout B) (n : ℕ) (a a' : Answer A) → Stays s a a'
     → (a ≡ Err (Lacks n) → a' ≡ Err (Lacks (n - length s)))
     →
@@ -229,7 +229,7 @@ counts (chain l f) h b s are n e short =
     (λ x g i. counts (f x.0) (h.1 x.0) x.1 s (AreBytes-read l b x.0 x.1 are g) n i short)
     e
 
--- The same of what is allowed.
+-- The laws, for allowed answers.
 pub decides : {A : Type 0} (l : Layout A) → IsStable l → (b s : Bytes) → AreBytes b → AreBytes s → Decides l b s
 decides l h b s are more = record {
   value =

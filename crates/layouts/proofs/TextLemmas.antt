@@ -1,4 +1,4 @@
--- What is spelled with nothing dropped, part by part, and the bytes that spell a value.
+-- Encodings with nothing dropped, part by part, and the bytes that encode a value.
 use Rattle.std.proofs.Common.{
   ◌≡◌,
   ℕ,
@@ -44,7 +44,7 @@ use Rattle.layouts.proofs.NumberLemmas.{length-bytes_of, AreBytes-append}
 use Rattle.layouts.proofs.OneAnswerLemmas.{meets}
 use Rattle.layouts.specs.Text.{counted_text, numbers_text}
 
--- what is spelled is read, and allowed
+-- an encoded value is read, and allowed
 pub spelled_read : {A : Type 0} (l : Layout A) (b : Bytes) (v : A) (r d : Bytes) → AreBytes b → Spells l b v r d
     → reading l b ≡ Ok (v, r)
 spelled_read l b v r d are s = (meets l b are).spelled v r d s
@@ -58,7 +58,7 @@ pub both_empty : (xs ys : Bytes) → [] ≡ xs ++ ys → (xs ≡ []) × (ys ≡ 
 both_empty [] ys e = (refl, sym e)
 both_empty (x ∷ xs) ys e = absurd cc
 
--- The parts of a chain, with nothing dropped.
+-- The parts of a chain with nothing dropped.
 pub record Parts {A B : Type 0} (l : Layout A) (f : A → Layout B) (b : Bytes) (v : B) (r : Bytes) : Type 0 where
   pub value : A
   pub middle : Bytes
@@ -76,12 +76,12 @@ parts l f b v r (a, m, d1, d2, s, t, e) =
       then = subst (λ d. Spells (f a) m v r d) none.1 t;
     }
 
--- the same, put together
+-- two parts with nothing dropped are a chain with nothing dropped
 pub joined : {A B : Type 0} (l : Layout A) (f : A → Layout B) (b : Bytes) (v : B) (r : Bytes) (a : A) (m : Bytes)
     → Spells l b a m [] → Spells (f a) m v r [] → Spells (chain l f) b v r []
 joined l f b v r a m s t = (a, m, [], [], s, t, refl)
 
--- a test that is passed, and takes nothing
+-- a passed test consumes nothing
 pub test_spelled : (t : Bool) (k : ErrorKind) (b : Bytes) → t ≡ true → Spells (test t k) b tt b []
 test_spelled true k b e = (refl, refl, refl)
 test_spelled false k b e = absurd cc
@@ -91,7 +91,7 @@ pub test_whole : (t : Bool) (k : ErrorKind) (b : Bytes) (v : Unit) (r d : Bytes)
 test_whole true k b v r d s = (refl, s.1)
 test_whole false k b v r d s = absurd s
 
--- which of two layouts is picked
+-- which of two layouts is chosen
 pub data Picked {A : Type 0} (t : Bool) (l m : Layout A) (b : Bytes) (v : A) (r d : Bytes) : Type 0 where
   First : t ≡ true → Spells l b v r d → Picked t l m b v r d
   Second : t ≡ false → Spells m b v r d → Picked t l m b v r d
@@ -101,7 +101,7 @@ pub picked : {A : Type 0} (t : Bool) (l m : Layout A) (b : Bytes) (v : A) (r d :
 picked true l m b v r d s = First refl s
 picked false l m b v r d s = Second refl s
 
--- a window that is filled
+-- a window that its content fills
 pub record Filled {A : Type 0} (n : ℕ) (l : Layout A) (b : Bytes) (v : A) (r : Bytes) : Type 0 where
   pub content : Bytes
   pub size : length content ≡ n
@@ -141,7 +141,7 @@ counted_whole k b v r s =
           ∙ sym (append_assoc (bytes_of k (length v)) v r),
     )
 
--- two texts, one behind the other
+-- two encodings, one after the other
 pub chain_spelled : {A B : Type 0} (l : Layout A) (f : A → Layout B) (t u r : Bytes) (a : A) (v : B)
     → Spells l (t ++ (u ++ r)) a (u ++ r) [] → Spells (f a) (u ++ r) v r [] → Spells (chain l f) ((t ++ u) ++ r) v r []
 chain_spelled l f t u r a v s h =
@@ -150,7 +150,7 @@ chain_spelled l f t u r a v s h =
 pub then_text : (b t m u r : Bytes) → b ≡ t ++ m → m ≡ u ++ r → b ≡ (t ++ u) ++ r
 then_text b t m u r e f = e ∙ ap (λ x. t ++ x) f ∙ sym (append_assoc t u r)
 
--- what joined items are
+-- the parts of joined items
 pub record Joined {A : Type 0} (text : A → Bytes) (Fits : A → Type 0) (b : Bytes) (vs : List A) (r : Bytes) : Type 0
   where
     pub fits : All Fits vs
@@ -167,7 +167,7 @@ pub more_joined : {A : Type 0} (text : A → Bytes) (Fits : A → Type 0) (b : B
 more_joined text Fits b v m vs r h e j =
     record { fits = All-cons Fits v vs h j.fits; is = then_text b (text v) m (flat_map text vs) r e j.is }
 
--- items, each spelled by its own text
+-- items, each encoded by its own text
 module _ {A : Type 0} (l : Layout A) (text : A → Bytes) (Fits : A → Type 0) where
   pub times_spelled : ((v : A) (r : Bytes) → Fits v → Spells l (text v ++ r) v r []) → (vs : List A) (r : Bytes)
       → All Fits vs → Spells (times (length vs) l) (flat_map text vs ++ r) vs r []
@@ -195,7 +195,7 @@ module _ {A : Type 0} (l : Layout A) (text : A → Bytes) (Fits : A → Type 0) 
             (more_joined text Fits b p.value p.middle q.value r here.0 here.1 more.1),
       )
 
-  -- a list of them, if each is of some kind
+  -- a list of items of some kind, to the end
   pub list_whole : (Kind : A → Type 0)
       → ((b : Bytes) (v : A) (r : Bytes) → Kind v → Spells l b v r [] → Fits v × (b ≡ text v ++ r))
       → (b : Bytes) (vs : List A) (r : Bytes) → All Kind vs → Spells (list l) b vs r [] → Joined text Fits b vs r
@@ -207,7 +207,7 @@ module _ {A : Type 0} (l : Layout A) (text : A → Bytes) (Fits : A → Type 0) 
       (list_whole Kind one m vs r (All-tail Kind v vs kinds)
       (subst (λ d. SpellsItems (Spells l) m vs r d) none.1 more))
 
--- what is read, whatever is dropped
+-- a value that is read, whatever is dropped
 abbrev pub Reads : {A : Type 0} → Layout A → Bytes → A → Bytes → Type 0
 Reads l b v r = (d : Bytes) × Spells l b v r d
 
@@ -223,7 +223,7 @@ pub reads_allowed : {A : Type 0} (l : Layout A) (b : Bytes) (v : A) (r : Bytes) 
 unfolding Allows
 reads_allowed l b v r h = h
 
--- a list of items that are read as others, to the end
+-- a list whose items read back as other values, to the end
 pub list_reads : {V A : Type 0} (l : Layout A) (text : V → Bytes) (value : V → A) (Fits : V → Type 0)
     → ((v : V) (r : Bytes) → Fits v → Reads l (text v ++ r) (value v) r) → ((v : V) → Fits v → 0 < length (text v))
     → (vs : List V) → All Fits vs → Reads (list l) (flat_map text vs) (map value vs) []
@@ -242,7 +242,7 @@ list_reads l text value Fits one some (v ∷ vs) h =
       ),
     )
 
--- a pick that is known
+-- a choice whose test is known
 pub picks_first : {A : Type 0} (t : Bool) (l m : Layout A) (b : Bytes) (v : A) (r d : Bytes) → t ≡ true
     → Spells l b v r d → Spells (choose t l m) b v r d
 picks_first true l m b v r d e s = s
@@ -284,7 +284,7 @@ numbers_behind k f xs i d a b c h e g =
     ∙ append_assoc a (numbers_text k (map f (take i xs))) (bytes_of k (f (get_or xs i d)))
     ∙ ap (λ x. a ++ x) (sym (numbers_more k f xs i d h))
 
--- the bytes of a number are bytes, so it is read back
+-- the encoding of a number has only bytes, so it is read back
 one_byte : (x : ℕ) → AreBytes (x % 256 ∷ [])
 one_byte x zero = omega arith
 one_byte x (suc i) = omega arith

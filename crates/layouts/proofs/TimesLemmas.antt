@@ -1,4 +1,4 @@
--- A layout so many times, one more time.
+-- A layout repeated n times, one step at a time.
 use Rattle.std.proofs.Common.{◌≡◌, ℕ, zero, suc, ◌+◌, List, [], ◌∷◌, ◌++◌, map, Ok, Err, sym, ◌∙◌, refl, ap}
 use Rattle.std.proofs.Math.Numerals.{add-one}
 use Rattle.std.proofs.lemmas.List.{map-append}
@@ -9,7 +9,7 @@ use Rattle.layouts.specs.Reading.{reading, ◌and_then◌}
 use Rattle.layouts.specs.Answers.{Gives}
 use Rattle.std.specs.Borrow.{Bor}
 
--- a first item is read, and n behind it
+-- a first item is read, and n after it
 first_read : {A : Type 0} (n : ℕ) (l : Layout A) (b : Bytes) (xs : List A) (m : Bytes)
     → reading (times (suc n) l) b ≡ Ok (xs, m)
     → (x : A) × (ys : List A) × (k : Bytes) × (reading l b ≡ Ok (x, k)) × (reading (times n l) k ≡ Ok (ys, m))
@@ -54,11 +54,11 @@ push_one : {A : Type 0} (n : ℕ) (l : Layout A) (b : Bytes) (xs : List A) (m : 
     → reading (times n l) b ≡ Ok (xs, m) → reading l m ≡ Ok (x, r) → reading (times (n + 1) l) b ≡ Ok (xs ++ x ∷ [], r)
 push_one n l b xs m x r h e = rw add-one (push_read n l b xs m x r h e)
 
--- n items are read from b: xs, and m is behind them
+-- n items are read from b: xs, with the rest m
 pub record TimesRead {A : Type 0} (l : Layout A) (b : Bytes) (n : ℕ) (xs : List A) (m : Bytes) : Type 0 where
   pub read : reading (times n l) b ≡ Ok (xs, m)
 
--- The same of what calls return.
+-- One more item, for the results of calls.
 module _ {X A : Type 0} (view : X → A) (l : Layout A) (b : Bytes) where
   pub times_push : (n : ℕ) (xs : List X) (m : Bytes) (x : X) (r : Bor (List ℕ)) → TimesRead l b n (map view xs) m
       → Gives view l m (Ok (r, x)) → TimesRead l b (n + 1) (map view (xs ++ x ∷ [])) r.now

@@ -1,4 +1,4 @@
--- What is held, after bytes are added.
+-- What is buffered after bytes are added.
 use Rattle.std.proofs.Common.{◌≡◌, ℕ, zero, suc, ◌+◌, ◌-◌, ◌^◌, ◌<◌, ◌≤◌, [], ◌∷◌, ◌++◌, length, drop, map, Some}
 use Rattle.std.proofs.Common.{Bool, true, false, cond, ltb, refl, sym, ◌∙◌, ap, subst, arith, append_assoc}
 use Rattle.std.proofs.Common.{append-nil, min}
@@ -52,7 +52,7 @@ pub record IsHeldMore (f l start taken : ℕ) (front front' : Bytes) (window win
   pub sound : IsSound start taken l front' window'
   pub held : held_of f l start taken front' window' ≡ with_located (d, ys) (held_of f l start taken front window)
 
--- at the wanted place
+-- at the next expected position
 pub appended : (f l start taken : ℕ) (front front' : Bytes) (window window' : Cells) (ys : Bytes) (n : ℕ)
     → IsSound start taken l front window →
     taken + (length front - start) + length ys ≤ 2 ^ 62 → front' ≡ front ++ run (fill window ys)
@@ -103,7 +103,7 @@ appended f l start taken front front' window window' ys n s small front_is n_is 
         let i = s.start_in in
         omega (arith, more, long, left, h, i)
 
--- behind it
+-- after it
 pub held_more : (f l start taken : ℕ) (front : Bytes) (window window' : Cells) (d : ℕ) (ys : Bytes)
     → IsSound start taken l front window →
     0 < d → 0 < length ys → d + length ys ≤ l → taken + (length front - start) + d + length ys ≤ 2 ^ 62
@@ -130,7 +130,7 @@ held_more f l start taken front window window' d ys s ahead some within small wi
           ∙ sym (put_held F window d ys (run_held start taken l front window s)));
     }
 
--- The front is handed out.
+-- In-order bytes are delivered.
 pub taken_front : (f l start taken n : ℕ) (front : Bytes) (window : Cells) → IsSound start taken l front window
     → n ≤ length (drop start front) →
     IsSound (start + n) (taken + n) l front window
@@ -158,7 +158,7 @@ taken_front f l start taken n front window s few =
     drop-map (suc n) [] = refl
     drop-map (suc n) (x ∷ xs) = drop-map n xs
 
--- Nothing is available, so all stands behind the front.
+-- If nothing is available, no in-order bytes are left.
 pub none_front : (start taken l : ℕ) (front : Bytes) (window : Cells) → IsSound start taken l front window
     → run (held_cells start front window) ≡ [] → length front ≤ start
 none_front start taken l front window s none =
@@ -178,7 +178,7 @@ pass_room n front front' window few is =
     let short = length-drop n window in
     omega (arith, long, low, short, few)
 
--- What is missing at the front is given up.
+-- The missing bytes are skipped.
 pub record IsSkipped (f l start taken n : ℕ) (front front' : Bytes) (window window' : Cells) : Type 0 where
   pub sound : IsSound start (taken + n) l front' window'
   pub held : held_of f l start (taken + n) front' window' ≡ without_front n (held_of f l start taken front window)

@@ -1,4 +1,4 @@
--- What stands of a stream, place by place.
+-- Streams, position by position.
 use Rattle.std.proofs.Common.{◌≡◌, ◌↔◌, ◌⊎◌, inl, inr, ℕ, zero, suc, ◌+◌, ◌-◌, ◌*◌, ◌/◌, ◌%◌, ◌^◌, ◌<◌, ◌≤◌, List, []}
 use Rattle.std.proofs.Common.{◌∷◌, ◌++◌, length, take, drop, Option, Some, None, Bool, true, false, cond, ltb, refl}
 use Rattle.std.proofs.Common.{sym, ◌∙◌, ap, subst, arith, append_assoc, le_refl}
@@ -12,7 +12,7 @@ use Rattle.segments.proofs.CellLemmas.{run_drop}
 use Rattle.segments.specs.Law.{Segment, place_of, IsPart, AreParts, IsOver, IsCovered, IsLongestFront, IsMadeOf}
 use Rattle.segments.specs.Law.{IsAmong}
 
--- Filled cells, place by place.
+-- Filled cells, position by position.
 cell_fill : (cs : Cells) (ys : Bytes) (i : ℕ) → cell (fill cs ys) i ≡ earlier (cell cs i) (byte_at ys i)
 cell_fill [] ys i = refl
 cell_fill (None ∷ cs) [] zero = refl
@@ -69,7 +69,7 @@ byte_drop zero b i = let m : i ≡ 0 + i = omega arith in ap (byte_at b) m
 byte_drop (suc n) [] i = refl
 byte_drop (suc n) (c ∷ b) i = let m : suc (n + i) ≡ suc n + i = omega arith in byte_drop n b i ∙ ap (byte_at (c ∷ b)) m
 
--- bytes stand at the places below their count
+-- bytes are present at the positions below their count
 byte_some : (b : Bytes) (i : ℕ) → i < length b → IsSome (byte_at b i)
 byte_some [] i h = absurd (omega (arith, h))
 byte_some (x ∷ b) zero h = refl
@@ -91,7 +91,7 @@ run_ends [] = refl
 run_ends (None ∷ cs) = refl
 run_ends (Some x ∷ cs) = run_ends cs
 
--- a front of what the cells agree with
+-- the prefix of bytes that the cells agree with
 run_front : (cs : Cells) (z : Bytes) → ((k y : ℕ) → cell cs k ≡ Some y → byte_at z k ≡ Some y)
     → z ≡ run cs ++ drop (length (run cs)) z
 run_front [] z h = refl
@@ -120,7 +120,7 @@ part_byte stream place b i v p h =
     ∙ byte_append p.before (b ++ p.behind) i
     ∙ byte_left b p.behind i v h
 
--- Places in the circle of sequence numbers.
+-- Positions modulo 2^32.
 unique : (x y r s : ℕ) → r < 2 ^ 32 → s < 2 ^ 32 → x * 2 ^ 32 + r ≡ y * 2 ^ 32 + s → r ≡ s
 unique x y r s p q e = sym (mod_low x 32 r p) ∙ ap (λ n. n % 2 ^ 32) e ∙ mod_low y 32 s q
 
@@ -169,7 +169,7 @@ place_is first seq low =
 abbrev pair : ℕ → Bytes → ℕ × Bytes
 pair d b = (d, b)
 
--- A segment at a place does what its bytes do from there on.
+-- A segment at a position does what its bytes from there on do.
 pub located_ahead : (first w p seq : ℕ) (b : Bytes) → (first + p) % 2 ^ 32 ≡ seq → w ≤ p → p < w + 2 ^ 31
     → located (ahead first w seq) b ≡ pair (p - w) (drop 0 b)
 located_ahead first w p seq b is order near =
@@ -261,7 +261,7 @@ made_located stream K h p b d m made part at either = record {
         (some_later (cell h.cells k) (byte_at (drop m b) (k - from))
         (subst IsSome (sym (byte_drop m b (k - from))) (byte_some b (m + (k - from)) within)))
 
--- A segment of the stream that is near the wanted place.
+-- A segment of the stream near the next expected position.
 pub made_more : (stream : Bytes) (K : ℕ → Type 0) (h : Held) (p seq : ℕ) (b : Bytes) → IsMadeOf stream K h
     → IsPart stream p b → (h.first + p) % 2 ^ 32 ≡ seq →
     wanted h ≤ p + 2 ^ 31 → p < wanted h + 2 ^ 31 → IsMadeOf stream (λ i. K i ⊎ IsOver p b i) (with_segment seq b h)
@@ -279,7 +279,7 @@ made_more stream K h p seq b made part is near near' = go (ltb p (wanted h)) ref
         (sym (located_ahead h.first (wanted h) p seq b is order near'))
         (made_located stream K h p b (p - wanted h) 0 made part (omega (arith, order)) (inl refl))
 
--- Handing out changes nothing of what is known.
+-- Delivering bytes changes nothing about what is known.
 pub made_fewer : (stream : Bytes) (K : ℕ → Type 0) (h : Held) (n : ℕ) → IsMadeOf stream K h → n ≤ length (run h.cells)
     → IsMadeOf stream K (without_front n h)
 made_fewer stream K h n made few = record {
@@ -307,7 +307,7 @@ made_same stream K L h there back made = record {
   given = λ i low. there i (made.given i low);
 }
 
--- All that stands in front is handed out after each segment.
+-- All available bytes are delivered after each segment.
 pub record IsHandingOut (stream : Bytes) (K : ℕ → Type 0) (out : Bytes) (h : Held) : Type 0 where
   pub made : IsMadeOf stream K h
   pub rest : Bytes
@@ -315,7 +315,7 @@ pub record IsHandingOut (stream : Bytes) (K : ℕ → Type 0) (out : Bytes) (h :
   pub taken_is : h.taken ≡ length out
   pub none_left : run h.cells ≡ []
 
--- What stands in front is the stream's, from what was handed out on.
+-- The in-order bytes are the stream's, after the delivered ones.
 pub front_rest : (stream : Bytes) (K : ℕ → Type 0) (out rest : Bytes) (h : Held) → IsMadeOf stream K h
     → stream ≡ out ++ rest → h.taken ≡ length out →
     rest ≡ run h.cells ++ drop (length (run h.cells)) rest
@@ -349,7 +349,7 @@ longest stream K out h s = record {
       let e = subst IsSome none some in absurd cc);
 }
 
--- TcpReassembler, one after another.
+-- Segments, one after another.
 covered_there : (first : ℕ) (xs : List Segment) (s : Segment) (i : ℕ)
     → IsCovered first xs i ⊎ IsOver (place_of first s) s.1.now i → IsCovered first (xs ++ s ∷ []) i
 covered_there first [] s i (inl h) = absurd h
@@ -413,7 +413,7 @@ handing_next stream first xs s out h short same was parts =
     (with_segment s.0 s.1.now h) (covered_there first xs s) (covered_back first xs s) made)
     old.is_front old.taken_is
 
--- Two lists of segments that cover the same places.
+-- Two lists of segments that cover the same positions.
 pub same_front : (stream : Bytes) (K L : ℕ → Type 0) (x y : Bytes) → ((i : ℕ) → K i → L i) → ((i : ℕ) → L i → K i)
     → IsLongestFront stream K x → IsLongestFront stream L y → x ≡ y
 same_front stream K L x y there back a b = go (ltb (length x) (length y)) refl (ltb (length y) (length x)) refl
@@ -436,7 +436,7 @@ pub same_covered : (stream : Bytes) (first : ℕ) (p q : List Segment) (x y : By
 same_covered stream first p q x y same a b =
     same_front stream (IsCovered first p) (IsCovered first q) x y (λ i. (same i).0) (λ i. (same i).1) a b
 
--- The same of bytes at places.
+-- Ranges of bytes that cover the same positions.
 among_there : (p : ℕ) (b : Bytes) (ss : List (ℕ × Bytes)) (i : ℕ) → IsAmong ss i ⊎ IsOver p b i
     → IsAmong ((p, b) ∷ ss) i
 among_there p b ss i (inl h) = inr h

@@ -1,4 +1,4 @@
--- Bytes that stand where a mark is set.
+-- Bytes that are present if a mark is set.
 use Rattle.std.proofs.Common.{◌≡◌, ℕ, zero, suc, ◌+◌, ◌<◌, ◌≤◌, List, [], ◌∷◌, ◌++◌, length, take, drop, get_or, set}
 use Rattle.std.proofs.Common.{replicate, Some, None, Bool, true, false, cond, refl, sym, ◌∙◌, ap, arith, append-nil, append_assoc}
 use Rattle.std.proofs.Common.{if◌then◌else◌, inr, not, ◌==◌, eqb}
@@ -40,7 +40,7 @@ marked_append (m ∷ ms) ns [] cs e = absurd (omega (arith, e))
 marked_append (m ∷ ms) ns (b ∷ bs) cs e =
     ap (λ r. (cond m (Some b) None) ∷ r) (marked_append ms ns bs cs (omega (arith, e)))
 
--- What stands at a place.
+-- The byte at a position.
 pub cell_unmarked : (ms : List Bool) (bs : Bytes) (i : ℕ) → get_or ms i false ≡ false → cell (marked ms bs) i ≡ None
 cell_unmarked [] bs i e = refl
 cell_unmarked (m ∷ ms) [] i e = refl
@@ -93,7 +93,7 @@ set_marks_next ms i h = let n : i + 1 ≡ suc i = omega arith in
     go (m ∷ ms) zero h = omega arith
     go (m ∷ ms) (suc i) h = let r = go ms i (omega (arith, h)) in omega (arith, r)
 
--- Where none stands, and where all do.
+-- If none is present, and if all are.
 pub over_none : (ms : List Bool) (bs ys : Bytes) → set_marks ms ≡ 0 → over (marked ms bs) ys ≡ ys
 over_none [] bs ys e = refl
 over_none (m ∷ ms) [] ys e = refl
@@ -168,7 +168,7 @@ run_ended ms bs i l h so =
     ∙ ap (λ c. take i bs ++ run c) (drop_all i (marked ms bs) (let r = marked_length ms bs l in omega (arith, r, h)))
     ∙ append-nil (take i bs) ∙ take_all i bs (omega (arith, l, h)))
 
--- Bytes put one by one.
+-- Bytes written one by one.
 pub record IsFilling (cs : Cells) (ys : Bytes) (i count : ℕ) (now : Cells) : Type 0 where
   pub is : now ≡ fill cs (take i ys)
   pub counted : known now ≡ known cs + count
@@ -272,7 +272,7 @@ pub filling_ends : (cs : Cells) (ys : Bytes) (i count : ℕ) (now : Cells) → I
     → now ≡ fill cs ys
 filling_ends cs ys i count now so h = so.is ∙ ap (fill cs) (take_all i ys h)
 
--- What is put behind others at a place.
+-- The byte that is appended for a position.
 pub standing_marked : (ms : List Bool) (bs : Bytes) (i y : ℕ) → length bs ≡ length ms → get_or ms i false ≡ true
     → get_or bs i 0 ≡ standing (cell (marked ms bs) i) y
 standing_marked ms bs i y l e = sym (ap (λ o. standing o y) (cell_marked ms bs i e l))
@@ -343,7 +343,7 @@ alike_is a b same = go (eqb a b) refl
     go true e = refl
     go false e = absurd (eqb-false a b e same)
 
--- All are put at once.
+-- All are written at once.
 pub none_filled : (ms ms' : List Bool) (bs bs' ys : Bytes) → length bs ≡ length ms → length ys ≡ length ms
     → set_marks ms ≡ 0 → ms' ≡ replicate (length ms) true → bs' ≡ ys → marked ms' bs' ≡ fill (marked ms bs) ys
 none_filled ms ms' bs bs' ys l k e all put =

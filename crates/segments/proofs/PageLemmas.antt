@@ -1,4 +1,4 @@
--- Places in pages.
+-- Positions in pages.
 use Rattle.std.proofs.Common.{◌≡◌, ℕ, zero, suc, ◌+◌, ◌-◌, ◌<◌, ◌≤◌, [], ◌∷◌, ◌++◌, length, drop, map}
 use Rattle.std.proofs.Common.{◌^◌, Option, Some, None, Bool, true, false, cond, ltb, refl, sym, ◌∙◌, ap, arith}
 use Rattle.std.proofs.Common.{max}
@@ -9,7 +9,7 @@ use Rattle.segments.specs.Pages.{AreWhole, IsPaged, IsWritten, Pages, place, pla
 use Rattle.segments.proofs.CellLemmas.{cell_none, put_at}
 use Rattle.segments.proofs.LawLemmas.{cell_put, cell_put_low}
 
--- Cells, place by place.
+-- Cells, position by position.
 pub cells_eq : (a b : Cells) → length a ≡ length b → ((i : ℕ) → cell a i ≡ cell b i) → a ≡ b
 cells_eq [] [] e h = refl
 cells_eq [] (y ∷ b) e h = absurd (omega (arith, e))
@@ -31,7 +31,7 @@ pub known_cons : (c : Option ℕ) (xs ys : Cells) (n : ℕ) → known xs ≡ kno
 known_cons None xs ys n e = e
 known_cons (Some x) xs ys n e = omega (arith, e)
 
--- How many places, and what stands there.
+-- The number of positions, and their bytes.
 pub places_length : (n k : ℕ) (m : Pages) → length (places n k m) ≡ n
 places_length zero k m = refl
 places_length (suc n) k m = let r = places_length n (suc k) m in omega (arith, r)
@@ -98,7 +98,7 @@ known_none (suc n) k m none =
     ap (λ c. known (c ∷ places n (suc k) m)) (none k (omega arith))
     ∙ known_none n (suc k) m (λ j h. none j (omega (arith, h)))
 
--- Behind the last byte nothing is counted.
+-- After the last byte nothing is counted.
 known_longer : (n a k : ℕ) (m : Pages) → ((j : ℕ) → k + n ≤ j → place m j ≡ None)
     → known (places (n + a) k m) ≡ known (places n k m)
 known_longer zero a k m none =
@@ -118,7 +118,7 @@ known_all n l k m h none =
     let e : l ≡ n + (l - n) = omega (arith, h) in
     ap (λ x. known (places x k m)) e ∙ known_longer n (l - n) k m none
 
--- What bytes put, one after the other.
+-- The bytes written by one block after another.
 byte_behind : (x y : Bytes) (i : ℕ)
     → byte_at (x ++ y) i ≡ earlier (byte_at x i) (cond (ltb i (length x)) None (byte_at y (i - length x)))
 byte_behind [] y i = first (ltb i 0) refl
@@ -193,7 +193,7 @@ written_on at at' c d x y m n o is first last = record {
       omega (arith, p, q);
 }
 
--- Bytes that are put at places of a window.
+-- Bytes that are written to positions of a window.
 fill_long : (cs : Cells) (ys : Bytes) → length (fill cs ys) ≡ max (length cs) (length ys)
 fill_long [] ys = length-map ys Some ∙ (let e : length ys ≡ max 0 (length ys) = omega arith in e)
 fill_long (c ∷ cs) [] = omega arith
@@ -205,7 +205,7 @@ fill_at_long zero cs ys some = let r = fill_long cs ys in omega (arith, r)
 fill_at_long (suc k) [] ys some = let r = fill_at_long k [] ys some in omega (arith, r, some)
 fill_at_long (suc k) (c ∷ cs) ys some = let r = fill_at_long k cs ys some in omega (arith, r)
 
--- What a Window keeps, and shows, once bytes were put.
+-- What a Window keeps, and its value, after bytes were written.
 pub record IsFuller (begin len held at : ℕ) (ys : Bytes) (m n : Pages) (len' held' : ℕ) : Type 0 where
   pub paged : IsPaged begin len' held' n
   pub shows : places len' begin n ≡ fill_at at (places len begin m) ys
@@ -275,7 +275,7 @@ filled begin len held at first count len' ys m n p w first_is len_is some small 
         ∙ ap (λ o. earlier o (byte_at ys (i - at))) (sym (shown i))
         ∙ sym (cell_put at ys (places len begin m) i h)
 
--- The first places are let go.
+-- The first positions are removed.
 pub fewer : (begin len held n count : ℕ) (m m' : Pages) → IsPaged begin len held m → AreWhole m'
     → ((j : ℕ) → begin + n ≤ j → place m' j ≡ place m j)
     → n ≤ len → count ≡ known (places n begin m) → IsPaged (begin + n) (len - n) (held - count) m'

@@ -1,4 +1,4 @@
--- Pages that are made, and written to.
+-- Pages that are allocated and written.
 use Rattle.std.proofs.Common.{◌≡◌, ℕ, zero, suc, ◌+◌, ◌-◌, ◌/◌, ◌%◌, ◌<◌, ◌≤◌, ◌⊎◌, inl, inr, [], ◌∷◌, length}
 use Rattle.std.proofs.Common.{replicate, Option, Some, None, Result, Ok, Err, Bool, true, false, cond, ltb, eqb, refl}
 use Rattle.std.proofs.Common.{drop, map, take, if◌then◌else◌, sym, ◌∙◌, ap, subst, arith}
@@ -21,7 +21,7 @@ pub on_err : {A E : Type 0} (r : Result A E) (P : Type 0) → P → OnErr r P
 on_err (Ok x) P p = tt
 on_err (Err e) P p = p
 
--- What stands at a place of a page that is there.
+-- The byte at a position of a page that is there.
 pub place_in_page : (m : Pages) (j : ℕ) (p : Page) → page m (j / page_length) ≡ Some p
     → place m j ≡ cell p.value (j % page_length)
 place_in_page m j p there = ap (λ o. cell_in o (j % page_length)) there
@@ -30,7 +30,7 @@ pub place_is : (m : Pages) (at : ℕ) (p : Page) (x : Option ℕ) → page m (at
     → x ≡ cell p.value (at % page_length) → x ≡ place m at
 place_is m at p x there is = is ∙ sym (place_in_page m at p there)
 
--- Whether two numbers of pages are one.
+-- Whether two page numbers are equal.
 eq_of : (a b : ℕ) → is_eq (nat_cmp a b) ≡ true → a ≡ b
 eq_of a b e = go (ltb a b) (eqb a b) refl e
   where
@@ -50,7 +50,7 @@ of_eq a b same = ap (λ c. is_eq (nat_cmp a c)) (sym same) ∙ itself
         go false true e f = refl
         go false false e f = absurd (eqb-false a a f refl)
 
--- One page is another than before, or new.
+-- One page is replaced, or new.
 abbrev pub IsReplaced : ℕ → Page → Pages → Pages → Type 0
 IsReplaced k w m n = (q : ℕ) → page n q ≡ cond (is_eq (nat_cmp k q)) (Some w) (page m q)
 
@@ -91,7 +91,7 @@ none_in zero i = refl
 none_in (suc n) zero = refl
 none_in (suc n) (suc i) = none_in n i
 
--- A page that wasn't there is made: nothing stands in it.
+-- A page that wasn't there is allocated, without bytes.
 pub page_made : (k : ℕ) (w : Page) (m n : Pages) → AreWhole m → IsReplaced k w m n → is_some (page m k) ≡ false
     → w.value ≡ replicate page_length None
     → IsSame m n
@@ -120,7 +120,7 @@ paged_same begin len held m n p s = record {
   small = p.small;
 }
 
--- Places of one page.
+-- Positions of one page.
 pub in_page : (at i : ℕ) → at % page_length + i < page_length → (at + i) / page_length ≡ at / page_length
 in_page at i h =
     let one = div-add-mod' (at + i) page_length in
@@ -177,7 +177,7 @@ places_absent m at n missing fits =
         ∙ ap (λ cs. None ∷ cs) (none n (suc k)
         (λ i h. let a : suc k + i ≡ k + suc i = omega arith in ap (place m) a ∙ each (suc i) (omega (arith, h))))
 
--- What a look-up of a page found.
+-- The result of a look-up of a page.
 pub found_is : (m : Pages) (at n k r : ℕ) (p : Page) (v : Cells) → k ≡ at / page_length → Some p ≡ page m k → v ≡ p.value
     → r ≡ at % page_length → AreWhole m → at % page_length + n ≤ page_length → take n (drop r v) ≡ places n at m
 found_is m at n k r p v k_is there v_is r_is whole fits =
@@ -188,7 +188,7 @@ pub missing_is : (m : Pages) (at n k : ℕ) → k ≡ at / page_length → None 
     → at % page_length + n ≤ page_length → places n at m ≡ replicate n None
 missing_is m at n k k_is missing fits = places_absent m at n (ap (page m) (sym k_is) ∙ sym missing) fits
 
--- Where no byte stands.
+-- Positions without bytes.
 pub nothing_known : (n : ℕ) → known (replicate n None) ≡ 0
 nothing_known zero = refl
 nothing_known (suc n) = nothing_known n
@@ -209,7 +209,7 @@ nothing_differs n k (y ∷ ys) =
     let rest = nothing_differs n (suc k) ys in
     omega (arith, none, rest)
 
--- Bytes are put at places of one page.
+-- Bytes are written to positions of one page.
 places_same_within : (n k : ℕ) (m m' : Pages) → ((j : ℕ) → k ≤ j → j < k + n → place m' j ≡ place m j)
     → places n k m' ≡ places n k m
 places_same_within zero k m m' same = refl
@@ -241,7 +241,7 @@ put_long : (r : ℕ) (ys : Bytes) (v : Cells) → r + length ys ≤ length v →
 put_long r [] v h = refl
 put_long r (y ∷ ys) v h = let l = fill_at_long r v (y ∷ ys) (omega arith) in omega (arith, l, h)
 
--- Some places differ, and others are the same: how many bytes stand.
+-- Some positions change and others don't: how many bytes are present.
 counted_around : (m n : Pages) (at len count k l : ℕ) → ((j : ℕ) → (j < at) ⊎ (at + len ≤ j) → place n j ≡ place m j)
     → known (places len at n) ≡ known (places len at m) + count → k ≤ at → at + len ≤ k + l
     → known (places l k n) ≡ known (places l k m) + count
@@ -339,7 +339,7 @@ page_put at ys p w m n count whole there is_put is fits counts = record {
         each j (cases_eq (j / page_length) k)
         ∙ ap (earlier (place m j)) (written_outside at ys j apart) ∙ earlier_none (place m j)
 
--- The same, of a page that a look-up found.
+-- Bytes are written to positions of a page that a look-up found.
 pub found_put : (at : ℕ) (ys : Bytes) (p w : Page) (m n : Pages) (count k r : ℕ) (v : Cells) → k ≡ at / page_length
     → r ≡ at % page_length → Some p ≡ page m k → v ≡ p.value → AreWhole m → w.value ≡ put r ys v → IsReplaced k w m n
     → at % page_length + length ys ≤ page_length

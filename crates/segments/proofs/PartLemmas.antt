@@ -1,4 +1,4 @@
--- A part of a page.
+-- Parts of a page.
 use Rattle.std.proofs.Common.{◌≡◌, ℕ, zero, suc, ◌+◌, ◌≤◌, List, [], ◌∷◌, ◌++◌, length, take, drop}
 use Rattle.std.proofs.Common.{Bool, refl, sym, ◌∙◌, ap, arith}
 use Rattle.std.proofs.lemmas.List.{drop_at, length-append, length-drop, length-take-le, take_at, take-append-drop}
@@ -35,7 +35,7 @@ put_part : (a : ℕ) (cs : Cells) (ys : Bytes) → a + length ys ≤ length cs
 put_part a cs [] h = take-append-drop a cs
 put_part a cs (y ∷ ys) h = fill_part a cs (y ∷ ys) h
 
--- Bytes are put at a part.
+-- Bytes are written to a part.
 replaced_part : (ms ms' : List Bool) (bs bs' : Bytes) (a k : ℕ) → length bs ≡ length ms → a + k ≤ length ms
     → length ms' ≡ k → length bs' ≡ k
     → marked (take a ms ++ (ms' ++ drop k (drop a ms))) (take a bs ++ (bs' ++ drop k (drop a bs)))
@@ -76,7 +76,7 @@ counted_part ms ms' bs bs' a k n count l e h m m' counted =
     ∙ counted
     ∙ ap (λ c. known c + count) (part_is ms bs a k n e)
 
--- How many stand in a part, by the marks.
+-- How many bytes are present in a part, by the marks.
 pub known_part : (ms : List Bool) (bs : Bytes) (a k n : ℕ) → k ≡ n → a + n ≤ length ms → length bs ≡ length ms
     → known (take n (drop a (marked ms bs))) ≡ set_marks (take k (drop a ms))
 known_part ms bs a k n e h l =
@@ -107,7 +107,7 @@ all_in_part ms bs a n h l all =
     let e = length-drop n (drop a ms) in
     omega (arith, p, s, t, front, here, behind, f, g, d, e, all)
 
--- How many marks are set once a part is replaced.
+-- How many marks are set after a part is replaced.
 pub marks_replaced : (ms ms' : List Bool) (bs bs' : Bytes) (a k n count : ℕ) → length bs ≡ length ms → k ≡ n
     → a + n ≤ length ms → length ms' ≡ k → length bs' ≡ k
     → known (marked ms' bs') ≡ known (marked (take k (drop a ms)) (take k (drop a bs))) + count

@@ -1,4 +1,4 @@
--- Places, stored one by one.
+-- Positions, stored one by one.
 use Rattle.std.proofs.Common.{◌≡◌, ℕ, zero, suc, ◌+◌, ◌-◌, ◌<◌, ◌≤◌, [], ◌∷◌, ◌++◌, length, take, drop, get_or}
 use Rattle.std.proofs.Common.{Option, Some, None, refl, sym, ◌∙◌, ap, arith, append_assoc, append-nil, ◌⊎◌, inl, inr}
 use Rattle.std.proofs.Common.{Bool, true, false, ltb, min}
@@ -10,7 +10,7 @@ use Rattle.segments.specs.Cells.{Bytes, Cells, cell, differing, differs, fill, r
 use Rattle.segments.proofs.CellLemmas.{cell_none}
 use Rattle.segments.specs.Places.{over, standing}
 
--- A loop that appends: what is done and what is left to do.
+-- A loop that appends: what is done and what remains.
 pub record IsAppending (out out0 left all : Bytes) : Type 0 where
   pub is : out ++ left ≡ out0 ++ all
   pub more : (s : Bytes) × (out ≡ out0 ++ s)
@@ -58,7 +58,7 @@ joined_is out out1 out2 cs ys m first m_is second =
     ∙ append_assoc out (over cs ys) (run (drop (length ys) cs))
     ∙ ap (λ r. out ++ r) (sym (over_run cs ys))
 
--- One byte more.
+-- One more byte.
 pub over_next : (cs : Cells) (ys : Bytes) (i : ℕ) (d : ℕ) → i < length cs → i < length ys
     → over (drop i cs) (drop i ys) ≡ standing (cell cs i) (get_or ys i d) ∷ over (drop (i + 1) cs) (drop (i + 1) ys)
 over_next cs ys i d h g = let n : suc i ≡ i + 1 = omega arith in
@@ -88,7 +88,7 @@ pub standing_is : (o : Option ℕ) (y : ℕ) → unwrap_or o y ≡ standing o y
 standing_is None y = refl
 standing_is (Some x) y = refl
 
--- Places at which other bytes stand.
+-- Positions at which bytes differ.
 pub differing_end : (cs : Cells) (ys : Bytes) (k : ℕ) → length cs ≤ k → differing k ys cs ≡ 0
 differing_end cs [] k h = refl
 differing_end cs (y ∷ ys) k h =

@@ -1,4 +1,4 @@
--- Loops that go through places page by page.
+-- Loops over positions, page by page.
 use Rattle.std.proofs.Common.{◌≡◌, ℕ, zero, suc, ◌+◌, ◌-◌, ◌<◌, ◌≤◌, [], ◌∷◌, ◌++◌, length, take, drop, Some, None}
 use Rattle.std.proofs.Common.{if◌then◌else◌, refl, sym, ◌∙◌, ap, arith, append_assoc}
 use Rattle.std.proofs.Math.Seq.{take-add}
@@ -9,7 +9,7 @@ use Rattle.segments.specs.Places.{over, standing}
 use Rattle.segments.proofs.PageLemmas.{cell_within, places_length, places_split}
 use Rattle.segments.proofs.PlaceLemmas.{IsAppending, differing_split}
 
--- Several bytes more.
+-- Several more bytes.
 pub appended_more : (out out' out0 all left left' s : Bytes) → IsAppending out out0 left all → left ≡ s ++ left'
     → out' ≡ out ++ s → IsAppending out' out0 left' all
 appended_more out out' out0 all left left' s a is put = record {
@@ -22,7 +22,7 @@ pub appended_some : (out out' out0 left all : Bytes) → IsAppending out out0 le
 appended_some out out' out0 left all a more =
     (a.more.0 ++ more.0, more.1 ∙ ap (λ o. o ++ more.0) a.more.1 ∙ append_assoc out0 a.more.0 more.0)
 
--- Cells behind cells.
+-- Cells after cells.
 run_on : (a b : Cells) → length a ≤ length (run a) → run (a ++ b) ≡ run a ++ run b
 run_on [] b h = refl
 run_on (None ∷ a) b h = absurd (omega (arith, h))
@@ -80,7 +80,7 @@ pub part_long : (ys : Bytes) (done most k : ℕ) → k ≡ most → done + most 
 part_long ys done most k e h =
     length-take-le k (drop done ys) (let d = length-drop done ys in omega (arith, d, e, h)) ∙ e
 
--- Other bytes, counted so far.
+-- Differing bytes, counted so far.
 pub unlike_more : (ys : Bytes) (first done most k count more : ℕ) (m : Pages) → k ≡ most → done + most ≤ length ys
     → count ≡ differing 0 (take done ys) (places done first m)
     → more ≡ differing 0 (take k (drop done ys)) (places (length (take k (drop done ys))) (first + done) m)
@@ -95,7 +95,7 @@ unlike_more ys first done most k count more m e h so next =
     ∙ ap (λ b. differing 0 b (places done first m ++ places most (first + done) m)) (take-add done most ys) in
     omega (arith, so, here, both, all)
 
--- Bytes put behind others so far.
+-- Bytes appended so far.
 split_left : (n first done most : ℕ) (m : Pages) → done + most ≤ n
     → places (n - done) (first + done) m
     ≡ places most (first + done) m ++ places (n - (done + most)) (first + (done + most)) m
@@ -148,7 +148,7 @@ over_more out out' out0 all ys first done most k m e h a put =
     ∙ ap (λ n. out ++ over (places n (first + done) m) (take k (drop done ys))) (part_long ys done most k e h)
     ∙ ap (λ j. out ++ over (places most (first + done) m) (take j (drop done ys))) e)
 
--- Fewer bytes than places.
+-- Fewer bytes than positions.
 pub differing_within : (len begin : ℕ) (m : Pages) (at : ℕ) (ys : Bytes) → at + length ys ≤ len
     → differing 0 ys (places (length ys) (begin + at) m) ≡ differing at ys (places len begin m)
 differing_within len begin m at ys h =

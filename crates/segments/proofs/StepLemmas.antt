@@ -1,4 +1,4 @@
--- Steps, taken one after another.
+-- Steps, one after another.
 use Rattle.std.proofs.Common.{◌≡◌, ℕ, ◌+◌, ◌%◌, ◌^◌, ◌≤◌, List, [], ◌∷◌, ◌++◌, length, take, drop, min, refl, sym}
 use Rattle.std.proofs.Common.{◌∙◌, ap, subst, arith, append_assoc, append-nil}
 use Rattle.std.proofs.lemmas.List.{length-append, take-append-drop, length-take-le}
@@ -9,7 +9,7 @@ use Rattle.segments.specs.declared.steps.Step.{Step}
 use Rattle.segments.specs.declared.steps.Step.TheVariants.{Segment, Take}
 use Rattle.segments.proofs.LawLemmas.{made_among, fewer_among, handing_front, longest, front_rest}
 
--- What was handed out is a front of the stream, and what is held is what is known of it.
+-- The delivered bytes are a prefix of the stream, and the buffered ones are those known of it.
 pub record IsUnderWay (stream : Bytes) (known : List (ℕ × Bytes)) (first : ℕ) (out : Bytes) (h : Held) : Type 0 where
   pub made : IsMadeOf stream (IsAmong known) h
   pub rest : Bytes
@@ -84,7 +84,7 @@ steps_front stream known first (Segment seq b ∷ ss) (p ∷ places) out h u nea
     steps_front stream ((p, b.now) ∷ known) first ss places out (with_segment seq b.now h)
     (one_segment stream known first out h seq p b.now u near.0 near.1 near.2) near.3
 
--- From the beginning.
+-- From the start.
 pub replayed : (first limit : ℕ) (steps : List Step) (out available : Bytes) →
     out ≡ handed steps record { first = first; limit = limit; taken = 0; cells = [] } →
     available ≡ run (after steps record { first = first; limit = limit; taken = 0; cells = [] }).cells
@@ -107,7 +107,7 @@ replayed first limit steps out available out_is available_is = λ stream places 
     (ap (λ o. o ++ run (after steps h).cells) (sym out_is) ∙ ap (λ a. out ++ a) (sym available_is))
     (steps_front stream [] first steps places [] h start near)
 
--- A loop over steps: what they have done is part of what all do.
+-- A loop over steps: the steps done so far are part of all steps.
 pub record IsReplaying (start h : Held) (out : Bytes) (left all : List Step) : Type 0 where
   pub after_is : after left h ≡ after all start
   pub handed_is : out ++ handed left h ≡ handed all start

@@ -1,4 +1,4 @@
--- A look-up in a table of numbers and names.
+-- Look-ups in a table of numbers and names.
 use Rattle.std.proofs.Common.{
   ◌≡◌,
   ◌∙◌,
@@ -28,13 +28,13 @@ either_way : {A B : Type 0} (v : A → B) (b : Bool) (x : ℕ × A) (o : Option 
 either_way v true x o p e = refl
 either_way v false x o p e = e
 
--- a look-up where the second parts are seen by v
+-- a look-up in a table whose values are mapped by v
 pub look_up-map : {A B : Type 0} (v : A → B) (table : List (ℕ × A)) (n : ℕ)
     → look_up (map (λ x. (x.0, v x.1)) table) n ≡ option_map v (look_up table n)
 look_up-map v [] n = refl
 look_up-map v (x ∷ table) n = either_way v (x.0 == n) x _ _ (look_up-map v table n)
 
--- how a number is shown, by what is found
+-- how a number is shown, by the result of the look-up
 pub name_shown : (type : Text) (table : List (ℕ × Bor Text)) (n : ℕ) (found : Option (Bor Text))
     → found ≡ look_up table n
     → name type (map (λ x. (x.0, x.1.now)) table) n ≡ shown type n (option_map (λ t. t.now) found)

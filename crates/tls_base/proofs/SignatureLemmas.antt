@@ -1,4 +1,4 @@
--- A signature after what another reader has read.
+-- A signature after content that another reader has read.
 use Rattle.std.proofs.Common.{◌≡◌, ap, refl, inl, [], ◌++◌, Bool, Result, Ok, Err}
 use Rattle.std.specs.Result.{IsErrAnd}
 use Rattle.layouts.specs.Bytes.{Bytes}
@@ -8,13 +8,13 @@ use Rattle.layouts.specs.Answers.{Returned, Gives}
 use Rattle.tls_base.specs.Signature.{view_signed, signature, beside_signature}
 use Rattle.tls_base.specs.declared.signature.DigitallySigned as signed_of
 
--- the answer with the content put in
+-- the signature's answer with the content added
 abbrev pub with_content : {T : Type 0} → T → Returned signed_of.DigitallySigned
     → Returned (T × signed_of.DigitallySigned)
 with_content content (Ok x) = Ok (x.0, (content, x.1))
 with_content content (Err e) = Err e
 
--- the signature's answer gives that of both
+-- the signature's answer decides that of content and signature
 pub put_beside : {T : Type 0} (content : T) (ext : Bool) (b : Bytes) (r : Returned signed_of.DigitallySigned)
     → Gives view_signed (signature ext) b r
     → Gives (λ v. (v.0, view_signed v.1)) (beside_signature content ext) b (with_content content r)

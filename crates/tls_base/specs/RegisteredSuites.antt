@@ -1,28 +1,31 @@
--- The names that IANA's registry of TLS Cipher Suites has. The code has a row for each; this is a second reading, written independently, so that a wrong
--- name is refused: numbers that follow each other have the same key exchanges, and each of these all of the ciphers, one behind the other.
--- RFC 5246, appendix A.5, and RFC 8446, appendix B.4, with those of the RFCs that the registry names.
+-- The names in IANA's registry of TLS Cipher Suites: RFC 5246, appendix A.5, and RFC 8446, appendix
+-- B.4, with those of the RFCs that the registry names.
+--
+-- The code has a row for each name. This is a second list, written independently, so that a wrong
+-- name is refused. It is built from runs of consecutive numbers: in a run, each key exchange is
+-- combined with all ciphers, in order.
 use Rattle.std.specs.Prelude.{ℕ, List, [], ◌∷◌, ◌++◌, suc, map, codes}
 use Rattle.tls_base.specs.Names.{Text}
 
--- A suite up to TLS 1.2: its key exchange, and its cipher with its hash.
+-- The name of a suite up to TLS 1.2: its key exchange, then its cipher with its hash.
 abbrev pub suite_name : Text → Text → Text
 suite_name exchange cipher = codes "TLS_" ++ exchange ++ codes "_WITH_" ++ cipher
 
--- Numbers from n on, one for each name.
+-- Numbers the names from n on.
 abbrev pub numbered : ℕ → List Text → List (ℕ × Text)
 numbered n [] = []
 numbered n (name ∷ names) = (n, name) ∷ numbered (suc n) names
 
--- The names that each of these key exchanges has with each of these ciphers.
+-- The names of each key exchange combined with each cipher.
 abbrev pub names_with : List Text → List Text → List Text
 names_with [] ciphers = []
 names_with (exchange ∷ exchanges) ciphers = map (suite_name exchange) ciphers ++ names_with exchanges ciphers
 
--- Such suites, by the number of the first.
+-- A run of suites, with the number of the first.
 abbrev pub suites : ℕ → List Text → List Text → List (ℕ × Text)
 suites n exchanges ciphers = numbered n (names_with exchanges ciphers)
 
--- A suite whose name says no key exchange.
+-- A suite whose name has no key exchange.
 abbrev pub other : ℕ → Text → List (ℕ × Text)
 other n name = (n, name) ∷ []
 

@@ -1,4 +1,4 @@
--- The text of an extension is read back as that extension, with nothing dropped.
+-- The encoding of an extension reads back as that extension, with nothing dropped.
 use Rattle.std.proofs.Common.{
   ◌≡◌,
   ℕ,
@@ -101,7 +101,7 @@ list_spelled l text Fits one some (v ∷ vs) h = (
   refl,
 )
 
--- all bytes as numbers
+-- all bytes as 2-byte numbers
 pairs_spelled : (xs : List ℕ) → All (λ x. x < 256 ^ 2) xs → Spells pairs (numbers_text 2 xs) xs [] []
 pairs_spelled xs all =
     let w = numbers_text 2 xs in
@@ -117,7 +117,7 @@ pairs_spelled xs all =
     (subst (λ j. Spells (times j (number 2)) w xs [] []) (sym half)
     (subst (λ b. Spells (times (length xs) (number 2)) b xs [] []) (append-nil w) items)))
 
--- names of a server
+-- server names
 record FitsServerName (n : ServerName) : Type 0 where
   kind : n.name_type < 256 ^ 1
   name : length n.name < 256 ^ 2
@@ -231,7 +231,7 @@ extensions_spelled es fits range = list_spelled (extension General) extension_te
     (λ e r h. extension_spelled e r h.fits h.range) (λ e. omega (arith, length-extension e)) es
     (readable es fits.each range)
 
--- the text, less the two bytes of its length
+-- the encoding without its 2 bytes of length
 behind_length : (es : List Extension) → drop 2 (extensions_text es) ≡ flat_map extension_text es
 behind_length es = refl
 

@@ -27,7 +27,7 @@ use Rattle.layouts.proofs.OneAnswerLemmas.{ltb_yes, ltb_no}
 use Rattle.tls_ext.specs.Dispatch.{is_grease}
 use Rattle.tls_ext.specs.InPlace.{lateness, later, latest}
 
--- the later of a known one and that of the others
+-- the later of the best version so far and that of the others
 abbrev pub with_known : Option ℕ → Option ℕ → Option ℕ
 with_known None best = best
 with_known (Some v) best = Some (later v best)
@@ -36,7 +36,7 @@ pub latest_end : (known : Option ℕ) → with_known known None ≡ known
 latest_end None = refl
 latest_end (Some v) = refl
 
--- a number of GREASE is passed over
+-- a GREASE number is skipped
 pub latest_grease : (v : ℕ) (vs : List ℕ) → is_grease v ≡ true → latest (v ∷ vs) ≡ latest vs
 latest_grease v vs e = ap (λ t. cond t (latest vs) (Some (later v (latest vs)))) e
 
@@ -64,7 +64,7 @@ better v w (Some x) high = go (ltb (lateness x) (lateness v)) refl
     go false e = ap (λ t. cond t w x)
         (ltb_no (lateness x) (lateness w) (omega (arith, high, ltb-false (lateness x) (lateness v) e)))
 
--- the known one stays, or the next is better
+-- the best version so far stays, or the next is later
 pub known_stays : (v w : ℕ) (best : Option ℕ) → lateness v < lateness w
     → with_known (Some w) (Some (later v best)) ≡ with_known (Some w) best
 known_stays v w best low = ap Some (stays v w best low)

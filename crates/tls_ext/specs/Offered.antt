@@ -1,4 +1,4 @@
--- What a hello says by the first extension of a type; nothing where that is missing, or refused.
+-- What a hello offers by the first extension of a type; nothing if it is missing or refused.
 use Rattle.std.specs.Prelude.{ℕ, List, [], Option, Some, None, Result, Ok, Err}
 use Rattle.tls_base.specs.ExtensionNumbers as extension_number
 use Rattle.layouts.specs.Bytes.{Bytes}
@@ -8,16 +8,16 @@ use Rattle.tls_ext.specs.Extension as ext
 use Rattle.tls_ext.specs.Extension.{Extension}
 use Rattle.tls_ext.specs.InPlace.{content_of, in_content}
 
--- What is told, and nothing where it is refused.
+-- The value, or nothing if it is refused.
 abbrev pub known : {A : Type 0} → Result (Option A) Refusal → Option A
 known (Ok x) = x
 known (Err e) = None
 
--- The content of the first extension of that type (RFC 8446, section 4.2).
+-- The content of the first extension of this type (RFC 8446, section 4.2).
 abbrev pub content_in : ℕ → Bytes → Option Bytes
 content_in kind b = known (content_of kind b)
 
--- What an extension lists.
+-- The list in an extension, or no items.
 abbrev pub listed : {A : Type 0} → Result (Option (List A)) Refusal → List A
 listed (Ok (Some xs)) = xs
 listed _ = []

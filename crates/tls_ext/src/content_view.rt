@@ -1,7 +1,9 @@
-//! The contents of extensions in place: what stands after an extension's type and its length (RFC 8446, section 4.2).
+//! Parses the contents of extensions in place: the bytes after an extension's type and length (RFC
+//! 8446, section 4.2).
 //!
-//! Each call answers what the one that makes a list does, memory aside. The length of a list is judged; what stands in it is
-//! read as the walk comes to it, and where that call ends its list, the walk ends too.
+//! Each call returns the answer of the call of `content` that makes a list, but allocates nothing.
+//! The length of a list is checked at once. Its items are read when the walk reaches them, and the
+//! walk ends where that call ends its list.
 #![tactic(auto, using(layouts::proofs::OneAnswerLemmas::read_allowed))]
 
 ghost use Rattle.layouts.specs.Answers.{Gives};
@@ -19,7 +21,7 @@ use layouts::{
 };
 use tls_base::{NamedGroup, TlsVersion};
 
-/// The names of a server: as [`crate::parse_tls_extension_sni_content`] reads them.
+/// Reads the server names in place, as [`crate::parse_tls_extension_sni_content`].
 #[tactic(auto, using(layouts::proofs::OneAnswerLemmas::read_allowed, layouts::proofs::ItemsLemmas::none_in), unfolding(crate::specs::Content::server_names))]
 #[inline(always)]
 pub fn server_names(i: &[u8]) -> IResult<&[u8], Items<ServerName>>
@@ -32,7 +34,7 @@ pub fn server_names(i: &[u8]) -> IResult<&[u8], Items<ServerName>>
     Ok((i, Items::new(window)))
 }
 
-/// The names of application protocols: as [`crate::parse_tls_extension_alpn_content`] reads them.
+/// Reads the application protocol names in place, as [`crate::parse_tls_extension_alpn_content`].
 #[tactic(auto, using(layouts::proofs::OneAnswerLemmas::read_allowed), unfolding(crate::specs::Content::application_layer_protocol_negotiation))]
 #[inline(always)]
 pub fn protocol_names(i: &[u8]) -> IResult<&[u8], Items<Counted1>>
@@ -43,7 +45,8 @@ pub fn protocol_names(i: &[u8]) -> IResult<&[u8], Items<Counted1>>
     Ok((i, Items::new(window)))
 }
 
-/// The supported signature algorithms: as [`crate::parse_tls_extension_signature_algorithms_content`] reads them.
+/// Reads the signature algorithms in place, as
+/// [`crate::parse_tls_extension_signature_algorithms_content`].
 #[tactic(auto, using(layouts::proofs::OneAnswerLemmas::read_allowed), unfolding(crate::specs::Content::signature_algorithms))]
 #[inline(always)]
 pub fn signature_algorithms(i: &[u8]) -> IResult<&[u8], Items<u16>>
@@ -53,7 +56,7 @@ pub fn signature_algorithms(i: &[u8]) -> IResult<&[u8], Items<u16>>
     Ok((i, Items::new(window)))
 }
 
-/// The supported groups: as [`crate::parse_tls_extension_elliptic_curves_content`] reads them.
+/// Reads the supported groups in place, as [`crate::parse_tls_extension_elliptic_curves_content`].
 #[tactic(auto, using(layouts::proofs::OneAnswerLemmas::read_allowed), unfolding(crate::specs::Content::supported_groups))]
 #[inline(always)]
 pub fn supported_groups(i: &[u8]) -> IResult<&[u8], Items<NamedGroup>>
@@ -64,7 +67,8 @@ pub fn supported_groups(i: &[u8]) -> IResult<&[u8], Items<NamedGroup>>
     Ok((i, groups))
 }
 
-/// The supported point formats, one a byte: as [`crate::parse_tls_extension_ec_point_formats_content`] reads them.
+/// Reads the supported point formats, 1 byte each, as
+/// [`crate::parse_tls_extension_ec_point_formats_content`].
 #[tactic(auto, using(layouts::proofs::OneAnswerLemmas::read_allowed), unfolding(crate::specs::Content::ec_point_formats))]
 #[inline(always)]
 pub fn ec_point_formats(i: &[u8]) -> IResult<&[u8], &[u8]>
@@ -73,7 +77,8 @@ pub fn ec_point_formats(i: &[u8]) -> IResult<&[u8], &[u8]>
     counted1(i)
 }
 
-/// How pre-shared keys may be used, one a byte: as [`crate::parse_tls_extension_psk_key_exchange_modes_content`] reads it.
+/// Reads the modes of pre-shared keys, 1 byte each, as
+/// [`crate::parse_tls_extension_psk_key_exchange_modes_content`].
 #[tactic(auto, using(layouts::proofs::OneAnswerLemmas::read_allowed), unfolding(crate::specs::Content::psk_key_exchange_modes))]
 #[inline(always)]
 pub fn psk_key_exchange_modes(i: &[u8]) -> IResult<&[u8], &[u8]>
@@ -82,10 +87,11 @@ pub fn psk_key_exchange_modes(i: &[u8]) -> IResult<&[u8], &[u8]>
     counted1(i)
 }
 
-/// The filters on certificates (RFC 8446, section 4.2.5): 2 bytes of length, and within that many bytes the filters, each an
-/// OID after 1 byte of length and values after 2.
+/// Reads the filters on certificate extensions in place (RFC 8446, section 4.2.5): 2 bytes of
+/// length and that many bytes of filters. Each is an OID after 1 byte of length, and values after
+/// 2.
 ///
-/// `Incomplete` of the missing bytes of the length, or else of the list.
+/// `Incomplete` with the bytes missing from the length, or else from the list.
 #[tactic(auto, using(layouts::proofs::OneAnswerLemmas::read_allowed), unfolding(crate::specs::Content::oid_filters))]
 #[inline(always)]
 pub fn oid_filters<'a>(i: &'a [u8]) -> IResult<&'a [u8], Items<'a, OidFilter<'a>>>
@@ -95,11 +101,12 @@ pub fn oid_filters<'a>(i: &'a [u8]) -> IResult<&'a [u8], Items<'a, OidFilter<'a>
     Ok((i, Items::new(window)))
 }
 
-/// The supported versions (RFC 8446, section 4.2.1): one of 2 bytes where `i` has just these; else 1 byte of length, which
-/// isn't tested, and all bytes after it as versions of 2 bytes each.
+/// Reads the supported versions in place (RFC 8446, section 4.2.1). If `i` has 2 bytes, they are
+/// one version. Else it has 1 byte of length, which isn't checked, and all bytes after it are
+/// versions of 2 bytes each.
 ///
-/// - `Incomplete(1)` where `i` is empty.
-/// - `Error` of kind `LengthValue` where an odd number of bytes follows the length.
+/// - `Incomplete(1)` if `i` is empty.
+/// - `Error` of kind `LengthValue` if an odd number of bytes follows the length.
 #[tactic(auto, using(layouts::proofs::OneAnswerLemmas::read_allowed, layouts::proofs::NumbersLemmas::one_in), unfolding(crate::specs::Content::supported_versions, layouts::specs::Reading::ignored_at))]
 #[inline(always)]
 pub fn supported_versions(i: &[u8]) -> IResult<&[u8], Items<TlsVersion>>
@@ -132,10 +139,11 @@ impl<'a> InPlace<'a> for KeyShareEntry<'a> {
     }
 }
 
-/// The key shares of a ClientHello (RFC 8446, section 4.2.8): 2 bytes of length, and within that many bytes the shares, each a
-/// group of 2 bytes and a public value after 2 bytes of length.
+/// Reads the key shares of a ClientHello in place (RFC 8446, section 4.2.8): 2 bytes of length and
+/// that many bytes of shares. Each is a group of 2 bytes, and a public value after 2 bytes of
+/// length.
 ///
-/// `Incomplete` of the missing bytes of the length, or else of the list.
+/// `Incomplete` with the bytes missing from the length, or else from the list.
 #[inline(always)]
 pub fn key_shares<'a>(i: &'a [u8]) -> IResult<&'a [u8], Items<'a, KeyShareEntry<'a>>>
     ensures { Gives (λ v. items_in key_share_entry v.bytes.now) client_shares i.now result }

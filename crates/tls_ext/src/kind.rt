@@ -1,11 +1,11 @@
-//! The table of the kinds of extensions: which type is which kind, who reads it, and on which sides.
+//! The table of extensions: each type's kind, the call that reads it, and the sides that do.
 ghost use Rattle.std.specs.Prelude.{◌≡◌};
 ghost use Rattle.tls_ext.specs.Dispatch.{all_sides, not_server, general_only};
 
-/// Who sent the extensions that are read, as far as the caller says.
+/// The sender of the extensions, if the caller states it.
 #[derive(Clone, Copy)]
 pub(crate) enum Side {
-    /// Not said.
+    /// Unknown.
     General,
     /// A client, in its ClientHello.
     Client,
@@ -14,21 +14,21 @@ pub(crate) enum Side {
 }
 
 impl Side {
-    /// Each side reads it.
+    /// Returns true: a type that each side reads.
     pub(crate) fn all_sides(self) -> bool
         ensures { result ≡ all_sides self }
     {
         true
     }
 
-    /// It isn't read in a ServerHello.
+    /// Returns whether a type is read here that isn't read in a ServerHello.
     pub(crate) fn not_server(self) -> bool
         ensures { result ≡ not_server self }
     {
         !matches!(self, Side::Server)
     }
 
-    /// It is read where the sender isn't said.
+    /// Returns whether a type is read here that is read only if the sender is unknown.
     pub(crate) fn general_only(self) -> bool
         ensures { result ≡ general_only self }
     {
@@ -36,11 +36,13 @@ impl Side {
     }
 }
 
-/// The table, told once: it hands its rows to the macro that it is passed, behind the words in brackets; `$part` picks the
-/// rows. A row has an extension type (the name of its constant, or its number where it has none), the form and the name of
-/// the variant of `TlsExtension`, the call that reads the content, and which sides read it. Those whose content is a list
-/// stand apart, since they are read by calls and all others in place. In each part the rows stand in the order of the
-/// types' numbers.
+/// The table. It passes its rows to the macro `$then`, after the words in brackets; `$part` picks
+/// the rows.
+///
+/// A row has an extension type (the name of its constant, or its number if it has none), the form
+/// and the name of the variant of `TlsExtension`, the call that reads the content, and the sides
+/// that read it. Contents that are lists have a separate part: calls read these, and all others are
+/// read in place. In each part the rows are in the order of the types' numbers.
 macro_rules! rows {
     ($part:ident $then:ident $($words:tt)*) => {
         $part! {
@@ -85,28 +87,28 @@ macro_rules! rows {
     };
 }
 
-/// All rows.
+/// Picks all rows.
 macro_rules! every_row {
     ($then:ident $words:tt { $($other:tt)* } { $($list:tt)* }) => {
         $then! { $words $($other)* $($list)* }
     };
 }
 
-/// The rows whose content is no list.
+/// Picks the rows whose content isn't a list.
 macro_rules! other_rows {
     ($then:ident $words:tt { $($other:tt)* } $lists:tt) => {
         $then! { $words $($other)* }
     };
 }
 
-/// The rows whose content is a list.
+/// Picks the rows whose content is a list.
 macro_rules! list_rows {
     ($then:ident $words:tt $others:tt { $($list:tt)* }) => {
         $then! { $words $($list)* }
     };
 }
 
-/// The extension type of a row, as a value or a pattern.
+/// Expands to the extension type of a row, as a value or a pattern.
 macro_rules! row_type {
     ($number:literal) => {
         TlsExtensionType($number)

@@ -1,4 +1,4 @@
--- The body of a ClientHello is spelled by its text, and by no other bytes.
+-- The body of a ClientHello is encoded by its text, and by no other bytes.
 use Rattle.std.proofs.Common.{◌≡◌, ℕ, ◌+◌, ◌*◌, ◌/◌, ◌%◌, ◌^◌, ◌<◌, ◌≤◌, List, [], ◌∷◌, ◌++◌, length, Option, Some}
 use Rattle.std.proofs.Common.{None, Bool, true, false, eqb, nat_le, refl, sym, ◌∙◌, ap, subst, arith, append_assoc}
 use Rattle.std.proofs.Common.{◌==◌, ◌&&◌, if◌then◌else◌}
@@ -71,7 +71,7 @@ session_id_whole b id r s =
     (p.first.1 ∙ ap (λ n. bytes_of 1 n ++ p.middle) (sym size)) body in
     subst (λ x. (length x ≤ 32) × (b ≡ counted_text 1 x ++ r)) (sym what) (omega arith, all)
 
--- numbers behind a count in bytes, which is tested
+-- numbers after a length in bytes, which is checked
 both_true : (a b : Bool) → (a && b) ≡ true → (a ≡ true) × (b ≡ true)
 both_true true b e = (refl, e)
 both_true false b e = absurd cc
@@ -169,7 +169,7 @@ methods_whole b xs r s =
           (p.first.1 ∙ ap (λ n. bytes_of 1 n ++ p.middle) (sym is)) (q.first.1 ∙ t.1 ∙ items.1.is),
     )
 
--- extensions that stand there, which nothing or more follows
+-- extensions that are present, with any bytes after them
 extensions_spelled : (e : Bytes) (r : Bytes) → length e < 256 ^ 2
     → Spells (maybe (counted 2)) (counted_text 2 e ++ r) (Some e) r []
 extensions_spelled e r h = counted_spelled 2 e r h
@@ -184,11 +184,11 @@ hello_of version random id suites methods extensions = record {
   extensions = extensions;
 }
 
--- what a ClientHello of TLS has in place of a cookie
+-- a ClientHello of TLS has no cookie
 abbrev no_cookie : Layout (Option Bytes)
 no_cookie = done None
 
--- what follows each field
+-- the layouts after each field
 abbrev behind_methods : ℕ → Bytes → Option Bytes → Option Bytes → List ℕ → List ℕ → Layout (ClientHello × Option Bytes)
 behind_methods version random id cookie suites methods =
     chain (maybe (counted 2)) (λ e. done (hello_of version random id suites methods e, cookie))
@@ -270,7 +270,7 @@ pub extensions_whole : (b : Bytes) (e : Option Bytes) (r : Bytes) → IsSome e �
 extensions_whole b None r h s = absurd cc
 extensions_whole b (Some e) r h s = counted_whole 2 b e r s
 
--- what is known of a hello and its bytes
+-- a hello that was read from b can be written, and b is its encoding
 pub record Written (h : ClientHello) (b r : Bytes) : Type 0 where
   pub fits : FitsClientHello h
   pub range : InRangeClientHello h

@@ -1,4 +1,4 @@
--- Handshake messages are spelled by their texts, and by no other bytes.
+-- Handshake messages are encoded by their texts, and by no other bytes.
 use Rattle.std.proofs.Common.{◌≡◌, ℕ, ◌^◌, ◌<◌, ◌≤◌, [], ◌++◌, length, eqb, ◌==◌, refl, sym, ◌∙◌, ap, subst, arith}
 use Rattle.std.proofs.Common.{append_assoc, append-nil, true, false, Ok, Err, Result, IfOk}
 use Rattle.std.specs.Option.{IsSome}
@@ -32,7 +32,7 @@ use Rattle.tls_hs.proofs.ServerHelloTextLemmas.{server_reads, draft_reads, serve
 use Rattle.tls_hs.proofs.ServerHelloTextLemmas.{server_hello_whole, draft18_whole, WrittenServer, WrittenDraft}
 use Rattle.tls_hs.proofs.MsgTypeLemmas.{body_makes}
 
--- a body, in its window
+-- each body, in its window
 hello_request_spelled : (n : ℕ) → Spells (handshake_body 0 n) [] HelloRequest [] []
 unfolding handshake_body hello_request_body
 hello_request_spelled n = (refl, refl, refl)
@@ -60,7 +60,8 @@ key_exchange_spelled b =
     joined (block (length b)) (λ x. done (ClientKeyExchange (session.Unknown x))) b
     (ClientKeyExchange (session.Unknown b)) [] b [] (refl, sym (append-nil b), refl) (refl, refl, refl)
 
--- a body that is read within its length; of a ServerHello of SSL 3.0 the extensions are left, and dropped
+-- a body that is read within its length; the extensions of a ServerHello of SSL 3.0 are left, and
+-- dropped
 abbrev BodyReads : ℕ → ℕ → Bytes → Handshake → Type 0
 BodyReads msg_type n w m = (e : Bytes) × Reads (handshake_body msg_type n) w m e
 
@@ -166,7 +167,7 @@ handshake_allowed m r fits range readable =
     reads_allowed message.handshake (handshake_text m ++ r) (message.Handshake (normal_handshake m)) r
     (handshake_reads m r fits range readable)
 
--- the text alone, of a message that is the same as one that fits
+-- the encoding of a message equal to one that fits
 pub text_read : (b : Bytes) (n m : Handshake) → FitsHandshake n → InRangeHandshake n → b ≡ handshake_text n → n ≡ m
     → IsReadableHandshake m → Allows message.handshake b (Ok (message.Handshake (normal_handshake m), []))
 text_read b n m fits range text same readable =
@@ -175,7 +176,7 @@ text_read b n m fits range text same readable =
     (λ readable. subst (λ b. Allows message.handshake b (Ok (message.Handshake (normal_handshake n), [])))
     (sym (text ∙ sym (append-nil (handshake_text n)))) (handshake_allowed n [] fits range readable)) readable
 
--- what is built of a message that is the same as one that is in range
+-- the encoding built for a message equal to one in range
 pub built_read : {V : Type 0} (items : V → Bytes) (result : Result V GenError) (n m : Handshake)
     (Refused : GenError → Type 0) → Builds (FitsHandshake n) Refused (handshake_text n)
     (result_map_both items (λ e. e) result) → IfOk result (λ _. InRangeHandshake n) → n ≡ m
@@ -185,7 +186,7 @@ built_read items (Ok v) n m Refused built range same =
     λ readable. text_read (items v) n m built.0 range built.1 same readable
 built_read items (Err e) n m Refused built range same = tt
 
--- the other way
+-- what is read from a body's bytes has these as its encoding
 hello_request_whole : (n : ℕ) (w : Bytes) → Spells (handshake_body 0 n) w HelloRequest [] [] → w ≡ []
 unfolding handshake_body hello_request_body
 hello_request_whole n w s = s.1

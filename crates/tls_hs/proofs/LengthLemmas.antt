@@ -1,4 +1,4 @@
--- How long texts of hellos are, as sums of the lengths of their fields.
+-- Lengths of the encodings of hellos, as sums of the lengths of their fields.
 use Rattle.std.proofs.Common.{◌≡◌, ℕ, ◌≤◌, ◌+◌, ◌*◌, ◌++◌, length, map, ◌∙◌, ap, arith, append_assoc}
 use Rattle.std.proofs.Math.ListN.{length-map}
 use Rattle.std.proofs.lemmas.List.{length-append}
@@ -43,7 +43,7 @@ length-hello h =
       length-numbers 1 h.compression_methods,
     )
 
--- of one in memory, whose lists are those of numbers
+-- a hello in memory, whose lists are numbers
 pub client_hello_length : (h : TlsClientHelloContents)
     → length (client_hello_text (view_client_hello h)) ≡ 2 + length (view_client_hello h).random + 1 + length
     (held (view_client_hello h).session_id) + 2 + 2 * length h.ciphers.items + 1 + length h.comp.items + 2 + length
@@ -53,7 +53,7 @@ client_hello_length h =
     let methods : length (map (λ x. x.0) h.comp.items) ≡ length h.comp.items = length-map _ _ in
     omega (arith, length-hello (view_client_hello h), suites, methods)
 
--- and it fits where these are short
+-- a hello in memory fits if its parts are short
 pub client_hello_fits : (h : TlsClientHelloContents) → length (view_client_hello h).random ≡ 32
     → length (held (view_client_hello h).session_id) ≤ 32 → length h.ciphers.items ≤ 32767 → length h.comp.items ≤ 255
     → length (held (view_client_hello h).extensions) ≤ 65535 → FitsClientHello (view_client_hello h)
@@ -91,7 +91,7 @@ server_hello_draft18_length h =
     length-four (bytes_of 2 h.version) h.random (bytes_of 2 h.cipher_suite) (counted_text 2 (held h.extensions))
     ∙ omega (arith, length-bytes_of 2 h.version, length-bytes_of 2 h.cipher_suite, length-counted 2 (held h.extensions))
 
--- a text, from the pieces that are added one by one
+-- an encoding, from the parts that are appended one by one
 pub six_added : (o0 o1 o2 o3 o4 o5 o6 a b c d e f : Bytes) → o1 ≡ o0 ++ a → o2 ≡ o1 ++ b → o3 ≡ o2 ++ c → o4 ≡ o3 ++ d
     → o5 ≡ o4 ++ e → o6 ≡ o5 ++ f → o6 ≡ o0 ++ (a ++ b ++ c ++ d ++ e ++ f)
 six_added o0 o1 o2 o3 o4 o5 o6 a b c d e f e1 e2 e3 e4 e5 e6 =

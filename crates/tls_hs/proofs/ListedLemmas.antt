@@ -1,4 +1,4 @@
--- The numbers that bytes hold, read at once.
+-- The numbers in bytes, read at once.
 use Rattle.std.proofs.Common.{
   ◌≡◌,
   ℕ,
@@ -45,7 +45,7 @@ number_lacks w b short = ap (λ t. ◌and_then◌ {Y = ℕ × Bytes}
     (cond {A = Answer Bytes} t (Err (Lacks (w - length b))) (Ok (take w b, drop w b))) (λ x. Ok (number_of x.0, x.1)))
     (ltb_yes (length b) w short)
 
--- bytes behind the last number that is whole hold none
+-- bytes after the last complete number hold none
 whole_numbers : (w n : ℕ) (c r : Bytes) → 0 < w → length c ≡ w * n → length r < w
     → items_in (number w) (c ++ r) ≡ items_in (number w) c
 whole_numbers w zero [] r some e short =

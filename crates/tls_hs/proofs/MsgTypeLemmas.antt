@@ -1,4 +1,4 @@
--- The type in front of a handshake message is that of its kind: so of every body, whichever the table by type has.
+-- The type of a handshake message is that of its kind, for each body in the table.
 use Rattle.std.proofs.Common.{◌≡◌, ℕ, Ok, Err, sym, refl, subst, ◌==◌, Bool, true, false}
 use Rattle.std.specs.Prelude.{Result, ⊤}
 use Rattle.std.proofs.lemmas.Bool.{eqb-true}
@@ -14,7 +14,7 @@ use Rattle.tls_hs.specs.Handshake.{certificate_status_body, next_protocol_body, 
 use Rattle.tls_hs.specs.Handshake.{body_from_finished, body_from_certificate, handshake_body}
 use Rattle.tls_hs.specs.HandshakeText.{msg_type_of}
 
--- What every value of a layout has, by the form of the layout alone: whatever the parts in front of the last one say.
+-- P holds for every value of a layout, as its last part alone shows
 abbrev Ends : {A : Type 0} → (A → Type 0) → Layout A → Type 0
 Ends P (done a) = P a
 Ends P (refuse e) = ⊤
@@ -46,7 +46,7 @@ read_ends P (chain l f) h b x e =
     read_ends P (f y.0.0) (h y.0.0) y.0.1 x y.1
 read_ends P l h b x e = h x.0
 
--- A layout makes messages of the type k alone.
+-- the layout's values are messages of type k alone
 abbrev Makes : ℕ → Layout Handshake → Type 0
 Makes k l = Ends (λ m. k ≡ msg_type_of m) l
 
@@ -54,7 +54,7 @@ either_way : (k : ℕ) (t : Bool) (l m : Layout Handshake) → Makes k l → Mak
 either_way k true l m one two = one
 either_way k false l m one two = two
 
--- the body is that of the type, or of a later one
+-- the body of this type, or of a later one
 chosen : (msg_type k : ℕ) (l m : Layout Handshake) → Makes k l → Makes msg_type m
     → Makes msg_type (choose (msg_type == k) l m)
 chosen msg_type k l m one two = go (msg_type == k) refl

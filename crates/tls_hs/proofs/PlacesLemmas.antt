@@ -1,4 +1,4 @@
--- Where the parts of a ClientHello stand.
+-- Positions of the parts of a ClientHello.
 use Rattle.std.proofs.Common.{
   ◌≡◌,
   ℕ,
@@ -56,7 +56,7 @@ use Rattle.tls_hs.specs.Places.{
 }
 use Rattle.tls_hs.specs.declared.client_hello_view.ClientHelloView.{ClientHelloView}
 
--- what begins behind so many bytes
+-- a part that begins after o bytes
 pub stands_behind : (o : ℕ) (b f x r : Bytes) → b ≡ f ++ (x ++ r) → length f ≡ o → BeginsAt b o x
 stands_behind o b f x r e size =
     let all : length b ≡ length f + (length x + length r) =
@@ -64,12 +64,12 @@ stands_behind o b f x r e size =
     let dropped : drop o b ≡ x ++ r = ap (drop o) e ∙ drop_at f (x ++ r) o size in
     record { is = ap (take (length x)) dropped ∙ take_at x r (length x) refl; within = omega (arith, all, size) }
 
--- what may be there leads b, or b is all that follows
+-- an optional part leads b, or b is the rest
 abbrev pub MayLead : ℕ → Bytes → Option Bytes → Bytes → Type 0
 MayLead k b (Some x) r = Leads k b x r
 MayLead k b None r = b ≡ r
 
--- m is left of b behind its first o bytes
+-- m is what is left of b after its first o bytes
 pub record Left (b : Bytes) (o : ℕ) (m : Bytes) : Type 0 where
   pub front : Bytes
   pub whole : b ≡ front ++ m
@@ -161,14 +161,14 @@ unfolding Allows
 extensions_lead b None r (d, s) = s.0
 extensions_lead b (Some x) r (d, s) = counted_leads 2 b x r (d, s)
 
--- a list that is cut off behind its length
+-- a list that is cut off after its length
 pub cut_leads : (k n : ℕ) (b m x r : Bytes) (v : ℕ) → Allows (number k) b (Ok (v, m)) → x ≡ take n m → r ≡ drop n m
     → Leads k b x r
 cut_leads k n b m x r v read is behind =
     let (f, e, size) = number_leads k b v m read in
     (f, e ∙ ap (λ y. f ++ y) (sym (take-append-drop n m) ∙ ap₂ ◌++◌ (sym is) (sym behind)), size)
 
--- all parts, one behind the other
+-- all parts, one after another
 may_be_left : (o : ℕ) (b m : Bytes) (c : Option Bytes) (r : Bytes) → Left b o m → MayLead 1 m c r
     → Left b (behind_cookie o c) r
 may_be_left o b m None r left same = subst (λ y. Left b o y) same left
@@ -230,7 +230,7 @@ lies b h c r s =
           (option_map (λ x. x.now) h.ext) r extensions_left s.extensions;
     }
 
--- the places that are computed
+-- the places that the code computes
 pub held_begins : (b : Bytes) (o : ℕ) (v : Option Bytes) → BeginsAt b o (held v) → MayBeginAt b o v
 held_begins b o v at x e = subst (λ y. BeginsAt b o y) (ap held e) at
 
@@ -244,7 +244,7 @@ held_stands b o v p e at = subst (λ q. MayStand b q (option_map (λ x. x.now) v
     there None at = tt
     there (Some x) at = at x.now refl
 
--- what is behind the cookie begins behind its place, or behind that of the session id
+-- what follows the cookie begins after its place, or after that of the session id
 pub last_ends : (o : ℕ) (x : Bytes) (v : Option (Bor (List ℕ)))
     → (unwrap_or (option_map (λ y. place_from (o + length x + 1) y.now) v) (place_from o x)).offset
     + (unwrap_or (option_map (λ y. place_from (o + length x + 1) y.now) v) (place_from o x)).length
@@ -252,7 +252,7 @@ pub last_ends : (o : ℕ) (x : Bytes) (v : Option (Bor (List ℕ)))
 last_ends o x None = refl
 last_ends o x (Some y) = refl
 
--- what stands at a place that lies within is there
+-- a part at a place within b is at that place
 pub stands_there : (b : Bytes) (p : Option Place) (v : Option (Bor (List ℕ)))
     → MayStand b p (option_map (λ x. x.now) v) → StandsAt b p v
 stands_there b (Some p) (Some x) s = s.is

@@ -1,4 +1,5 @@
--- The bodies of a ServerHello and of one of draft 18 are spelled by their texts, and by no other bytes.
+-- The bodies of a ServerHello, and of one of draft 18, are encoded by their texts, and by no other
+-- bytes.
 use Rattle.std.proofs.Common.{◌≡◌, ◌≢◌, ℕ, ◌^◌, ◌<◌, ◌≤◌, [], ◌++◌, length, Option, Some, None, Bool, true, false, eqb}
 use Rattle.std.proofs.Common.{nat_le, refl, sym, ◌∙◌, ap, subst, arith, append_assoc, append-nil, ◌==◌, ◌&&◌}
 use Rattle.std.proofs.Common.{if◌then◌else◌}
@@ -19,7 +20,7 @@ use Rattle.layouts.proofs.TextLemmas.{First, Second, picked, picks_first, picks_
 use Rattle.layouts.proofs.TextLemmas.{counted_spelled, number_spelled}
 use Rattle.tls_hs.proofs.ClientHelloTextLemmas.{session_id_spelled, session_id_whole, extensions_whole, and_true}
 
--- what follows each field, up to what differs
+-- the layouts after each field, up to where the forms differ
 module _ (last : ℕ → Bytes → Option Bytes → ℕ → ℕ → Layout ServerHello) where
   abbrev behind_suite : ℕ → Bytes → Option Bytes → ℕ → Layout ServerHello
   behind_suite version random id suite = chain (number 1) (last version random id suite)
@@ -143,7 +144,7 @@ any_spelled h r fits range =
     h.compression_method e)) (counted_text 2 (held h.extensions) ++ r) v r (Some (held h.extensions)) r
     (counted_spelled 2 (held h.extensions) r (omega (arith, fits.extensions))) (refl, refl, refl))
 
--- of SSL 3.0 the extensions are left
+-- SSL 3.0: the extensions are left
 ssl30_spelled : (h : ServerHello) (r : Bytes) → FitsServerHello h → InRangeServerHello h
     → Spells server_hello_ssl30 (nested_text h r)
     (hello_of h.server_version h.random (normal_id h.session_id) h.cipher_suite h.compression_method None)
@@ -159,7 +160,7 @@ ssl30_spelled h r fits range =
     (counted_text 2 (held h.extensions) ++ r) None (counted_text 2 (held h.extensions) ++ r) (refl, refl, refl)
     (refl, refl, refl))
 
--- the version says which form it has
+-- the version decides the form
 abbrev by_version : ℕ → Layout ServerHello
 by_version version =
     choose (version == 0x0300) server_hello_ssl30
@@ -262,7 +263,7 @@ server_hello_whole b h r some s =
         elim (picked (nat_le 0x0301 version && nat_le version 0x0303) server_hello_any (refuse Tag) m h r [] s)
         [ First e f ↦ any_whole m h r some f | Second e f ↦ absurd f ]
 
--- of draft 18
+-- draft 18
 abbrev draft_of : ℕ → Bytes → ℕ → Option Bytes → ServerHelloDraft18
 draft_of version random suite extensions =
     record { version = version; random = random; cipher_suite = suite; extensions = extensions }
@@ -329,7 +330,7 @@ draft18_whole b h r some s =
       is = all ∙ sym (draft_text v r);
     })
 
--- whole bodies
+-- complete bodies
 pub server_reads : (h : ServerHello) → FitsServerHello h → InRangeServerHello h → 0x0300 ≤ h.server_version
     → h.server_version ≤ 0x0303 → (q : Bytes) × Spells server_hello (server_hello_text h) (normal_server_hello h) q []
 server_reads h fits range low high =
@@ -345,7 +346,7 @@ draft_reads h fits range =
     subst (λ b. Spells server_hello_draft18 b (normal_server_hello_draft18 h) [] [])
     (sym (draft_text h []) ∙ append-nil (server_hello_draft18_text h)) (draft18_spelled h [] fits range)
 
--- the version stands in front of either text
+-- the version is at the start of either encoding
 pub server_looked : (h : ServerHello) → h.server_version < 256 ^ 2
     → Spells (look (number 2)) (server_hello_text h) h.server_version (server_hello_text h) []
 server_looked h small =

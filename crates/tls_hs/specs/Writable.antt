@@ -1,4 +1,4 @@
--- The handshake messages that the writer knows, apart from where they lie in memory.
+-- The values of the handshake messages that the writer knows.
 use Rattle.tls_hs.specs.Hello.{view_client_hello}
 use Rattle.tls_hs.specs.ServerHello.{view_server_hello, view_server_hello_draft18}
 use Rattle.tls_hs.specs.Session.{view_client_key_exchange}

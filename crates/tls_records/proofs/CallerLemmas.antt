@@ -1,4 +1,4 @@
--- What the proofs of callers need of the layouts, so that a caller stands on this crate alone.
+-- Lemmas about layouts that the proofs of callers use, so that they depend on this crate alone.
 use Rattle.std.proofs.Common.{◌≡◌, ℕ, zero, suc, ◌+◌, ◌/◌, ◌≤◌, List, [], ◌∷◌, ◌++◌, length, Option, Some, None, Ok}
 use Rattle.std.proofs.Common.{nat_le, ◌==◌, if◌then◌else◌, refl, sym, ◌∙◌, ap, subst, arith}
 use Rattle.std.proofs.lemmas.List.{length-append}
@@ -24,21 +24,21 @@ use Rattle.tls_records.specs.Framing.{max_fragment_length}
 use Rattle.tls_records.specs.Record.{RecordHeader, record_content, Plaintext}
 use Rattle.tls_records.specs.RecordText.{FitsMessage, fragment_text, plaintext_text}
 
--- what is read is allowed
+-- the answer of reading is allowed
 pub read_allowed : {A : Type 0} (l : Layout A) (b : Bytes) (x : Answer A) → AreBytes b → reading l b ≡ x → Allows l b x
 read_allowed l b x are e = answers.read_allowed l b x are e
 
--- what is allowed is what is read
+-- an allowed answer is that of reading
 pub only_reading : {A : Type 0} (l : Layout A) (b : Bytes) → AreBytes b → (x : Answer A) → Allows l b x
     → x ≡ reading l b
 only_reading l b are x h = answers.only_reading l b are x h
 
--- bytes one after the other are bytes
+-- bytes followed by bytes are bytes
 pub AreBytes-append : (b c : Bytes) → AreBytes b → AreBytes c → AreBytes (b ++ c)
 AreBytes-append b c are_b are_c = numbers.AreBytes-append b c are_b are_c
 
--- A ClientHello that was read has fields that can be written, and its session id is read back as it is: whatever its
--- bytes are followed by.
+-- A ClientHello that was read has fields that can be written, and its session id reads back
+-- unchanged, whatever bytes follow.
 pub record IsReadHello (h : ClientHello) : Type 0 where
   pub random : length h.random ≡ 32
   pub session_id : length (held h.session_id) ≤ 32
@@ -177,7 +177,7 @@ hello_read header b h ms r is s =
     (subst (λ k. Spells (record_content (header_of k header.version header.length)) b
     (Handshake (handshakes.ClientHello h) ∷ ms) r s.0) is s.1)
 
--- With other extensions it can be written as well, where it isn't too long.
+-- With other extensions it can be written too, if it isn't too long.
 long_end : (a b c d e : Bytes) (n : ℕ) (f : Bytes) → length f ≤ length (a ++ b ++ c ++ d ++ e ++ (bytes_of 2 n ++ f))
 long_end a b c d e n f =
     omega (arith, length-append (a ++ b ++ c ++ d ++ e) (bytes_of 2 n ++ f), length-append (bytes_of 2 n) f)
@@ -221,7 +221,7 @@ hello_fits h ext was short =
       length = omega (arith, short, text);
     }) (All-nil FitsMessage)
 
--- A record's text is a header of 5 bytes, and its fragment.
+-- The encoding of a record is a header of 5 bytes, then its fragment.
 framed : (a b c d : Bytes) → length (a ++ b ++ (c ++ d)) ≡ length a + length b + (length c + length d)
 framed a b c d = omega (arith, length-append (a ++ b) (c ++ d), length-append a b, length-append c d)
 

@@ -1,4 +1,4 @@
--- A record is read as a raw record is, and then its fragment.
+-- A record is a raw record, then its fragment.
 use Rattle.std.proofs.Common.{◌≡◌, refl}
 use Rattle.layouts.specs.Bytes.{Bytes}
 use Rattle.layouts.specs.Reading.{reading, ◌and_then◌}
@@ -13,7 +13,7 @@ plaintext_is_raw_then_content b =
     (λ h m. record { header = h; messages = m }) (λ h f. record { header = h; fragment = f }) read_content
     (λ h f r. refl) b
 
--- The same of DTLS.
+-- A record of DTLS is a raw record, then its fragment.
 pub dtls_plaintext_is_raw_then_content : (b : Bytes)
     → reading dtls.plaintext b ≡ reading dtls.raw_record b and_then dtls.read_content
 unfolding dtls.plaintext dtls.raw_record

@@ -1,4 +1,4 @@
--- Records of DTLS, where further bytes follow.
+-- Records of DTLS with further bytes after them.
 use Rattle.std.proofs.Common.{Bool, true, false, List}
 use Rattle.std.specs.Prelude.{◌==◌}
 use Rattle.layouts.specs.Bytes.{Bytes, AreBytes}
@@ -11,7 +11,7 @@ use Rattle.tls_records.specs.DtlsRecord.{Message, RecordHeader, RawRecord, Plain
 use Rattle.tls_records.specs.DtlsRecord.{handshake, record_header, record_content, plaintext}
 use Rattle.tls_records.proofs.FramedLemmas.{framed_counts}
 
--- No bytes are missing in a fragment.
+-- No bytes are missing from a fragment.
 picked_never_lacks : (a b c : Bool) → NeverLacks (
     choose a (list1 change_cipher_spec) (
     choose b (list1 alert) (

@@ -1,4 +1,4 @@
--- Records of DTLS in place: what is judged of them, and what they say.
+-- Records of DTLS in place: what is checked of them, and their values.
 use Rattle.std.proofs.Common.{
   ◌≡◌,
   ℕ,
@@ -68,7 +68,7 @@ with_body_read x =
     value_of (reading (body x.0.msg_type x.0.length (is_part x.0)) x.0.body) and_then λ y. Ok
     (handshake_with x.0 y, x.1)
 
--- the last parts of both
+-- the last parts of both readings
 abbrev raw_of : ℕ → ℕ → ℕ → ℕ → ℕ → Bytes → RawHandshake
 raw_of kind length seq offset n bytes = record {
   msg_type = kind;
@@ -102,13 +102,13 @@ module _ (kind length seq offset n : ℕ) where
   by_window (Ok w) = by_body w.0 w.1 (reading (body kind length (part length offset n)) w.0)
   by_window (Err e) = refl
 
--- a number in front of both
+-- a number at the start of both
 step : (a : Answer ℕ) (f : ℕ × Bytes → Answer dtls_handshake.Handshake) (g : ℕ × Bytes → Answer RawHandshake)
     → ((x : ℕ × Bytes) → f x ≡ (g x and_then with_body_read)) → (a and_then f) ≡ ((a and_then g) and_then with_body_read)
 step (Ok x) f g h = h x
 step (Err e) f g h = refl
 
--- a handshake message is read raw, and then its body alone
+-- a handshake message is a raw one, then its body alone
 pub handshake_is_raw_then_body : (b : Bytes)
     → reading dtls_handshake.handshake b ≡ (reading raw_handshake b and_then with_body_read)
 unfolding dtls_handshake.handshake raw_handshake
@@ -120,7 +120,7 @@ handshake_is_raw_then_body b =
     step (reading (number 3) offset.1) _ _ (λ n.
     by_window kind.0 length.0 seq.0 offset.0 n.0 (split_at n.0 n.1))))))
 
--- and so is the message that it is
+-- and as a message of a record
 abbrev as_message : dtls_handshake.Handshake × Bytes → Answer Message
 as_message x = Ok (dtls_record.Handshake x.0, x.1)
 
@@ -170,7 +170,7 @@ handshakes b r t =
     list_told handshake b _ (takes_byte handshake b tt)
     (items_decoded handshake raw_handshake handshake_of handshake_decodes b ∙ decoded (items_in raw_handshake b)) r t
 
--- a record is its header and what its fragment says
+-- the value of a record: its header, and the value of its fragment
 content_says : (h : RecordHeader) (r : Bytes) (a : Answer (List Message)) (xs : List Message) → value_of a ≡ Ok xs
     → ◌and_then◌ {Y = Plaintext × Bytes} a (λ m. Ok (record { header = h; messages = m.0 }, r))
     ≡ Ok (record { header = h; messages = xs }, r)

@@ -1,4 +1,4 @@
--- What stands of a header, a test of the length that it gives, and so many bytes, whatever the header is.
+-- A header, a check of its length, and that many bytes, for any header.
 use Rattle.std.proofs.Common.{◌≡◌, ℕ, ◌-◌, ◌<◌, ◌≤◌, length, take, drop, Bool, true, false, cond, ltb, nat_le, Ok, Err}
 use Rattle.std.proofs.Common.{refl, ap, sym, ◌∙◌}
 use Rattle.std.proofs.lemmas.Bool.{ltb-true, leb-true, le-leb}
@@ -16,7 +16,7 @@ counts_test : (t : Bool) (k : ErrorKind) → CountsMissing (test t k)
 counts_test true k = tt
 counts_test false k = tt
 
--- what is never refused for missing bytes is not read so
+-- a layout that never lacks bytes isn't refused for missing ones
 not_lacking : {A : Type 0} (l : Layout A) → NeverLacks l → (b : Bytes) → AreBytes b → (n : ℕ)
     → reading l b ≡ Err (Lacks n) → ⊥
 unfolding Allows
@@ -24,7 +24,7 @@ not_lacking l never b are n e = never b n (read_allowed l b (Err (Lacks n)) are 
 
 module _ {H M R F : Type 0} (header : Layout H) (len : H → ℕ) (content : H → Layout M) (whole : H → M → R)
     (raw : H → Bytes → F) where
-  -- what follows the header of a record, and that of a raw record
+  -- what follows the header of a record, and of a raw record
   abbrev pub after_header : H → Layout R
   after_header h =
       chain (test (nat_le (len h) max_fragment_length) TooLarge)
@@ -43,7 +43,7 @@ module _ {H M R F : Type 0} (header : Layout H) (len : H → ℕ) (content : H �
   abbrev with_fragment : H → Bytes × Bytes → Answer F
   with_fragment h f = Ok (raw h f.0, f.1)
 
-  -- A record is read as a raw record is, and then its fragment.
+  -- A record is a raw record, then its fragment.
   module _ (read_content : F × Bytes → Answer R)
       (reads_content : (h : H) (f r : Bytes) → read_content (raw h f, r) ≡ reading (content h) f and_then λ m. Ok
       (whole h m.0, r)) where
@@ -76,17 +76,18 @@ module _ {H M R F : Type 0} (header : Layout H) (len : H → ℕ) (content : H �
         (framed_raw_record header len raw) b and_then read_content
     framed_is_raw_then_content b = record_read (reading header b)
 
-  -- A raw record counts what is missing.
+  -- A raw record counts its missing bytes.
   pub raw_counts : CountsMissing header → CountsMissing (framed_raw_record header len raw)
   raw_counts first = (first, λ h. (counts_test (nat_le (len h) max_fragment_length) TooLarge, λ _. (tt, λ f. tt)))
 
   module _ (never : (h : H) → NeverLacks (content h)) where
-    -- So does a record, if no bytes are missing within its fragment;
+    -- So does a record, if its fragment never lacks bytes.
     pub framed_counts : CountsMissing header → CountsMissing (framed_record header len content whole)
     framed_counts first =
         (first, λ h. (counts_test (nat_le (len h) max_fragment_length) TooLarge, λ _. (never h, λ m. tt)))
 
-    -- and then bytes are missing just where those of the header are, or those of a fragment that isn't too large.
+    -- Then bytes are missing exactly if those of the header are, or those of a fragment that isn't
+    -- too large.
     pub header_lacks : (b : Bytes) (n : ℕ) → reading header b ≡ Err (Lacks n)
         → reading (framed_record header len content whole) b ≡ Err (Lacks n)
     header_lacks b n e = ap (λ a. a and_then λ x. reading (after_header x.0) x.1) e

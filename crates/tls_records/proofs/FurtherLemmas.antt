@@ -1,4 +1,4 @@
--- Records of TLS, where further bytes follow.
+-- Records of TLS with further bytes after them.
 use Rattle.std.proofs.Common.{ℕ, List, [], ◌∷◌, Bool, true, false}
 use Rattle.std.specs.Prelude.{◌==◌}
 use Rattle.layouts.specs.Bytes.{Bytes, AreBytes}
@@ -19,7 +19,7 @@ unfolding application_data
 application_data_never_lacks =
     never-chain rest (λ b. done (ApplicationData b)) never-rest (λ b. never-done (ApplicationData b))
 
--- No bytes are missing in a fragment.
+-- No bytes are missing from a fragment.
 picked_never_lacks : (a b c d e : Bool) (length : ℕ) → NeverLacks (
     choose a (list1 change_cipher_spec) (
     choose b (list1 alert) (

@@ -1,4 +1,4 @@
--- The headers of records: numbers, one behind the other.
+-- Headers of records: numbers, one after another.
 use Rattle.std.proofs.Common.{◌≡◌, ℕ, ◌+◌, ◌-◌, ◌/◌, ◌%◌, ◌^◌, ◌<◌, ◌≤◌, length, take, drop, Bool, true, false, cond}
 use Rattle.std.proofs.Common.{ltb, Ok, Err, refl, ap, ◌∙◌, arith}
 use Rattle.std.proofs.lemmas.Bool.{ltb-true, ltb-false}
@@ -12,7 +12,7 @@ use Rattle.tls_records.specs.Framing.{fragment_length}
 use Rattle.tls_records.specs.Record.{RecordHeader, record_header}
 use Rattle.tls_records.specs.DtlsRecord as dtls
 
--- a number, and what stands behind it
+-- a number, and what follows it
 number_then : {A : Type 0} (k : ℕ) (f : ℕ → Layout A) (b : Bytes) → k ≤ length b
     → reading (chain (number k) f) b ≡ reading (f (number_of (take k b))) (drop k b)
 number_then k f b enough =
@@ -47,7 +47,7 @@ wants k m f more b short = go (ltb (length b) k) refl
 wants_none : {A : Type 0} (l : Layout A) → WantsBytes 0 l
 wants_none l b short = absurd (omega arith)
 
--- What stands behind the version, and behind what is in front of the length.
+-- What follows the version, and what follows the fields before the length.
 abbrev header_of : ℕ → ℕ → ℕ → Layout RecordHeader
 header_of kind version length = done (record { content_type = kind; version = version; length = length })
 
@@ -63,7 +63,7 @@ short_header =
     wants 1 4 header_from_version (λ kind. wants 2 2 (header_from_length kind)
     (λ version. wants 2 0 (header_of kind version) (λ n. wants_none (header_of kind version n))))
 
--- enough bytes are a header, whose length is the number of its last 2
+-- enough bytes are a header, whose length is the number in its last 2
 pub long_header : (b : Bytes) → 5 ≤ length b → (h : RecordHeader) × (reading record_header b ≡ Ok (h, drop 5 b))
     × (h.length ≡ fragment_length 5 b)
 unfolding record_header
@@ -87,7 +87,7 @@ long_header b enough =
       ap (λ d. number_of (take 2 d)) (drop-drop 2 1 b),
     )
 
--- The same of DTLS.
+-- The header of DTLS.
 abbrev dtls_header : ℕ → ℕ → ℕ → ℕ → dtls.RecordHeader
 dtls_header kind version counter length = record {
   content_type = kind;

@@ -1,4 +1,4 @@
--- Records in place: what is judged of them, and what they say.
+-- Records in place: what is checked of them, and their values.
 use Rattle.std.proofs.Common.{
   ◌≡◌,
   ℕ,
@@ -66,7 +66,7 @@ pub first_is_refused : {A : Type 0} (l : Layout A) (b : Bytes) (e : Refusal) →
     → first_judged l b ≡ Err (as_complete e)
 first_is_refused {A} l b e f = ap (λ a. judged (completed a)) f ∙ refused_whole A e
 
--- that value, where it is judged so
+-- the value, if the check passed
 abbrev pub with_value : {A : Type 0} → Result Unit Refusal → A → Result A Refusal
 with_value (Ok u) x = Ok x
 with_value (Err e) x = Err e
@@ -76,7 +76,7 @@ told_value : {A : Type 0} (a : Result Unit Refusal) (x : A) (r : Result Unit (Fa
 told_value a x (Ok u) t = record { answers = tt; is = ap (λ y. with_value y x) t.is }
 told_value a x (Err e) t = record { answers = t.answers; is = ap (λ y. with_value y x) t.is }
 
--- one or more items, judged by the first
+-- one or more items, checked by the first
 list_value : {A : Type 0} (l : Layout A) (b : Bytes) → LeavesFewer (length b) (reading l b)
     → value_of (reading (list1 l) b) ≡ with_value (first_judged l b) (items_in l b)
 list_value {A} l b fewer = go (reading l b) refl fewer
@@ -96,7 +96,7 @@ list_told l b xs fewer same r t =
     subst (λ y. Tells (λ u. xs) y r) (sym (list_value l b fewer ∙ ap (λ ys. with_value (first_judged l b) ys) same))
     (told_value (first_judged l b) xs r t)
 
--- messages that are whole, and handshake messages that are decoded
+-- messages that need no decoding, and handshake messages that are decoded
 whole : (xs : List Message) → xs ≡ decode_while message_of (map Whole xs)
 whole [] = refl
 whole (x ∷ xs) = ap (λ ys. x ∷ ys) (whole xs)
@@ -157,7 +157,7 @@ one_heartbeat len b r t =
     ∙ ap (λ ys. with_value (judged (completed a)) ys) (whole (list_read a))))
     (told_value (first_judged (heartbeat len) b) xs r t)
 
--- a record is its header and what its fragment says
+-- the value of a record: its header, and the value of its fragment
 content_says : (h : RecordHeader) (r : Bytes) (a : Answer (List Message)) (xs : List Message) → value_of a ≡ Ok xs
     → ◌and_then◌ {Y = Plaintext × Bytes} a (λ m. Ok (record { header = h; messages = m.0 }, r))
     ≡ Ok (record { header = h; messages = xs }, r)

@@ -1,4 +1,4 @@
--- Where records are incomplete, and where they aren't opened.
+-- When records are incomplete, and when their fragments aren't parsed.
 use Rattle.std.proofs.Common.{◌≡◌, ℕ, ◌<◌, ◌↔◌, length, Ok, Err, inl, subst}
 use Rattle.std.specs.Result.{IsErr}
 use Rattle.layouts.specs.Bytes.{Bytes, AreBytes}
@@ -42,7 +42,7 @@ dtls_raw_record_refused b un =
 needs_none : (n : ℕ) (b : Bytes) → NeedsMore n b → HasNoRecord n b
 needs_none n b needs = inl needs.0
 
--- What the calls return, of which it is known that memory doesn't run out where there is no raw record.
+-- Results of calls that don't run out of memory if there is no raw record.
 pub plaintext_memory : {X : Type 0} (b : Bytes) (r : Returned X) → (IsErr (reading raw_record b) → MemorySufficed r)
     → HasNoRecord 5 b → MemorySufficed r
 plaintext_memory b r memory un = memory (raw_record_refused b un)
@@ -65,7 +65,7 @@ dtls_plaintext_incomplete view b r are g memory =
     incomplete_returned view dtls.plaintext b (NeedsMore 13 b) r are (dtls_plaintext_lacks b are) g
     (λ needs. memory (dtls_raw_record_refused b (needs_none 13 b needs)))
 
--- A record that is read takes a byte.
+-- A record that is read consumes a byte.
 pub plaintext_takes : (b r : Bytes) (p : Plaintext) → reading plaintext b ≡ Ok (p, r) → length r < length b
 unfolding plaintext record_header
 plaintext_takes b r p e = subst (LeavesFewer (length b)) e (takes_byte plaintext b tt)

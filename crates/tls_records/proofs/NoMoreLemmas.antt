@@ -1,4 +1,4 @@
--- Calls that don't ask for more bytes.
+-- Calls that never return `Incomplete`.
 use Rattle.std.proofs.Common.{List, [], ◌∷◌, Ok, Err}
 use Rattle.layouts.specs.Bytes.{Bytes}
 use Rattle.layouts.specs.Layout.{Layout, done, complete, list1, mapped}

@@ -1,4 +1,5 @@
--- Raw records: what they take off the front, where bytes of them are missing, and where their length is too large.
+-- Raw records: what they consume, when bytes of them are missing, and when their length is too
+-- large.
 use Rattle.std.proofs.Common.{◌≡◌, ◌↔◌, ℕ, ◌+◌, ◌-◌, ◌<◌, ◌≤◌, [], ◌++◌, length, take, drop, Ok, Err, Bool, true, false}
 use Rattle.std.proofs.Common.{cond, ltb, nat_le, refl, sym, ◌∙◌, ap, subst, arith}
 use Rattle.std.proofs.Math.Seq.{take-add, take-length, drop-length}
@@ -19,7 +20,7 @@ use Rattle.tls_records.proofs.FurtherLemmas.{raw_of}
 use Rattle.tls_records.proofs.HeaderLemmas.{short_header, long_header}
 use Rattle.tls_records.proofs.WholeLemmas.{record_reading_lacks}
 
--- All bytes, and nothing after them.
+-- All bytes, with no rest.
 rest_read : (w : Bytes) → reading rest w ≡ Ok (w, [])
 unfolding split_at
 rest_read w = go (ltb (length w) (length w)) refl
@@ -37,7 +38,7 @@ module _ {H F : Type 0} (header : Layout H) (len : H → ℕ) (raw : H → Bytes
   abbrev in_rest : Bytes → Bytes × Bytes → Answer Bytes
   in_rest r m = Ok (m.0, r)
 
-  -- A raw record is read as the record is whose content is all of the fragment.
+  -- A raw record is a record whose content is the whole fragment.
   same_fragment : (h : H) (a : Answer Bytes) → (a and_then with_fragment h) ≡ (a and_then λ w. reading rest w.0
       and_then in_rest w.1) and_then with_fragment h
   same_fragment h (Ok w) = sym (ap (λ a. (a and_then in_rest w.1) and_then with_fragment h) (rest_read w.0))
@@ -67,7 +68,7 @@ module _ {H F : Type 0} (header : Layout H) (len : H → ℕ) (raw : H → Bytes
     abbrev raw_record_of : Layout F
     raw_record_of = framed_raw_record header len raw
 
-    -- Bytes are missing of a raw record just where it needs more.
+    -- Bytes of a raw record are missing exactly if it needs more.
     pub raw_lacks : (b : Bytes) → AreBytes b → ((k : ℕ) × Allows raw_record_of b (Err (Lacks k))) ↔ NeedsMore n b
     raw_lacks b are =
         let same = raw_is_framed b in
@@ -80,7 +81,7 @@ module _ {H F : Type 0} (header : Layout H) (len : H → ℕ) (raw : H → Bytes
         → reading raw_record_of b ≡ reading (after_raw_header header len (λ _. rest) raw raw h) (drop n b)
     after_long b h e = ap (λ a. a and_then λ x. reading (after_raw_header header len (λ _. rest) raw raw x.0) x.1) e
 
-    -- Its length is refused just where it is too large.
+    -- A raw record is refused as too large exactly if its length is.
     never_broken : (h : H) (r : Bytes) → (split_at (len h) r and_then with_fragment h) ≡ Err (Broken TooLarge) → ⊥
     unfolding split_at
     never_broken h r = go (ltb (length r) (len h))
@@ -124,7 +125,7 @@ module _ {H F : Type 0} (header : Layout H) (len : H → ℕ) (raw : H → Bytes
               λ w. then ∙ large.1 (subst (λ k. max_fragment_length < k) (sym h.2) w.above),
             )
 
-    -- What it takes: n bytes, and as many as its header says.
+    -- What a raw record consumes: n bytes, and as many as its header states.
     pub record Taken (v : F) (b r : Bytes) : Type 0 where
       pub head : H
       pub is : v ≡ raw head (take (len head) (drop n b))
@@ -186,7 +187,7 @@ module _ {H F : Type 0} (header : Layout H) (len : H → ℕ) (raw : H → Bytes
             after_takes h b (raw h f) r some (ap (λ m. split_at (len h) m and_then with_fragment h) (sym after) ∙ ap
             (λ a. a and_then with_fragment h) fragment)
 
--- Those of TLS.
+-- Raw records of TLS.
 pub raw_record_lacks : (b : Bytes) → AreBytes b → ((n : ℕ) × Allows raw_record b (Err (Lacks n))) ↔ NeedsMore 5 b
 unfolding raw_record
 raw_record_lacks b are = raw_lacks record_header (λ h. h.length) raw_of 5 short_header long_header b are
@@ -195,7 +196,7 @@ pub raw_record_too_large : (b : Bytes) → (reading raw_record b ≡ Err (Broken
 unfolding raw_record
 raw_record_too_large b = raw_too_large record_header (λ h. h.length) raw_of 5 short_header long_header b
 
--- What was taken stands in front.
+-- The input begins with what was consumed.
 taken_in_front : (b r : Bytes) (v : RawRecord)
     → Taken record_header (λ h. h.length) raw_of 5 short_header long_header v b r → IsInFront v b r
 taken_in_front b r v t =
@@ -211,7 +212,7 @@ unfolding raw_record
 record_in_front b r v e =
     taken_in_front b r v (raw_takes record_header (λ h. h.length) raw_of 5 short_header long_header b r v e)
 
--- The same of a header and a fragment that are read one after the other.
+-- The input begins with a header and a fragment that are read one after the other.
 pub read_in_front : (b m r f : Bytes) (h : RecordHeader) → reading record_header b ≡ Ok (h, m)
     → reading (block h.length) m ≡ Ok (f, r) → IsInFront (raw_of h f) b r
 read_in_front b m r f h head fragment =

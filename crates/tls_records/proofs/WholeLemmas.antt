@@ -1,4 +1,4 @@
--- Where a record isn't whole, whatever its header is: n bytes, of which the last 2 are the fragment's length.
+-- Incomplete records, for any header: n bytes, of which the last 2 are the fragment's length.
 use Rattle.std.proofs.Common.{◌≡◌, ℕ, ◌+◌, ◌-◌, ◌<◌, ◌≤◌, ◌↔◌, inl, inr, length, take, drop, Bool, true, false, cond}
 use Rattle.std.proofs.Common.{ltb, nat_le, Ok, Err, refl, ap, sym, subst, ◌∙◌, arith}
 use Rattle.std.proofs.lemmas.Bool.{ltb-true, ltb-false, leb-true}
@@ -80,7 +80,7 @@ module _ {H M R F : Type 0} (header : Layout H) (len : H → ℕ) (content : H �
                 (omega (arith, less, got.2, length-drop n b)),
           )
 
-  -- Bytes are missing of a record just where it needs more.
+  -- Bytes of a record are missing exactly if it needs more.
   pub record_reading_lacks : (b : Bytes) → AreBytes b
       → ((k : ℕ) × (reading record_of b ≡ Err (Lacks k))) ↔ NeedsMore n b
   record_reading_lacks b are = (λ h. not_whole b are h.0 h.1, λ h. missing b h)
@@ -91,7 +91,7 @@ module _ {H M R F : Type 0} (header : Layout H) (len : H → ℕ) (content : H �
     λ h. let got = missing b h in (got.0, read_allowed record_of b (Err (Lacks got.0)) are got.1),
   )
 
-  -- A raw record is refused where there is none of which the fragment could be read.
+  -- A raw record is refused if there is none whose fragment could be parsed.
   large_refused : (h : H) (r : Bytes) → max_fragment_length < len h
       → reading (after_raw_header header len content whole raw h) r ≡ Err (Broken TooLarge)
   large_refused h r large = go (nat_le (len h) max_fragment_length) refl
@@ -136,7 +136,8 @@ module _ {H M R F : Type 0} (header : Layout H) (len : H → ℕ) (content : H �
           subst IsErr (sym (raw_after_long b got.0 got.1))
           (short_refused got.0 (drop n b) (omega (arith, less, got.2, length-drop n b)))
 
--- What a call returned is incomplete just where its layout lacks bytes, if it isn't want of memory then.
+-- The result of a call is incomplete exactly if its layout lacks bytes, unless it ran out of
+-- memory.
 pub incomplete_returned : {X Y : Type 0} (view : X → Y) (l : Layout Y) (b : Bytes) (N : Type 0) (r : Returned X)
     → AreBytes b → ((k : ℕ) × Allows l b (Err (Lacks k))) ↔ N → GivesOrMemory view l b r → (N → MemorySufficed r)
     → IsIncomplete r ↔ N

@@ -49,7 +49,7 @@ last_symbol (x ∷ w) = elim (last_symbol w) [
   | inr h ↦ inr (x ∷ h.0, h.1, ap (λ y. x ∷ y) h.2)
 ]
 
--- Where a handshake may still come, or has.
+-- States in which a handshake can still be completed, or is.
 abbrev is_alive : TlsState → Bool
 is_alive state.Alert = false
 is_alive state.Finished = false
@@ -101,7 +101,7 @@ module _ (w : Word) where
       ∙ word_from_after is_noise turn same_symbol next waits Fits next_fits next_waits state.None false refl clean
       clean_is handshake refl w h
 
--- The last symbol's step.
+-- The step of the last symbol.
 run_last : (u : Word) (l : Symbol) (w : Word) → w ≡ u ++ l ∷ []
     → run state.None w ≡ or_invalid (step (run state.None u) l)
 run_last u l w e = ap (run state.None) e ∙ run_on next state.None u (l ∷ [])
@@ -113,7 +113,7 @@ invalid_to w e = (
   λ h. fatal_finishes (run state.None h.0) h.1 (alive_from h.0 h.3) (sym (run_last h.0 (symbol Fatal h.1) w h.2) ∙ e),
 )
 
--- A run that is finished was broken off.
+-- A run that ends in Finished was broken off.
 finished_to : (w : Word) → run state.None w ≡ state.Finished → HasHandshake w ⊎ IsBrokenOff w
 finished_to w e = elim (last_symbol w) [
   | inl n ↦ let k : state.None ≡ state.Finished = subst (λ x. run state.None x ≡ state.Finished) n e in cc

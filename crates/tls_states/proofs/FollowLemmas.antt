@@ -1,4 +1,5 @@
--- What each state still waits for, by a word that leads to it, and what a symbol does to that.
+-- What each state still waits for, by a word that leads to it, and what a symbol changes about
+-- that.
 use Rattle.std.proofs.Common.{◌≡◌, List, [], ◌∷◌, filter, Bool, true, false, cond, not, ◌&&◌, ◌||◌, refl, ap}
 use Rattle.std.specs.List.{list_all}
 use Rattle.tls_words.specs.Words.{Pattern, all, chain, without_after, Pattern-discrete}
@@ -32,7 +33,8 @@ use Rattle.tls_states.specs.declared.state.TlsState.{TlsState}
 use Rattle.tls_states.specs.declared.state.TlsState.TheVariants as state
 use Rattle.tls_states.proofs.SymbolLemmas.{same_symbol, symbols, passes}
 
--- A word that leads to a state, and to one that waits for nothing a word that no handshake begins with.
+-- A word that leads to each state; for a state that waits for nothing, a word that no handshake
+-- begins with.
 abbrev after_hello : Word → Word
 after_hello w = symbol ClientHello ToServer ∷ symbol ServerHello FromServer ∷ w
 
@@ -71,11 +73,11 @@ road state.Alert = symbol Other ToServer ∷ []
 road state.Finished = symbol Other ToServer ∷ []
 road state.Invalid = symbol Other ToServer ∷ []
 
--- What a run at q still waits for: the rest of a handshake, and then any word.
+-- What a run in q still waits for: the rest of a handshake, and then any word.
 abbrev pub waits : TlsState → Pattern Symbol
 waits q = behind_all same_symbol (chain handshake all) (road q)
 
--- May a run be at q, where a ClientHello stood before or not.
+-- Whether a run can be in q, if a ClientHello came before or not.
 abbrev pub fits : TlsState → Bool → Bool
 fits state.None before = not before
 fits state.Alert before = false
@@ -84,11 +86,11 @@ fits state.Finished before = true
 fits state.Invalid before = true
 fits q before = before
 
--- Noise: an alert of severity 1, or a HelloRequest behind a ClientHello.
+-- Noise: an alert of severity 1, or a HelloRequest after a ClientHello.
 abbrev pub is_noise : Bool → Symbol → Bool
 is_noise before l = is_warning l || (before && is_hello_request l)
 
--- Whether a ClientHello stood before what follows l.
+-- Whether a ClientHello came before the symbol after l.
 abbrev pub turn : Bool → Symbol → Bool
 turn before l = before || is_client_hello l
 
@@ -114,7 +116,7 @@ abbrev is_fatal : Symbol → Bool
 is_fatal (symbol Fatal d) = true
 is_fatal _ = false
 
--- What a message does to what is waited for, as a test, which all symbols pass at all states.
+-- What a message changes about what is waited for, as a test that all symbols pass in all states.
 abbrev waits_next : Pattern Symbol → Bool → Symbol → Pattern Symbol
 waits_next x before l = cond (is_noise before l) x (behind same_symbol x l)
 
@@ -143,7 +145,7 @@ tests_pass_at q false = (both_and (not (fits q false) || tests_at q false) (not 
 tests_pass_at q true = (both_and (not (fits q false) || tests_at q false) (not (fits q true) || tests_at q true)
     (tests_pass q)).1
 
--- Which states and memories go together.
+-- Which states and memories belong together.
 abbrev pub Fits : TlsState → Bool → Type 0
 Fits q before = fits q before ≡ true
 

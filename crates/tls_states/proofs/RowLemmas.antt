@@ -39,7 +39,7 @@ use Rattle.tls_states.specs.contracts.symbol.Kind.{the_type as kinds}
 use Rattle.tls_states.specs.contracts.symbol.Direction.{the_type as directions}
 use denote.Enum.Bare.{sameb, true_same}
 
--- No state, kind and direction stand in two rows.
+-- No two rows have the same state, kind and direction.
 abbrev is_like : Row → Row → Bool
 is_like r s = sameb states r.state s.state && (sameb kinds r.kind s.kind && sameb directions r.direction s.direction)
 
@@ -88,7 +88,7 @@ all_states = elim [
   | state.Invalid ↦ (24, lit< tt, refl)
 ]
 
--- A symbol does what its row says, or else what a rule does.
+-- A symbol has the effect of its row, or else of a rule.
 answered : Option TlsState → Result TlsState StateChangeError → Result TlsState StateChangeError
 answered (Some q) r = Ok q
 answered None r = r

@@ -10,7 +10,8 @@ use Rattle.tls_states.specs.declared.state.TlsState.TheVariants as state
 use Rattle.tls_states.specs.declared.state.StateChangeError.{StateChangeError}
 use Rattle.tls_states.specs.declared.state.StateChangeError.TheVariants.{InvalidTransition}
 
--- The state after a symbol: the code's table told a second time, with d for either direction.
+-- The state after a symbol. This is the code's table, written a second time, with d for either
+-- direction.
 abbrev pub step : TlsState → Symbol → Result TlsState StateChangeError
 step state.None (symbol kind.ClientHello ToServer) = Ok state.ClientHello
 step state.None (symbol kind.ClientHelloWithId ToServer) = Ok state.AskResumeSession
@@ -53,7 +54,7 @@ step q (symbol kind.Warning d) = Ok q
 step q (symbol kind.Fatal d) = Ok state.Finished
 step q l = Err InvalidTransition
 
--- What a kind of message does where the table has no row for it: the last lines of step.
+-- The effect of a kind of message if the table has no row for it: the last lines of step.
 abbrev pub rule : TlsState → Kind → Result TlsState StateChangeError
 rule state.Invalid k = Ok state.Invalid
 rule state.SessionEncrypted k = Ok state.SessionEncrypted
@@ -76,7 +77,7 @@ next q l = or_invalid (step q l)
 abbrev pub run : TlsState → Word → TlsState
 run q w = words.run next q w
 
--- A step was taken: where it leads, and what is answered.
+-- A step was taken: the state that it leads to, and the result of the call.
 abbrev pub IsUpdate : Result TlsState StateChangeError → TlsState → Result Unit StateChangeError → Type 0
 IsUpdate (Ok q) end answer = (end ≡ q) × (answer ≡ Ok tt)
 IsUpdate (Err e) end answer = (end ≡ state.Invalid) × (answer ≡ Err e)

@@ -1,4 +1,4 @@
--- Symbols of a finite alphabet, which can be told apart by computing, and tests that all symbols pass.
+-- Symbols of a finite alphabet, with computed equality, and tests that all symbols pass.
 use Rattle.std.proofs.Common.{
   ◌≡◌,
   ℕ,
@@ -45,7 +45,7 @@ module _ {L : Type 0} (same : (a b : L) → Dec (a ≡ b)) where
   is_in [] l = false
   is_in (x ∷ xs) l = is_yes (same x l) || is_in xs l
 
-  -- The same by a place in the list.
+  -- Whether a symbol is in a list, by its position.
   pub in_contains : (xs : List L) (l : L) → is_in xs l ≡ true → Contains xs l
   in_contains [] l h = cc
   in_contains (x ∷ xs) l h = elim (either_or (is_yes (same x l)) (is_in xs l) h) [
@@ -66,7 +66,7 @@ module _ {L : Type 0} (same : (a b : L) → Dec (a ≡ b)) where
   pub contains_in : (xs : List L) (l : L) → Contains xs l → is_in xs l ≡ true
   contains_in xs l h = at_place xs l h.0 h.1 h.2
 
-  -- What each listed symbol passes, a symbol among them does.
+  -- A symbol in a list passes a test that all in the list pass.
   pub passes_in : (f : L → Bool) (xs : List L) (l : L) → list_all f xs ≡ true → is_in xs l ≡ true → f l ≡ true
   passes_in f [] l t h = cc
   passes_in f (x ∷ xs) l t h =

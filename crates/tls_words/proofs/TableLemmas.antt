@@ -1,4 +1,4 @@
--- Tables in which no two rows are alike.
+-- Tables with distinct rows.
 use Rattle.std.proofs.Common.{
   ◌≡◌,
   ℕ,
@@ -33,7 +33,7 @@ module _ {R : Type 0} (is_like : R → R → Bool) where
   has_like r [] = false
   has_like r (s ∷ rows) = is_like r s || has_like r rows
 
-  -- A test of each row against those after it.
+  -- Tests each row against those after it.
   abbrev pub all_unlike : List R → Bool
   all_unlike [] = true
   all_unlike (r ∷ rows) = not (has_like r rows) && all_unlike rows

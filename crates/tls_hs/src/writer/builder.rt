@@ -1,4 +1,5 @@
-//! The texts of handshake messages (RFC 5246, section 7.4), added part by part to a vector that has room for them.
+//! Appends the encodings of handshake messages (RFC 5246, section 7.4), part by part, to a vector
+//! with enough capacity.
 ghost use Rattle.std.specs.Prelude.{◌≡◌, ◌≤◌, ◌<◌, ◌+◌, ◌*◌, ◌^◌, ◌++◌, length, map, vec_len, vec_capacity};
 ghost use Rattle.std.specs.List.{All};
 ghost use Rattle.layouts.specs.Text.{counted_text, numbers_text};
@@ -23,7 +24,7 @@ use crate::writer::{Writable, writable_of};
 use layouts::writer::builder::{append_bytes, append1, append2, append3, held};
 use tls_base::{TlsCipherSuiteID, TlsCompressionID, TlsHandshakeType};
 
-/// Appends bytes after 1 byte of their count.
+/// Appends `b` after its length of 1 byte.
 fn append_counted1(out: &mut Vec<u8>, b: &[u8])
     requires fits { length b.now ≤ 255 }
     requires room { vec_len out.old + 1 + length b.now ≤ vec_capacity out.old }
@@ -35,7 +36,7 @@ fn append_counted1(out: &mut Vec<u8>, b: &[u8])
     append_bytes(out, b);
 }
 
-/// Appends bytes after 2 bytes of their count.
+/// Appends `b` after its length of 2 bytes, big-endian.
 fn append_counted2(out: &mut Vec<u8>, b: &[u8])
     requires fits { length b.now ≤ 65535 }
     requires room { vec_len out.old + 2 + length b.now ≤ vec_capacity out.old }
@@ -73,7 +74,7 @@ fn append_each_method(out: &mut Vec<u8>, methods: &[TlsCompressionID])
     }
 }
 
-/// Appends cipher suites after 2 bytes of their count in bytes.
+/// Appends cipher suites after their length in bytes, which has 2 bytes.
 fn append_suites(out: &mut Vec<u8>, suites: &[TlsCipherSuiteID])
     requires fits { length suites.now ≤ 32767 }
     requires room { vec_len out.old + 2 + 2 * length suites.now ≤ vec_capacity out.old }
@@ -86,7 +87,7 @@ fn append_suites(out: &mut Vec<u8>, suites: &[TlsCipherSuiteID])
     append_each_suite(out, suites);
 }
 
-/// Appends compression methods after 1 byte of their count.
+/// Appends compression methods after their length, which has 1 byte.
 fn append_methods(out: &mut Vec<u8>, methods: &[TlsCompressionID])
     requires fits { length methods.now ≤ 255 }
     requires room { vec_len out.old + 1 + length methods.now ≤ vec_capacity out.old }
@@ -167,7 +168,7 @@ fn append_client_key_exchange(out: &mut Vec<u8>, k: &TlsClientKeyExchangeContent
 }
 
 impl Writable<'_, '_> {
-    /// The number in front of the message.
+    /// Returns the type of the message.
     fn msg_type(&self) -> TlsHandshakeType
         ensures { result.0 ≡ msg_type_of (view_writable self.now) }
     {
@@ -181,7 +182,7 @@ impl Writable<'_, '_> {
         }
     }
 
-    /// Appends its body.
+    /// Appends the body of the message.
     fn append_body(&self, out: &mut Vec<u8>)
         requires fits { FitsBody (view_writable self.now) }
         requires room { vec_len out.old + length (body_text (view_writable self.now)) ≤ vec_capacity out.old }
@@ -200,7 +201,7 @@ impl Writable<'_, '_> {
         }
     }
 
-    /// Appends the message, with its type and the length of its body in front, which is `n`.
+    /// Appends the message: its type, the length of its body, which is `n`, and the body.
     pub(crate) fn append(&self, out: &mut Vec<u8>, n: usize)
         requires fits { FitsHandshake (view_writable self.now) }
         requires count { n ≡ length (body_text (view_writable self.now)) }
@@ -216,7 +217,7 @@ impl Writable<'_, '_> {
     }
 }
 
-/// Appends a handshake message that fits to a vector that has room for it.
+/// Appends a handshake message that fits to a vector with enough capacity.
 pub fn append_handshake(out: &mut Vec<u8>, m: &TlsMessageHandshake)
     requires fits { FitsHandshake (view_handshake m.now) }
     requires room { vec_len out.old + length (handshake_text (view_handshake m.now)) ≤ vec_capacity out.old }

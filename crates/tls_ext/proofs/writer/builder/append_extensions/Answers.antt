@@ -28,7 +28,7 @@ use Rattle.layouts.proofs.WriterLemmas.{fits_at, fits_behind, texts_taken, room_
 use Rattle.tls_ext.proofs.writer.builder.append_extensions.Goals as goal
 use Rattle.tls_ext.proofs.writer.builder.append_extensions.Goals.{in-Ok, in_default}
 
--- what fits has a length
+-- an extension that fits has a length
 never : (r : Result ℕ GenError) (x : TlsExtension) → Judges (FitsExtension (view x)) (RefusedExtension (view x))
     (extension_text (view x)) r → FitsExtension (view x) → ((n : ℕ) → r ≡ Ok n → ⊥) → ⊥
 never (Ok n) x j fits other = other n refl

@@ -32,7 +32,7 @@ use Rattle.tls_ext.proofs.writer.builder.append_names.Goals as goal
 abbrev nameless : SNIType × Bor (List ℕ)
 nameless = (record { 0 = 0 }, record { ref_ptr = (0, 0); now = [] })
 
--- what stands there has room for one more name
+-- the vector has room for one more name
 room : (names : List (SNIType × Bor (List ℕ))) (i : ℕ) → i < length names
     → length (flat_map server_name_text (map view_server_name (take i names))) + (3 + length
     (get_or names i nameless).1.now) ≤ length (flat_map server_name_text (map view_server_name names))
@@ -55,7 +55,7 @@ pub append_bytes-requires : goal.append_bytes-requires
 append_bytes-requires c =
     omega (arith, room c.args.names.now c.loop-name_type.name_type-index c.loop-name_type-test.true)
 
--- a name, field by field, behind others
+-- a name, field by field, after others
 joined : (a b c d e t u n : Bytes) → b ≡ a ++ t → c ≡ b ++ u → d ≡ c ++ n → e ≡ a ++ (t ++ (u ++ n)) → d ≡ e
 joined a b c d e t u n p q r s = let all : d ≡ a ++ t ++ u ++ n =
     cc in let same : a ++ t ++ u ++ n ≡ a ++ (t ++ (u ++ n)) = simp append_assoc in all ∙ same ∙ sym s

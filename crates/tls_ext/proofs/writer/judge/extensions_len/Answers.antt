@@ -17,7 +17,7 @@ use Rattle.tls_ext.specs.ExtensionText.{
 use Rattle.layouts.proofs.WriterLemmas.{refused_at, none_refused, fits_at, fits_behind, texts_taken}
 use Rattle.tls_ext.proofs.writer.judge.extensions_len.Goals as goal
 
--- the first that is refused decides
+-- the first refusal decides
 first : (es : List TlsExtension) (i : ℕ) (x : TlsExtension) (e : GenError) → i < length es → x ≡ get_or es i x
     → All FitsExtension (map view (take i es)) → Judges (FitsExtension (view x)) (RefusedExtension (view x))
     (extension_text (view x)) (Err e) → Judges (FitsExtensions (map view es)) (RefusedExtensions (map view es))

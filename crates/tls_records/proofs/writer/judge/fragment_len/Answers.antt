@@ -10,7 +10,7 @@ use Rattle.tls_hs.specs.declared.message.TlsMessage.{TlsMessage}
 use Rattle.tls_records.specs.RecordText.{FitsMessage, RefusesMessage, refusal_of_message, message_text, fragment_text}
 use Rattle.tls_records.proofs.writer.judge.fragment_len.Goals as goal
 
--- the first that is refused decides
+-- the first refusal decides
 first : (ms : List TlsMessage) (i : ℕ) (m : TlsMessage) (e : GenError) → i < length ms → m ≡ get_or ms i m
     → All FitsMessage (map view_message (take i ms))
     → Judges (FitsMessage (view_message m)) (λ e. e ≡ refusal_of_message (view_message m))
