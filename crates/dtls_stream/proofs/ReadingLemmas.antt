@@ -206,7 +206,7 @@ other_cut l h r es es' k low kind was st =
     (cut_part l h (content_step (reading (record_content r.header) (content_bytes r)) h).1 es es' k
     (content_none h (reading (record_content r.header) (content_bytes r))) was st)
 
--- A datagram with at most so many records to come: a prefix of its fragments was added.
+-- A datagram with at most n records to come: a prefix of its fragments was added.
 pub record IsReading (l : Limits) (h : Heard) (fs : List Fragment) (s : Step) (n : ℕ) (left : Bytes)
     (es es' : List Event) (k : Kept) : Type 0 where
   pub heard : Heard

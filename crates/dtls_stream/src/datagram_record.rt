@@ -86,7 +86,7 @@ fn connection_id_record(i: &[u8], connection_id_len: usize) -> IResult<&[u8], Co
 /// | first byte | parsed as |
 /// |---|---|
 /// | 20 to 24, 26 | [`read_record`] |
-/// | 25 | a DTLS 1.2 record with a connection ID of `connection_id_len` bytes (RFC 9146, section 4) |
+/// | 25 | a DTLS 1.2 record with an ID of `connection_id_len` bytes (RFC 9146, section 4) |
 /// | 32 to 63 | [`parse_dtls13_ciphertext`] |
 ///
 /// To parse every record of a datagram, call it on the returned rest until that is empty.

@@ -6,8 +6,8 @@
 //! aren't parsed. [`dtls_event`] turns the events into those of a flow.
 //!
 //! [`laws`] states the promise: whatever the order and overlap of the fragments, the messages
-//! delivered are the longest prefix of those that the fragments cover. `specs/Messages.antt`,
-//! `specs/Datagrams.antt` and `specs/Sent.antt` define it.
+//! delivered are the longest prefix of those that the accepted fragments cover.
+//! `specs/Messages.antt`, `specs/Datagrams.antt` and `specs/Sent.antt` define it.
 //!
 //! For DTLS 1.3 (RFC 9147) it parses encrypted records up to their ciphertext, ACKs, and the
 //! records of a datagram in every form up to DTLS 1.3. Each of these calls parses one structure at

@@ -285,7 +285,7 @@ impl Analyzer {
 
     /// Reads the next bytes of a side. The first ones are stored until there are 5, which decide
     /// whether the side is TLS. If it isn't, these 5 count as a fault, and the rest is skipped.
-    /// Once a side is over, from the very event on that ends it, its bytes are skipped.
+    /// Once a side is over, its bytes are skipped, from the event on that ended it.
     ///
     /// After `AllocError` there was no memory for them, and the analyzer can't be used any more.
     pub fn hear(&mut self, alloc: Global, side: Direction, bytes: &[u8]) -> Result<(), AllocError>

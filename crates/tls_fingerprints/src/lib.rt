@@ -6,7 +6,7 @@
 //! Wireshark, JA4 as FoxIO defines it.
 //!
 //! A hello is passed as [`ClientHelloParts`] or [`ServerHelloParts`], which any view or copy of a
-//! hello can fill. `specs/Ja3.antt` and `specs/Ja4.antt` define the fingerprints, and every call is
+//! hello can fill. `specs/Ja3.antt` and `specs/Ja4.antt` define the fingerprints, and the calls are
 //! proved to return them; [`laws`] states that JA4's digests don't depend on the order of suites
 //! and extensions.
 #![tactic(auto, using(layouts::proofs::OneAnswerLemmas::read_allowed))]

@@ -87,8 +87,8 @@ kind_of_type n =
     else if handshakes.is_read n then kind.Other
     else kind.Unknown
 
--- The kind of a message's type, except for a ServerHello. Draft 18 of TLS 1.3 has its own form of
--- that (draft-ietf-tls-tls13-18, 4.1.3).
+-- The kind of a message's type, except for a ServerHello. Draft 18 of TLS 1.3 has a separate form
+-- of it (draft-ietf-tls-tls13-18, 4.1.3).
 abbrev pub kind_of_handshake : handshakes.Handshake → Kind
 kind_of_handshake (handshakes.ServerHello hello) = kind_of_server_hello hello
 kind_of_handshake (handshakes.ServerHelloV13Draft18 hello) = kind.ServerHello13

@@ -11,10 +11,10 @@
 //! |---|---|
 //! | a whole TLS handshake message in the clear | `Event::of_handshake(bytes, direction)` |
 //! | a [`HandshakeMessage`] that is already parsed | `Event::new(message.kind(), direction)` |
-//! | a whole DTLS handshake message (up to 1.2) | `Event::new(Kind::of_type(msg_type), direction)` |
+//! | a whole DTLS handshake message, up to 1.2 | `Event::new(Kind::of_type(msg_type), direction)` |
 //! | an alert in the clear | `Event::of_alert(&alert, direction)` |
 //! | a ChangeCipherSpec, a heartbeat | `Kind::ChangeCipherSpec`, `Kind::Heartbeat` |
-//! | an encrypted record: after the sender's ChangeCipherSpec, or application data | `Kind::Encrypted` |
+//! | an encrypted record: after a ChangeCipherSpec, or application data | `Kind::Encrypted` |
 //! | a record or message that is refused | `Kind::Unknown` |
 //! | a parsed message | `Event::of(&message, to_server)` |
 //!

@@ -12,7 +12,7 @@ pub enum Kind {
     /// The ServerHello of a version below TLS 1.3.
     ServerHello,
     /// The server asks for another ClientHello (RFC 8446, section 4.1.4). It is a ServerHello with
-    /// a fixed random; the early drafts have a message type for it.
+    /// a fixed random; drafts of TLS 1.3 have a message type for it.
     HelloRetryRequest,
     /// The ServerHello of TLS 1.3 (RFC 8446, section 4.1.3): its extension supported_versions names
     /// TLS 1.3, a draft of it, or DTLS 1.3 (RFC 9147, section 5.4). Those of drafts 14 to 21 count

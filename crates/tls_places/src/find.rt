@@ -82,7 +82,7 @@ fn first_name_place(i: &[u8]) -> Result<Option<Place>, Err<Error<&[u8]>>>
 /// without their length: the first name, of any type, in the first server_name extension (RFC 6066,
 /// section 3).
 ///
-/// It answers and refuses as [`tls_ext::server_name`] does.
+/// The result and the refusals are those of [`tls_ext::server_name`].
 #[inline(always)]
 pub fn host_name_place(block: &[u8]) -> Result<Option<Place>, Err<Error<&[u8]>>>
     ensures tells { Tells (option_map (bytes_there block.now)) (host_name block.now) result }
@@ -110,8 +110,8 @@ fn protocol_names_placed(i: &[u8]) -> IResult<&[u8], (Items<Counted1>, Place)>
 /// length: the list in the first application_layer_protocol_negotiation extension (RFC 7301,
 /// section 3.1), without its length.
 ///
-/// It answers and refuses as [`tls_ext::application_protocols`] does. The names are the items of
-/// [`Counted1`] there.
+/// The result and the refusals are those of [`tls_ext::application_protocols`]. The names are the
+/// items of [`Counted1`] there.
 pub fn protocol_names_place(block: &[u8]) -> Result<Option<Place>, Err<Error<&[u8]>>>
     ensures tells { Tells (option_map (λ p. items_in (counted 1) (bytes_there block.now p))) (protocol_names block.now) result }
     ensures within { IsWithin block.now result }

@@ -19,7 +19,7 @@ use tls_hs::{ClientHelloView, RawHandshake};
 
 /// The place of the body of the first handshake message with this type in `fragment`.
 ///
-/// It answers and refuses as [`tls_records::first_body`] does.
+/// The result and the refusals are those of [`tls_records::first_body`].
 pub fn body_place(
     fragment: &[u8],
     kind: TlsHandshakeType,
@@ -76,7 +76,7 @@ fn host_name_place_of_fragment(fragment: &[u8]) -> Result<Option<Place>, Err<Err
 /// The place in `i` of the host name that the first ClientHello in the record at the front of `i`
 /// asks for.
 ///
-/// It answers and refuses as [`tls_records::server_name_of_record`] does.
+/// The result and the refusals are those of [`tls_records::server_name_of_record`].
 pub fn host_name_place_of_record(i: &[u8]) -> Result<Option<Place>, Err<Error<&[u8]>>>
     ensures tells { Tells (option_map (bytes_there i.now)) (host_name_of_record i.now) result }
     ensures within { IsWithin i.now result }

@@ -35,7 +35,7 @@ abbrev pub IsRefusedAsTooLarge : {X : Type 0} → Returned X → Type 0
 IsRefusedAsTooLarge (Err (failed.Error e)) = e.code ≡ TooLarge
 IsRefusedAsTooLarge r = ⊥
 
--- The same answer, with this rest.
+-- An answer with its rest replaced.
 abbrev pub with_rest : {A : Type 0} → Bytes → Answer A → Answer A
 with_rest r (Ok x) = Ok (x.0, r)
 with_rest r (Err e) = Err e

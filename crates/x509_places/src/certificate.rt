@@ -77,8 +77,8 @@ impl<'a> Part<'a> for CertificateContentAt {
     }
 }
 
-/// Parses a certificate, with the places of its fields in `whole`. It answers and refuses as
-/// [`x509::parse_certificate`] does.
+/// Parses a certificate, with the places of its fields in `whole`. The result and the refusals are
+/// those of [`x509::parse_certificate`].
 #[tactic(auto, using(layouts::proofs::OneAnswerLemmas::read_allowed), unfolding(x509::specs::Certificate::certificate))]
 pub fn certificate_with_places(whole: &[u8]) -> IResult<&[u8], (Certificate, CertificatePlaces)>
     ensures gives { Gives (λ x. view_certificate x.0) certificate whole.now result }

@@ -67,7 +67,7 @@ impl<'a> Part<'a> for ExtensionContentAt {
 /// Parses one extension at the front of `i`, with the places of its parts in `whole`, if `i` is an
 /// end of `whole`.
 ///
-/// It answers and refuses as an item of [`x509::Extensions`] does.
+/// The result and the refusals are those of an item of [`x509::Extensions`].
 #[tactic(auto, using(layouts::proofs::OneAnswerLemmas::read_allowed, crate::proofs::PlaceLemmas::end_before), unfolding(x509::specs::Certificate::extension))]
 pub fn extension_with_places<'a>(
     whole: &[u8],

@@ -33,7 +33,7 @@ fn content_of<'a>(name: &GeneralName<'a>) -> &'a [u8]
 /// Parses one name at the front of `i`, with the place of its content in `whole`, if `i` is an end
 /// of `whole`.
 ///
-/// It answers and refuses as an item of [`GeneralNames`] does.
+/// The result and the refusals are those of an item of [`GeneralNames`].
 pub fn general_name_with_place<'a>(
     whole: &[u8],
     i: &'a [u8],
@@ -50,7 +50,7 @@ pub fn general_name_with_place<'a>(
 /// Parses GeneralNames at the front of `whole`, the value of subjectAltName and issuerAltName, with
 /// the place of the names, without the tag and the length of their list.
 ///
-/// It answers and refuses as [`x509::parse_general_names`] does.
+/// The result and the refusals are those of [`x509::parse_general_names`].
 #[tactic(auto, using(layouts::proofs::OneAnswerLemmas::read_allowed, crate::proofs::PlaceLemmas::whole_before), unfolding(x509::specs::GeneralName::general_names))]
 pub fn general_names_with_place<'a>(
     whole: &'a [u8],

@@ -61,8 +61,8 @@ fn content_at<'a, T: Part<'a>>(
     }
 }
 
-/// Parses an element with this tag, whose whole content `T` parses. It answers and refuses as
-/// [`der::tagged`] does.
+/// Parses an element with this tag, whose whole content `T` parses. The result and the refusals are
+/// those of [`der::tagged`].
 #[tactic(auto, using(layouts::proofs::OneAnswerLemmas::read_allowed), unfolding(der::specs::Element::tagged))]
 pub(crate) fn tagged_at<'a, T: Part<'a>>(
     whole: &[u8],
