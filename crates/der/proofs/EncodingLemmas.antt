@@ -42,7 +42,7 @@ text_3 n h k = grind (arith, nat_tests)
 text_4 : (n : ℕ) → 0x10000 ≤ n → length_text n ≡ 0x83 ∷ bytes_of 3 n
 text_4 n h = grind (arith, nat_tests)
 
--- the bytes of a length, by its first
+-- the bytes of a length, given the first
 abbrev IsText : ℕ → Bytes → ℕ → Bytes → Type 0
 IsText first b n r = first ∷ b ≡ length_text n ++ r
 

@@ -1,4 +1,4 @@
--- The bytes of a subidentifier stand at the front, as they are walked.
+-- The bytes of a subidentifier are a front of the bytes that are iterated.
 use Rattle.std.proofs.Common.{◌≡◌, ℕ, ◌+◌, ◌-◌, [], ◌∷◌, ◌++◌, length, Ok, Err, Bool, true, false, leb, refl, sym, ◌∙◌, ap, arith, append_assoc}
 use Rattle.std.proofs.lemmas.List.{length-append}
 use Rattle.layouts.specs.Bytes.{Bytes, AreBytes}
@@ -28,7 +28,7 @@ unfolding leading_byte behind_one
 leading_refused x xs e =
     ap behind_one (one_read x xs) ∙ ap (λ t. reading (chain (test t Verify) (λ _. done x)) xs) e
 
--- what is walked and what is left are all bytes
+-- what was iterated and what is left are all bytes
 joined : (b : Bytes) → items_in leading_byte b ++ left_in leading_byte b ≡ b
 joined [] = rw (none_in leading_byte [] (omega arith), left_over leading_byte [] (omega arith)) refl
 joined (x ∷ xs) = go (leb 128 x) refl (joined xs)
@@ -55,7 +55,7 @@ byte_front (y ∷ ys) x r e =
     let pair : ◌≡◌ {A = ℕ × Bytes} (y, ys) (x, r) = cc in
     ap (λ p. p.0 ∷ p.1) pair
 
--- the leading bytes and the last are a front, and so many bytes
+-- the leading bytes and the last one are a front of that length
 pub with_last : (b : Bytes) (x : ℕ) (r : Bytes) → AreBytes b → reading (number 1) (left_in leading_byte b) ≡ Ok (x, r)
     → reading (block (length b - length r)) b ≡ Ok (items_in leading_byte b ++ x ∷ [], r)
 with_last b x r are e =

@@ -1,4 +1,4 @@
--- What stands where memory ran out.
+-- What holds when memory runs out.
 use Rattle.std.proofs.Common.{
   ◌≡◌,
   ℕ,
@@ -65,7 +65,7 @@ front_none : (ms ns : List Message) → ms ++ ns ≡ [] → ms ≡ []
 front_none [] ns e = refl
 front_none (m ∷ ms) ns e = absurd cc
 
--- Nothing of it was heard or told.
+-- Nothing was added or reported.
 pub cut_none : (l : Limits) (h : Heard) (fs : List Fragment) (all es : List Event) (k : Kept) → Stands l h k
     → IsCut l h fs all es es k
 unfolding events after
@@ -88,7 +88,7 @@ pub cut_same : (l : Limits) (h : Heard) (fs : List Fragment) (all es es' : List 
     → Stands l h k → IsCut l h fs all es es' k
 cut_same l h fs all es es' k same st = subst (λ x. IsCut l h fs all es x k) (sym same) (cut_none l h fs all es k st)
 
--- There are no fragments and no messages in it.
+-- It has no fragments and no messages.
 pub cut_part : (l : Limits) (h : Heard) (all es es' : List Event) (k : Kept) → messages all ≡ []
     → AreToldInPart all es es' → Stands l h k → IsCut l h [] all es es' k
 unfolding events after
@@ -109,7 +109,7 @@ cut_part l h all es es' k none was st = record {
   stands = st;
 }
 
--- All fragments were heard, and what comes behind their events isn't told.
+-- All fragments were added, and what follows their events isn't reported.
 pub cut_all : (l : Limits) (h : Heard) (fs : List Fragment) (more es es' es'' : List Event) (k : Kept)
     → AreHeard l h fs es es' k → es'' ≡ es' →
     IsCut l h fs (events l h fs ++ more) es es'' k
@@ -152,7 +152,7 @@ cut_stopped l h fs more es es' k was =
       stands = was.stands;
     }
 
--- It was cut behind fragments that were heard.
+-- Memory ran out after fragments that were added.
 pub cut_behind : (l : Limits) (h : Heard) (first fs more : List Fragment)
     (so_far all rest total es es' es'' : List Event) (k : Kept) →
     es' ≡ es ++ so_far → messages so_far ≡ messages (events l h first) → so_far ++ (all ++ rest) ≡ total →
@@ -184,7 +184,7 @@ cut_behind l h first fs more so_far all rest total es es' es'' k told none_lost 
       stands = subst (λ g. Stands l (record { taken = g.taken; next = cut.next }) k) same cut.stands;
     }
 
--- The first of the events are told.
+-- A prefix of the events was appended.
 pub part_untold : (all es es' : List Event) → es' ≡ es → AreToldInPart all es es'
 part_untold all es es' same = record { front = []; untold = all; split = refl; told = same ∙ sym (append-nil es) }
 

@@ -1,4 +1,4 @@
--- What is told of records and datagrams.
+-- The events of records and datagrams.
 use Rattle.std.proofs.Common.{
   ◌≡◌,
   ℕ,

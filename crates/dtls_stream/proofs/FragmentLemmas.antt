@@ -1,4 +1,4 @@
--- Bytes of a message that fragments give.
+-- The bytes of a message that fragments give.
 use Rattle.std.proofs.Common.{
   ◌≡◌,
   ℕ,
@@ -67,7 +67,7 @@ pub or_none : (c : Option ℕ) → or_else c None ≡ c
 or_none None = refl
 or_none (Some x) = refl
 
--- one byte more is given elsewhere
+-- one more byte is given elsewhere
 given_elsewhere : (o k i : ℕ) (b : Bytes) → (i ≡ o + k → ⊥) → given o b (k + 1) i ≡ given o b k i
 given_elsewhere o k i b not = go (nat_le o i) (nat_lt i (o + k)) refl refl
   where
@@ -103,7 +103,7 @@ cell_there : (have : List Bool) (held : Bytes) (i : ℕ) → get_or have i false
     → cell have held i ≡ Some (slice_index held i)
 cell_there have held i e = ap (λ t. cond t (Some (slice_index held i)) None) e
 
--- a place that is filled
+-- a place that is filled now
 pub filled_now : (c : ℕ → Option ℕ) (have : List Bool) (held : Bytes) (o k at x : ℕ) (b : Bytes) →
     ((i : ℕ) → cell have held i ≡ or_else (c i) (given o b k i)) → at ≡ o + k → at < length have → at < length held
     → get_or have at false ≡ false → x ≡ slice_index b k →
@@ -129,7 +129,7 @@ filled_now c have held o k at x b was is h g none same i = go (nat_eq i at) refl
         ∙ was i
         ∙ ap (or_else (c i)) (sym (given_elsewhere o k i b (λ h. other (h ∙ sym is))))
 
--- a place that has its byte
+-- a place that had its byte
 pub filled_before : (c : ℕ → Option ℕ) (have : List Bool) (held : Bytes) (o k at : ℕ) (b : Bytes) →
     ((i : ℕ) → cell have held i ≡ or_else (c i) (given o b k i)) → at ≡ o + k → get_or have at false ≡ true →
     (i : ℕ) → cell have held i ≡ or_else (c i) (given o b (k + 1) i)
@@ -147,7 +147,7 @@ filled_before c have held o k at b was is there i = go (nat_eq i at) refl
         let other : i ≡ at → ⊥ = eqb-false i at e in
         was i ∙ ap (or_else (c i)) (sym (given_elsewhere o k i b (λ h. other (h ∙ sym is))))
 
--- the count of what is absent
+-- the count of missing bytes
 pub one_less : (have : List Bool) (at filled all : ℕ) → at < length have → get_or have at false ≡ false
     → filled + sum_by absent have ≡ all → (filled + 1) + sum_by absent (slice_set have at true) ≡ all
 one_less have at filled all h none was =

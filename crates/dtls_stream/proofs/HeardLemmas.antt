@@ -1,4 +1,4 @@
--- What is held is what was heard.
+-- The buffer agrees with the state.
 use Rattle.std.proofs.Common.{
   ◌≡◌,
   ℕ,
@@ -90,7 +90,7 @@ of_message_first seq (t ∷ ts) g gs e = go (t.message_seq == seq) refl (of_mess
     go true e again is = let same : t ≡ g = cc in ap (λ f. f.message_seq) (sym same) ∙ eqb-true t.message_seq seq e
     go false e again is = again is
 
--- A place judges as what was heard of its message.
+-- A slot refuses as the state does.
 pub judged_as_heard : (gs : List Fragment) (o : Option Held) (f : Fragment)
     → ((g : Fragment) (rest : List Fragment) → gs ≡ g ∷ rest → g.message_seq ≡ f.message_seq) →
     IsPart gs o → slot_judged o f ≡ agreed gs f
@@ -102,7 +102,7 @@ judged_as_heard (g ∷ gs) (Some h) f first is =
     (eq-eqb h.message_seq f.message_seq (is.same.message_seq ∙ first g gs refl))
     ∙ ap (λ n. agrees n f) is.same.size
 
--- A fragment that is near enough and not too large is judged by those of its message.
+-- A fragment that is near enough and not too large is judged by the others of its message.
 pub verdict_near : (l : Limits) (h : Heard) (f : Fragment) → h.next ≤ f.message_seq → f.message_seq < h.next + l.ahead
     → f.length ≤ l.message →
     verdict l h f ≡ agreed (of_message f.message_seq h.taken) f
@@ -132,7 +132,7 @@ answered l h k f at r st there near small or_memory =
     ∙ sym (verdict_near l h f (omega (arith, seq)) (omega (arith, seq, near, ahead)) (omega (arith, small, message))) in
     subst (IsOrMemory r) same or_memory
 
--- One fragment more of a message.
+-- One more fragment of a message.
 or_assoc : (a b c : Option ℕ) → or_else (or_else a b) c ≡ or_else a (or_else b c)
 or_assoc None b c = refl
 or_assoc (Some x) b c = refl

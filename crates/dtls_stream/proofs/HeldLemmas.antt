@@ -1,4 +1,4 @@
--- A message of which fragments are there.
+-- A message that is being reassembled.
 use Rattle.std.proofs.Common.{
   ◌≡◌,
   ℕ,
@@ -39,7 +39,7 @@ use Rattle.std.proofs.lemmas.List.Sums.{sum_by-cons, sum_by-append}
 use Rattle.layouts.specs.Bytes.{Bytes}
 use Rattle.dtls_stream.specs.Fragments.{Held, IsComplete, IsBody, absent, cell}
 
--- None is absent just where all are there.
+-- No byte is missing exactly if all are known.
 pub all_there : (ts : List Bool) → sum_by absent ts ≡ 0 → (i : ℕ) → i < length ts → get_or ts i false ≡ true
 all_there [] e i h = absurd (omega (arith, h))
 all_there (true ∷ ts) e zero h = refl
@@ -67,13 +67,13 @@ is_there ts bs i = go (get_or ts i false)
     go true s = refl
     go false s = absurd cc
 
--- no place beyond the lists is there
+-- no place beyond the lists is known
 there_below : (ts : List Bool) (i : ℕ) → get_or ts i false ≡ true → i < length ts
 there_below [] i e = absurd cc
 there_below (t ∷ ts) zero e = omega arith
 there_below (t ∷ ts) (suc i) e = let again = there_below ts i e in omega (arith, again)
 
--- All that is said of the fields of a message that is held.
+-- What holds of a buffered message's fields.
 pub record IsSound (h : Held) (filled : ℕ) : Type 0 where
   pub same : length h.there ≡ length h.held
   pub low : length h.held ≤ h.size
@@ -95,7 +95,7 @@ pub body_complete : (h : Held) (filled : ℕ)
     → h.size ≤ filled → IsComplete h
 body_complete h filled sound full i l = subst IsSome (sym ((complete_body h filled sound full).bytes i l)) refl
 
--- where all places are there, as many are filled
+-- if all places are known, the count is the size
 pub complete_full : (h : Held) (filled : ℕ)
     → (length h.there ≡ length h.held) × (length h.held ≤ h.size) × (filled + sum_by absent h.there ≡ length h.there)
     → IsComplete h → h.size ≤ filled
@@ -110,7 +110,7 @@ complete_full h filled sound all = go h.size refl
         none_absent h.there (λ i l. is_there h.there h.held i (all i (omega (arith, l, sound.0, sound.1)))) in
         omega (arith, e, reach, none, sound.2)
 
--- Places that are added, with no byte.
+-- Places added without a byte.
 pub cell_grown : (ts : List Bool) (bs : Bytes) (m n : ℕ) → length ts ≡ length bs → (i : ℕ)
     → cell (ts ++ replicate m false) (bs ++ replicate n 0) i ≡ cell ts bs i
 cell_grown ts bs m n same i = go (nat_lt i (length ts)) refl

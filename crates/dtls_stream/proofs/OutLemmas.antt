@@ -1,4 +1,4 @@
--- What is handed out of a direction, after any fragments.
+-- The messages delivered after any fragments.
 use Rattle.std.proofs.Common.{
   ◌≡◌,
   ℕ,
@@ -77,7 +77,7 @@ use Rattle.dtls_stream.specs.declared.fragments.FragmentError.TheVariants.{
 use Rattle.dtls_stream.proofs.HeardLemmas.{of_message_more, of_message_other, verdict_near}
 use Rattle.dtls_stream.proofs.SentLemmas.{AreAll, IsRun, all_of_message, covered_message, run_of}
 
--- The messages among events that are joined, or that are messages alone.
+-- The messages among joined events, and among events that are all messages.
 messages-append : (es fs : List Event) → messages (es ++ fs) ≡ messages es ++ messages fs
 messages-append [] fs = refl
 messages-append (Handshake m ∷ es) fs = ap (λ ms. m ∷ ms) (messages-append es fs)
@@ -91,7 +91,7 @@ messages-map : (ms : List Message) → messages (map Handshake ms) ≡ ms
 messages-map [] = refl
 messages-map (m ∷ ms) = ap (λ xs. m ∷ xs) (messages-map ms)
 
--- Further fragments take no cover away.
+-- More fragments don't uncover a message.
 cover_more : (gs hs : List Fragment) (n : ℕ) → Cover gs n → Cover (gs ++ hs) n
 cover_more gs hs n c = record
     { some = omega (arith, c.some, length-append gs hs); each = λ i l. more gs i (c.each i l) }
@@ -119,7 +119,7 @@ are_more : (ms : List Sent) (ts : List Fragment) (f : Fragment) → AreOf ms ts 
 are_more ms [] f of l is = (l, is, tt)
 are_more ms (t ∷ ts) f of l is = (of.0, of.1, are_more ms ts f of.2 l is)
 
--- A fragment that is taken is near enough.
+-- A fragment that is added is near enough.
 taken_near : (l : Limits) (h : Heard) (f : Fragment) (t : Unit) → verdict l h f ≡ Ok t
     → f.message_seq < h.next + l.ahead
 taken_near l h f t = go (nat_lt f.message_seq h.next) (nat_le (h.next + l.ahead) f.message_seq) refl
@@ -133,7 +133,7 @@ taken_near l h f t = go (nat_lt f.message_seq h.next) (nat_le (h.next + l.ahead)
     go false true e is = absurd cc
     go false false e is = leb-false (h.next + l.ahead) f.message_seq e
 
--- What stands after each fragment: all that is whole is handed out.
+-- What holds after each fragment: all next messages that are whole were delivered.
 pub record IsOut (ms : List Sent) (l : Limits) (h : Heard) (out : List Message) : Type 0 where
   pub taken : AreOf ms h.taken
   pub low : h.next ≤ length ms
@@ -232,7 +232,8 @@ taken_hand_out ms l fs of =
           (after l (record { taken = []; next = 0 }) fs).next all.taken cover in absurd cc;
     }
 
--- Where no message is too far ahead or too large, all fragments count: those that aren't taken are repeated.
+-- If no message is too far ahead or too large, all fragments count: those refused are
+-- retransmissions.
 pub record IsAll (ms : List Sent) (h : Heard) (fs : List Fragment) : Type 0 where
   pub same : (k : ℕ) → h.next ≤ k → of_message k h.taken ≡ of_message k fs
   pub done : (k : ℕ) → k < h.next → IsCovered ms fs k
@@ -283,7 +284,7 @@ old_verdict l h f old = ap
     (cond (nat_lt l.message f.length) (Err TooLarge) (agreed (of_message f.message_seq h.taken) f))))
     (lt-ltb f.message_seq h.next old)
 
--- What a fragment leads to.
+-- What holds after a fragment.
 pub record IsStep (ms : List Sent) (l : Limits) (h : Heard) (out : List Message) (fs : List Fragment)
     (f : Fragment) : Type 0 where
   pub outs : IsOut ms l (heard l h f) (out ++ messages (told l h f))
@@ -316,7 +317,7 @@ all_step ms l h out fs f few small was all number is =
               (subst (λ v. IsOut ms l (heard_by v l h f) (out ++ messages (told_by v l h f))) ok now).covered);
         }
 
--- All that is told of fragments that come one after the other.
+-- The events of these fragments, in order.
 pub record IsEnd (ms : List Sent) (l : Limits) (h : Heard) (out : List Message) (fs gs : List Fragment) : Type 0 where
   pub outs : IsOut ms l (after l h gs) (out ++ messages (events l h gs))
   pub all : IsAll ms (after l h gs) (fs ++ gs)

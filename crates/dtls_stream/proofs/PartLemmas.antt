@@ -1,4 +1,4 @@
--- What is held of a message is what its fragments give.
+-- The buffer of a message agrees with its fragments.
 use Rattle.std.proofs.Common.{
   ◌≡◌,
   ◌↔◌,
@@ -40,7 +40,7 @@ use Rattle.dtls_stream.specs.Messages.{
   with_byte,
 }
 
--- Bytes that are there at each place.
+-- Bytes that are known at each place.
 pub bytes_some : (fs : List Fragment) (i n : ℕ) (b : Bytes) → length b ≡ n
     → ((k : ℕ) → k < n → first_at fs (i + k) ≡ Some (slice_index b k)) → bytes_from fs i n ≡ Some b
 bytes_some fs i zero [] e at = refl
@@ -53,7 +53,7 @@ bytes_some fs i (suc n) (x ∷ b) e at =
     (λ k l. ap (first_at fs) (omega arith) ∙ at (suc k) (omega (arith, l))) in
     ap (λ o. with_byte o (bytes_from fs (suc i) n)) first ∙ ap (with_byte (Some x)) rest
 
--- The place of a byte is one that is there.
+-- Each place of the bytes is known.
 pub bytes_all : (fs : List Fragment) (i n : ℕ) (b : Bytes) → bytes_from fs i n ≡ Some b → (k : ℕ) → k < n
     → IsSome (first_at fs (i + k))
 bytes_all fs i zero b e k l = absurd (omega (arith, l))
@@ -73,7 +73,7 @@ bytes_all fs i (suc n) b e k l =
             subst IsSome (sym same) refl
         at (suc k) l more = subst (λ j. IsSome (first_at fs j)) (omega arith) (more k (omega (arith, l)))
 
--- A message whose bytes are all there.
+-- A message whose bytes are all known.
 pub part_message : (fs : List Fragment) (h : Held) (b : Bytes) → IsPart fs (Some h) → IsBody h b →
     message_of fs ≡ Some (record { msg_type = h.msg_type; message_seq = h.message_seq; body = b })
 part_message [] h b is body = absurd is
@@ -85,7 +85,7 @@ part_message (f ∷ fs) h b is body =
     ∙ ap (λ t. Some (record { msg_type = t; message_seq = f.message_seq; body = b })) (sym is.same.msg_type)
     ∙ ap (λ s. Some (record { msg_type = h.msg_type; message_seq = s; body = b })) (sym is.same.message_seq)
 
--- One of which a byte is missing.
+-- A message that misses a byte.
 pub part_none : (fs : List Fragment) (h : Held) → IsPart fs (Some h) → (IsComplete h → ⊥) → message_of fs ≡ None
 part_none [] h is not = refl
 part_none (f ∷ fs) h is not = go (bytes_from (f ∷ fs) 0 f.length) refl
@@ -100,7 +100,7 @@ pub part_empty : (fs : List Fragment) → IsPart fs None → message_of fs ≡ N
 part_empty [] is = refl
 part_empty (f ∷ fs) is = absurd is
 
--- The next message, as it is held.
+-- The buffer of the next message.
 pub front_part : (l : Limits) (h : Heard) (k : Kept) (o : Option Held) → Stands l h k → slot k 0 ≡ o
     → IsPart (of_message h.next h.taken) o
 front_part l h k o st e =

@@ -1,4 +1,4 @@
--- What is told of a datagram, record by record.
+-- The events of a datagram, record by record.
 use Rattle.std.proofs.Common.{
   ◌≡◌,
   ℕ,
@@ -87,7 +87,7 @@ use Rattle.dtls_stream.proofs.CutLemmas.{
 }
 use Rattle.dtls_stream.proofs.DatagramLemmas.{content_same, eqb-ne, map_twice}
 
--- A record of another type holds no message.
+-- A record of another type has no message.
 left_none : (b : Bytes) → messages (left_over b) ≡ []
 left_none [] = refl
 left_none (b ∷ bs) = refl
@@ -119,7 +119,7 @@ fragments_messages l h (Ok x) = messages_append (events l h x.0) (left_over x.1)
     ∙ ap (λ ms. messages (events l h x.0) ++ ms) (left_none x.1) ∙ append-nil (messages (events l h x.0))
 fragments_messages l h (Err e) = refl
 
--- A record, by whether it is encrypted, and holds fragments.
+-- A record, by whether it is encrypted and has fragments.
 abbrev step_by : Bool → Bool → Limits → Heard → RawRecord → Step
 step_by a b l h r =
     cond a (h, Encrypted (encrypted r) ∷ []) (
@@ -164,7 +164,7 @@ fragments_untold l h es es' es'' k r fs rest is was same =
     subst (λ a. IsCut l h (those_read a) (fragments_step a l h).1 es es'' k) (sym is)
     (cut_all l h fs (left_over rest) es es' es'' k was same)
 
--- Of the messages in a record of another type the first are told.
+-- A prefix of a record's messages was reported, in a record of another type.
 pub content_stopped : (h : Heard) (es es' : List Event) (r : Answer (List Message)) (ms : List DTLSMessage)
     (rest : Bytes) → r ≡ Ok (map view_message ms, rest) →
     AreToldInPart (map (λ m. event_of (view_message m)) ms) es es' → AreToldInPart (content_step r h).1 es es'
@@ -206,7 +206,7 @@ other_cut l h r es es' k low kind was st =
     (cut_part l h (content_step (reading (record_content r.header) (content_bytes r)) h).1 es es' k
     (content_none h (reading (record_content r.header) (content_bytes r))) was st)
 
--- A datagram of which so many records may still come: its first fragments were heard.
+-- A datagram with at most n records to come: a prefix of its fragments was added.
 pub record IsReading (l : Limits) (h : Heard) (fs : List Fragment) (s : Step) (n : ℕ) (left : Bytes)
     (es es' : List Event) (k : Kept) : Type 0 where
   pub heard : Heard
@@ -310,7 +310,7 @@ reading_ends l h fs s n left es es' k is was =
       stands = subst (λ h. Stands l h k) (ap (λ s. s.0) (sym steps) ∙ was.end) was.stands;
     }
 
--- Memory ran out in the next record, or where what is left is told.
+-- Memory ran out in the next record, or when the rest was reported.
 pub reading_cut : (l : Limits) (h : Heard) (fs : List Fragment) (s : Step) (n m : ℕ) (left rest : Bytes) (r : RawRecord)
     (es es' es'' : List Event) (k k' : Kept) →
     n ≡ suc m → reading datagram_record left ≡ Ok (r, rest) → IsReading l h fs s n left es es' k →

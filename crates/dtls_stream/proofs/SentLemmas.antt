@@ -1,4 +1,4 @@
--- What is handed out of messages that a peer sends.
+-- The messages delivered of those that a peer sends.
 use Rattle.std.proofs.Common.{
   ◌≡◌,
   ℕ,
@@ -60,7 +60,7 @@ all_of_message ms seq (f ∷ fs) of = go (f.message_seq == seq) refl (all_of_mes
     go true e all = (subst (λ k. IsOf (sent ms k) f) (eqb-true f.message_seq seq e) of.1, all)
     go false e all = all
 
--- What fragments of the message give is the message's.
+-- Bytes of the message's fragments are the message's bytes.
 byte_of : (m : Sent) (f : Fragment) (i y : ℕ) → IsOf m f → byte_at f i ≡ Some y → y ≡ slice_index m.body i
 byte_of m f i y of is = go (nat_le f.fragment_offset i) (nat_lt i (f.fragment_offset + length f.body)) refl refl
   where
@@ -100,7 +100,7 @@ some_first m fs i of = go (first_at fs i) refl
     go None e s = absurd cc
     go (Some x) e s = ap Some (first_of m fs i x of e)
 
--- The message of fragments of one message that cover it.
+-- The message of fragments that cover it.
 abbrev pub message_at : List Sent → ℕ → Message
 message_at ms k = record { msg_type = (sent ms k).msg_type; message_seq = k; body = (sent ms k).body }
 
@@ -123,7 +123,7 @@ pub covered_message : (ms : List Sent) (fs : List Fragment) (k : ℕ) → AreOf 
 covered_message ms fs k of cover =
     covered_from ms k (of_message k fs) (λ g rest e. of_message_first k fs g rest e) (all_of_message ms k fs of) cover
 
--- Where a message is there, its fragments cover it.
+-- If the message is known, its fragments cover it.
 cover_from : (m : Sent) (gs : List Fragment) (x : Message) → AreAll m gs → message_of gs ≡ Some x
     → Cover gs (length m.body)
 cover_from m [] x all is = absurd cc
@@ -143,7 +143,7 @@ pub message_covered : (ms : List Sent) (fs : List Fragment) (k : ℕ) (x : Messa
     → message_of (of_message k fs) ≡ Some x → IsCovered ms fs k
 message_covered ms fs k x of is = cover_from (sent ms k) (of_message k fs) x (all_of_message ms k fs of) is
 
--- A message that is there is one of those sent.
+-- A known message is one of those sent.
 pub number_low : (ms : List Sent) (fs : List Fragment) (k : ℕ) (x : Message) → AreOf ms fs
     → message_of (of_message k fs) ≡ Some x → k < length ms
 number_low ms [] k x of is = absurd cc

@@ -1,4 +1,4 @@
--- What stands where memory ran out.
+-- What holds when memory runs out.
 use Rattle.std.proofs.Common.{
   ◌≡◌,
   ℕ,
@@ -69,7 +69,7 @@ pub on_err : {P Q E : Type 0} (r : Result Unit E) → OnErr r P → (P → Q) �
 on_err (Ok t) p f = tt
 on_err (Err e) p f = f p
 
--- The next message isn't whole, so that no more are handed out.
+-- The next message isn't whole, so no more are delivered.
 pub ends_none : (l : Limits) (h : Heard) (es es' : List Event) (k : Kept) (way : IsOnTheWay l h es es' k) →
     is_some (message_of (of_message (h.next + way.moved) h.taken)) ≡ false → AreHandedOut l h es es' k
 ends_none l h es es' k way none =
@@ -86,7 +86,7 @@ ends_none l h es es' k way none =
     is_none None e = refl
     is_none (Some m) e = absurd cc
 
--- Those that are not yet handed out are kept.
+-- The messages that aren't delivered yet are buffered.
 pub kept_way : (l : Limits) (h : Heard) (es es' : List Event) (k : Kept) → IsOnTheWay l h es es' k
     → AreKept l h es es' k
 kept_way l h es es' k way = record {
@@ -99,7 +99,7 @@ kept_way l h es es' k way = record {
   stands = way.stands;
 }
 
--- The fragment was taken, and not all that it completes is told.
+-- The fragment was added, and not all that it completes was reported.
 pub stopped_out : (l : Limits) (h : Heard) (f : Fragment) (es es' : List Event) (k' : Kept) → verdict l h f ≡ Ok tt →
     AreKept l (record h { taken = with_taken h f }) es es' k' → IsStopped l h (f ∷ []) es es' k'
 unfolding events after
@@ -116,7 +116,7 @@ stopped_out l h f es es' k' ok out = record {
   stands = subst (λ v. Stands l (record { taken = (heard_by v l h f).taken; next = out.next }) k') (sym ok) out.stands;
 }
 
--- The fragment was not heard.
+-- The fragment wasn't added.
 pub stopped_none : (l : Limits) (h : Heard) (f : Fragment) (es : List Event) (k : Kept) → Stands l h k
     → IsStopped l h (f ∷ []) es es k
 unfolding events after
@@ -146,7 +146,7 @@ unfolding after
 after_append l h [] gs = refl
 after_append l h (f ∷ fs) gs = after_append l (heard l h f) fs gs
 
--- The fragments before one that wasn't told whole.
+-- The fragments before one that wasn't fully reported.
 pub stopped_next : (l : Limits) (h : Heard) (fs : List Given) (i : ℕ) (d : Given) (es es' es'' : List Event)
     (k k' : Kept) → i < length fs →
     AreHeard l h (view_fragments (take i fs)) es es' k →
@@ -177,7 +177,7 @@ stopped_next l h fs i d es es' es'' k k' low was hears =
       stands = subst (λ h. Stands l (record { taken = h.taken; next = one.next }) k') same one.stands;
     }
 
--- What stands in both cases.
+-- What holds in both cases.
 pub any_err : {P E : Type 0} (r : Result Unit E) → P → OnErr r P
 any_err (Ok t) p = tt
 any_err (Err e) p = p

@@ -1,4 +1,4 @@
--- What is told of fragments.
+-- The events of fragments.
 use Rattle.std.proofs.Common.{
   ◌≡◌,
   ℕ,
@@ -74,7 +74,7 @@ use Rattle.dtls_stream.specs.declared.fragments.Fragment.{Fragment as Given}
 use Rattle.dtls_stream.specs.declared.fragments.FragmentError.{FragmentError}
 use Rattle.dtls_stream.specs.declared.fragments.FragmentError.TheVariants.{OutOfMemory}
 
--- Where no more can be held, nothing was heard.
+-- Beyond the limit nothing was added.
 pub none_beyond : (l : Limits) (h : Heard) (k : Kept) → Stands l h k → of_message (h.next + l.ahead) h.taken ≡ []
 none_beyond l h k st = go (of_message (h.next + l.ahead) h.taken)
     (subst (IsPart (of_message (h.next + l.ahead) h.taken)) (past k.slots l.ahead st.few) (st.each l.ahead))
@@ -88,7 +88,7 @@ none_beyond l h k st = go (of_message (h.next + l.ahead) h.taken)
     go [] is = refl
     go (g ∷ gs) is = absurd is
 
--- What is handed out so far, and what still is.
+-- The messages delivered so far, and those that follow.
 pub record IsOnTheWay (l : Limits) (h : Heard) (es : List Event) (es' : List Event) (k : Kept) : Type 0 where
   pub moved : ℕ
   pub few : moved ≤ l.ahead
@@ -137,7 +137,7 @@ pub whole_end : (n next : ℕ) (ts : List Fragment) → message_of (of_message n
 whole_end zero next ts e = refl
 whole_end (suc n) next ts e = ap (λ o. followed o (whole_from n (suc next) ts)) e
 
--- One message more is handed out.
+-- One more message is delivered.
 pub one_more : (l : Limits) (h : Heard) (es es' es'' : List Event) (k new : Kept) (m : Owned)
     → (way : IsOnTheWay l h es es' k) →
     Some (view_message m) ≡ message_of (of_message (h.next + way.moved) h.taken) →
@@ -180,7 +180,7 @@ one_more l h es es' es'' k new m way is st pushed = go (sized (l.ahead - way.mov
           last = way.last;
         }
 
--- None more.
+-- No more messages.
 pub ends : (l : Limits) (h : Heard) (es es' : List Event) (k new : Kept) (o : Option Owned)
     → (way : IsOnTheWay l h es es' k) → o ≡ None →
     option_map view_message o ≡ message_of (of_message (h.next + way.moved) h.taken) →
@@ -198,7 +198,7 @@ ends l h es es' k new o way none is st =
           none st);
     }
 
--- A fragment that is taken, or isn't.
+-- A fragment that is added, or refused.
 pub heard_ok : (l : Limits) (h : Heard) (f : Fragment) (es es' : List Event) (k' : Kept) → verdict l h f ≡ Ok tt →
     AreHandedOut l (record h { taken = with_taken h f }) es es' k' → IsHeard l h f es es' k'
 heard_ok l h f es es' k' ok out = record {
@@ -223,7 +223,7 @@ pub not_memory_err : (e : FragmentError) (v : Result Unit FragmentError) → (e 
 not_memory_err e v not (inl s) = let same : e ≡ OutOfMemory = cc in absurd (not same)
 not_memory_err e v not (inr s) = sym s
 
--- One fragment more.
+-- One more fragment.
 pub events_more : (l : Limits) (h : Heard) (fs : List Fragment) (f : Fragment)
     → events l h (fs ++ f ∷ []) ≡ events l h fs ++ told l (after l h fs) f
 unfolding events after

@@ -1,4 +1,4 @@
--- The fields of fixed size: how many bytes they take, and that their lengths are those of the record.
+-- The fixed-size fields: how many bytes they have, and that their lengths fill the record.
 use Rattle.std.proofs.Common.{◌≡◌, ℕ, ◌+◌, ◌%◌, ◌<◌, ◌≤◌, true}
 use Rattle.std.specs.Prelude.{◌==◌, ◌&&◌, nat_le, nat_lt}
 use Rattle.std.proofs.lemmas.Bool.{eqb-true, ltb-true, leb-true, and_parts}
@@ -75,7 +75,7 @@ pub beginning_stable : IsStable beginning
 unfolding beginning
 beginning_stable = (record_length_stable, fields_stable)
 
--- Which lengths are read.
+-- The lengths that are accepted.
 pub record AreAllowed (f : FixedFields) : Type 0 where
   pub whole : f.cipher_spec_length % 3 ≡ 0
   pub some : 0 < f.cipher_spec_length
@@ -111,7 +111,7 @@ lengths_allowed version =
     reads_number AreAllowed 2 _ (λ challenge.
     reads_tested AreAllowed _ _ _ (λ g. reads_done AreAllowed _ (allowed_by version specs id challenge e f g)))))))
 
--- And they are those of a record of n bytes.
+-- The lengths fill a record of n bytes.
 pub record Fills (n : ℕ) (f : FixedFields) : Type 0 where
   pub all : 9 + f.cipher_spec_length + f.session_id_length + f.challenge_length ≡ n
   pub allowed : AreAllowed f

@@ -1,4 +1,4 @@
--- Where a hello is read, and what its first bytes say of that.
+-- When a hello parses, and what its first bytes say about that.
 use Rattle.std.proofs.Common.{◌≡◌, ◌↔◌, ℕ, ◌+◌, ◌-◌, ◌<◌, ◌≤◌, ◌++◌, List, length, take, drop, Ok, Err, Bool, true, false}
 use Rattle.std.proofs.Common.{cond, ltb, refl, sym, ◌∙◌, ap, subst, arith}
 use Rattle.std.specs.Prelude.{IsTrue, IsOk, IsOkAnd, is_ok}
@@ -22,7 +22,7 @@ use Rattle.ssl2_hello.proofs.KnownLemmas.{Holds, chain_reads, first_read}
 use Rattle.ssl2_hello.proofs.FrontLemmas.{takes_fields, takes_beginning, record_length_counts, fields_stable}
 use Rattle.ssl2_hello.proofs.FrontLemmas.{beginning_stable, Fills, fields_fill}
 
--- So many bytes are there, and the others behind them.
+-- n bytes are there, and others after them.
 split_read : (n : ℕ) (b : Bytes) → n ≤ length b → split_at n b ≡ Ok (take n b, drop n b)
 unfolding split_at
 split_read n b enough = ap (λ t. cond t (Err (Lacks (n - length b))) (Ok (take n b, drop n b))) (ltb_no (length b) n enough)
@@ -41,7 +41,7 @@ read_pair : {A : Type 0} (a : Answer A) → IsOk a → (v : A) × (r : Bytes) ×
 read_pair (Ok x) h = (x.0, x.1, refl)
 read_pair (Err e) h = absurd cc
 
--- The parts behind the fields are read where they are there.
+-- The parts after the fields parse if they are there.
 abbrev pub behind_challenge : FixedFields → List ℕ → Bytes → Bytes → Layout ClientHello
 behind_challenge f specs id challenge =
     done (record { version = f.version; cipher_specs = specs; session_id = id; challenge = challenge })
@@ -72,7 +72,7 @@ parts_read f r enough =
     (chain_reads (block h) (behind_challenge f specs id) after_id (take h after_id) (drop h after_id)
     (split_read h after_id (omega (arith, enough, length-drop c r, length-drop s after_specs))) refl))
 
--- A message is read in a record whose fields are.
+-- A message parses if its record's fields do.
 message_read : (n : ℕ) (w : Bytes) (f : FixedFields) (r : Bytes) → length w ≡ n
     → reading (fixed_fields n) w ≡ Ok (f, r) → IsOk (reading (message n) w)
 unfolding message
@@ -81,13 +81,13 @@ message_read n w f r size e =
     let fills : Fills n f = subst (Holds (Fills n)) e (fields_fill n w) in
     chain_reads (fixed_fields n) behind_fields w f r e (parts_read f r (omega (arith, taken, fills.all, size)))
 
--- And its fields are, where it is.
+-- Its fields parse if it does.
 message_fields : (n : ℕ) (w : Bytes) → IsOk (reading (message n) w)
     → (f : FixedFields) × (r : Bytes) × (reading (fixed_fields n) w ≡ Ok (f, r))
 unfolding message
 message_fields n w h = let x = first_read (fixed_fields n) behind_fields w h in (x.0, x.1, x.2)
 
--- The fields of a whole record are read from it alone as from all bytes.
+-- The fields of a whole record are the same in the record alone and in all bytes.
 fields_of_record : (n : ℕ) (b : Bytes) (f : FixedFields) (r : Bytes) → n ≤ length b
     → reading (fixed_fields n) b ≡ Ok (f, r) → (g : FixedFields) × (m : Bytes) × (reading (fixed_fields n) (take n b) ≡ Ok (g, m))
 fields_of_record n b f r enough e =
@@ -103,7 +103,7 @@ fields_of_record n b f r enough e =
         let fills : Fills n f = subst (Holds (Fills n)) e (fields_fill n b) in
         absurd (omega (arith, t, fills.all, length-take-le n b enough))
 
--- A record that holds a hello.
+-- A record with a hello.
 abbrev pub in_record : ℕ → Layout ClientHello
 in_record n = window n (complete (message n))
 
@@ -141,7 +141,7 @@ record_lacks n b few =
     ap (λ a. ◌and_then◌ {X = Bytes × Bytes} {Y = ClientHello × Bytes} a
     (λ w. completed (reading (message n) w.0) and_then λ x. Ok (x.0, w.1))) (split_lacks n b few)
 
--- Whoever reads the hello has read its beginning, and all of its record.
+-- If a hello parses, its beginning parses and its record is whole.
 read_begins : (b : Bytes) → IsOk (reading client_hello b) → IsTrue (begins_ssl2_hello_in b) × HasWholeRecord b
 unfolding client_hello beginning
 read_begins b h =
@@ -155,7 +155,7 @@ read_begins b h =
       subst (λ a. IsOkAnd a (λ x. x.0 ≤ length x.1)) (sym e) enough,
     )
 
--- And who has read both reads the hello.
+-- If its beginning parses and its record is whole, the hello parses.
 begun_read : (b : Bytes) → IsTrue (begins_ssl2_hello_in b) → HasWholeRecord b → IsOk (reading client_hello b)
 unfolding client_hello beginning
 begun_read b begins whole =
@@ -169,7 +169,7 @@ begun_read b begins whole =
 pub hello_read : (b : Bytes) → IsOk (reading client_hello b) ↔ (IsTrue (begins_ssl2_hello_in b) × HasWholeRecord b)
 hello_read b = (read_begins b, λ h. begun_read b h.0 h.1)
 
--- What begins so is never refused for good.
+-- A stream that begins with a hello is never refused.
 pub begun_not_refused : (b : Bytes) (k : ErrorKind) → IsTrue (begins_ssl2_hello_in b)
     → reading client_hello b ≡ Err (Broken k) → ⊥
 unfolding client_hello beginning
@@ -188,7 +188,7 @@ begun_not_refused b k begins refused =
         let none : is_ok (reading client_hello b) ≡ false = ap is_ok refused in
         absurd (true≢false (sym read ∙ none))
 
--- Further bytes.
+-- More bytes.
 hello_counts : CountsMissing client_hello
 unfolding client_hello
 hello_counts = (record_length_counts, λ n. never-complete (message n))
@@ -199,7 +199,7 @@ hello_decides b s are more = decides client_hello (counting_is_stable client_hel
 pub hello_counts_down : (b s : Bytes) → AreBytes b → AreBytes s → CountsDown client_hello b s
 hello_counts_down b s are more = counts_down client_hello hello_counts b s are more
 
--- The first 11 bytes tell.
+-- The first 11 bytes decide.
 pub begins_long : (b : Bytes) → IsTrue (begins_ssl2_hello_in b) → 11 ≤ length b
 begins_long b h = go (reading beginning b) h (takes_beginning.took b)
   where

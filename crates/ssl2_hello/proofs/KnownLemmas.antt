@@ -1,4 +1,4 @@
--- What is known of what a layout reads.
+-- Properties of the values that a layout reads.
 use Rattle.std.proofs.Common.{◌≡◌, ℕ, ◌-◌, ◌/◌, ◌<◌, List, length, take, drop, Ok, Err, Bool, true, false, cond, ltb}
 use Rattle.std.proofs.Common.{refl, sym, ◌∙◌, ap, subst}
 use Rattle.std.specs.Prelude.{⊤, IsOk}
@@ -11,12 +11,12 @@ use Rattle.layouts.specs.Reading.{reading, split_at, ◌and_then◌}
 use Rattle.layouts.specs.declared.result.ErrorKind.{ErrorKind}
 use Rattle.layouts.proofs.NumbersLemmas.{numbers_count}
 
--- It holds of the value, if there is one.
+-- The property holds for the value, if there is one.
 abbrev pub Holds : {A : Type 0} → (A → Type 0) → Answer A → Type 0
 Holds P (Ok x) = P x.0
 Holds P (Err e) = ⊤
 
--- Whatever the layout reads, it holds of that.
+-- The property holds for every value that the layout reads.
 pub record ReadsOnly {A : Type 0} (P : A → Type 0) (l : Layout A) : Type 0 where
   pub holds : (b : Bytes) → Holds P (reading l b)
 
@@ -25,14 +25,14 @@ holds_then : {A B : Type 0} (Q : A → Type 0) (P : B → Type 0) (a : Answer A)
 holds_then Q P (Ok x) f q h = h x q
 holds_then Q P (Err e) f q h = tt
 
--- What is known of a first part serves for what is read behind it.
+-- A property of the first part carries over to what is read after it.
 pub reads_behind : {A B : Type 0} (Q : A → Type 0) (P : B → Type 0) (l : Layout A) (f : A → Layout B) → ReadsOnly Q l
     → ((a : A) → Q a → ReadsOnly P (f a)) → ReadsOnly P (chain l f)
 reads_behind Q P l f q h = record {
   holds = λ b. holds_then Q P (reading l b) (λ x. reading (f x.0) x.1) (q.holds b) (λ x k. (h x.0 k).holds x.1);
 }
 
--- Of a number nothing is.
+-- Nothing is known of a number.
 nothing_known : {A : Type 0} (a : Answer A) → Holds (λ x. ⊤) a
 nothing_known (Ok x) = tt
 nothing_known (Err e) = tt
@@ -81,7 +81,7 @@ reads_numbers k n some = record { holds = λ b. go b (ltb (length b) n) refl }
     go b false e =
         numbers_count k (take n b) some ∙ ap (λ m. m / k) (length-take-le n b (ltb-false (length b) n e))
 
--- A first part that is read, and what is read behind it.
+-- A first part is read, and then the rest.
 pub chain_reads : {A B : Type 0} (l : Layout A) (f : A → Layout B) (b : Bytes) (v : A) (r : Bytes)
     → reading l b ≡ Ok (v, r) → IsOk (reading (f v) r) → IsOk (reading (chain l f) b)
 chain_reads l f b v r e h = subst (λ a. IsOk (a and_then λ x. reading (f x.0) x.1)) (sym e) h

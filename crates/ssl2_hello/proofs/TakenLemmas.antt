@@ -1,4 +1,4 @@
--- How many bytes a layout of a fixed size takes.
+-- How many bytes a fixed-size layout consumes.
 use Rattle.std.proofs.Common.{◌≡◌, ℕ, ◌+◌, ◌-◌, ◌<◌, length, take, drop, Ok, Err, Bool, true, false, cond, ltb, refl, arith}
 use Rattle.std.specs.Prelude.{⊤}
 use Rattle.std.proofs.lemmas.Bool.{ltb-true, ltb-false}
@@ -10,7 +10,7 @@ use Rattle.layouts.specs.Reading.{reading, split_at, number_at, ◌and_then◌}
 use Rattle.layouts.specs.Stable.{IsStable, CountsMissing}
 use Rattle.layouts.specs.declared.result.ErrorKind.{ErrorKind}
 
--- Of n bytes, k are taken, and missing where there are fewer.
+-- Of n bytes, k are consumed, or the missing ones are counted.
 abbrev pub Took : {A : Type 0} → ℕ → ℕ → Answer A → Type 0
 Took k n (Ok x) = n ≡ k + length x.1
 Took k n (Err (Broken e)) = ⊤

@@ -1,4 +1,5 @@
--- A side's piece that is cut in two is heard as it is whole, up to the event by which the side is over.
+-- Reading a side's piece in two parts has the same result as reading it whole, up to the event that
+-- ends the side.
 use Rattle.std.proofs.Common.{
   ◌≡◌,
   ◌-◌,
@@ -79,7 +80,7 @@ heard_on : (h : Hearing) (s : Side) (k : Known) (vs ws : List Said) → AreHeard
 heard_on h s k vs [] first last = first
 heard_on h s k vs (w ∷ ws) first last = (sym (over_on h s k vs ws) ∙ last.0, heard_on h s k vs ws first last.1)
 
--- What a talk is but for how a side is heard, and that.
+-- The parts of an analyzer besides what is known of a side, and that.
 pub hearing_with : (t : Analyzer) (s : Side) (h : Hearing) → hearing (with_hearing t s h) s ≡ h
 hearing_with t ToServer h = refl
 hearing_with t FromServer h = refl
@@ -95,7 +96,7 @@ pub hearing_is : (t u : Analyzer) (s : Side) (h : Hearing) → u ≡ with_hearin
     → hearing u s ≡ h
 hearing_is t u s h same = ap (λ x. hearing x s) same ∙ hearing_with (record t { hearer = u.hearer }) s h
 
--- The hearing behind a piece is that behind what was said by it.
+-- What is known of a side after a piece follows from its events.
 hearing_of : (t u : Analyzer) (s : Side) (p : Bytes) (heard : IsFollowed t s p u)
     → hearing u s ≡ hearing_behind (hearing t s) heard.said
 hearing_of t u s p heard = hearing_is t u s (hearing_behind (hearing t s) heard.said) heard.same
@@ -117,7 +118,7 @@ left_longer true s vs ws c d left = left
 left_longer false s vs ws c d (same, inl none) = (same, inl none)
 left_longer false s vs ws c d (same, inr few) = (same, inr (longer vs ws (2 ^ 64 - 1) few))
 
--- Behind the event by which the side is over nothing more is heard.
+-- After the event that ends the side nothing more is read.
 over_still : (t m : Analyzer) (s : Side) (p q : Bytes) (first : IsFollowed t s p m)
     → over_behind (hearing t s) s (known_of t.hearer) first.said ≡ true → IsFollowed t s (p ++ q) m
 over_still t m s p q first over = record {
@@ -190,7 +191,7 @@ next_on t m u s p q first last = go (is_over t s) refl first
     go true over next = subst (λ b. IsNextBy b t s q u) over (subst (λ x. IsNext x s q u) next last)
     go false over next = followed_on t m u s p q next last
 
--- Whether it is known how a side is heard.
+-- Whether it is known if a side is TLS.
 abbrev pub IsKnown : Hearing → Type 0
 IsKnown h = h ≡ Unknown → ⊥
 

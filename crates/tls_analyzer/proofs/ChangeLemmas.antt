@@ -1,4 +1,4 @@
--- A flow that goes on from a state alone.
+-- A flow that goes on from a state.
 use Rattle.std.proofs.Common.{◌≡◌, Bool, true, false, refl, ap}
 use Rattle.tls_flow.specs.Steps.{follow, silence}
 use Rattle.tls_flow.specs.Table.{is_waiting, outcome_at}

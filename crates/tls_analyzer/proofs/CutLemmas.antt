@@ -1,4 +1,4 @@
--- A piece that is cut in two says what it says whole.
+-- A piece in two parts has the same events as whole.
 use Rattle.std.proofs.Common.{
   ◌≡◌,
   ℕ,
@@ -48,7 +48,7 @@ use Rattle.tls_stream.specs.declared.ear.Standing.TheVariants.{Speaks, AtFault, 
 use Rattle.tls_analyzer.specs.History.{history, letter_of, with_letter}
 use Rattle.tls_analyzer.specs.Noting.{has_sealed, is_sealed}
 
--- The side with a further piece.
+-- The side with another piece.
 abbrev pub with_piece : Ear → Bytes → Ear
 with_piece e q = record e { direction = fed e.direction q }
 
@@ -76,7 +76,7 @@ told_if_further false e f q same = λ t. says_further e q t ∙ same (q ++ t) �
 first_further : (e f : Ear) (v : Said) (q : Bytes) → IsFirst e v f → IsFirst (with_piece e q) v (with_piece f q)
 first_further e f v q first t = says_further e q t ∙ first (q ++ t) ∙ ap (λ vs. v ∷ vs) (sym (says_further f q t))
 
--- The conversation with a further piece of that side.
+-- The conversation with another piece of this side.
 abbrev pub further : Conversation → Side → Bytes → Conversation
 further c ToServer q = record c { client = with_piece c.client q }
 further c FromServer q = record c { server = with_piece c.server q }
@@ -115,7 +115,7 @@ past_on : (c m d : Conversation) (s : Side) (vs ws : List Said) → IsPast c s v
 past_on c m d s vs [] first last = subst (λ x. IsPast c s vs x) (sym last) first
 past_on c m d s vs (w ∷ ws) first last = (last.0, past_on c m last.0 s vs ws first last.1, last.2)
 
--- They say the same whatever comes of that side, and are the same but for that.
+-- Both say the same whatever follows of this side, and are equal otherwise.
 record IsAlike (s : Side) (c d : Conversation) : Type 0 where
   side : SaysAs (ear c s) (ear d s)
   other : ear c (other s) ≡ ear d (other s)
@@ -163,7 +163,7 @@ past_first c m d s v [] alike past =
     (c, refl, behind_first c m d s v alike (subst (λ x. IsBehind x s v d) past.1 past.2))
 past_first c m d s v (w ∷ ws) alike past = (past.0, past_first c m past.0 s w ws alike past.1, past.2)
 
--- A conversation that was fed says what it says with the piece.
+-- A conversation that was fed a piece says what it says with that piece.
 fed_alike : (c d : Conversation) (s : Side) (q : Bytes) → IsFedBy c s q d → IsAlike s (further c s q) d
 fed_alike c d ToServer q fed = record {
   side = λ t. says_further c.client q t ∙ fed.side t;
@@ -200,7 +200,7 @@ fed_on c m d s p q first last = record {
   flow = last.flow ∙ first.flow;
 }
 
--- What is said by two pieces is said by both at once.
+-- What two pieces say is what both say joined.
 pub record IsJoined (c : Conversation) (s : Side) (p : Bytes) (vs : List Said) (d : Conversation) : Type 0 where
   pub begun : Conversation
   pub fed : IsFedBy c s p begun

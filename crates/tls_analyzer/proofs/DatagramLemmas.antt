@@ -1,4 +1,4 @@
--- What a talk over datagrams comes to, by a record.
+-- The state of a datagram analyzer after a record.
 use Rattle.std.proofs.Common.{◌≡◌, ℕ, List, Bool, Result, Ok, Err, sym, ◌∙◌, ap, subst}
 use Rattle.std.specs.Prelude.{OnOk}
 use Rattle.tls_records.specs.DtlsRecord.{RawRecord}
@@ -40,7 +40,7 @@ told_same f g a b l m h i e d flow handshake letters changed sealed =
     ap (λ x. told_by x a l h e) flow ∙ ap (λ x. told_by g x l h e) handshake ∙ ap (λ x. told_by g b x h e) letters
     ∙ ap (λ x. told_by g b m x e) changed ∙ ap (λ x. told_by g b m i x) sealed
 
--- What the program holds is what is known.
+-- The program's data agree with the state.
 told_is : (k : Analyzer) (p : Spoken) (t : DatagramAnalyzer) (q : Speaker) → IsKnown k t → IsSpoken p q
     → told_of t.account q.progress ≡ told_to k p
 told_is k p t q is side =
@@ -48,7 +48,7 @@ told_is k p t q is side =
     q.progress.has_changed p.has_changed
     q.progress.is_encrypted p.is_encrypted is.flow is.handshake is.history side.has_changed side.is_encrypted
 
--- What a side came to, by a record.
+-- What a side has sent after a record.
 abbrev pub Hears : Side → RawRecord → Account → Speaker → Account → Speaker → Type 0
 Hears s r a p b q =
     (h : Heard) → Stands allowed h p.messages → IsStepped s (record_step allowed h r) (told_of a p.progress) (told_of b
@@ -101,7 +101,7 @@ server_hears k t b q r hears same is =
       is_dtls = is.is_dtls;
     }
 
--- The same of what a call answers, for whichever side.
+-- The answer of a call, for either side.
 pub client_answers : {E : Type 0} (k : Analyzer) (t : DatagramAnalyzer) (s : Side) (b : Account) (q : Speaker) (r : RawRecord)
     (x : Result Unit E)
     → s ≡ ToServer
@@ -134,7 +134,7 @@ server_answers k t s b q r (Ok x) at hears same is =
     (told_of b q.progress) q.messages) at (hears h stands)) same is)
 server_answers k t s b q r (Err e) at hears same is = tt
 
--- What is held of a side is what is known of it.
+-- The data of a side agree with its state.
 pub speaker_known : (k : Analyzer) (t : DatagramAnalyzer) (s : Side) → IsKnown k t → IsSpoken (spoken k s) (speaker_of t s)
 speaker_known k t ToServer is = is.client
 speaker_known k t FromServer is = is.server

@@ -1,4 +1,4 @@
--- The first bytes of a side, which tell whether it speaks TLS, in however many pieces.
+-- The first bytes of a side, which decide whether it is TLS, in any number of pieces.
 use Rattle.std.proofs.Common.{
   ◌≡◌,
   ℕ,
@@ -58,7 +58,7 @@ use Rattle.tls_analyzer.specs.declared.analyzer.Hearing.TheVariants.{Unknown, Cl
 use Rattle.tls_analyzer.specs.declared.analyzer.Analyzer.{Analyzer}
 use Rattle.tls_analyzer.proofs.AnalyzerLemmas.{IsKnown, both_known, heard_next, hearing_with, known_next, next_on}
 
--- What waits of a side, once its vector is another one.
+-- The stored first bytes of a side, in a new vector.
 pub client_waits : (t : Analyzer) (s : Side) (v : Vec ℕ) (w : Bytes) → s ≡ ToServer → v.items ≡ w
     → Waits t s w (record t { client_first = v })
 client_waits t s v w at items = (v, items, ap (λ r. with_waiting t r v) (sym at))
@@ -81,7 +81,7 @@ server_waits_on t s v b (Ok x) at items =
     server_waits t s v ((waiting t s).items ++ b) at (items ∙ ap (λ r. (waiting t r).items ++ b) (sym at))
 server_waits_on t s v b (Err e) at items = tt
 
--- The first bytes, from what waits and what comes.
+-- The first bytes, from those stored and those that come.
 pub front_is : (w f g b x : Bytes) (n : ℕ) → x ≡ f ++ g → f ≡ w → g ≡ take n b → n ≡ 5 - length w → x ≡ front w b
 front_is w f g b x n whole waits comes count =
     whole ∙ ap (λ y. y ++ g) waits ∙ ap (λ y. w ++ y) comes ∙ ap (λ k. w ++ take k b) count
@@ -113,7 +113,7 @@ first_other t m n s b long other waits first =
     subst (λ c. IsFirstBy c (begins_tls (front w b)) t s w b (with_hearing n s Other)) (sym long)
     (subst (λ c. IsFirstBy false c t s w b (with_hearing n s Other)) (sym other) (m, n, waits, first, refl))
 
--- A piece that is too short leaves the front as it is, whichever of the two has its bytes.
+-- If a piece is too short, the first bytes are the same whether they are stored or new.
 front_moves : (w p q : Bytes) → length p < 5 - length w → front (w ++ p) q ≡ front w (p ++ q)
 front_moves w p q short =
     let more : 5 - length (w ++ p) ≡ 5 - length w - length p = let e : length (w ++ p) ≡ length w + length p =
@@ -139,7 +139,7 @@ short_moves w p q short = go (nat_lt (length q) (5 - length (w ++ p))) refl
     go false is = let many : 5 - length (w ++ p) ≤ length q = ltb-false (length q) (5 - length (w ++ p)) is in
         sym (le-ltb (length (p ++ q)) (5 - length w) (omega (arith, many, both, more, short)))
 
--- One that is long enough has all of it.
+-- If it is long enough, it completes them.
 front_stays : (w p q : Bytes) → 5 - length w ≤ length p → front w (p ++ q) ≡ front w p
 front_stays w p q long = ap (λ b. w ++ b) (take-append-le (5 - length w) p q long)
 
@@ -245,7 +245,7 @@ both_first t m u s p q unknown first last = go (nat_lt (length p) (5 - length w)
         (subst (λ b. IsFirstBy false (begins_tls b) t s w (p ++ q) u) (sym (front_stays w p q long))
         (both_long (begins_tls (front w p)) t m u s w p q long by last))
 
--- Two pieces of a side are heard as one.
+-- Two pieces of a side are read like one.
 pub both_heard : (t m u : Analyzer) (s : Side) (p q : Bytes) → IsHeardOn t s p m → IsHeardOn m s q u
     → IsHeardOn t s (p ++ q) u
 both_heard t m u s p q first last = go (hearing t s) refl

@@ -1,4 +1,4 @@
--- What is heard of a side event by event, up to the one by which it is over.
+-- The events of a side one by one, up to the one that ends it.
 use Rattle.std.proofs.Common.{
   ◌≡◌,
   ℕ,
@@ -61,7 +61,7 @@ use Rattle.tls_analyzer.specs.declared.analyzer.Analyzer.{Analyzer}
 use Rattle.tls_analyzer.proofs.KnownLemmas.{known_next, known_same}
 use Rattle.tls_analyzer.proofs.AnalyzerLemmas.{hearing_is, sealed_twice, with_again}
 
--- It was fed, and n events were taken off, in front of none of which it was over.
+-- The side was fed, and n events were taken, before none of which it was over.
 pub record IsOn (t : Analyzer) (s : Side) (p : Bytes) (u : Analyzer) (n : ℕ) : Type 0 where
   pub begun : Conversation
   pub said : List Said
@@ -94,14 +94,14 @@ on_begun t h s p fed ready = record {
   ready = ready;
 }
 
--- Whether it is over is told by what was said.
+-- Its events decide whether it is over.
 over_is : (t u : Analyzer) (s : Side) (p : Bytes) (n : ℕ) (on : IsOn t s p u n)
     → is_over u s ≡ over_behind (hearing t s) s (known_of t.hearer) on.said
 over_is t u s p n on =
     ap (λ h. over_by h (outcome_at u.hearer.flow.state)) (hearing_is t u s (hearing_behind (hearing t s) on.said) on.same)
     ∙ ap (λ (k : Known). over_by (hearing_behind (hearing t s) on.said) (outcome_at k.flow.state)) on.known
 
--- The talk behind an event, by whether that is encrypted.
+-- The analyzer after an event, by whether that is encrypted.
 abbrev pub next_analyzer : Analyzer → Side → Hearer → Bool → Analyzer
 next_analyzer u s h b = with_hearing (record u { hearer = h }) s (sealed_if b (hearing u s))
 
@@ -112,7 +112,7 @@ hearer_with t FromServer h = refl
 value : {a b : Bool} → Some a ≡ Some b → a ≡ b
 value e = cc
 
--- What the hearer took off, by whether it is encrypted.
+-- The event that was removed, by whether it is encrypted.
 pub taken_sealed : (o : Option Said) (t : Analyzer) (h : Hearer) (s : Side) → IsNextTaken o t.hearer s (Some true) h
     → IsTaken o t s true (with_hearing (record t { hearer = h }) s Encrypted)
 taken_sealed (Some v) t h s some =
@@ -166,7 +166,7 @@ on_some t u w s p n v on clear noted_it kept same = record {
   ready = kept on.ready;
 }
 
--- An event was taken off.
+-- An event was removed.
 pub on_next : (t u w : Analyzer) (s : Side) (p : Bytes) (n : ℕ) → IsOn t s p u n → is_over u s ≡ false
     → IsTaken (front_of (ear u.hearer.conversation s)) u s true w
     → (IsReady (ear u.hearer.conversation s) → IsReady (ear w.hearer.conversation s)) → IsOn t s p w (n + 1)
@@ -216,7 +216,7 @@ on_clear t u s p n on clear all = on_left t u s p n on
     (left_by (over_behind (hearing t s) s (known_of t.hearer) on.said) s on.said u.hearer.conversation
     (sym (over_is t u s p n on) ∙ clear) all)
 
--- It says no more for now.
+-- The side has no event for now.
 pub on_none : (t u w : Analyzer) (s : Side) (p : Bytes) (n : ℕ) → IsOn t s p u n → is_over u s ≡ false
     → IsTaken (front_of (ear u.hearer.conversation s)) u s false w → IsFollowed t s p w
 on_none t u w s p n on clear taken = go (front_of (ear u.hearer.conversation s)) refl taken

@@ -1,4 +1,4 @@
--- What a talk over datagrams comes to, record by record of a datagram.
+-- The state of a datagram analyzer, record by record of a datagram.
 use Rattle.std.proofs.Common.{◌≡◌, ℕ, zero, suc, Bool, true, false, Ok, Err, length, refl, sym, ◌∙◌, ap, subst}
 use Rattle.layouts.specs.Bytes.{Bytes}
 use Rattle.layouts.specs.Meaning.{Refusal}
@@ -10,7 +10,8 @@ use Rattle.tls_analyzer.specs.DatagramRecords.{is_known}
 use Rattle.tls_analyzer.specs.Datagrams.{IsKnown, Analyzer, heard, next_heard, record_heard, records_heard, sealed_by}
 use Rattle.tls_analyzer.specs.declared.datagram_analyzer.DatagramAnalyzer.{DatagramAnalyzer}
 
--- Where at most n records are still to be heard of what is left of a datagram, and all of them come to this talk.
+-- At most n records of the datagram's rest are still to be read, and all of them lead to this
+-- state.
 abbrev pub IsHearing : Analyzer → ℕ → Side → Bytes → DatagramAnalyzer → Type 0
 IsHearing all n s b t = (m : Analyzer) × IsKnown m t × (records_heard n m s b ≡ all)
 

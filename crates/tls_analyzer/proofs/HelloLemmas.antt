@@ -1,4 +1,4 @@
--- What a talk leaves as it is of both sides' hellos.
+-- The analyzer leaves both sides' hellos as they are.
 use Rattle.std.proofs.Common.{◌≡◌, ◌-◌, List, [], ◌∷◌, ◌++◌, length, Bool, true, false, refl, sym, ◌∙◌, ap, subst}
 use Rattle.std.specs.Prelude.{nat_lt}
 use Rattle.layouts.specs.Bytes.{Bytes}
@@ -68,7 +68,7 @@ told_same : (t : Analyzer) (s : Side) → summary_in (told_tls t s) ≡ summary_
 told_same t ToServer = refl
 told_same t FromServer = refl
 
--- From a talk with the same facts on.
+-- From an analyzer with the same summary.
 keeps_from : (t m u : Analyzer) (s : Side) → summary_in m ≡ summary_in t → Keeps s m u → Keeps s t u
 keeps_from t m u s same keeps = subst (λ f. KeepsHellos s f (summary_in u)) same keeps
 

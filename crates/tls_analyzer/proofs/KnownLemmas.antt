@@ -1,4 +1,4 @@
--- What is known behind events.
+-- What is known after events.
 use Rattle.std.proofs.Common.{◌≡◌, List, [], ◌∷◌, ◌++◌, refl, ◌∙◌, ap}
 use Rattle.tls_stream.specs.Item.{Event as Said}
 use Rattle.tls_flow.specs.declared.flow.Flow.{Flow}
@@ -14,7 +14,7 @@ both w f = record { flow = w; handshake = f }
 pub known_same : (h i : Hearer) → i.flow ≡ h.flow → i.handshake ≡ h.handshake → known_of i ≡ known_of h
 known_same h i flow same = ap (λ w. both w (view_summary i.handshake)) flow ∙ ap (λ f. both h.flow (view_summary f)) same
 
--- One event more.
+-- One more event.
 pub known_next : (s : Side) (h i : Hearer) (k : Known) (v : Said) → IsNoted h s v i → known_of h ≡ k
     → known_of i ≡ known_by s k v
 known_next s h i k v noted_it is =

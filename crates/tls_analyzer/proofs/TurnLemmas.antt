@@ -1,4 +1,4 @@
--- What is heard of pieces is heard of the turns that they make.
+-- Reading the pieces has the same result as reading their turns.
 use Rattle.std.proofs.Common.{
   ◌≡◌,
   ℕ,
@@ -32,7 +32,7 @@ use Rattle.tls_analyzer.specs.Analyzers.{AreHeardOn, IsHeardOn}
 use Rattle.tls_analyzer.specs.declared.analyzer.Analyzer.{Analyzer}
 use Rattle.tls_analyzer.proofs.FirstLemmas.{both_heard}
 
--- A piece in front of turns.
+-- A piece before turns.
 onto_heard : (t m u : Analyzer) (p : Side × Bytes) (ts : List (Side × Bytes)) → IsHeardOn t p.0 p.1 m → AreHeardOn m ts u
     → AreHeardOn t (onto p ts) u
 onto_heard t m u p [] first rest = (m, first, rest)
@@ -55,7 +55,7 @@ turns_heard : (t u : Analyzer) (ps : List (Side × Bytes)) → AreHeardOn t ps u
 turns_heard t u [] heard = heard
 turns_heard t u (p ∷ ps) heard = onto_heard t heard.0 u p (turns ps) heard.1 (turns_heard heard.0 u ps heard.2)
 
--- One piece more.
+-- One more piece.
 one_more : (t m u : Analyzer) (ps : List (Side × Bytes)) (s : Side) (p : Bytes) → AreHeardOn t ps m → IsHeardOn m s p u
     → AreHeardOn t (ps ++ (s, p) ∷ []) u
 one_more t m u [] s p heard last = (u, subst (λ x. IsHeardOn x s p u) heard last, refl)

@@ -1,4 +1,4 @@
--- Where TLS begins, one byte after the other.
+-- Where TLS begins, byte by byte.
 use Rattle.std.proofs.Common.{◌≡◌, ℕ, zero, suc, ◌+◌, ◌-◌, ◌<◌, ◌≤◌, Bool, true, false, cond, not, List, [], ◌∷◌, ◌++◌, length, take, drop, get_or, Option, Some, None, refl, sym, ◌∙◌, ap, subst, arith, nat_le}
 use Rattle.std.proofs.Math.Seq.{drop-cons}
 use Rattle.std.proofs.lemmas.List.{drop_all, take-append-le, length-append}
@@ -28,7 +28,7 @@ begins_is : (a : Bool) (b : List ℕ) → begins_behind a b ≡ cond (nat_le 11 
 unfolding begins_behind test
 begins_is a b = refl
 
--- further bytes change nothing of what 11 bytes tell
+-- more bytes don't change what 11 bytes decide
 begins_same : (a : Bool) (b c : List ℕ) → 11 ≤ length b → begins_behind a (b ++ c) ≡ begins_behind a b
 begins_same a b c h =
     begins_is a (b ++ c)

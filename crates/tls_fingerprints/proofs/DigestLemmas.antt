@@ -1,4 +1,4 @@
--- Texts that are put together piece by piece, and their digests.
+-- Texts built piece by piece, and their digests.
 use Rattle.std.proofs.Common.{◌≡◌, ℕ, ◌/◌, ◌%◌, ◌≤◌, List, [], ◌∷◌, ◌++◌, Bool, true, false, not, cond, leb, ◌&&◌, ◌==◌, Result, Ok, Err, length, take, refl, sym, ◌∙◌, ap, arith}
 use Rattle.std.proofs.Common.{append_assoc}
 use Rattle.std.specs.List.{join_with_byte}
@@ -13,7 +13,7 @@ pub on_ok : {A E P : Type 0} (r : Result A E) → IsOk r → OnOk r P → P
 on_ok (Ok x) ok held = held
 on_ok (Err e) ok held = absurd cc
 
--- five fields, fed one after the other with `,` between them
+-- five fields, hashed in order with `,` between them
 pub five_fed : (a b c d e b2 c2 d2 e2 : List ℕ) → b ≡ b2 → c ≡ c2 → d ≡ d2 → e ≡ e2
     → (((((((([] ++ a) ++ 44 ∷ []) ++ b) ++ 44 ∷ []) ++ c) ++ 44 ∷ []) ++ d) ++ 44 ∷ []) ++ e
     ≡ join_with_byte 44 (a ∷ b2 ∷ c2 ∷ d2 ∷ e2 ∷ [])
@@ -35,7 +35,7 @@ three_fed a b c c2 ec = nested a b c ∙ ap (λ x. a ++ 44 ∷ (b ++ 44 ∷ x)) 
     nested : (a b c : List ℕ) → (((([] ++ a) ++ 44 ∷ []) ++ b) ++ 44 ∷ []) ++ c ≡ a ++ 44 ∷ (b ++ 44 ∷ c)
     nested a b c = simp append_assoc refl
 
--- pieces that were put one behind the other
+-- pieces written one after the other
 pub five_put : (t1 t2 t3 t4 t5 a b c d e : List ℕ) (n1 n2 n3 n4 n5 : ℕ)
     → take n1 t1 ≡ a → take n2 t2 ≡ take n1 t1 ++ b → take n3 t3 ≡ take n2 t2 ++ c
     → take n4 t4 ≡ take n3 t3 ++ d → take n5 t5 ≡ take n4 t4 ++ e → length t5 ≤ n5

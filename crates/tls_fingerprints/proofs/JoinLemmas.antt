@@ -1,4 +1,4 @@
--- Texts joined: the first, and the others, each behind the byte between them.
+-- A joined text: the first item, and the others, each after the separator.
 use Rattle.std.proofs.Common.{◌≡◌, ℕ, ◌+◌, ◌<◌, ◌≤◌, List, [], ◌∷◌, ◌++◌, Bool, true, false, not, cond, map, length, take, get_or, refl, sym, ◌∙◌, ap, subst}
 use Rattle.std.proofs.Common.{append_assoc, append-nil}
 use Rattle.std.specs.List.{flat_map, join_with_byte}
@@ -19,7 +19,7 @@ pub each_next : {X : Type 0} (g : X → List ℕ) (xs : List X) (i : ℕ) (d : X
     → flat_map g (take (i + 1) xs) ≡ flat_map g (take i xs) ++ g (get_or xs i d)
 each_next g xs i d short = ap (flat_map g) (take_more xs i d short) ∙ each_last g (take i xs) (get_or xs i d)
 
--- all of them stand there once the others do
+-- all items are there once the others are
 pub joined_all : {X : Type 0} (c : ℕ) (f : X → List ℕ) (x : X) (xs ys : List X) (i : ℕ) (old first text : List ℕ)
     → ys ≡ x ∷ xs → first ≡ old ++ f x → text ≡ first ++ flat_map (λ y. c ∷ f y) (take i xs) → length xs ≤ i
     → text ≡ old ++ join_with_byte c (map f ys)
@@ -29,7 +29,7 @@ joined_all c f x xs ys i old first text all e more over =
     ∙ append_assoc old (f x) (flat_map (λ y. c ∷ f y) xs)
     ∙ ap (λ t. old ++ t) (sym (joined_first c f x xs)) ∙ ap (λ zs. old ++ join_with_byte c (map f zs)) (sym all)
 
--- what is left of a text of which these aren't made yet: the first of all, or behind others
+-- the rest of a text whose remaining items are these: with the first, or after others
 abbrev pub left_text : {X : Type 0} → ℕ → (X → List ℕ) → Bool → List X → List ℕ
 left_text c f true xs = join_with_byte c (map f xs)
 left_text c f false xs = flat_map (λ y. c ∷ f y) xs
@@ -43,7 +43,7 @@ pub left_none : {X : Type 0} (c : ℕ) (f : X → List ℕ) (first : Bool) → l
 left_none c f true = refl
 left_none c f false = refl
 
--- a hasher that holds the front of a text, of which this is left
+-- a hasher that has the front of a text, of which this is the rest
 pub record IsAhead {H : Type 0} (Holds : H → List ℕ → Type 0) (h : H) (whole rest : List ℕ) : Type 0 where
   pub text : List ℕ
   pub holds : Holds h text
@@ -71,7 +71,7 @@ pub ahead_ends : {H : Type 0} (Holds : H → List ℕ → Type 0) (h : H) (whole
 ahead_ends Holds h whole rest a e =
     subst (Holds h) (sym (append-nil a.text) ∙ ap (λ t. a.text ++ t) (sym e) ∙ a.joins) a.holds
 
--- what is left of the algorithms: `_` and all of them, or each behind `,`
+-- the rest of the algorithms: `_` and all of them, or each after `,`
 abbrev pub algorithms_left : Bool → List ℕ → List ℕ
 algorithms_left true ns = with_algorithms [] ns
 algorithms_left false ns = flat_map (λ n. 44 ∷ four_digits n) ns
@@ -94,7 +94,7 @@ pub algorithms_begin : {H : Type 0} (Holds : H → List ℕ → Type 0) (h : H) 
 algorithms_begin Holds h m all ns held e =
     record { text = m; holds = held; joins = algorithms_behind m ns ∙ ap (with_algorithms m) e }
 
--- whether there are any, of which these are left
+-- whether there are any, if these remain
 abbrev pub any_left : Bool → List ℕ → Bool
 any_left true ns = has_any ns
 any_left false ns = true
@@ -107,7 +107,7 @@ pub any_next : (first : Bool) (n : ℕ) (ns : List ℕ) → any_left first (n �
 any_next true n ns = refl
 any_next false n ns = refl
 
--- the first of numbers is left out, or kept
+-- the first number is skipped, or kept
 pub kept_skips : (ns others : List ℕ) (n : ℕ) → ns ≡ n ∷ others → is_grease n ≡ true → without_grease ns ≡ without_grease others
 kept_skips ns others n e grease =
     ap without_grease e ∙ ap (λ b. cond (not b) (n ∷ without_grease others) (without_grease others)) grease

@@ -1,4 +1,4 @@
--- A list that rises and has the same numbers is the list in rising order.
+-- A rising list with the same numbers is the list in rising order.
 use Rattle.std.proofs.Common.{
   ◌≡◌,
   ℕ,
@@ -45,7 +45,7 @@ From-lower : (a b : ℕ) (xs : List ℕ) → a ≤ b → From b xs → From a xs
 From-lower a b [] le h = tt
 From-lower a b (x ∷ xs) le h = let first : b ≤ x = h.0 in (omega arith, From-lower a b xs le h.1)
 
--- how often v stands there
+-- how often v occurs
 abbrev one_at : ℕ → ℕ → ℕ
 one_at v x = cond (eqb x v) 1 0
 
@@ -104,7 +104,7 @@ unfolding rising
 Rises-rising [] = tt
 Rises-rising (n ∷ ns) = Rises-placed n (rising ns) (Rises-rising ns)
 
--- what stands in a rising list isn't below its first
+-- no member of a rising list is below its first
 first_below : (a b : ℕ) (ms ns : List ℕ) → Rises (b ∷ ns) → times_in a (a ∷ ms) ≡ times_in a (b ∷ ns) → b ≤ a
 first_below a b ms ns up e = go (leb b a) refl
   where
@@ -146,7 +146,7 @@ pub sorted_is_rising : (xs ys : List ℕ) → IsPermutation xs ys → IsNonDecre
 sorted_is_rising xs ys moved up = same_rising ys (rising xs) (Rises-sorted ys up) (Rises-rising xs)
     (λ v. times_sum v ys ∙ sum_by-IsPermutation (one_at v) xs ys moved ∙ sym (times_sum v xs) ∙ sym (times-rising v xs))
 
--- lists of the same numbers, each as often, are the same in rising order
+-- lists with the same numbers, each as often, have the same rising order
 rising_same : (ms ns : List ℕ) → ((v : ℕ) → times_in v ms ≡ times_in v ns) → rising ms ≡ rising ns
 rising_same ms ns e = same_rising (rising ms) (rising ns) (Rises-rising ms) (Rises-rising ns)
     (λ v. times-rising v ms ∙ e v ∙ sym (times-rising v ns))
@@ -188,7 +188,7 @@ times_kept : (v : ℕ) (p : ℕ → Bool) (ms ns : List ℕ) → times_in v ms �
     → times_in v (filter p ms) ≡ times_in v (filter p ns)
 times_kept v p ms ns e = times-filter v p ms ∙ ap (λ n. cond (p v) n 0) e ∙ sym (times-filter v p ns)
 
--- what is kept of the same numbers in another order is the same in rising order
+-- filtering a permutation has the same rising order
 pub rising_kept : (p : ℕ → Bool) (ms ns : List ℕ) → IsPermutation ms ns → rising (filter p ms) ≡ rising (filter p ns)
 rising_kept p ms ns moved = rising_same (filter p ms) (filter p ns)
     (λ v. times_kept v p ms ns (times_moved v ms ns moved))

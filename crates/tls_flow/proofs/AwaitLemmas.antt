@@ -72,7 +72,7 @@ use denote.Enum.Bare.{Bare, sameb}
 use denote.Enum.Declared.{Declared}
 use lib.Dec.{eqb}
 
--- Of a list by rows: whether it has a symbol is whether a row of the state has it.
+-- A list built from rows has a symbol exactly if a row of the state has it.
 decided_is : (D : Declared) (bare : Bare D.parts) (a b : D.D) (t : Bool) (e : sameb D a b ≡ t)
     → is_yes (decided D bare a b t e) ≡ t
 decided_is D bare a b true e = refl

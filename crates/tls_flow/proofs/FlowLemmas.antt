@@ -1,4 +1,4 @@
--- Flows of events: where they stand is the run of their symbols, and what stopped them stands among them.
+-- The state of a flow is the run of its events' symbols; what stopped it is one of the events.
 use Rattle.std.proofs.Common.{
   ◌≡◌,
   ◌↔◌,
@@ -51,7 +51,7 @@ followed : (t : Bool) (f : Flow) (e : Event) → is_waiting (outcome_at f.state)
 followed true f e h = refl
 followed false f e h = sym (end_stays f.state e.symbol h)
 
--- The state is that of the symbols.
+-- The state depends on the symbols alone.
 pub state_of : (f : Flow) (es : List Event) → (run follow f es).state ≡ run step f.state (symbols_of es)
 state_of f [] = refl
 state_of f (e ∷ es) = state_of (follow f e) es
@@ -64,7 +64,7 @@ told_of_flow es from end ends starts o =
     ap (λ f. f.state) (ends ∙ ap (λ f. run follow f es) starts) ∙ state_of silence es in
     subst (λ q. (outcome_at q ≡ o) ↔ IsOutcome o (symbols_of es)) (sym at) (told_whole (symbols_of es) o)
 
--- Behind an end the stop stays.
+-- After the end the stop doesn't change.
 kept_by : (t : Bool) (f : Flow) (e : Event) → t ≡ false → (follow_by t f e).stop ≡ f.stop
 kept_by true f e h = cc
 kept_by false f e h = refl
@@ -100,7 +100,7 @@ move_is : (f : Flow) (e : Event) → is_waiting (outcome_at f.state) ≡ true
     → follow f e ≡ moved (step f.state e.symbol) f e
 move_is f e h = ap (λ t. follow_by t f e) h
 
--- What stopped a flow that waited: nothing, or an event behind a front with which it still waited.
+-- What stopped a waiting flow: nothing, or an event up to which it still waited.
 abbrev Stopped : Flow → List Event → Type 0
 Stopped f es =
     (u v : List Event) × (e : Event) × (es ≡ u ++ e ∷ v)
@@ -132,7 +132,7 @@ failed_at_once f e es h t =
           ∙ q) ∙ t,
     )
 
--- The flow goes on behind an event that doesn't fail.
+-- The flow goes on after an event that doesn't fail.
 goes_on : (f : Flow) (e : Event) (es : List Event) → is_waiting (outcome_at f.state) ≡ true → f.stop ≡ None
     → is_failed (outcome_at (step f.state e.symbol)) ≡ false
     → (is_waiting (outcome_at (follow f e).state) ≡ true → (follow f e).stop ≡ None
@@ -189,7 +189,7 @@ symbols_append : (u v : List Event) → symbols_of (u ++ v) ≡ symbols_of u ++ 
 symbols_append [] v = refl
 symbols_append (e ∷ u) v = ap (λ w. e.symbol ∷ w) (symbols_append u v)
 
--- Of a whole conversation.
+-- For a whole conversation.
 module _ (es : List Event) where
   ends_at : (run follow silence es).state ≡ end_of (symbols_of es)
   ends_at = state_of silence es

@@ -1,4 +1,5 @@
--- States, kinds and directions by their numbers: numbers are compared at once, where tags are counted up first.
+-- States, kinds and directions as numbers: numbers compare at once, where comparing tags counts up
+-- to them first.
 use Rattle.std.proofs.Common.{
   ◌≡◌,
   ℕ,
@@ -144,7 +145,7 @@ AllStatesPass f = list_all f all_states ≡ true
 pub state_passes : (f : State → Bool) → AllStatesPass f → (q : State) → f q ≡ true
 state_passes f t q = passes_in same_state f all_states q t (state_in q)
 
--- The rows of a state, and where the first of them that has a symbol leads.
+-- The rows of a state, and where the first row with a symbol leads.
 abbrev pub is_symbol : ℕ → ℕ → Row → Bool
 is_symbol k d r = eqb (kind_number r.kind) k && eqb (direction_number r.direction) d
 
@@ -188,7 +189,7 @@ next_among (r ∷ rows) q k d =
 pub next_is : (q : State) (l : Symbol) → next_after ROWS q l.kind l.direction ≡ next_of (rows_of q) l
 next_is q l = next_among ROWS q l.kind l.direction
 
--- The step by the rows of the state.
+-- A step by the rows of its state.
 abbrev pub step_by : List Row → State → Symbol → State
 step_by rows q l = row_or (next_of rows l) (rule q l.kind l.direction)
 

@@ -35,7 +35,7 @@ use Rattle.tls_flow.proofs.NumberLemmas.{
   step_is,
 }
 
--- No state, kind and direction stand in two rows.
+-- No two rows have the same state, kind and direction.
 abbrev is_like : Row → Row → Bool
 is_like r s = eqb (state_number r.state) (state_number s.state)
     && (eqb (kind_number r.kind) (kind_number s.kind)

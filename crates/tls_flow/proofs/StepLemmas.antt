@@ -1,4 +1,4 @@
--- A step goes by a row, or by the rule where no row has the symbol; and what all rows have in common.
+-- A step follows a row, or the rule if no row has the symbol. What all rows have in common.
 use Rattle.std.proofs.Common.{
   ◌≡◌,
   ◌⊎◌,
@@ -49,7 +49,7 @@ pub true_or_false : (t : Bool) → (t ≡ true) ⊎ (t ≡ false)
 true_or_false true = inl refl
 true_or_false false = inr refl
 
--- What all rows pass, one that is found does.
+-- A row that is found passes what all rows pass.
 abbrev pub row : State → Kind → Direction → State → Row
 row q k d s = record { state = q; kind = k; direction = d; next = s }
 
@@ -106,7 +106,7 @@ goes_by q l None e = inr (ap (λ o. row_or o (rule q l.kind l.direction)) e, ap 
 pub goes : (q : State) (l : Symbol) → GoesByRow q l ⊎ GoesByRule q l
 goes q l = goes_by q l (next_after ROWS q l.kind l.direction) refl
 
--- Sorts of outcomes.
+-- Classes of outcomes.
 abbrev pub is_done : Outcome → Bool
 is_done outcome.Full = true
 is_done outcome.Resumed = true
@@ -119,7 +119,7 @@ is_alive o = is_waiting o || is_done o
 pub waiting_is : (o : Outcome) → is_waiting o ≡ true → o ≡ outcome.Waiting
 waiting_is = elim [ outcome.Waiting ↦ λ h. refl | _ ↦ λ h. cc ]
 
--- The kinds of messages that stop a handshake, and what they make of it: a fatal alert, and a message that isn't known.
+-- The kinds that stop a handshake, and their outcomes: a fatal alert, and an unknown message.
 abbrev pub stopping : Bool → Kind
 stopping true = kind.Fatal
 stopping false = kind.Unknown
@@ -133,7 +133,8 @@ is_stopping kind.Fatal = true
 is_stopping kind.Unknown = true
 is_stopping _ = false
 
--- A row stands at a state that waits, has neither noise nor what stops a handshake, and leads to no failure.
+-- Each row starts at a waiting state, has neither noise nor a kind that stops a handshake, and
+-- leads to no failure.
 abbrev row_test : Row → Bool
 row_test r = (is_waiting (outcome_at r.state) && is_alive (outcome_at r.next)) &&
     (not (is_noise_of r.kind r.direction) && not (is_stopping r.kind))
@@ -162,7 +163,7 @@ module _ (q : State) (l : Symbol) (r : GoesByRow q l) where
   row_goes_on : is_stopping l.kind ≡ false
   row_goes_on = not_true (is_stopping l.kind) (both_and (not (is_noise l)) (not (is_stopping l.kind)) parts.1).1
 
--- An end stays, whatever follows.
+-- A final state stays, whatever follows.
 rule_stays : (o : Outcome) (q : State) (k : Kind) (d : Direction) → is_waiting o ≡ false → rule_by o q k d ≡ q
 rule_stays = elim [ outcome.Waiting ↦ λ q k d h. cc | _ ↦ λ q k d h. refl ]
 
@@ -176,7 +177,7 @@ pub run_stays : (q : State) (w : Word) → is_waiting (outcome_at q) ≡ false �
 run_stays q [] h = refl
 run_stays q (l ∷ w) h = ap (λ r. run step r w) (end_stays q l h) ∙ run_stays q w h
 
--- The rule at a state that waits.
+-- The rule at a waiting state.
 pub rule_waiting : (q : State) (l : Symbol) → is_waiting (outcome_at q) ≡ true
     → rule q l.kind l.direction ≡ unended_rule q l.kind (is_noise l)
 rule_waiting q l h = ap (λ o. rule_by o q l.kind l.direction) (waiting_is (outcome_at q) h)
@@ -246,7 +247,8 @@ stopping_stops t q d = elim (goes q (symbol (stopping t) d)) [
   | inr r ↦ ap outcome_at r.0 ∙ rule_by_stopping t q d (outcome_at q) refl
 ]
 
--- What a state waits for: the symbols of its rows, by which a handshake comes or can still come.
+-- What a state waits for: the symbols of its rows, with which a handshake is complete or can still
+-- come.
 unended_fails : (q : State) (k : Kind) → is_alive (outcome_at (unended_rule q k false)) ≡ false
 unended_fails q = elim [ kind.Fatal ↦ refl | kind.Unknown ↦ refl | _ ↦ refl ]
 

@@ -1,4 +1,4 @@
--- What is found, told by its place.
+-- Looked-up parts, by their place.
 use Rattle.std.proofs.Common.{◌≡◌, List, ◌∷◌, Option, Some, Result, Ok, sym, ◌∙◌, ap, subst}
 use Rattle.layouts.specs.Bytes.{Bytes}
 use Rattle.layouts.specs.Items.{items_in}
@@ -14,7 +14,7 @@ use Rattle.layouts.specs.Items.{Tells}
 use Rattle.tls_places.specs.Place.{Found, IsWithin, Lies, Stands}
 use Rattle.tls_places.proofs.OutwardLemmas.{ok_found}
 
--- the same place, in bytes that are the same
+-- the same place, in equal bytes
 pub stands_same : (b w x : Bytes) (p : Place) → b ≡ w → Stands b p x → Stands w p x
 stands_same b w x p e s = subst (λ y. Stands y p x) e s
 
@@ -26,7 +26,7 @@ name_told i w r n ns p read first is =
     ap (λ y. Ok (Some y)) is ∙ sym (ap (picked first_name) read
     ∙ ap (λ xs. picked first_name (Ok (extension.server_name xs, r))) first)
 
--- what is told of a part x that stands at a place, and so of the answer that the part is
+-- the answer for a part x at a place, and so for the answer that the part is
 pub part_told : (b x : Bytes) (p : Place) (F : Bytes → Result (Option Bytes) Refusal)
     (G : Result (Option Bytes) Refusal → Result (Option Bytes) Refusal) (c : Result (Option Bytes) Refusal) (r : Found)
     → ((y : Bytes) → G (Ok (Some y)) ≡ F y) → x ≡ bytes_at b p → Ok (Some (bytes_at b p)) ≡ c

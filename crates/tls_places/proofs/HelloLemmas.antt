@@ -1,4 +1,4 @@
--- Where the parts of a ServerHello stand.
+-- The places of a ServerHello's parts.
 use Rattle.std.proofs.Common.{
   ◌≡◌,
   ◌+◌,
@@ -136,7 +136,7 @@ extensions_of l one b v r d (
     (subst (λ x. EndsIn b x m6) (sym (ap (λ y. y.extensions) is))
     (ends_in_after b m5 ext m6 at (one m5 ext m6 d11 s6)))
 
--- both of a body of either form
+-- the parts of a body of either form
 pub record Parts (b : Bytes) (v : ServerHello) (r : Bytes) : Type 0 where
   pub front : Front b v
   pub extensions : EndsIn b v.extensions r
@@ -156,7 +156,7 @@ parts_ssl30 : (b : Bytes) (v : ServerHello) (r d : Bytes) → Spells server_hell
 unfolding server_hello_ssl30
 parts_ssl30 = parts_with (done None) none_last
 
--- the form is chosen by the version
+-- the version selects the form
 chosen : (one other : Bool) (b : Bytes) (v : ServerHello) (r d : Bytes)
     → Spells (choose one server_hello_ssl30 (choose other server_hello_any (refuse Tag))) b v r d → Parts b v r
 chosen true other b v r d s = parts_ssl30 b v r d s

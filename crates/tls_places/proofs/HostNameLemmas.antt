@@ -1,4 +1,4 @@
--- The name of a host in a ClientHello's body, told by its place.
+-- The host name in a ClientHello's body, by its place.
 use Rattle.std.proofs.Common.{
   ◌≡◌,
   [],
@@ -35,7 +35,7 @@ pub stands_held : (b : Bytes) (p : Place) (x : Option Bytes) → MayStand b (Som
 stands_held b p None s = absurd s
 stands_held b p (Some x) s = s
 
--- no extensions have no name
+-- without extensions there is no name
 no_name : host_name [] ≡ Ok None
 unfolding items_at
 no_name = refl
@@ -62,7 +62,7 @@ is_true : (c : Bool) → false ≡ not c → c ≡ true
 is_true true e = refl
 is_true false e = absurd cc
 
--- a record of handshake messages tells what its fragment tells
+-- a record of handshake messages answers as its fragment does
 pub handshake_told : (i r : Bytes) (p : Place) (v : RawRecord) (f : Found) → reading raw_record i ≡ Ok (v, r)
     → false ≡ not (v.header.content_type == 22) → bytes_at i p ≡ v.fragment
     → Tells (option_map (bytes_at v.fragment)) (name_in_body (body_of_type 1 v.fragment)) f

@@ -1,4 +1,4 @@
--- What stands last: three ways to put layouts together, and each structure by them.
+-- The last part of a structure: three ways to combine layouts, and each structure built from them.
 use Rattle.std.proofs.Common.{◌≡◌, ℕ, [], Option, Some, None, Bool, true, false, refl, sym, subst, ap, ◌∙◌}
 use Rattle.layouts.specs.Bytes.{Bytes}
 use Rattle.layouts.specs.Layout.{Layout, done, number, block, maybe, chain, choose, counted}
@@ -22,7 +22,7 @@ pub chain_last : {A B : Type 0} (l : Layout A) (f : A → Layout B) (last : B �
 chain_last l f last more b v r d (a, m, d1, d2, s, t, e) =
     ends_in_after b m (last v) r (ends l b a m d1 s) (more a m v r d2 t)
 
--- a value that is made of the part
+-- a value built from the part
 pub made_last : {A B : Type 0} (l : Layout A) (f : A → B) (last : A → Option Bytes) (of : B → Option Bytes)
     → ((a : A) → of (f a) ≡ last a) → LastStands l last → LastStands (chain l (λ x. done (f x))) of
 made_last l f last of same more b v r d (a, m, d1, d2, s, (is, still, e2), e) =
@@ -34,7 +34,7 @@ pub choose_last : {A : Type 0} (c : Bool) (l m : Layout A) (last : A → Option 
 choose_last true l m last one other = one
 choose_last false l m last one other = other
 
--- what may be there
+-- an optional part
 pub maybe_last : (l : Layout Bytes) → LastStands l (λ x. Some x) → LastStands (maybe l) (λ x. x)
 maybe_last l one b None r d s = tt
 maybe_last l one b (Some x) r d s = one b x r d s
@@ -50,7 +50,7 @@ framed_last w k =
     (λ kind. made_last (counted k) (λ content. record { kind = kind; content = content }) (λ x. Some x)
     (λ v. Some v.content) (λ x. refl) (counted_last k))
 
--- the same of an answer that is allowed
+-- for an allowed answer
 pub allowed_last : {A : Type 0} (l : Layout A) (last : A → Bytes) → LastStands l (λ v. Some (last v)) → (v : A)
     → StandsLast l v (last v)
 unfolding Allows
@@ -88,7 +88,7 @@ oid_filter_last =
 pub oid_filter_is_last : (v : OidFilter) → StandsLast oid_filter v v.certificate_extension_values
 oid_filter_is_last = allowed_last oid_filter (λ v. v.certificate_extension_values) oid_filter_last
 
--- the rest of what is read
+-- the rest of what is parsed
 pub behind : {A : Type 0} (l : Layout A) (b m : Bytes) (a : A) (r d : Bytes) → EndsWith b m → Spells l m a r d
     → EndsWith b r
 behind l b m a r d at s = ends_after b m r at (ends l m a r d s)

@@ -12,7 +12,7 @@ use Rattle.tls_places.proofs.PlaceLemmas.{lies_stands}
 abbrev pub ok_found : Option Place → Found
 ok_found o = Ok o
 
--- a place within a place, by what stands there
+-- a place within a place, by its bytes
 module _ (b : Bytes) (p q s : Place)
     (within : (x y : Bytes) → Stands b p x → Stands x q y → Stands b s y) where
   pub there : Lies b p → Lies (bytes_at b p) q → Stands b s (bytes_at (bytes_at b p) q)

@@ -1,4 +1,4 @@
--- What stands last in records, and in messages of DTLS.
+-- The last part of records, and of DTLS messages.
 use Rattle.std.proofs.Common.{◌++◌, Some, nat_le, refl, sym, subst, ap}
 use Rattle.layouts.specs.Layout.{done, number, block, chain, test}
 use Rattle.layouts.specs.Meaning.{EndsWith}

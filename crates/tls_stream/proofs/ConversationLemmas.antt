@@ -1,4 +1,4 @@
--- Conversations, by the pieces of both sides.
+-- Conversations, given the pieces of both sides.
 use Rattle.std.proofs.Common.{
   ◌≡◌,
   ℕ,
@@ -66,7 +66,7 @@ use Rattle.tls_stream.specs.FlowEvents.{chooses_tls13, event_of}
 use Rattle.tls_stream.specs.declared.conversation.Conversation.{Conversation}
 use Rattle.tls_stream.specs.declared.ear.Ear.{Ear}
 
--- What a side says is followed.
+-- The flow follows what a side says.
 flow_said : (c d : Conversation) (s : Side) (vs : List Said) → Says c s vs d
     → d.flow ≡ run follow c.flow (map (event_of s) vs)
 flow_said c d s [] h = ap (λ (x : Conversation). x.flow) h.1
@@ -83,7 +83,7 @@ flow_heard c d (p ∷ ps) es h =
     ∙ sym (run_on follow c.flow (map (event_of p.0) h.2) h.3)
     ∙ ap (run follow c.flow) (sym h.4)
 
--- One piece more.
+-- One more piece.
 pub one_more : (c d e : Conversation) (ps : List (Side × Bytes)) (es : List Event) (s : Side) (p : Bytes)
     → Hears c ps es d → IsHeard d s p e
     → (fs : List Event) × Hears c (ps ++ (s, p) ∷ []) fs e
@@ -105,7 +105,7 @@ outcome_is c d limit ps es begun h = (
       (outcome_at d.flow.state)).0 refl,
 )
 
--- An event is taken off a side and followed.
+-- An event is taken from a side and followed.
 each_told : (c d : Conversation) (e : Event) → IsFollowed c e d → (s : Side) → IsToldIf (tells c e) (ear c s) (ear d s)
 each_told c d e f ToServer = f.client
 each_told c d e f FromServer = f.server
@@ -155,7 +155,7 @@ at_server c m d s v e t n at is front e_is off f =
     (ap (λ (x : Conversation). x.flow) is) f)
     front e_is
 
--- What stands in front of a side was taken off, and its event followed.
+-- A side's next event was taken and followed.
 pub client_taken : (c m d : Conversation) (s : Side) (e : Event) (t : Bool) (n : Ear) → s ≡ ToServer
     → m ≡ record c { client = n } → IsTaken (front_of c.client) c.client t n → t ≡ true → IsFollowed m e d
     → IsEventOf e s (front_of (ear c s)) → IsTakenBy (front_of (ear c s)) c s true d
@@ -182,7 +182,7 @@ server_taken c m d s e t n at is off took f same =
     by (Some v) front some same =
         at_server c m d FromServer v e t n refl is (sym front) (subst (IsEventOf e FromServer) front same) off f
 
--- Nothing stands there.
+-- The side has no next event.
 pub client_silent : (c m : Conversation) (s : Side) (t : Bool) (n : Ear) → s ≡ ToServer
     → m ≡ record c { client = n } → IsTaken (front_of c.client) c.client t n → t ≡ false
     → IsTakenBy (front_of (ear c s)) c s false m
@@ -203,7 +203,7 @@ server_silent c m s t n at is off none =
     by None off = (refl, is ∙ ap (λ x. record c { server = x }) off.1)
     by (Some v) off = let bad : true ≡ false = sym off.0 ∙ none in absurd cc
 
--- All that a side says is taken off, one after the other: what it says then, it said behind what was taken.
+-- A side's events are taken one by one: what it says after them, it said before them too.
 pub record IsOn (c : Conversation) (s : Side) (m : Conversation) : Type 0 where
   pub ready : IsReady (ear m s)
   pub on : (vs : List Said) (d : Conversation) → Says m s vs d → (us : List Said) × Says c s us d
@@ -234,7 +234,7 @@ on_done c m n s t on none taken = go (front_of (ear m s)) refl taken
         on.on [] n (none_first (says (ear m s) []) (on.ready ∙ is), taken.1)
     go (Some v) is taken = let e : true ≡ false = sym taken.0 ∙ none in absurd cc
 
--- Where TLS 1.3 was told, an event is one less.
+-- Once TLS 1.3 is chosen, taking an event leaves one fewer.
 same_count : (c : Conversation) (e : Event) (a b : Ear) → c.is_tls13 ≡ true → IsToldIf (tells c e) a b
     → says a [] ≡ says b []
 same_count c e a b told same =
@@ -253,7 +253,7 @@ fewer m n s t told took taken = go (front_of (ear m s)) taken
         let same : says e [] ≡ says (ear n s) [] = same_count m (event_of s v) e (ear n s) told taken.1.side.2 in
         omega (arith, ap length one, ap length same)
 
--- Before, an event is one less or TLS 1.3 is told by it.
+-- Before that, taking an event leaves one fewer, or it chooses TLS 1.3.
 abbrev pub left_untold : Conversation → Side → ℕ
 left_untold c s = cond c.is_tls13 0 (suc (length (says (ear c s) [])))
 
@@ -291,7 +291,7 @@ pub still_told : (m n : Conversation) (s : Side) (t : Bool) → m.is_tls13 ≡ t
     → n.is_tls13 ≡ true
 still_told m n s t told taken = still_by (front_of (ear m s)) m n s t told taken
 
--- These pieces were heard from the beginning.
+-- These pieces arrived from the beginning.
 abbrev pub AreHeard : ℕ → List (Side × Bytes) → Conversation → Type 0
 AreHeard limit ps d = (c : Conversation) × (es : List Event) × IsBegun limit c × Hears c ps es d
 

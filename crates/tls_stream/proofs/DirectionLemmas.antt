@@ -1,4 +1,4 @@
--- What a direction says, and where it ends.
+-- The events of a direction, up to its fault.
 use Rattle.std.proofs.Common.{
   ◌≡◌,
   List,
@@ -41,7 +41,7 @@ use Rattle.tls_stream.proofs.StreamLemmas as streams
 abbrev with_stream : Direction → Stream → Direction
 with_stream d s = record d { stream = s }
 
--- What is fed in two pieces.
+-- Feeding two pieces.
 pub fed_twice : (d : Direction) (s t : Bytes) → fed (fed d s) t ≡ fed d (s ++ t)
 fed_twice d s t = ap (with_stream d) (go d.fault)
   where
@@ -65,7 +65,7 @@ fed_is d (p ∷ ps) = fed_is (fed d p) ps ∙ fed_twice d p (concat ps)
 pub fed_joined : (d : Direction) (ps qs : List Bytes) → concat ps ≡ concat qs → fed_all d ps ≡ fed_all d qs
 fed_joined d ps qs same = fed_is d ps ∙ ap (fed d) same ∙ sym (fed_is d qs)
 
--- By whether it was found to be at fault.
+-- By whether the direction is at fault.
 pub events_at_fault : (d : Direction) (f : Fault) (s : Bytes) → d.fault ≡ Some f → events (fed d s) ≡ Failed f ∷ []
 events_at_fault d f s e = ap (λ (o : Option Fault). events (record { stream = with_more o d.stream s; fault = o })) e
 
@@ -84,7 +84,7 @@ same_streams d x y same = go d.fault refl
         ∙ same_joined d.stream.limit d.stream.kind d.stream.held.part (items_with d x) (items_with d y) same
         ∙ sym (events_before d y e)
 
--- The event in front is the first of all.
+-- The next event is the first of all.
 pub first_event : (d e : Direction) (v : Event) (s : Bytes) → first d ≡ Some (v, e)
     → events (fed d s) ≡ v ∷ events (fed e s)
 first_event d e v s is = go d.fault refl is
@@ -105,7 +105,7 @@ first_event d e v s is = go d.fault refl is
 abbrev event_in : Option (Event × Direction) → Option Event
 event_in a = option_map (λ (x : Event × Direction). x.0) a
 
--- What stands in front, where it wasn't found to be at fault.
+-- The next event, if the direction isn't at fault.
 pub front_before : (d : Direction) → d.fault ≡ None
     → option_map (λ (x : Event × Stream). x.0) (stream.first d.stream)
     ≡ option_map (λ (x : Event × Direction). x.0) (first d)

@@ -40,7 +40,7 @@ speaking d = record { direction = d; standing = Speaks }
 abbrev pub faulty : Direction → Fault → Ear
 faulty d f = record { direction = d; standing = AtFault f }
 
--- Nothing more comes.
+-- Nothing follows.
 pub none_to_come : (d : Direction) → events (fed d []) ≡ events d
 none_to_come d = ap events (fed_nothing d)
 
@@ -69,14 +69,14 @@ ready_none d none = go (first d) refl
         let e : x.0 ∷ events (fed x.1 []) ≡ [] = sym (first_event d x.1 x.0 [] is) ∙ none_to_come d ∙ none in
         absurd cc
 
--- A further piece.
+-- Another piece.
 pub fed_more : (d : Direction) (p t : Bytes) → events (fed d (p ++ t)) ≡ events (fed (fed d p) t)
 fed_more d p t = ap events (sym (fed_twice d p t))
 
 pub fed_is : (d n : Direction) (p : Bytes) (e : Ear) → n ≡ fed d p → SaysAs (speaking n) e → IsFed (speaking d) p e
 fed_is d n p e is same t = fed_more d p t ∙ ap (λ m. events (fed m t)) (sym is) ∙ same t
 
--- What stands in front is taken off.
+-- The next event is taken.
 pub taken_is : (d n : Direction) (e : Ear) → FirstTaken (first d) d true n → SaysAs (speaking n) e
     → IsTaken (front_of (speaking d)) (speaking d) true e
 taken_is d n e off same = go (first d) refl off
@@ -99,7 +99,7 @@ none_taken d n off = go (first d) off
     go None off = (refl, ap speaking off.1)
     go (Some x) off = let t : false ≡ true = off.0 in absurd cc
 
--- By how the side stands.
+-- By the side's standing.
 pub ready_by : (s : Standing) (d : Direction) (b : Bool) → s ≡ Speaks → IsMadeReady d (Ok b)
     → IsReady (record { direction = d; standing = s })
 ready_by s d true is h = subst (λ s. IsReady (record { direction = d; standing = s })) (sym is) (ready_some d h)

@@ -59,7 +59,7 @@ above f b l =
     ap (λ t. t && nat_lt f.limit (body_length f b)) (le-leb f.header (length b) l.has_header)
     ∙ lt-ltb f.limit (body_length f b) l.above
 
--- A length that is too large ends all.
+-- A length that is too large ends everything.
 pub large_or : (f : Shape) (b : Bytes) (others : List Event) → IsTooLarge f b
     → too_large_or f b others ≡ Failed fault.TooLarge ∷ []
 large_or f b others l = ap (λ t. cond t (Failed fault.TooLarge ∷ []) others) (above f b l)
@@ -73,7 +73,7 @@ module _ (limit kind : ℕ) where
   abbrev shape : Shape
   shape = messages_of limit kind
 
-  -- A message goes off the part.
+  -- A message is taken off the part.
   said_then : (X : Bytes → List Event) (b : Bytes) (x : Bytes × Bytes) → front shape b ≡ Some x
       → said limit kind b ++ X (open_part limit kind b)
       ≡ event_of kind x.0 ∷ (said limit kind x.1 ++ X (open_part limit kind x.1))
@@ -98,7 +98,7 @@ module _ (limit kind : ℕ) where
   message_first b x e (Alone a ∷ is) = said_then (λ l. closed shape l (a ∷ events_of limit kind [] is)) b x e
   message_first b x e (Broken k ∷ is) = said_then (λ l. too_large_or shape l (Failed (fault.Refused k) ∷ [])) b x e
 
-  -- No message stands in front of the part.
+  -- The part starts with no message.
   pub none_then : (X : Bytes → List Event) (b : Bytes) → front shape b ≡ None
       → said limit kind b ++ X (open_part limit kind b) ≡ X b
   none_then X b e =
@@ -125,7 +125,7 @@ module _ (limit kind : ℕ) where
       none_then (λ l. too_large_or shape l (Failed (fault.Refused k) ∷ [])) b (none_large shape b l)
       ∙ large_or shape b (Failed (fault.Refused k) ∷ []) l
 
--- A fragment is one with others of its type behind it.
+-- A fragment joins with following ones of its type.
 onto_same : (limit kind k : ℕ) (b f : Bytes) (is : List Item)
     → events_of limit kind b (onto_fragment k f is) ≡ events_of limit kind b (Fragment k f ∷ is)
 onto_same limit kind k b f [] = refl

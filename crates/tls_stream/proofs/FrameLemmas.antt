@@ -1,4 +1,4 @@
--- Frames are cut off the front of a stream, whatever stands behind them.
+-- Frames are taken off the front of a stream, whatever follows them.
 use Rattle.std.proofs.Common.{
   ◌≡◌,
   ℕ,
@@ -36,7 +36,7 @@ LeavesFewer n None = Unit {0}
 abbrev then_cut : Bytes → List Bytes × Bytes → List Bytes × Bytes
 then_cut y c = (y ∷ c.0, c.1)
 
--- What stands of all bytes where it stands of fewer.
+-- Induction on the length of bytes.
 by_length : (P : Bytes → Type 0) → ((b : Bytes) → ((c : Bytes) → length c < length b → P c) → P b) → (n : ℕ) (b : Bytes)
     → length b ≤ n → P b
 by_length P step zero b h = step b (λ c l. absurd (omega (arith, l, h)))
@@ -55,7 +55,7 @@ module _ (f : Shape) (takes : 0 < f.header) where
       go (Some x) e = front_fewer f b x takes e
       go None e = tt
 
-  -- Bytes enough to count are all the same.
+  -- Any count of at least the length gives the same cut.
   same_cut : (n m : ℕ) (b : Bytes) → length b ≤ n → length b ≤ m → cut f n b ≡ cut f m b
   unfolding cut
   same_cut zero zero b h g = refl
@@ -93,7 +93,7 @@ module _ (f : Shape) (takes : 0 < f.header) where
   unfolding frames left
   no_frame b e = let w = whole_then b None e in (ap (λ c. c.0) w, ap (λ c. c.1) w)
 
-  -- No frame stands in front of what is left.
+  -- What is left starts with no frame.
   abbrev LeavesNone : Bytes → Type 0
   LeavesNone b = front f (whole b).1 ≡ None
 
@@ -108,7 +108,7 @@ module _ (f : Shape) (takes : 0 < f.header) where
   unfolding left
   left_has_none b = by_length LeavesNone none_left (length b) b (le_refl _)
 
-  -- The frames joined, and what is left, are the bytes.
+  -- The frames, joined, followed by what is left, are the bytes.
   abbrev IsJoined : Bytes → Type 0
   IsJoined b = concat (whole b).0 ++ (whole b).1 ≡ b
 
@@ -127,7 +127,7 @@ module _ (f : Shape) (takes : 0 < f.header) where
   unfolding frames left
   frames_joined b = by_length IsJoined join_whole (length b) b (le_refl _)
 
-  -- what is cut, and then more bytes behind what is left
+  -- what is cut, and then more bytes after what is left
   abbrev and_more : List Bytes × Bytes → Bytes → List Bytes × Bytes
   and_more c s = (c.0 ++ (whole (c.1 ++ s)).0, (whole (c.1 ++ s)).1)
 
@@ -155,11 +155,11 @@ module _ (f : Shape) (takes : 0 < f.header) where
   unfolding left
   more_left b s = ap (λ c. c.1) (by_length (TakesMore s) (more_whole s) (length b) b (le_refl _))
 
-  -- Where a length is too large, no further bytes make a frame.
+  -- After a length that is too large no bytes make a frame.
   pub none_behind_large : (b s : Bytes) → IsTooLarge f b → (frames f (b ++ s) ≡ []) × (left f (b ++ s) ≡ b ++ s)
   none_behind_large b s large = no_frame (b ++ s) (none_large f (b ++ s) (large_longer f b s large))
 
-  -- Taking one off.
+  -- Taking one frame.
   pub record FirstTaken (b y new : Bytes) : Type 0 where
     pub frames_are : frames f b ≡ y ∷ frames f new
     pub left_is : left f b ≡ left f new

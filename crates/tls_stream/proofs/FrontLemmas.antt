@@ -1,4 +1,4 @@
--- The frame that stands in front.
+-- The first frame of some bytes.
 use Rattle.std.proofs.Common.{
   ◌≡◌,
   ◌↔◌,
@@ -45,7 +45,7 @@ use Rattle.tls_stream.specs.Frames.{
 abbrev pub in_two : Shape → Bytes → Bytes × Bytes
 in_two f b = (take (size f b) b, drop (size f b) b)
 
--- What stands in front of some bytes.
+-- The cases of some bytes' first frame.
 pub data Stands (f : Shape) (b : Bytes) : Type 0 where
   Large : IsTooLarge f b → front f b ≡ None → Stands f b
   Part : NeedsMore f b → front f b ≡ None → Stands f b
@@ -81,7 +81,7 @@ stands f b = go (nat_le (size f b) (length b)) (nat_le (body_length f b) f.limit
         let short : length b < f.header = leb-false _ _ k in
         Part (λ w. omega (arith, w, short), λ w. omega (arith, w.has_header, short)) (front_is f b false false e g)
 
--- What is there of a frame that is in front.
+-- What is known of a first frame.
 pub record IsFirst (f : Shape) (b x r : Bytes) : Type 0 where
   pub is_whole : size f b ≤ length b
   pub is_small : body_length f b ≤ f.limit
@@ -122,7 +122,7 @@ none_part f b n = go (stands f b)
     go (Part n g) = g
     go (One w s g) = absurd (n w)
 
--- The frame and the rest are the bytes.
+-- The frame followed by the rest is the bytes.
 pub front_joins : (f : Shape) (b : Bytes) (x : Bytes × Bytes) → front f b ≡ Some x → x.0 ++ x.1 ≡ b
 front_joins f b x e =
     let i = first_in f b x e in
@@ -134,7 +134,7 @@ front_fewer f b x takes e =
     let i = first_in f b x e in
     omega (arith, takes, i.is_whole, ap length i.rest_is, length-drop (size f b) b)
 
--- Further bytes change no header that is there.
+-- More bytes don't change a whole header.
 pub same_body : (f : Shape) (b s : Bytes) → f.header ≤ length b → body_length f (b ++ s) ≡ body_length f b
 same_body f b s h = ap f.body_in (take-append-le f.header b s h)
 
@@ -159,7 +159,7 @@ front_stays f b s x e =
     ∙ ap (λ y. Some (y, drop n (b ++ s))) (take-append-le n b s enough ∙ sym i.frame_is)
     ∙ ap (λ r. Some (x.0, r)) (drop-append-le n b s enough ∙ ap (λ r. r ++ s) (sym i.rest_is))
 
--- What calls say of the front.
+-- What the calls on the first frame answer.
 pub what_is_too_large : (f : Shape) (b : Bytes) → f.header ≤ length b → (f.limit < body_length f b) ↔ IsTooLarge f b
 what_is_too_large f b h = (λ a. record { has_header = h; above = a }, λ l. l.above)
 
@@ -213,7 +213,7 @@ none_off f b is = go (front f b) is
     go None s = (refl, refl)
     go (Some x) s = absurd cc
 
--- Where a frame stands.
+-- When there is a first frame.
 pub some_front : (f : Shape) (b : Bytes) → IsSome (front f b) ↔ (IsWhole f b × (IsTooLarge f b → ⊥))
 some_front f b = go (stands f b)
   where

@@ -1,4 +1,4 @@
--- Bytes that are moved within one buffer.
+-- Moving bytes within one buffer.
 use Rattle.std.proofs.Common.{◌≡◌, ℕ, ◌+◌, ◌-◌, ◌≤◌, List, ◌++◌, [], length, take, drop, refl, sym, ◌∙◌, ap, arith}
 use Rattle.std.specs.List.{copy_within}
 use Rattle.std.proofs.Math.Seq.{drop-append_seam, paste, take-add, take-length}
@@ -32,7 +32,8 @@ part_moved b s p e n low high few =
     ∙ ap (λ k. drop p (take k b) ++ take n s) first
     ∙ ap (λ x. x ++ take n s) (drop-take p (e - p) b)
 
--- A fragment of n bytes behind the header at u is moved to the end e of the part from p on.
+-- The n bytes of the fragment after the header at u are moved to the end e of the part, which
+-- starts at p.
 pub joined_part : (b : Bytes) (p e u n : ℕ) → p ≤ e → e ≤ u → 5 + n ≤ length (drop u b)
     → take (e + n - p) (drop p (copy_within b (u + 5) (u + 5 + n) e)) ≡ take (e - p) (drop p b)
     ++ take n (drop 5 (drop u b))
@@ -63,7 +64,7 @@ joined_unread b e u n mid within =
     same : u + 5 + n ≡ u + (5 + n)
     same = omega arith
 
--- A fragment stays where it is where nothing is open.
+-- The fragment isn't moved if no message is open.
 pub stays_part : (b : Bytes) (p e u n : ℕ) → p ≡ e
     → take (u + 5 + n - (u + 5)) (drop (u + 5) b) ≡ take (e - p) (drop p b) ++ take n (drop 5 (drop u b))
 stays_part b p e u n same =
@@ -77,7 +78,7 @@ pub stays_unread : (b : Bytes) (u n : ℕ) → drop (u + 5 + n) b ≡ drop (5 + 
 stays_unread b u n = let same : u + 5 + n ≡ u + (5 + n) =
     omega arith in ap (λ k. drop k b) same ∙ sym (drop-drop (5 + n) u b)
 
--- What is held, moved to the beginning.
+-- The buffered bytes, moved to the beginning.
 moved : (b : Bytes) (p k u m : ℕ) → p + k ≤ u → u + m ≡ length b
     → take (k + m) (paste (paste b 0 (drop p b) k) k (drop u (paste b 0 (drop p b) k)) m) ≡ take k (drop p b)
     ++ drop u b
@@ -110,7 +111,7 @@ part_taken b p e n low few high =
     ∙ sym (drop-take n (e - (p + n)) (drop p b))
     ∙ ap (λ k. drop n (take k (drop p b))) (sym all)
 
--- Moved there, these are what was held.
+-- After the move the bytes are the same.
 pub moved_part : (b c : Bytes) (p k u : ℕ) → k ≤ length (drop p b) → c ≡ take k (drop p b) ++ drop u b
     → take k (drop 0 c) ≡ take k (drop p b)
 moved_part b c p k u few is =
@@ -140,8 +141,7 @@ room b c1 c2 c p e u n low mid high all first second third =
     ∙ ap (λ x. paste x k (drop u x) (n - u)) first)
     ∙ moved b p k u (n - u) (omega (arith, low, mid)) (omega (arith, high, all))
 
--- The part is moved in front of the fragment: k bytes of s, to the new_start e, where n bytes behind them are those of
--- b.
+-- The part is moved to the fragment: k bytes of s to the new start e, before n bytes of b.
 pub pushed_part : (b s : Bytes) (e k n : ℕ) → e + k ≤ length b → k ≤ length s
     → take (k + n) (drop e (paste b e s k)) ≡ take k s ++ take n (drop (e + k) b)
 pushed_part b s e k n high few =

@@ -1,4 +1,4 @@
--- What the records are that a direction hasn't read.
+-- The content of the unread records.
 use Rattle.std.proofs.Common.{
   ◌≡◌,
   ℕ,
@@ -74,7 +74,7 @@ use Rattle.tls_stream.specs.Stream.{unread_items}
 takes : 0 < wide_record.header
 takes = lit< tt
 
--- A frame has its header.
+-- A frame contains its header.
 pub has_header : (f : Shape) (b : Bytes) (x : Bytes × Bytes) → front f b ≡ Some x → f.header ≤ length x.0
 has_header f b x e =
     let i = first_in f b x e in
@@ -97,7 +97,7 @@ no_records s b e =
     let no = no_frame wide_record takes b e in
     ap (λ rs. items s rs (left wide_record b)) no.0 ∙ ap (broken_front s) no.1
 
--- A header says the same whatever stands behind it.
+-- A header has the same type whatever follows.
 same_type : (b y : Bytes) → 5 ≤ length b → content_type (b ++ y) ≡ content_type b
 same_type [] y h = absurd (omega (arith, h))
 same_type (c ∷ b) y h = refl
@@ -115,7 +115,7 @@ front_refused s b x e = sym (same_refused s x.0 x.1 (has_header wide_record b x 
 broken_item : (s : Standing) (r : Bytes) (k : ErrorKind) → refused s r ≡ Some k → item_of s r ≡ Broken k
 broken_item s r k e = ap (λ o. or_broken o (read_item (is_sealed s r) r)) e
 
--- A record that is refused by its header is so, whatever comes.
+-- A record refused by its header is refused whatever follows.
 pub refused_first : (s : Standing) (u t : Bytes) (k : ErrorKind) → 5 ≤ length u → refused s u ≡ Some k
     → (is : List Item) × (unread_items s (u ++ t) ≡ Broken k ∷ is)
 refused_first s u t k enough e = go (front wide_record (u ++ t)) refl
@@ -150,7 +150,7 @@ pub none_refused : (s : Standing) (u : Bytes) → front wide_record u ≡ None �
 none_refused s u e enough r = no_records s u e
     ∙ ap (λ c. cond c (broken_in (refused s u)) []) (le-leb 5 (length u) enough) ∙ ap broken_in r
 
--- A fragment of messages: which it is, and that it changes nothing that is known.
+-- A fragment of messages: its bytes, and that it doesn't change what is known.
 pub record IsFragment (s : Standing) (r : Bytes) (k : ℕ) (f : Bytes) : Type 0 where
   pub bytes_are : f ≡ fragment r
   pub keeps : after s r ≡ s
@@ -191,7 +191,7 @@ fragment_is s r k f e = by_refusal (refused s r) e
     by_refusal (Some b) g = absurd cc
     by_refusal None g = by_cipher (is_sealed s r) g
 
--- Where a fragment lies in what isn't read.
+-- Where a fragment lies in the unread stream.
 pub record IsThere (u : Bytes) (x : Bytes × Bytes) (f : Bytes) : Type 0 where
   pub enough : 5 + length f ≤ length u
   pub bytes_are : take (length f) (drop 5 u) ≡ f

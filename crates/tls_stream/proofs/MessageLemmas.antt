@@ -1,4 +1,4 @@
--- A message that is handed out is read as where it stood.
+-- A message parses by itself as it does in its stream.
 use Rattle.std.proofs.Common.{
   ◌≡◌,
   ℕ,
@@ -50,7 +50,7 @@ unfolding split_at
 split_here k b h = ap (λ t. cond {A = Answer Bytes} t (Err (Lacks (k - length b))) (Ok (take k b, drop k b)))
     (le-ltb (length b) k h)
 
--- the body's answer, as the message's, and then that rest
+-- the body's answer as the message's, with this rest
 abbrev with_body : Bytes → handshakes.Handshake × Bytes → Answer handshakes.Handshake
 with_body r x = Ok (x.0, r)
 
@@ -140,7 +140,7 @@ message_is_read limit b y r e =
         ∙ ap (λ k. after [] (reading (handshakes.handshake_body (number_of k) n) w)) first in
         of_b ∙ rest_after r (reading (handshakes.handshake_body (kind b) n) w) ∙ ap (with_rest r) (sym of_y)
 
--- Where a message isn't whole, further bytes are asked for.
+-- If a message isn't whole, more bytes are asked for.
 split_short : (k : ℕ) (b : Bytes) → length b < k → split_at k b ≡ Err (Lacks (k - length b))
 unfolding split_at
 split_short k b h =

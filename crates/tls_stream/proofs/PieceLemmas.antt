@@ -59,12 +59,12 @@ joined_next pieces i d h =
     ∙ flat_map-append (λ p. p.now) (take i pieces) (get_or pieces i d ∷ [])
     ∙ ap (λ q. joined (take i pieces) ++ q) (append-nil (get_or pieces i d).now)
 
--- the last of the stream
+-- the end of the stream
 pub taken_all : (f : Shape) (vs : List Bytes) (b : Bytes) (all : List Bytes) (end : Bytes)
     → (frames f b ≡ []) × (left f b ≡ b) → (vs ++ frames f b ≡ all) × (left f b ≡ end) → (vs ≡ all) × (b ≡ end)
 taken_all f vs b all end none was = (sym (append-nil vs) ∙ ap (λ r. vs ++ r) (sym none.0) ∙ was.0, sym none.1 ∙ was.1)
 
--- What is taken and held, where x was fed.
+-- The frames taken and the bytes held after x was fed.
 abbrev pub IsCut : Shape → Bytes → List Bytes → Bytes → Type 0
 IsCut f x taken held = (taken ≡ frames f x) × (held ≡ left f x)
 
@@ -74,7 +74,7 @@ unfolding frames left cut
 cut_none f = (refl, refl)
 
 module _ (f : Shape) (takes : 0 < f.header) where
-  -- a frame goes from the front of the stream to the end of those that are taken
+  -- a frame moves from the front of the stream to the end of the list
   pub taken_more : (vs : List (Vec ℕ)) (v : Vec ℕ) (now : List (Vec ℕ)) (b y new : Bytes) (t : Bool)
       (all : List Bytes) →
       now ≡ vs ++ v ∷ [] → v.items ≡ y → Some y ≡ frame_of (front f b) → FrontTaken (front f b) b t new →
@@ -106,7 +106,7 @@ module _ (f : Shape) (takes : 0 < f.header) where
       subst (λ x. IsCut f x taken' held') (sym (joined_next pieces i d h))
       (cut_more (joined (take i pieces)) (get_or pieces i d).now taken taken' held fed held' is feeds off)
 
-  -- some of them, where no frame can follow
+  -- after a length that is too large no frame can follow
   pub cut_large : (pieces : List (Bor (List ℕ))) (i : ℕ) (taken : List Bytes) (held : Bytes) → IsTooLarge f held
       → IsCut f (joined (take i pieces)) taken held → IsSplit f (joined pieces) taken held
   cut_large pieces i taken held large is =
@@ -122,7 +122,7 @@ module _ (f : Shape) (takes : 0 < f.header) where
         held_is = inr (large, (y, ap (left f) both ∙ more_left f takes x y ∙ no_more.1 ∙ ap (λ h. h ++ y) (sym is.1)));
       }
 
--- Two cuttings of the same bytes.
+-- Two ways to cut the same bytes.
 pub same_taken : (f : Shape) (x y : Bytes) (taken taken' : List Bytes) (held held' : Bytes) → x ≡ y
     → IsSplit f x taken held → IsSplit f y taken' held' → taken ≡ taken'
 same_taken f x y taken taken' held held' same a b = a.taken_are ∙ ap (frames f) same ∙ sym b.taken_are

@@ -1,4 +1,4 @@
--- Which record stands next, and that it is the frame that stands next.
+-- The next record is the next frame.
 use Rattle.std.proofs.Common.{
   ◌≡◌,
   ◌↔◌,
@@ -60,7 +60,7 @@ behind h = chain (test (nat_le h.length max_fragment_length) TooLarge)
 abbrev with_raw : RecordHeader → Answer Bytes → Answer RawRecord
 with_raw h a = a and_then λ f. Ok (raw_of h f.0, f.1)
 
--- What stands behind a header, by its length.
+-- The cases after a header, by its length.
 data Behind (h : RecordHeader) (r : Bytes) : Type 0 where
   Above : max_fragment_length < h.length → reading (behind h) r ≡ Err (Broken TooLarge) → Behind h r
   Short : h.length ≤ max_fragment_length → length r < h.length → (n : ℕ) → reading (behind h) r ≡ Err (Lacks n)
@@ -90,7 +90,7 @@ behind_header h r = go (nat_le h.length max_fragment_length) refl refl
     go true f g = small_behind h r (leb-true h.length max_fragment_length f) g
     go false f g = Above (leb-false h.length max_fragment_length f) g
 
--- What stands in front of some bytes.
+-- The cases of some bytes' first record.
 data Stands (b : Bytes) : Type 0 where
   Large : IsTooLarge 5 b → reading raw_record b ≡ Err (Broken TooLarge) → Stands b
   Part : NeedsMore 5 b → (n : ℕ) → reading raw_record b ≡ Err (Lacks n) → Stands b
@@ -148,7 +148,7 @@ read_whole b = go (stands b)
     go (Part w n e) = (λ f. let g = subst IsOk e f in absurd cc, λ v. absurd (w.0 v.0))
     go (One w not x len e) = (λ f. (w, not), λ v. subst IsOk (sym e) refl)
 
--- The frame that stands next.
+-- The next frame.
 length_is : (b : Bytes) → 5 ≤ length b → body_length record_frame b ≡ fragment_length 5 b
 length_is (a ∷ b ∷ c ∷ d ∷ e ∷ r) h = omega arith
 length_is b h = absurd (omega (arith, h))
@@ -202,16 +202,16 @@ front_is_read b = go (stands b)
     go (Part n k e) = none_part record_frame b (λ w. n.0 ((whole_is b).0 w)) ∙ sym (ap (λ a. front_of a b) e)
     go (One w not x len e) = one_front b x w not len (record_in_front b x.1 x.0 e) ∙ sym (ap (λ a. front_of a b) e)
 
--- Where a length is too large, it stays so.
+-- A length that is too large stays so.
 pub large_stays : (b s : Bytes) → frames.IsTooLarge record_frame b → reading raw_record (b ++ s) ≡ Err (Broken TooLarge)
 large_stays b s large = (read_too_large (b ++ s)).1 ((large_is (b ++ s)).0 (large_longer record_frame b s large))
 
--- A record that is read takes bytes.
+-- A parsed record takes at least one byte.
 pub record_takes : (b r : Bytes) (v : RawRecord) → reading raw_record b ≡ Ok (v, r) → length r < length b
 record_takes b r v e = front_fewer record_frame b (record_bytes v b, r) (lit< tt)
     (front_is_read b ∙ ap (λ a. front_of a b) e)
 
--- The same of what a call returned.
+-- Whether a call returned that a length is too large.
 pub front_too_large : {X : Type 0} (view : X → RawRecord) (b : Bytes) (r : Returned X) → Gives view raw_record b r
     → IsRefusedAsTooLarge r ↔ IsTooLarge 5 b
 front_too_large view b (Ok x) g = (λ h. absurd h, λ h. let e = sym ((read_too_large b).1 h) ∙ g.read in absurd cc)

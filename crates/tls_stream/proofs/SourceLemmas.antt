@@ -1,4 +1,4 @@
--- The event that stands in front, by the bytes that it is taken from.
+-- The next event, and the bytes that it is taken from.
 use Rattle.std.proofs.Common.{◌≡◌, ℕ, List, ◌≤◌, Option, Some, None, length, refl, sym, ◌∙◌, ap, subst, drop}
 use Rattle.std.specs.Prelude.{option_map, true, false}
 use Rattle.std.specs.Borrow.{Bor}
@@ -55,7 +55,7 @@ by_frame d e s (Some y) is g =
     (message_taken d y (sym is), message_within d y (sym is))
 by_frame d e s None is g = by_alone d e s (alone_record d) refl (sym is) g
 
--- What stands in front is taken from these bytes.
+-- The next event is taken from these bytes.
 pub source_taken : (d : Stream) (e : Event) (s : Source) → Some (e, s) ≡ first_source d
     → FirstTaken (first d) d true (behind d s)
 source_taken d e s is =
@@ -77,7 +77,7 @@ no_frame d None is g = nothing_taken d (sym is) (no_alone (alone_record d) g)
 pub source_none : (d : Stream) → None ≡ first_source d → FirstTaken (first d) d false d
 source_none d is = no_frame d (frame_of (front (messages_of d.limit d.kind) d.held.part)) refl (sym is)
 
--- It is the event in front.
+-- It is the next event.
 pub source_front : (d : Stream) → option_map (λ (x : Event × Source). x.0) (first_source d)
     ≡ option_map (λ (x : Event × Stream). x.0) (first d)
 source_front d = go (frame_of (front (messages_of d.limit d.kind) d.held.part)) refl
@@ -92,7 +92,7 @@ source_front d = go (frame_of (front (messages_of d.limit d.kind) d.held.part)) 
     go (Some y) is = message_front d y (sym is)
     go None is = same (alone_record d) ∙ sym (alone_first_is d (sym is))
 
--- What a view answered, of the stream that it shows.
+-- The answer of a view, for the stream that it shows.
 pub message_source : (d v : Stream) (e : Event) (s : rust.Source) (m : Bor (List ℕ)) → s ≡ source.Message m
     → Some (e, view_source s) ≡ first_source v → v ≡ d → Some (e, OfMessage m.now) ≡ first_source d
 message_source d v e s m is at same =

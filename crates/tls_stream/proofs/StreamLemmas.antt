@@ -1,4 +1,4 @@
--- What a direction says next.
+-- The next event of a direction.
 use Rattle.std.proofs.Common.{
   ◌≡◌,
   ◌≢◌,
@@ -122,7 +122,7 @@ none_front : (a : Option (Bytes × Bytes)) → frame_of a ≡ None → a ≡ Non
 none_front None e = refl
 none_front (Some x) e = absurd cc
 
--- The frame that a call found, and what stands behind it.
+-- The frame that a call found, and what follows it.
 pub some_front : (f : Shape) (b y : Bytes) → frame_of (front f b) ≡ Some y
     → (x : Bytes × Bytes) × (front f b ≡ Some x) × (x.0 ≡ y)
 some_front f b y e = go (front f b) refl e
@@ -132,7 +132,7 @@ some_front f b y e = go (front f b) refl e
     go None g h = absurd cc
     go (Some x) g h = (x, g, cc)
 
--- By what stands in front, over plain variables.
+-- The cases of the next event, over plain variables.
 module _ (limit kind : ℕ) (st : Standing) (part u : Bytes) (none : front (messages_of limit kind) part ≡ None) where
   abbrev shape : Shape
   shape = messages_of limit kind
@@ -223,7 +223,7 @@ module _ (limit kind : ℕ) (st : Standing) (part u : Bytes) (none : front (mess
           ∙ ap (λ b. closed shape b (events_of limit k f (unread_items (after st x.0) (x.1 ++ s)))) empty
           ∙ ap (λ b. events_of limit k (b ++ f) (unread_items (after st x.0) (x.1 ++ s))) (sym empty)
 
--- The event in front is the first of all.
+-- The next event is the first of all.
 pub first_event : (d e : Stream) (v : Event) (s : Bytes) → first d ≡ Some (v, e)
     → events (fed d s) ≡ v ∷ events (fed e s)
 first_event d e v s is = message (front (messages_of d.limit d.kind) d.held.part) refl is
@@ -252,7 +252,7 @@ first_event d e v s is = message (front (messages_of d.limit d.kind) d.held.part
         ∙ ap (λ (p : Event × Stream). p.0 ∷ events (fed p.1 s)) same
     message None f g = by_record (front wide_record d.held.unread) f refl g
 
--- What stands in front.
+-- When there is a next event.
 pub message_ready : (d : Stream) (y : Bytes) → Some y ≡ frame_of (front (messages_of d.limit d.kind) d.held.part)
     → IsSome (first d)
 message_ready d y e =
@@ -336,7 +336,7 @@ module _ (d : Stream) (none : None ≡ frame_of (front (messages_of d.limit d.ki
             ∙ sym (join_first d.limit d.kind (standing d) d.held.part d.held.unread no_message x.0 k f s x.1 item may),
       )
 
--- What the calls on the front say.
+-- What the calls on the next event answer.
 pub message_front : (d : Stream) (y : Bytes) → Some y ≡ frame_of (front (messages_of d.limit d.kind) d.held.part)
     → Some (event_of d.kind y) ≡ option_map (λ x. x.0) (first d)
 message_front d y e =
@@ -379,7 +379,7 @@ record_length u y e =
 pub record_within : (u y : Bytes) → Some y ≡ frame_of (front wide_record u) → length y ≤ length u
 record_within u y e = shorter_frame wide_record u y e
 
--- A record that says something by itself.
+-- A record with an event by itself.
 pub alone_none : (d : Stream) → None ≡ frame_of (front wide_record d.held.unread) → None ≡ alone_record d
 alone_none d e = ap (alone_in d) (sym (none_front (front wide_record d.held.unread) (sym e)))
 
@@ -404,7 +404,7 @@ alone_is d y i e empty is =
     ∙ ap (λ y. with_bytes y (alone d.held.part (item_of (standing d) y))) (sym x.2)
     ∙ ap (alone_in d) (sym x.1)
 
--- What stands alone is the first, where no message is whole.
+-- An event by itself is the next one if no message is whole.
 same_first : (d : Stream) (a : Option (Bytes × Bytes))
     → option_map (λ (x : Event × Stream). x.0) (first_record d a)
     ≡ option_map (λ (x : Event × Bytes). x.0) (alone_in d a)

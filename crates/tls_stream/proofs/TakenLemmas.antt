@@ -62,7 +62,7 @@ use Rattle.tls_stream.proofs.ItemLemmas.{none_short}
 use Rattle.tls_stream.proofs.StreamLemmas.{nothing}
 use Rattle.tls_stream.proofs.DirectionLemmas.{fed_nothing, fed_twice, first_event}
 
--- What the event in front is.
+-- What the next event is.
 pub record IsTakenOff (d : Direction) (e : Event) (new : Direction) : Type 0 where
   pub says : (s : Bytes) → events (fed d s) ≡ e ∷ events (fed new s)
 
@@ -76,7 +76,7 @@ taken_off d new t some off = go (first d) refl some off
     go (Some x) is some off =
         (x.0, refl, record { says = λ s. first_event d x.1 x.0 s is ∙ ap (λ n. x.0 ∷ events (fed n s)) (sym off.1) })
 
--- One event more was taken.
+-- One more event was taken.
 one_off : (taken taken' : List Bytes) (d new : Direction) (e : Event) → IsTakenOff d e new
     → taken' ≡ taken ++ message_in e → TakesSame taken d taken' new
 one_off taken taken' d new e off more s =
@@ -127,7 +127,7 @@ fewer_off d new t some off =
     let is = ap length (x.2.says []) in
     omega (arith, is)
 
--- All are taken.
+-- All events were taken.
 pub same_ready : (taken : List Bytes) (d new : Direction) → SaysTheSame new d → TakesSame taken d taken new
 same_ready taken d new same s = ap (λ es. taken ++ handshakes es) (sym (same s))
 
@@ -145,7 +145,7 @@ pub none_over : (d : Direction) (t : Bool) → IsOver d t → handshakes (events
 none_over d true over = ap (λ k. handshakes (events k)) (sym (fed_nothing d)) ∙ ap handshakes (over.1 [])
 none_over d false over = ap handshakes over
 
--- The messages of the bytes x were taken off a new direction, and nothing of what is still to come is lost.
+-- The messages of x were taken from a new direction, and none of those still to come are lost.
 abbrev pub IsSaid : List Bytes → Direction → ℕ → Bytes → Type 0
 IsSaid taken d limit x = (s : Bytes) → handshakes (events (fed (silent limit) (x ++ s))) ≡ with_those_of taken d s
 
@@ -168,7 +168,7 @@ said_all x taken d limit was none =
     ∙ sym (was [])
     ∙ ap (λ x. handshakes (events (fed (silent limit) x))) (append-nil x)
 
--- One piece more of a list of them.
+-- One more piece of a list.
 pub one_piece : (pieces : List (Bor (List ℕ))) (i : ℕ) (p : Bor (List ℕ)) (taken taken' : List Bytes)
     (d fed_d new : Direction)
     (limit : ℕ) → i < length pieces → IsSaid taken d limit (joined (take i pieces))
@@ -178,7 +178,7 @@ one_piece pieces i p taken taken' d fed_d new limit h was feeds takes =
     subst (λ x. IsSaid taken' new limit x) (sym (joined_next pieces i p h))
     (said_more (joined (take i pieces)) (get_or pieces i p).now taken taken' d fed_d new limit was feeds takes)
 
--- It is at fault: no message follows, whatever is fed.
+-- The direction is at fault: no message follows, whatever is fed.
 pub at_fault : (pieces : List (Bor (List ℕ))) (i : ℕ) (p : Bor (List ℕ)) (taken taken' : List Bytes)
     (d fed_d new : Direction)
     (limit : ℕ) → i < length pieces → IsSaid taken d limit (joined (take i pieces))
@@ -194,7 +194,7 @@ at_fault pieces i p taken taken' d fed_d new limit h was feeds ends =
     ∙ sym (one_piece pieces i p taken taken' d fed_d new limit h was feeds ends.same others)
     ∙ ap (λ x. handshakes (events (fed (silent limit) x))) (sym all)
 
--- Nothing is said of no bytes.
+-- No bytes have no frames.
 none_of_none : (f : Shape) → 0 < f.header → front f [] ≡ None
 none_of_none f takes = none_part f [] (λ w. let h : f.header + body_length f [] ≤ 0 = w in omega (arith, h, takes))
 

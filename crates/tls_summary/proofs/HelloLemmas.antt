@@ -1,4 +1,4 @@
--- What a message leaves as it is of both sides' hellos.
+-- A message leaves both sides' hellos as they are.
 use Rattle.std.proofs.Common.{◌≡◌, ℕ, ◌==◌, ◌&&◌, ◌||◌, not, List, Bool, true, false, Option, Some, None, Ok, Err, refl, sym, ◌∙◌, ap}
 use Rattle.std.specs.Prelude.{if◌then◌else◌, is_some}
 use Rattle.layouts.specs.Bytes.{Bytes}
@@ -43,7 +43,7 @@ use Rattle.tls_summary.specs.HandshakeSummary.{
   verified,
 }
 
--- What is known beside them changes.
+-- Other fields change.
 beside : (s : Side) (f g : HandshakeSummary) → g.client ≡ f.client → g.server ≡ f.server → g.is_asked_again ≡ f.is_asked_again
     → KeepsHellos s f g
 beside ToServer f g client server again = (server, λ e. (client, again))
@@ -178,7 +178,7 @@ datagram_message_keeps s n b f = datagrams_keep s (datagram_message n b) f
 pub alert_keeps : (s : Side) (n : ℕ) (f : HandshakeSummary) → KeepsHellos s f (of_alert n f)
 alert_keeps s n f = beside s f (of_alert n f) refl refl refl
 
--- Two steps are one.
+-- Two steps in a row.
 pub keeps_on : (s : Side) (f g h : HandshakeSummary) → KeepsHellos s f g → KeepsHellos s g h → KeepsHellos s f h
 keeps_on ToServer f g h first last = (
   last.0 ∙ first.0,

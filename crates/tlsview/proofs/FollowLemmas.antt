@@ -1,4 +1,4 @@
--- The symbols of messages, apart from where these lie in memory.
+-- The symbols of messages, wherever these lie in memory.
 use Rattle.std.proofs.Common.{◌≡◌, ℕ, ◌++◌, Ok, Bool, false, List, [], ◌∷◌, map, refl, sym, ◌∙◌, ap, subst}
 use Rattle.std.specs.List.{list_any}
 use Rattle.std.specs.Prelude.{◌||◌, flat_map}

@@ -1,4 +1,4 @@
--- A record that isn't encrypted, as one with its messages.
+-- A record that isn't encrypted, parsed with its messages.
 use Rattle.std.proofs.Common.{◌≡◌, false, List, [], Ok, Err, refl, sym, ◌∙◌, ap}
 use Rattle.layouts.specs.Bytes.{Bytes}
 use Rattle.layouts.specs.Meaning.{Answer, Broken, Lacks}
@@ -14,7 +14,7 @@ use Rattle.tlsview.specs.declared.direction.Direction.{Direction}
 abbrev with_messages : RawRecord × Bytes → Answer (List Message) → Answer Plaintext
 with_messages x a = a and_then λ m. Ok (record { header = x.0.header; messages = m.0 }, x.1)
 
--- what a raw record says where it isn't encrypted
+-- what a raw record prints if it isn't encrypted
 plain_part : (d : Direction) (h : Half) (x : RawRecord × Bytes) (k : Answer (List Message)) (behind : Half → Part Half)
     → h.is_encrypted ≡ false
     → reading (record_content x.0.header) x.0.fragment ≡ k

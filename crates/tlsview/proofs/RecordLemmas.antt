@@ -1,4 +1,4 @@
--- Records one after the other.
+-- Records in order.
 use Rattle.std.proofs.Common.{
   ◌≡◌,
   ℕ,
@@ -71,7 +71,7 @@ same_part d h f g same = go (reading raw_record h.left) refl
     go (Err (Lacks n)) e = refl
     go (Err (Broken k)) e = refl
 
--- so it doesn't matter how many records may come, once there may be as many as bytes
+-- the count of records doesn't matter, once it is at least the count of bytes
 enough : (m n : ℕ) (d : Direction) (h : Half) → length h.left < m → length h.left < n
     → records_part m d h ≡ records_part n d h
 enough zero n d h less more = absurd (omega (arith, less))
@@ -79,7 +79,7 @@ enough (suc m) zero d h less more = absurd (omega (arith, more))
 enough (suc m) (suc n) d h less more = same_part d h (records_part m d) (records_part n d)
     (λ k short. enough m n d k (omega (arith, short, less)) (omega (arith, short, more)))
 
--- the records of some bytes are the next one and those behind it
+-- the records of some bytes are the next one and those after it
 pub record_by_record : (d : Direction) (h : Half)
     → half_part d h ≡ record_part d h (reading raw_record h.left) (half_part d)
 record_by_record d h = same_part d h (records_part (length h.left) d) (half_part d)
@@ -92,7 +92,7 @@ half_then : (d : Direction) (h : Half) (a : Answer RawRecord) → reading raw_re
     → half_part d h ≡ record_part d h a (half_part d)
 half_then d h a e = record_by_record d h ∙ ap (λ a. record_part d h a (half_part d)) e
 
--- One more record was shown, and taken off.
+-- One more record was printed, and removed.
 pub record OneShown (d : Direction) (text text' : List ℕ) (h h' : Half) : Type 0 where
   pub text_is : text' ++ (half_part d h').0 ≡ text ++ (half_part d h).0
   pub ending_is : (half_part d h').1 ≡ (half_part d h).1
@@ -143,7 +143,7 @@ one_shown d text text' b new enc enc' taken q q' n same is takes =
     go (Err (Lacks n)) read s t = absurd s
     go (Err (Broken k)) read s t = absurd s
 
--- Nothing more is shown: what is printed, and what is known then.
+-- Nothing more is printed: the text, and the state then.
 pub record IsLast (d : Direction) (text text' : List ℕ) (h : Half) (end : Result Half Fault) : Type 0 where
   pub text_is : text' ≡ text ++ (half_part d h).0
   pub ending_is : (half_part d h).1 ≡ end
@@ -155,7 +155,7 @@ last_part d text text' h end same is = record {
   ending_is = ap (λ (p : Part Half). p.1) is;
 }
 
--- A direction that holds a length that is too large stays so.
+-- A direction with a length that is too large stays so.
 pub too_large_shown : (d : Direction) (text : List ℕ) (b s : Bytes) (enc : Bool) (q : TlsState)
     → IsTooLarge record_frame b → IsLast d text text (half_of (b ++ s) enc q) (Err (Refused (Broken TooLarge)))
 too_large_shown d text b s enc q large =

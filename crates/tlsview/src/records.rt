@@ -1,4 +1,4 @@
-//! The records of one direction, as text.
+//! Prints the records of one direction.
 ghost use Rattle.std.specs.Prelude.{◌≡◌, ◌∷◌, ◌++◌, Ok, codes, flat_map, map, IfOk, OnOk};
 ghost use Rattle.std.specs.List.{list_any};
 ghost use Rattle.std.specs.String.{string_bytes};
@@ -22,11 +22,11 @@ use tls_records::{TlsRawRecord, parse_tls_record_with_header};
 use tls_states::ParseContext;
 use tls_stream::FeedError;
 
-/// What stands next of one direction.
+/// What comes next in a direction.
 pub enum Next {
-    /// A record, which is printed, and whether the direction's next records are encrypted.
+    /// A record, which is printed; the bool is whether the direction's next records are encrypted.
     Record(bool),
-    /// No whole record yet.
+    /// No whole record.
     Nothing,
     /// A fault, which ends the run.
     Fault(Fault),
@@ -42,7 +42,7 @@ fn add_line(text: &mut String, direction: Direction, name: &str) -> Result<(), A
     text.push('\n')
 }
 
-/// Prints the line of a message.
+/// Prints a line for a message.
 fn show_message(
     text: &mut String,
     direction: Direction,
@@ -70,7 +70,7 @@ fn show_messages(
     Ok(())
 }
 
-/// Follows each message in turn.
+/// Follows each message in order.
 fn follow_messages(context: &mut ParseContext, to_server: bool, messages: &[TlsMessage])
     ensures { context.new ≡ run context.old (map (λ m. symbols.symbol_of m to_server) messages.now) }
 {
@@ -79,7 +79,7 @@ fn follow_messages(context: &mut ParseContext, to_server: bool, messages: &[TlsM
     }
 }
 
-/// Whether a message is one behind which the records are encrypted.
+/// Whether the records after this message are encrypted.
 fn is_change_cipher_spec(message: &TlsMessage) -> bool
     ensures { result ≡ changes_cipher (view_message message.now) }
 {
@@ -89,7 +89,7 @@ fn is_change_cipher_spec(message: &TlsMessage) -> bool
     }
 }
 
-/// Whether one of the messages is such.
+/// Whether the records after one of these messages are encrypted.
 fn change_cipher(messages: &[TlsMessage]) -> bool
     ensures { result ≡ list_any (λ m. changes_cipher (view_message m)) messages.now }
 {
@@ -125,7 +125,7 @@ fn show_record(
     }
 }
 
-/// Prints the record that stands next, where one is whole.
+/// Prints the next record, if it is whole.
 fn show_next(
     alloc: Global,
     text: &mut String,
@@ -144,7 +144,7 @@ fn show_next(
     }
 }
 
-/// Prints each record as long as one is whole, and answers the fault that ends them.
+/// Prints each whole record, and returns the fault that ends them.
 fn show_records(
     alloc: Global,
     text: &mut String,
@@ -167,7 +167,8 @@ fn show_records(
     }
 }
 
-/// Prints the records that stand in what the direction has left and then these bytes, and answers the fault that ends them.
+/// Prints the records in what the direction has left followed by these bytes, and returns the fault
+/// that ends them.
 pub fn show_bytes(
     alloc: Global,
     text: &mut String,

@@ -58,7 +58,7 @@ use Rattle.wispuddera_c.specs.declared.said.Heard.{Heard}
 use Rattle.wispuddera_c.specs.declared.side.Known.{Known}
 use Rattle.wispuddera_c.specs.declared.side.Side.{Side}
 
--- One side is another, and all else stays.
+-- One side is replaced, and everything else stays.
 pub within_with : (t : Bool) (room : ℕ) (s : Side) (c d : Conversation) → d ≡ with_side t s c → IsWithin room s
     → IsWithin room (side_at t d)
 within_with true room s c d is within = subst (λ (d : Conversation). IsWithin room d.client) (sym is) within
@@ -106,7 +106,7 @@ waits_with false b b' s c d is waits o =
     subst (λ d. SaysNoMore (said_in false b o c) (direction false) (said_in false b' o d)) (sym is)
     (record { nothing = waits.nothing; side = waits.same; other = refl; is_tls13 = refl; flow = refl })
 
--- Both sides are told of TLS 1.3 by the first event that chooses it.
+-- Both sides are switched to TLS 1.3 by the first event that chooses it.
 told_if : (limit : ℕ) (known chooses : Bool) (b : Bytes) (s : Side)
     → IsToldIf (not known && chooses) (ear_of (record { limit = limit; is_tls13 = known }) b s)
     (ear_of (record { limit = limit; is_tls13 = known || chooses }) b s)
@@ -121,7 +121,7 @@ known_or false chooses = refl
 abbrev chosen_by : Event → Bool
 chosen_by e = chooses_tls13 e.symbol.kind e.symbol.direction
 
--- d is c behind the event e, by which v was said.
+-- d is c after the event e, with which v was said.
 module _ (c d : Conversation) (e : Event) (limit : d.limit ≡ c.limit)
     (tls13 : d.is_tls13 ≡ (c.is_tls13 || chosen_by e)) (flow : flow_of d.course ≡ follow (flow_of c.course) e) where
   told : (event : Event) → e ≡ event → (b : Bytes) (s n : Side) → n ≡ s
@@ -178,7 +178,7 @@ within_behind true room s c m d is sides within =
 within_behind false room s c m d is sides within =
     subst (IsWithin room) (sym (sides.1 ∙ ap (λ (x : Conversation). x.server) is)) within
 
--- What is heard is told, and followed.
+-- What is learned is returned, and followed.
 module _ (t : Bool) (b b' : Bytes) (c m d : Conversation) (s : Side) (h : Heard) (is : m ≡ with_side t s c)
     (within : IsWithin (length b') s) (sides : (d.client ≡ m.client) × (d.server ≡ m.server))
     (limit : d.limit ≡ m.limit) (tls13 : d.is_tls13 ≡ (m.is_tls13 || chosen_by h.event))
@@ -221,7 +221,7 @@ module _ (t : Bool) (b b' : Bytes) (c m d : Conversation) (s : Side) (h : Heard)
       (subst (λ x. IsHeardAs (direction t) x b old b' s h) k_is
       (subst (λ x. IsHeardAs x k b old b' s h) side_is heard)))
 
--- How it stands, by its events.
+-- The outcome, by its events.
 pub outcome_with : (es : List Event) (c : Conversation) (o : Outcome) → AreEvents es c
     → o ≡ outcome_at (state_in c.course.flow) → IsOutcome o (symbols_of es)
 outcome_with es c o are is = (told_of_flow es silence (flow_of c.course) are refl o).0 (sym is)

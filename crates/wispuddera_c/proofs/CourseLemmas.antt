@@ -1,4 +1,4 @@
--- How a conversation stands behind one more event.
+-- The flow after one more event.
 use Rattle.std.proofs.Common.{
   ◌≡◌,
   ℕ,
@@ -26,7 +26,7 @@ use Rattle.tls_flow.specs.declared.state.Outcome.{Outcome}
 use Rattle.tls_flow.specs.declared.state.Outcome.TheVariants as outcome
 use Rattle.tls_flow.specs.declared.state.State.{State}
 
--- Its stop is known by its state.
+-- Its state decides whether it has a stop.
 abbrev pub flow_at : State → ℕ → FlowStop → Followed
 flow_at q n s = record {
   state = q;
@@ -53,7 +53,8 @@ stops true true x a b z is none = refl
 stops true false x a b z is none = absurd cc
 stops false stopped x a b z is none = sym none
 
--- A flow is followed from its state alone: it stands there too, and is stopped just where that one is.
+-- A flow that goes on from a state alone has the same state, and stops exactly when the whole one
+-- does.
 module _ (q : State) (n : ℕ) (s : FlowStop) (e : Event) where
   abbrev from_state : Bool → Followed
   from_state t = follow_by t (record { state = q; events = 0; stop = None }) e

@@ -1,4 +1,4 @@
--- No hello has more suites or extensions than JA4 takes.
+-- No hello has more suites or extensions than JA4 accepts.
 use Rattle.std.proofs.Common.{◌≡◌, ℕ, zero, suc, ◌+◌, ◌*◌, ◌/◌, ◌^◌, ◌<◌, ◌≤◌, inl, inr, List, [], ◌∷◌, length, Option, Some, None, Ok, Err, Bool, true, false, not, cond, ltb, le_refl, take, drop, ◌-◌, refl, sym, ◌∙◌, ap, subst, arith}
 use Rattle.std.specs.Bool.{⊤}
 use Rattle.std.proofs.lemmas.Bool.{ltb-false}
@@ -76,7 +76,7 @@ unfolding dtls.client_hello
 dtls_hello_bounds b h r d s = subst (λ (x : dtls.ClientHello). Bounds x.hello) (sym s.5.0)
     (fields_bounds (mapped Some (counted 1)) b s.0 s.1 s.2 s.4)
 
--- what is read takes at least two bytes
+-- a parsed item takes at least two bytes
 abbrev TakesTwo : {A : Type 0} → ℕ → Answer A → Type 0
 TakesTwo n (Ok x) = length x.1 + 2 ≤ n
 TakesTwo n (Err e) = ⊤
@@ -111,7 +111,7 @@ framed_takes b = takes_then _ (reading (number 2) b) (λ x. reading (chain (coun
 type_takes : (b : Bytes) → TakesTwo (length b) (reading extension_type b)
 type_takes b = takes_then _ (reading (framed 2 2) b) (λ x. reading (done x.0.kind) x.1) (framed_takes b) (λ x. le_refl _)
 
--- so there are at most half as many as bytes
+-- so there are at most half as many items as bytes
 with_bound : {A : Type 0} (a : Answer A) (more : Bytes → List A × Bytes) (b : Bytes) → TakesTwo (length b) a
     → ((c : Bytes) → 2 * length (more c).0 ≤ length c) → 2 * length (with_items a more b).0 ≤ length b
 with_bound (Err e) more b h k = omega arith

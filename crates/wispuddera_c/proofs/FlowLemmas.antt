@@ -1,4 +1,4 @@
--- A conversation's state is told by the one in front of its last event, and by that.
+-- A conversation's state follows from the one before its last event, and from that event.
 use Rattle.std.proofs.Common.{◌≡◌, ◌∷◌, [], ◌++◌, List, map, Bool, true, false, Some, None, refl, sym, subst, ◌∙◌, ap}
 use Rattle.std.proofs.lemmas.List.{map-append}
 use Rattle.tls_flow.specs.Conversations.{IsOutcome}
@@ -29,7 +29,7 @@ same_state f g e same =
     subst (λ t. (follow f e).state ≡ (follow_by t g e).state) (ap (λ q. is_waiting (outcome_at q)) same)
     (same_by (is_waiting (outcome_at f.state)) f g e same)
 
--- the events behind one more
+-- the events after one more
 one_more : (es : List Event) (d : Event) → followed (es ++ d ∷ []) ≡ follow (followed es) (event_of d)
 one_more es d = ap (run follow silence) (map-append event_of es (d ∷ []))
     ∙ run_on follow silence (map event_of es) (event_of d ∷ [])

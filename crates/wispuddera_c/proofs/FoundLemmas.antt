@@ -1,4 +1,4 @@
--- A list behind its length is found where its bytes stand.
+-- A list after its length is found at its bytes' place.
 use Rattle.std.proofs.Common.{◌≡◌, ℕ, Result, Ok, Err, refl, sym, subst, ◌∙◌, ap}
 use Rattle.layouts.specs.Bytes.{Bytes}
 use Rattle.layouts.specs.Items.{items_in}

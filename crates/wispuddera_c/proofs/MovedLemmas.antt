@@ -1,4 +1,4 @@
--- What a buffer holds of a side, where bytes are moved in it.
+-- The stream in a buffer, when bytes are moved in it.
 use Rattle.std.proofs.Common.{◌≡◌, ℕ, ◌+◌, ◌-◌, ◌≤◌, ◌==◌, ◌||◌, length, drop, refl, sym, subst, ◌∙◌, ap, ap₂, arith}
 use Rattle.std.specs.Prelude.{slice_index}
 use Rattle.std.specs.Borrow.{Bor}
@@ -49,7 +49,7 @@ joined_stream k b b' s kind n within whole is =
     (ap (between (s.unread + 5 + n) s.end) moved
     ∙ joined_unread b s.part s.part_end s.unread s.end n within.0 within.1 whole within.3))
 
--- What is held is moved to the front.
+-- The bytes in use are moved to the beginning.
 pub moved_stream : (k : Known) (b c d : Bytes) (s : Side) → IsWithin (length b) s
     → c ≡ paste b 0 (drop s.part b) (s.part_end - s.part)
     → d ≡ paste c (s.part_end - s.part) (drop s.unread c) (s.end - s.unread)
@@ -77,7 +77,7 @@ moved_stream k b c d s within first second =
     (ap (between n (n + (s.end - s.unread))) all
     ∙ moved_unread b s.part s.part_end s.unread s.end within.0 within.1 within.2 within.3))
 
--- A piece is put behind it.
+-- A piece is appended.
 pub fed_stream : (k : Known) (b b' piece : Bytes) (s : Side) → IsWithin (length b) s
     → b' ≡ paste b s.end piece (length piece)
     → stream_of k b' (record s { end = s.end + length piece }) ≡ fed (stream_of k b s) piece
@@ -96,7 +96,7 @@ fed_stream k b b' piece s within is =
     (ap (between s.unread (s.end + length piece)) is
     ∙ fed_unread b piece s.end (length piece) refl within.3 s.unread within.2))
 
--- What is told is taken off.
+-- A returned event is removed.
 pub message_off : (k : Known) (b : Bytes) (s : Side) (from : rust.Source) (m : Bor Bytes) → from ≡ source.Message m
     → stream_of k b (record s { part = s.part + length m.now }) ≡ behind (stream_of k b s) (view_source from)
 message_off k b s from m is =

@@ -46,12 +46,12 @@ followed es i d start f g e inside symbols alerts moved so_far =
     (moved ∙ ap (follow f) (event_is e (symbol_of (get_or es i d)) symbols alerts))
     ∙ sym (ap (λ xs. run follow f (map event_of xs)) (drop_more es i d inside)) ∙ so_far
 
--- the symbols of the events are their word
+-- the symbols of the events
 symbols_are : (es : List Event) → symbols_of (map event_of es) ≡ word_of es
 symbols_are [] = refl
 symbols_are (e ∷ es) = ap (λ w. symbol_of e ∷ w) (symbols_are es)
 
--- the outcome at the end holds of the word
+-- the outcome at the end holds for the symbols
 pub outcome_holds : (es : List Event) (f : Flow) (o : Outcome) → f ≡ run follow silence (map event_of es)
     → o ≡ outcome_at f.state → IsOutcome o (word_of es)
 outcome_holds es f o ends is =

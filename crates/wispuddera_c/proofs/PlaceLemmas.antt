@@ -1,4 +1,4 @@
--- Places in C's numbers.
+-- Places as C structs.
 use Rattle.std.proofs.Common.{
   ◌≡◌,
   ℕ,
@@ -38,7 +38,7 @@ use Rattle.wispuddera_c.specs.Place.{Follows, ItemsStandAt, place_of}
 nothing : (b : Bytes) → Stands b (record { offset = 0; length = 0 }) []
 nothing b = record { is = refl; within = omega arith }
 
--- what may be there, or no bytes
+-- an optional part, or no bytes
 pub held_some : (b : Bytes) (p q : Place) (x : Option Bytes) → q ≡ p → MayStand b (Some p) x → Stands b q (held x)
 held_some b p q (Some x) same s = subst (λ z. Stands b z x) (sym same) s
 held_some b p q None same s = absurd s
@@ -48,7 +48,7 @@ pub held_none : (b : Bytes) (x : Option Bytes) → MayStand b None x
 held_none b None s = nothing b
 held_none b (Some x) s = absurd s
 
--- the items of bytes that stand at a place
+-- the items of the bytes at a place
 pub items_stand : {A : Type 0} (l : Layout A) (b : Bytes) (p : CPlace) (q : Place) (x : Bytes) → place_of p ≡ q
     → Stands b q x → ItemsStandAt l b p (items_in l x)
 items_stand l b p q x same s =

@@ -1,4 +1,4 @@
--- One side's stream, of which a buffer holds what isn't handed out yet.
+-- One side's stream, in a buffer.
 use Rattle.std.proofs.Common.{
   ◌≡◌,
   ℕ,
@@ -105,7 +105,7 @@ use Rattle.wispuddera_c.specs.Side.{IsHeardAs, StandInFront, Waits, bytes_of, ea
 use Rattle.wispuddera_c.specs.declared.side.Known.{Known}
 use Rattle.wispuddera_c.specs.declared.side.Side.{Side}
 
--- The event in front, and the stream behind it.
+-- The next event, and the stream after it.
 pub source_first : (d : Stream) (v : Saying) (s : Source) → Some (v, s) ≡ first_source d
     → first d ≡ Some (v, behind d s)
 source_first d v s is =
@@ -119,7 +119,7 @@ source_first d v s is =
         let v_is : v ≡ x.0 = cc in
         at ∙ ap₂ (λ v d. Some (v, d)) (sym v_is) (sym off.1)
 
--- Where nothing stands in front, nothing is taken.
+-- If there is no next event, nothing is removed.
 pub source_none_first : (d : Stream) → None ≡ first_source d → first d ≡ None
 source_none_first d is = go (first d) refl (ap (option_map (λ (x : Saying × Source). x.0)) is ∙ source_front d)
   where
@@ -127,7 +127,7 @@ source_none_first d is = go (first d) refl (ap (option_map (λ (x : Saying × So
     go None at same = at
     go (Some x) at same = absurd cc
 
--- A frame in front stands there.
+-- The first frame is at the front.
 frame_stands : (f : Shape) (b y : Bytes) → Some y ≡ frame_of (front f b) → take (length y) b ≡ y
 frame_stands f b y is =
     let x = some_front f b y (sym is) in
@@ -142,7 +142,7 @@ alert_length b y is =
     let at = first_in (up_to alerts 0) b x.0 x.1 in
     ap length (sym x.2) ∙ ap length at.frame_is ∙ length-take-le 2 b at.is_whole
 
--- What a message says by its bytes.
+-- A message is the event of its bytes.
 message_said : (limit kind : ℕ) (b y : Bytes) → Some y ≡ frame_of (front (messages_of limit kind) b)
     → IsSaidBy (event_of kind y) y
 message_said limit kind b y is = go (kind == 21) is
@@ -155,7 +155,7 @@ message_said limit kind b y is = go (kind == 21) is
         let long : 4 ≤ length x.0.0 = has_header (message_frame limit) b x.0 x.1 in
         (subst (λ z. 4 ≤ length z) x.2 long, refl)
 
--- What a record says by itself, by its bytes.
+-- A record is the event of its bytes, if it is one by itself.
 abbrev Told : Item → Bytes → Type 0
 Told (Alone v) r = IsSaidBy v r
 Told (Fragment k f) r = Unit {0}
@@ -187,7 +187,7 @@ with_source y = (y.0, OfRecord y.1)
 abbrev with_bytes : Bytes → Saying → Saying × Bytes
 with_bytes r e = (e, r)
 
--- The event is said by its bytes, and these stand in front.
+-- The event is that of its bytes, which are at the front.
 pub record IsSource (d : Stream) (v : Saying) (s : Source) : Type 0 where
   pub said : IsSaidBy v (bytes_of s)
   pub stands : StandInFront d.held s
@@ -230,7 +230,7 @@ pub source_is : (d : Stream) (v : Saying) (s : Source) → Some (v, s) ≡ first
 source_is d v s is =
     frame_source d v s (frame_of (front (messages_of d.limit d.kind) d.held.part)) refl (sym is)
 
--- What a side says, where no fault ended it.
+-- What a side says, if no fault ended it.
 says_on : (k : Known) (b : Bytes) (s : Side) (t : Bytes) → s.is_over ≡ false
     → says (ear_of k b s) t ≡ events (fed (stream_of k b s) t)
 says_on k b s t speaks =
@@ -263,7 +263,7 @@ module _ (k : Known) (b b' : Bytes) (s s' : Side) (speaks : s.is_over ≡ false)
     same = λ t. said_before t ∙ sym (says_on k b' s' t (over ∙ speaks));
   }
 
--- A further piece of a side.
+-- Another piece of a side.
 pub fed_twice : (d : Stream) (p t : Bytes) → events (fed (fed d p) t) ≡ events (fed d (p ++ t))
 fed_twice d p t =
     ap (λ u. events (record d { held = record { part = d.held.part; unread = u } })) (append_assoc d.held.unread p t)
@@ -281,7 +281,7 @@ fed_over k b s p ended = λ t.
     ended in
     silent (p ++ t) ∙ sym (silent t)
 
--- A fragment is joined as it is to be.
+-- A fragment is joined as required.
 pub joins_next : (k : Known) (b b' : Bytes) (s s' : Side) (d : Stream) (kind n : ℕ) → d ≡ stream_of k b s
     → IsNext d (next.Joins kind n)
     → stream_of k b' s' ≡ joined_to (stream_of k b s) kind n
@@ -295,7 +295,7 @@ joins_next k b b' s s' d kind n view is joined =
       λ t. ap (λ d. events (fed d t)) joined ∙ at.1 t,
     )
 
--- What was taken off a side that was made ready is heard of it.
+-- What was removed from a side that was made ready is what it said.
 pub some_heard : (side : Direction) (k : Known) (b b' : Bytes) (s s' n : Side) (r : Option Heard) → s.is_over ≡ false
     → s'.is_over ≡ s.is_over → SaysTheSame (stream_of k b' s') (stream_of k b s) → n.is_over ≡ s'.is_over
     → IfSome r (λ h. (v : Saying) × (first (stream_of k b' s') ≡ Some (v, stream_of k b' n)) × Shows side b' h v)

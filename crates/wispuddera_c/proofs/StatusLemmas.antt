@@ -1,4 +1,4 @@
--- What is answered of the bytes from an offset on.
+-- The answer for the bytes from an offset on.
 use Rattle.std.proofs.Common.{◌≡◌, ℕ, ◌≤◌, ◌<◌, length, drop, Ok, Err, refl, sym, subst, ◌∙◌, ap, arith}
 use Rattle.layouts.specs.Bytes.{Bytes}
 use Rattle.layouts.specs.Layout.{Layout}

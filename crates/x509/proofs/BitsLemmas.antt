@@ -1,4 +1,4 @@
--- How many bits a number has, from its bytes.
+-- The bit length of a number, from its bytes.
 use Rattle.std.proofs.Common.{◌≡◌, ◌≢◌, ℕ, zero, suc, ◌+◌, ◌-◌, ◌*◌, ◌^◌, ◌<◌, ◌≤◌, [], ◌∷◌, length, Ok, Err, Bool, true, false, cond, ltb, leb, eqb, refl, sym, ◌∙◌, ap, subst, arith}
 use Rattle.std.specs.Prelude.{⊤}
 use Rattle.std.proofs.lemmas.Bool.{ltb-true, ltb-false, eqb-true, eqb-false}
@@ -29,7 +29,7 @@ unfolding zero_byte behind_one
 zero_refused x xs some =
     ap behind_one (one_read x xs) ∙ ap (λ t. reading (test t Tag) xs) (eqb_other x 0 some)
 
--- none in front is 0
+-- no leading zero
 abbrev StartsSome : Bytes → Type 0
 StartsSome [] = ⊤
 StartsSome (x ∷ xs) = x ≢ 0

@@ -38,7 +38,8 @@ algorithm_content = do
 unfoldable pub algorithm_identifier : Layout AlgorithmIdentifier
 algorithm_identifier = tagged 0x30 algorithm_content
 
--- SubjectPublicKeyInfo: AlgorithmIdentifier algorithm; BIT STRING subjectPublicKey (section 4.1.2.7).
+-- SubjectPublicKeyInfo: AlgorithmIdentifier algorithm; BIT STRING subjectPublicKey (section
+-- 4.1.2.7).
 pub record SubjectPublicKeyInfo : Type 0 where
   pub algorithm : AlgorithmIdentifier
   pub subject_public_key : BitString
@@ -58,7 +59,8 @@ key_info_content = do
 unfoldable pub subject_public_key_info : Layout SubjectPublicKeyInfo
 subject_public_key_info = tagged 0x30 key_info_content
 
--- Time: CHOICE { utcTime UTCTime, generalTime GeneralizedTime } (section 4.1.2.5), in seconds since 1970-01-01 00:00:00 UTC.
+-- Time: CHOICE { utcTime UTCTime, generalTime GeneralizedTime } (section 4.1.2.5), in seconds since
+-- 1970-01-01 00:00:00 UTC.
 unfoldable pub time_by : ℕ → Layout ℤ
 time_by t =
     choose (t == 0x17) (tagged 0x17 utc_time) (
@@ -78,7 +80,8 @@ validity_content = do
 unfoldable pub validity : Layout Validity
 validity = tagged 0x30 validity_content
 
--- Extension: OBJECT IDENTIFIER extnID; BOOLEAN critical DEFAULT FALSE; OCTET STRING extnValue (section 4.2).
+-- Extension: OBJECT IDENTIFIER extnID; BOOLEAN critical DEFAULT FALSE; OCTET STRING extnValue
+-- (section 4.2).
 pub record Extension : Type 0 where
   pub extn_id : Bytes
   pub critical : Bool
@@ -116,7 +119,8 @@ abbrev pub or_v1 : Option ℕ → ℕ
 or_v1 (Some n) = n
 or_v1 None = 0
 
--- [0] EXPLICIT Version DEFAULT v1; CertificateSerialNumber serialNumber; AlgorithmIdentifier signature.
+-- [0] EXPLICIT Version DEFAULT v1; CertificateSerialNumber serialNumber; AlgorithmIdentifier
+-- signature.
 pub record FirstFields : Type 0 where
   pub version : ℕ
   pub serial_number : Bytes
@@ -160,8 +164,9 @@ abbrev pub or_none : Option (List Extension) → List Extension
 or_none (Some xs) = xs
 or_none None = []
 
--- [1] IMPLICIT UniqueIdentifier issuerUniqueID OPTIONAL; [2] IMPLICIT UniqueIdentifier subjectUniqueID OPTIONAL;
--- [3] EXPLICIT Extensions extensions OPTIONAL. A UniqueIdentifier is a BIT STRING.
+-- [1] IMPLICIT UniqueIdentifier issuerUniqueID OPTIONAL; [2] IMPLICIT UniqueIdentifier
+-- subjectUniqueID OPTIONAL; [3] EXPLICIT Extensions extensions OPTIONAL. A UniqueIdentifier is a
+-- BIT STRING.
 pub record OptionalFields : Type 0 where
   pub issuer_unique_id : Option BitString
   pub subject_unique_id : Option BitString
@@ -181,7 +186,7 @@ optional_fields = do
   extensions ← optional 0xa3 extensions
   done (record { issuer_unique_id = issuer; subject_unique_id = subject; extensions = or_none extensions })
 
--- TBSCertificate: these fields in turn.
+-- TBSCertificate: these fields in order.
 pub record TBSCertificate : Type 0 where
   pub first : FirstFields
   pub names : NameFields
@@ -214,8 +219,8 @@ tbs_certificate = do
   others ← optional_fields
   done (record { first = first; names = names; others = others })
 
--- TBSCertificate tbsCertificate; AlgorithmIdentifier signatureAlgorithm; BIT STRING signatureValue (section 4.1.1). What is signed
--- are the bytes of the TBSCertificate: all but those that it leaves.
+-- TBSCertificate tbsCertificate; AlgorithmIdentifier signatureAlgorithm; BIT STRING signatureValue
+-- (section 4.1.1). The signed bytes are the bytes of the TBSCertificate: those before its rest.
 pub record Certificate : Type 0 where
   pub signed_bytes : Bytes
   pub tbs_certificate : TBSCertificate

@@ -1,4 +1,4 @@
--- What stands last in a content, or in an element.
+-- The last part of a content, or of an element.
 use Rattle.std.proofs.Common.{◌≡◌, ◌≤◌, ℕ, [], ◌∷◌, ◌++◌, length, arith, Ok, Bool, true, false, ◌==◌, if◌then◌else◌, refl, sym, subst, ap, ◌∙◌}
 use Rattle.std.specs.Prelude.{◌%◌, nat_le, not}
 use Rattle.std.proofs.lemmas.List.{append-nil, length-append}
@@ -22,7 +22,7 @@ empty : (r : Bytes) → length r ≤ 0 → r ≡ []
 empty [] h = refl
 empty (x ∷ r) h = absurd (omega arith)
 
--- Where b spells v, these bytes of v stand in front of the rest.
+-- If b encodes v, these bytes of v come right before the rest.
 abbrev Last : {A : Type 0} → Layout A → (A → Bytes) → Type 0
 Last {A} l last = (b : Bytes) (v : A) (r d : Bytes) → Spells l b v r d → EndsWith b (last v ++ r)
 
@@ -36,7 +36,7 @@ block_last n b v r d s = ([], s.1)
 rest_last : Last rest (λ x. x)
 rest_last = chain_last left (λ n. block n) (λ x. x) block_last
 
--- Nothing is taken, and the bytes of the value are these.
+-- Nothing is consumed, and the bytes of the value are these.
 abbrev Keeps : {A : Type 0} → Layout A → (A → Bytes) → Bytes → Type 0
 Keeps {A} l last x = (b : Bytes) (v : A) (r d : Bytes) → Spells l b v r d → (b ≡ r) × (last v ≡ x)
 
@@ -55,7 +55,7 @@ test_keeps true k l of x more b v r d (a, m, d1, d2, (is, still, e1), t, e) =
     let here : (m ≡ r) × (of v ≡ x) = more m v r d2 t in (still ∙ here.0, here.1)
 test_keeps false k l of x more b v r d (a, m, d1, d2, s, t, e) = absurd s
 
--- of an answer that is allowed on an end
+-- for an allowed answer at the end of bytes
 before : {A : Type 0} (l : Layout A) (last : A → Bytes) → Last l last → (w b : Bytes) (v : A) (r : Bytes)
     → EndsWith w b → Allows l b (Ok (v, r)) → EndsWith w (last v ++ r)
 unfolding Allows
@@ -64,7 +64,7 @@ before l last more w b v r at (d, s) = ends_after w b (last v ++ r) at (more b v
 pub rest_before : (w b v r : Bytes) → EndsWith w b → Allows rest b (Ok (v, r)) → EndsWith w (v ++ r)
 rest_before = before rest (λ x. x) rest_last
 
--- all bytes are taken
+-- all bytes are consumed
 rest_is : (b v r : Bytes) → Allows rest b (Ok (v, r)) → (v ≡ b) × (r ≡ [])
 unfolding Allows
 rest_is b v r (d, (n, m, d1, d2, (is, same, e1), (size, split, e2), e)) =
@@ -161,7 +161,7 @@ pub element_before : (w b : Bytes) (v : Element) (r : Bytes) → EndsWith w b �
     → EndsWith w (v.content ++ r)
 element_before = before element (λ e. e.content) element_last
 
--- what is in the element of a name
+-- the content of a name's element
 abbrev content_in : GeneralName → Bytes
 content_in (Rfc822Name b) = b
 content_in (DnsName b) = b

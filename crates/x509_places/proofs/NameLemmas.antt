@@ -1,4 +1,4 @@
--- A name is spelled by its own bytes alone.
+-- Only its own bytes encode a name.
 use Rattle.std.proofs.Common.{◌≡◌, ℕ, ◌-◌, [], ◌++◌, length, take, Ok, Bool, true, false, sym, subst, ap, ◌∙◌}
 use Rattle.std.specs.Prelude.{List, ◌==◌, nat_le, nat_lt}
 use Rattle.std.proofs.lemmas.List.{append_assoc, append_cancel_right}
@@ -16,7 +16,7 @@ use Rattle.x509.specs.Name.{AttributeTypeAndValue, name, relative_distinguished_
 use Rattle.x509_places.specs.Place.{IsBefore, NameStands, Stands}
 use Rattle.x509_places.proofs.PlaceLemmas.{front_is}
 
--- what a stable layout spells, it spells with fewer bytes behind it
+-- a stable layout encodes the same without bytes at the end
 fewer : {A : Type 0} (l : Layout A) → IsStable l → (b s : Bytes) (v : A) (r d : Bytes) → Spells l (b ++ s) v (r ++ s) d
     → Spells l b v r d
 fewer (done a) st b s v r d (is, still, e) = (is, append_cancel_right b r s still, e)

@@ -1,4 +1,4 @@
--- What is read of a certificate's signed part, step by step.
+-- Parsing a certificate's signed part, step by step.
 use Rattle.std.specs.Option.{option_map}
 use Rattle.layouts.specs.Bytes.{Bytes}
 use Rattle.layouts.specs.Items.{items_in}
@@ -23,7 +23,7 @@ view_names f = record {
   subject_public_key_info = view_key_info f.key;
 }
 
--- The names and the key stand at their places.
+-- The names and the key are at their places.
 pub record NamesStand (b : Bytes) (f : ReadNames) : Type 0 where
   pub issuer : NameStands b f.issuer_place (items_in relative_distinguished_name f.issuer.bytes.now)
   pub subject : NameStands b f.subject_place (items_in relative_distinguished_name f.subject.bytes.now)

@@ -1,4 +1,4 @@
-//! Names, and where they stand.
+//! Names, with their places.
 #![tactic(auto, using(layouts::proofs::OneAnswerLemmas::read_allowed))]
 
 ghost use Rattle.std.specs.Prelude.{IfOk};
@@ -11,7 +11,7 @@ use crate::place::taken;
 use layouts::{IResult, Place};
 use x509::{Name, parse_name};
 
-/// Reads a Name, and says where it stands, with its tag and its length.
+/// Parses a Name, with its place including its tag and its length.
 pub(crate) fn name_at<'a>(
     whole: &[u8],
     behind: usize,

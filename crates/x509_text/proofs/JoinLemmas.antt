@@ -1,9 +1,9 @@
--- Texts joined: the first, and the others, each behind the byte between them.
+-- A joined text: the first item, and the others, each after the separator.
 use Rattle.std.proofs.Common.{◌≡◌, ℕ, List, [], ◌∷◌, ◌++◌, map, reverse, sym, ◌∙◌, ap, append_assoc, append-nil}
 use Rattle.std.specs.List.{join_with_byte}
 use Rattle.std.proofs.lemmas.List.{map-append, reverse-append}
 
--- Each of the texts, behind the byte.
+-- Each of the texts, after the separator.
 abbrev pub behind : {X : Type 0} → ℕ → (X → List ℕ) → List X → List ℕ
 behind c f [] = []
 behind c f (x ∷ xs) = c ∷ (f x ++ behind c f xs)
@@ -20,7 +20,7 @@ join_begun c f x xs all old text is e =
     ap (λ t. t ++ behind c f xs) e ∙ append_assoc old (f x) (behind c f xs)
     ∙ ap (λ t. old ++ t) (sym (joined_first c f x xs)) ∙ ap (λ zs. old ++ join_with_byte c (map f zs)) (sym is)
 
--- one more of them is
+-- one more of them is written
 pub join_more : {X : Type 0} (c : ℕ) (f : X → List ℕ) (x : X) (xs all : List X) (old text : List ℕ)
     → all ≡ x ∷ xs → text ≡ (old ++ c ∷ []) ++ f x → text ++ behind c f xs ≡ old ++ behind c f all
 join_more c f x xs all old text is e =

@@ -1,4 +1,4 @@
--- Texts that are put behind others.
+-- Texts that are appended to others.
 use Rattle.std.proofs.Common.{◌≡◌, ◌++◌, ℕ, List, Ok, Err, OnOk, ap, ◌∙◌, append_assoc}
 use Rattle.std.specs.Prelude.{Result}
 

@@ -1,4 +1,5 @@
--- Algorithms of keys and of signatures (RFC 3279, RFC 4055, RFC 5758, RFC 8410, FIPS 186-4, RFC 9881, RFC 9909, RFC 9935, RFC 9215, GM/T 0006).
+-- Algorithms of keys and of signatures (RFC 3279, RFC 4055, RFC 5758, RFC 8410, FIPS 186-4, RFC
+-- 9881, RFC 9909, RFC 9935, RFC 9215, GM/T 0006).
 use Rattle.std.specs.Prelude.{List, [], ◌∷◌, codes}
 use Rattle.x509_text.specs.Object.{NamedObject, named}
 

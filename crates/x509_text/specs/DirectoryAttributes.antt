@@ -1,4 +1,4 @@
--- Attributes of names that X.520 defines.
+-- Name attributes that X.520 defines.
 use Rattle.std.specs.Prelude.{List, [], ◌∷◌, codes}
 use Rattle.x509_text.specs.Object.{NamedObject, named}
 

@@ -8,7 +8,7 @@ use Rattle.hex.specs.Hex.{encode_upper}
 use Rattle.layouts.specs.Bytes.{Bytes}
 use Rattle.x509.specs.GeneralName.{GeneralName, Rfc822Name, DnsName, UniformResourceIdentifier, IpAddress, Other}
 
--- Printable ASCII as it is, but `\` twice; of all others two digits behind `\x`.
+-- Printable ASCII as it is, but `\` twice; any other byte as two digits after `\x`.
 abbrev pub ascii_byte : ℕ → Bytes
 ascii_byte b =
     if b == 92 then 92 ∷ 92 ∷ [] else
@@ -22,7 +22,7 @@ address_text address =
     if length address == 4 then ipv4_text address else
     if length address == 16 then ipv6_text (segments_of address) else codes "iPAddress:" ++ encode_upper address
 
--- By its tag.
+-- The kind by its tag.
 abbrev pub kind_of : ℕ → Bytes
 kind_of t =
     if t == 0xa0 then codes "otherName" else

@@ -1,4 +1,5 @@
--- Attributes of names that others define: RFC 4519 and RFC 4524, PKCS #9 (RFC 2985), the CA/Browser Forum, RFC 3739, and Russia (RFC 9215).
+-- Name attributes that X.520 doesn't define: RFC 4519 and RFC 4524, PKCS #9 (RFC 2985), the
+-- CA/Browser Forum, RFC 3739, and Russia (RFC 9215).
 use Rattle.std.specs.Prelude.{List, [], ◌∷◌, codes}
 use Rattle.x509_text.specs.Object.{NamedObject, named}
 

@@ -12,7 +12,7 @@ use crate::value::add_value;
 use std::alloc::{AllocError, Global};
 use x509::{AttributeTypeAndValue, Name, RelativeDistinguishedName};
 
-/// Adds an attribute, by the short name of its type.
+/// Appends an attribute, given the short name of its type.
 fn add_by_name(
     alloc: Global,
     text: &mut String,
@@ -36,7 +36,7 @@ fn add_by_name(
     }
 }
 
-/// Adds an attribute: its type, `=` and its value.
+/// Appends an attribute: its type, `=` and its value.
 #[tactic(auto, unfolding(crate::specs::Name::attribute_text))]
 fn add_attribute(
     alloc: Global,
@@ -49,7 +49,7 @@ fn add_attribute(
     add_by_name(alloc, text, name, attribute)
 }
 
-/// The attributes of a set, in their order.
+/// The attributes of a set, in order.
 fn attributes_of<'a>(
     alloc: Global,
     set: RelativeDistinguishedName<'a>,
@@ -63,7 +63,7 @@ fn attributes_of<'a>(
     Ok(attributes)
 }
 
-/// Adds the attributes of a set from the last to the first, with `+` between each two.
+/// Appends the attributes of a set from the last to the first, separated by `+`.
 fn add_set(
     alloc: Global,
     text: &mut String,
@@ -91,7 +91,7 @@ fn has_attributes(set: RelativeDistinguishedName) -> bool
     attributes.next().is_some()
 }
 
-/// The sets of a name that have attributes, in their order.
+/// The sets of a name that have attributes, in order.
 fn sets_of<'a>(
     alloc: Global,
     name: Name<'a>,
@@ -107,16 +107,21 @@ fn sets_of<'a>(
     Ok(sets)
 }
 
-/// A name as text, by RFC 4514 as OpenSSL prints it (`-nameopt RFC2253`): its sets from the last to the first with `,` between each two, the attributes
-/// of each from the last to the first with `+` between each two, as `CN=host.example,O=Company\, Limited,C=DE`.
+/// A name as text, by RFC 4514, as OpenSSL prints it with `-nameopt RFC2253`: its sets from the
+/// last to the first, separated by `,`, and each set's attributes from the last to the first,
+/// separated by `+`. An example is `CN=host.example,O=Company\, Limited,C=DE`.
 ///
-/// The type of an attribute is its short name ([`object_short_name`](crate::object_short_name)), and a string is its value in UTF-8, where these stand
-/// behind `\`: `"`, `+`, `,`, `;`, `<`, `>`, `\`, a space at either end and a `#` at the front; and where bytes that aren't printable ASCII are
-/// two hexadecimal digits behind `\`. A value is `#` and its element in hexadecimal where it is no string, a BMPString or UniversalString isn't made of
-/// characters, or its type has no name; such a type is its numbers, as 1.2.3.4.
+/// - The type of an attribute is its short name ([`object_short_name`](crate::object_short_name)),
+///   or its numbers, such as 1.2.3.4, if it has no name.
+/// - A string is its value in UTF-8. `"`, `+`, `,`, `;`, `<`, `>`, `\`, a space at either end and a
+///   leading `#` are escaped with `\`; bytes that aren't printable ASCII are two hexadecimal digits
+///   after `\`.
+/// - A value is `#` and its element in hexadecimal if it isn't a string, if a BMPString or
+///   UniversalString doesn't consist of characters, or if its type has no name.
 ///
-/// OpenSSL differs in what it can't read: there it refuses the certificate. It also cuts a type without a name to 79 characters.
-/// What is behind a set or an attribute that isn't read is left out, as in the walk. `AllocError` where the text could not be held.
+/// OpenSSL differs where it can't parse a value: it refuses the certificate. It also cuts a type
+/// without a name to 79 characters. What follows a set or an attribute that doesn't parse is left
+/// out, since the iterator ends there. `AllocError` if there is no memory for the text.
 pub fn name_text(alloc: Global, name: Name) -> Result<String, AllocError>
     ensures { IfOk result (λ text. string_bytes text ≡ name_text_of (items_in relative_distinguished_name name.entry.bytes.now)) }
 {

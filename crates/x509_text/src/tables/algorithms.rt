@@ -1,8 +1,10 @@
-//! Algorithms of keys and of signatures (RFC 3279, RFC 4055, RFC 5758, RFC 8410, FIPS 186-4, RFC 9881, RFC 9909, RFC 9935, RFC 9215, GM/T 0006).
+//! Algorithms of keys and of signatures (RFC 3279, RFC 4055, RFC 5758, RFC 8410, FIPS 186-4, RFC
+//! 9881, RFC 9909, RFC 9935, RFC 9215, GM/T 0006).
 
 use super::{Object, objects};
 
-/// Algorithms of keys and of signatures (RFC 3279, RFC 4055, RFC 5758, RFC 8410, FIPS 186-4, RFC 9881, RFC 9909, RFC 9935, RFC 9215, GM/T 0006).
+/// Algorithms of keys and of signatures (RFC 3279, RFC 4055, RFC 5758, RFC 8410, FIPS 186-4, RFC
+/// 9881, RFC 9909, RFC 9935, RFC 9215, GM/T 0006).
 #[rattlefmt::skip]
 pub(crate) static ALGORITHMS: &[Object] = objects!(
     b"\x2a\x86\x48\x86\xf7\x0d\x01\x01\x01" "rsaEncryption" "rsaEncryption", // 1.2.840.113549.1.1.1

@@ -1,8 +1,10 @@
-//! Attributes of names that others define: RFC 4519 and RFC 4524, PKCS #9 (RFC 2985), the CA/Browser Forum, RFC 3739, and Russia (RFC 9215).
+//! Name attributes that X.520 doesn't define: RFC 4519 and RFC 4524, PKCS #9 (RFC 2985), the
+//! CA/Browser Forum, RFC 3739, and Russia (RFC 9215).
 
 use super::{Object, objects};
 
-/// Attributes of names that others define: RFC 4519 and RFC 4524, PKCS #9 (RFC 2985), the CA/Browser Forum, RFC 3739, and Russia (RFC 9215).
+/// Name attributes that X.520 doesn't define: RFC 4519 and RFC 4524, PKCS #9 (RFC 2985), the
+/// CA/Browser Forum, RFC 3739, and Russia (RFC 9215).
 #[rattlefmt::skip]
 pub(crate) static OTHER_ATTRIBUTES: &[Object] = objects!(
     b"\x09\x92\x26\x89\x93\xf2\x2c\x64\x01\x01" "UID" "userId", // 0.9.2342.19200300.100.1.1

@@ -1,4 +1,4 @@
--- the pieces so far were heard, from a beginning on
+-- the pieces so far were read, from the beginning
 use Rattle.std.proofs.Common.{take}
 use Rattle.tls_stream.specs.Conversations.{views}
 use Rattle.tls_analyzer.specs.Analyzers.{AreHeardOn, IsNew}

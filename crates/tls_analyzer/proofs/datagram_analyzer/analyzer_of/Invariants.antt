@@ -1,4 +1,4 @@
--- what is still to come, heard behind what came, is all of it
+-- reading the rest of the datagrams in the state so far gives the final state
 use Rattle.std.proofs.Common.{◌≡◌, drop}
 use Rattle.tls_stream.specs.Conversations.{views}
 use Rattle.tls_analyzer.specs.Datagrams.{IsKnown, Analyzer, heard_all, untold}

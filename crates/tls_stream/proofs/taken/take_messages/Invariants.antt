@@ -1,4 +1,4 @@
--- what is taken, and what is still to come, is what it was
+-- the messages taken and those still to come don't change
 use Rattle.std.proofs.Common.{[], length}
 use Rattle.tls_stream.specs.Frames.{elements}
 use Rattle.tls_stream.specs.Events.{events, fed}
