@@ -154,7 +154,7 @@ impl Fragments {
         }
     }
 
-    /// Reserves memory up to `end`, at twice the capacity but at most the length of the message.
+    /// Reserves memory for `end` bytes: for twice as many, but at most the length of the message.
     fn reserve(&mut self, end: usize) -> Result<(), AllocError>
         requires { end ≤ self.old.size }
         ensures { self.new ≡ self.old }

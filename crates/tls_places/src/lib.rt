@@ -2,9 +2,9 @@
 //!
 //! An item whose last part is bytes is a [`Frame`]: a record and its fragment, a message and its
 //! body, an extension and its content, a name, a certificate, a key share. [`frame_at`] parses one
-//! and returns the [`Place`] of these bytes; [`Placed`] iterates over many. [`place_within`] turns
-//! a place in a part into one in the whole. Nothing here allocates, and every refusal is that of
-//! the parser without places.
+//! and returns the [`layouts::Place`] of these bytes; [`Placed`] iterates over many.
+//! [`place_within`] turns a place in a part into one in the whole. Nothing here allocates, and
+//! every refusal is that of the parser without places.
 //!
 //! Each place is proved to lie within the bytes and to hold the part's bytes; `specs/Place.antt`
 //! and `specs/Hello.antt` state it.

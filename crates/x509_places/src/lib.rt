@@ -1,9 +1,9 @@
 //! Parses certificates with the offsets and lengths of their fields.
 //!
 //! [`certificate_with_places`] parses a certificate as [`x509::parse_certificate`] does, and
-//! returns a [`Place`] for each field. [`extension_with_places`] and [`general_name_with_place`] do
-//! so for one extension, and for one name of a subject or an issuer. Nothing here allocates, and
-//! every refusal is that of `x509`.
+//! returns a [`layouts::Place`] for each field. [`extension_with_places`] and
+//! [`general_name_with_place`] do so for one extension, and for one name of a subject or an issuer.
+//! Nothing here allocates, and every refusal is that of `x509`.
 //!
 //! Each place is proved to lie within the certificate and to hold the field's bytes;
 //! `specs/Certificate.antt` and `specs/Walk.antt` state it.
