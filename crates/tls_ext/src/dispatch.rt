@@ -138,9 +138,11 @@ pub fn parse_tls_client_hello_extension(alloc: Global, i: &[u8]) -> IResult<&[u8
 }
 
 /// Reads an extension of a ServerHello, as [`parse_tls_extension`], but types that a ServerHello
-/// doesn't have are `Unknown`: supported groups, padding, the older number of key shares, modes of
-/// pre-shared keys, filters on certificate extensions, post_handshake_auth, and an encrypted server
-/// name.
+/// doesn't have are `Unknown`:
+///
+/// - supported groups, padding, the older number of key shares;
+/// - modes of pre-shared keys, filters on certificate extensions;
+/// - post_handshake_auth, and an encrypted server name.
 #[inline(always)]
 pub fn parse_tls_server_hello_extension(alloc: Global, i: &[u8]) -> IResult<&[u8], TlsExtension>
     ensures { GivesOrMemory view (extension_layout server) i.now result }
