@@ -10,8 +10,8 @@
 //!   not too large (`HasNoRecord`).
 //! - Each call that writes appends the encoding of the value. If it refuses the value, or runs out
 //!   of memory, it doesn't call the `Write`. If the `Write` fails, how much it took is unknown.
-//! - What is written reads back, and what was read is written back (`specs/RecordText.antt`,
-//!   `RecordWriter`).
+//! - What is written reads back, and what was read is written back, under the conditions that
+//!   `specs/RecordText.antt` and `RecordWriter` define.
 //!
 //! `specs/Record.antt` defines the layouts of TLS; `DtlsRecord`, `DtlsHandshake` and `DtlsHello`
 //! those of DTLS. `InPlace` and `DtlsInPlace` define records whose messages are parsed while they
