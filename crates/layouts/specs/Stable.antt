@@ -42,8 +42,9 @@ IsStable (chain l f) = IsStable l × ((a : _) → IsStable (f a))
 abbrev pub NeverLacks : {A : Type 0} → Layout A → Type 0
 NeverLacks l = (b : Bytes) (n : ℕ) → Refuses l b (Lacks n) → ⊥
 
--- The layout is stable, and only its own numbers, skipped bytes, blocks and windows can lack bytes.
--- The content of a complete window lacks none, and no tag does, since its next byte may differ.
+-- The layout is stable, and only its own numbers, skipped bytes, blocks and windows can lack bytes:
+-- the content of a complete window lacks none. It has no tags, since the missing bytes of a tag may
+-- turn out to differ.
 abbrev pub CountsMissing : {A : Type 0} → Layout A → Type 0
 CountsMissing (done a) = ⊤
 CountsMissing (refuse k) = ⊤

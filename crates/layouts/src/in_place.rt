@@ -14,7 +14,7 @@ use crate::number::Number;
 use crate::result::{Err, Error, ErrorKind, IResult, Needed, refused};
 use std::marker::PhantomData;
 
-/// Reads an item of a list in place: its layout, and a reader that allocates nothing.
+/// An item of a list in place: its layout, and a reader that allocates nothing.
 ///
 /// Numbers of a fixed width are items of themselves; other types name what they read.
 pub trait InPlace<'a> {

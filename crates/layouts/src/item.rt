@@ -11,8 +11,7 @@ use crate::result::IResult;
 use crate::room::{Room, hops1, hops2};
 use std::alloc::Global;
 
-/// Reads an item of a list: its layout and its reader. Most types that are parsed are items of
-/// themselves.
+/// An item of a list: its layout, and a reader. Most types that are parsed are items of themselves.
 pub trait Item<'a>: Room {
     /// The type of an item that was read.
     type Read: Drop;

@@ -1,15 +1,15 @@
-//! Estimates of how many items a slice holds, so that a list allocates once.
+//! Estimates of how many items a slice holds, so that a list allocates its capacity at once.
 //!
 //! An estimate is at most the number of bytes, whatever lengths a sender wrote, and no answer
 //! depends on it. Before the first item is read, a list allocates for [`MOST_AT_FIRST`] items at
-//! most, so bytes whose first item is refused cost little.
+//! most, so bytes whose first item is refused cost no more than that.
 ghost use Rattle.std.specs.Prelude.{◌≤◌, length};
 
 /// The most items that a list allocates for before it reads the first.
 const MOST_AT_FIRST: usize = 32;
 
-/// Estimates the length of a list of these items. If they have lengths, the estimate follows the
-/// lengths.
+/// An item type that estimates how many items a slice holds. If items have length fields, the
+/// estimate follows these.
 pub trait Room {
     /// Returns an estimate of how many items `i` holds, at most its number of bytes.
     fn room(i: &[u8]) -> usize

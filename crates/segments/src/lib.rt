@@ -25,26 +25,30 @@
 //! order. [`laws`] states theorems about streams of any length.
 //!
 //! - `specs/Cells.antt` defines what is buffered and what each call does to it.
-//! - `specs/Law.antt` defines what is delivered, by the stream and its segments alone; `Steps` the
-//!   same for [`replay`].
+//! - `specs/Law.antt` defines what is delivered, by the stream and its segments alone; `Steps` does
+//!   so for [`replay`].
 //! - `specs/Pages.antt` and `Places` define how bytes are stored.
 //!
 //! # Cost
 //!
 //! Out-of-order bytes are kept in pages of 1,024 positions. Only pages in which a byte was received
-//! are allocated. A segment costs time by its own length, and each out-of-order byte once more when
-//! it becomes in-order. Bytes are copied, compared and counted a page at a time. A page is looked
-//! up once for all of its positions, up to three times when bytes are written to it, in time
-//! logarithmic in the number of pages. If some positions of a page were filled before, the others
-//! are filled one by one. Nothing else is searched, in whatever order segments come. A gap that
-//! [`TcpReassembler::missing`] counts, or that is skipped, costs a look-up for each of its
-//! positions.
+//! are allocated.
+//!
+//! - A segment costs time by its own length, and each out-of-order byte once more when it becomes
+//!   in-order.
+//! - Bytes are copied, compared and counted a page at a time. If some positions of a page were
+//!   filled before, the others are filled one by one.
+//! - A page is looked up once for all of its positions, up to three times when bytes are written to
+//!   it, in time logarithmic in the number of pages. Nothing else is searched, in whatever order
+//!   segments come.
+//! - A gap that [`TcpReassembler::missing`] counts, or that is skipped, costs a look-up for each of
+//!   its positions.
 //!
 //! After the first missing byte, memory grows with the bytes received, not with how far ahead they
-//! are: the first byte in a page allocates the page, of 2,056 bytes, and its entry in a tree. If
+//! are. The first byte in a page allocates the page, of 2,056 bytes, and its entry in a tree. If
 //! all positions within the limit of [`TcpReassembler::new`] are filled, that is little more than 2
 //! bytes for each byte of the limit. All of it is freed once no out-of-order byte is left. In-order
-//! bytes are kept until the caller takes them.
+//! bytes wait for the caller to take them.
 #![tactic(auto)]
 
 pub mod laws;

@@ -5,7 +5,7 @@ ghost use Rattle.tls_base.specs.Cipher.{numbered, key_exchanges, authentications
 use std::error::Error;
 use std::fmt;
 
-/// The number has no member in the enum that was asked for.
+/// A number without a member in the enum that was asked for.
 #[derive(Debug, PartialEq, Drop)]
 pub struct UnknownNumber(pub u8);
 

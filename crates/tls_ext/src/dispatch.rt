@@ -129,7 +129,7 @@ pub fn parse_tls_extension(alloc: Global, i: &[u8]) -> IResult<&[u8], TlsExtensi
 }
 
 /// Reads an extension of a ClientHello, as [`parse_tls_extension`], but the older number of key
-/// shares is `Unknown`: a ClientHello doesn't have it.
+/// shares, which this call doesn't parse, is `Unknown`.
 #[inline(always)]
 pub fn parse_tls_client_hello_extension(alloc: Global, i: &[u8]) -> IResult<&[u8], TlsExtension>
     ensures { GivesOrMemory view (extension_layout client) i.now result }
@@ -137,10 +137,12 @@ pub fn parse_tls_client_hello_extension(alloc: Global, i: &[u8]) -> IResult<&[u8
     extension(alloc, i, Side::Client)
 }
 
-/// Reads an extension of a ServerHello, as [`parse_tls_extension`], but types that a ServerHello
-/// doesn't have are `Unknown`: supported groups, padding, the older number of key shares, modes of
-/// pre-shared keys, filters on certificate extensions, post_handshake_auth, and an encrypted server
-/// name.
+/// Reads an extension of a ServerHello, as [`parse_tls_extension`], but types that this call
+/// doesn't parse are `Unknown`:
+///
+/// - supported groups, padding, the older number of key shares;
+/// - modes of pre-shared keys, filters on certificate extensions;
+/// - post_handshake_auth, and an encrypted server name.
 #[inline(always)]
 pub fn parse_tls_server_hello_extension(alloc: Global, i: &[u8]) -> IResult<&[u8], TlsExtension>
     ensures { GivesOrMemory view (extension_layout server) i.now result }
@@ -156,7 +158,7 @@ trait Reader {
         ensures { result ≡ side };
 }
 
-/// Reads extensions of any message.
+/// The side of any message.
 struct General;
 
 impl Reader for General {

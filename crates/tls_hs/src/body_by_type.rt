@@ -13,9 +13,9 @@ use tls_base::TlsHandshakeType;
 /// The table. It passes its rows to the macro `$then`, after the words in brackets; `$part` picks
 /// the rows.
 ///
-/// A row has the form of the message; the name that the constant of `TlsHandshakeType` and the
-/// variant of `TlsMessageHandshake` share; and the call that reads the body as that message from
-/// `i`. Some of these calls also take `alloc`, others the body's length `len`. The forms:
+/// A row has the form of the message, then the name that the constant of `TlsHandshakeType` and the
+/// variant of `TlsMessageHandshake` share. Then comes the call that reads the body as that message
+/// from `i`. Some of these calls also take `alloc`, others the body's length `len`. The forms:
 ///
 /// - `empty`: the message has no fields.
 /// - `value`: it has one field, which is copied.

@@ -18,9 +18,9 @@ pub struct TlsClientHelloContents<'a> {
     /// The version that the client offers up to TLS 1.2. In TLS 1.3 it is 0x0303, and the offered
     /// versions are in the extension supported_versions (RFC 8446, section 4.2.1).
     pub version: TlsVersion,
-    /// 32 bytes.
+    /// The random, 32 bytes.
     pub random: &'a [u8],
-    /// 1 to 32 bytes; `None` if there are none.
+    /// The session id, 1 to 32 bytes; `None` if it is empty.
     pub session_id: Option<&'a [u8]>,
     /// The cipher suites that the client offers, in its order.
     pub ciphers: Vec<TlsCipherSuiteID>,

@@ -3,7 +3,8 @@
 //!
 //! The promise: each parse call returns the one answer of its layout. That is the value and the
 //! exact rest, or the refusal of the leftmost part that can't be read. Slices in a value are parts
-//! of the input. What is written reads back, and what was read is written back ([`laws`]).
+//! of the input. What is written reads back, and what was read is written back, under the
+//! conditions that [`laws`] states.
 //!
 //! - `specs/Message.antt` defines the messages of records, `Handshake` the body of each handshake
 //!   type. `Hello`, `ServerHello`, `Certificate` and `Session` define the bodies' fields.

@@ -27,9 +27,9 @@ pub struct TlsServerHelloContents<'a> {
     /// The version that the server chose up to TLS 1.2. In TLS 1.3 it is 0x0303, and the chosen
     /// version is in the extension supported_versions (RFC 8446, section 4.2.1).
     pub version: TlsVersion,
-    /// 32 bytes.
+    /// The random, 32 bytes.
     pub random: &'a [u8],
-    /// 1 to 32 bytes; `None` if there are none.
+    /// The session id, 1 to 32 bytes; `None` if it is empty.
     pub session_id: Option<&'a [u8]>,
     /// The cipher suite that the server chose.
     pub cipher: TlsCipherSuiteID,
@@ -94,7 +94,7 @@ impl<'a> TlsServerHelloContents<'a> {
 pub struct TlsServerHelloV13Draft18Contents<'a> {
     /// The version that the server chose.
     pub version: TlsVersion,
-    /// 32 bytes.
+    /// The random, 32 bytes.
     pub random: &'a [u8],
     /// The cipher suite that the server chose.
     pub cipher: TlsCipherSuiteID,
@@ -139,9 +139,15 @@ fn server_hello_fields(i: &[u8], extensible: bool) -> IResult<&[u8], TlsServerHe
     Ok((i, hello))
 }
 
-/// Reads the body of a ServerHello of any version (RFC 5246, section 7.4.1.3): 2 bytes of version,
-/// 32 of random, a session id after 1 byte of length, 2 bytes of cipher suite, 1 of compression
-/// method, and optional extensions after 2 bytes of length. All numbers are big-endian.
+/// Reads the body of a ServerHello of any version (RFC 5246, section 7.4.1.3). All numbers are
+/// big-endian.
+///
+/// - 2 bytes of version, 32 of random;
+/// - a session id, after 1 byte of length;
+/// - 2 bytes of cipher suite, 1 of compression method;
+/// - optional extensions, after 2 bytes of length.
+///
+/// The refusals:
 ///
 /// - `Incomplete` with the number of missing bytes, if they are missing before the extensions.
 /// - `Error` of kind `Verify` if the session id is longer than 32 bytes.

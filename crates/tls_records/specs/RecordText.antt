@@ -101,9 +101,9 @@ normal_plaintext p = record {
   messages = map normal_message p.messages;
 }
 
--- The record is written back, if it was read from b with the rest r. That is: if nothing was
--- dropped, the writer knows the kinds of its messages, and each hello has extensions, then it can
--- be written, and b is its encoding followed by r.
+-- The record is written back, if it was read from b with the rest r. For this nothing may have been
+-- dropped, the writer must know the kinds of its messages, and each hello must have extensions.
+-- Then it can be written, and b is its encoding followed by r.
 abbrev pub WritesBack : Plaintext → Bytes → Bytes → Type 0
 WritesBack p b r =
     Spells plaintext b p r [] → All IsWrittenBackMessage p.messages → FitsPlaintext p × (b ≡ plaintext_text p ++ r)

@@ -6,12 +6,12 @@
 //! - Each parse call returns the one answer of its layout: the value and the exact rest, or the
 //!   refusal of the leftmost part that can't be read. Slices in a value are parts of the input.
 //! - A record is incomplete exactly while its bytes aren't all present and its length isn't too
-//!   large. Memory can't run out unless it is complete and not too large (`NeedsMore`,
-//!   `HasNoRecord` in `specs/Framing.antt`).
-//! - Each call that writes appends the encoding of the value; or it refuses the value, or runs out
-//!   of memory, and doesn't call the `Write`; or the `Write` fails, and how much it took is
-//!   unknown. `specs/RecordText.antt` and `RecordWriter` define this.
-//! - What is written reads back, and what was read is written back.
+//!   large (`NeedsMore` in `specs/Framing.antt`). Memory can't run out unless it is complete and
+//!   not too large (`HasNoRecord`).
+//! - Each call that writes appends the encoding of the value. If it refuses the value, or runs out
+//!   of memory, it doesn't call the `Write`. If the `Write` fails, how much it took is unknown.
+//! - What is written reads back, and what was read is written back, under the conditions that
+//!   `specs/RecordText.antt` and `RecordWriter` define.
 //!
 //! `specs/Record.antt` defines the layouts of TLS; `DtlsRecord`, `DtlsHandshake` and `DtlsHello`
 //! those of DTLS. `InPlace` and `DtlsInPlace` define records whose messages are parsed while they

@@ -148,10 +148,11 @@ pub fn first_body<'a>(
 /// 6066, section 3).
 ///
 /// `None` if the record has no handshake messages, if none of them is a ClientHello, or if its
-/// extensions have no name. Refuses if the record, the body of the ClientHello, or its extension
-/// server_name is refused; also if no ClientHello, or no such extension, is found and the messages,
-/// or the extensions, end with an incomplete one. No other message, and no other extension, is
-/// checked.
+/// extensions have no name. No other message, and no other extension, is checked. The refusals:
+///
+/// - the refusal of the record, of the ClientHello's body, or of its extension server_name;
+/// - if no ClientHello is found, the refusal of an incomplete message at the end;
+/// - if the ClientHello has no server_name, the refusal of an incomplete extension at the end.
 pub fn server_name_of_record(i: &[u8]) -> Result<Option<&[u8]>, Err<Error<&[u8]>>>
     ensures { Tells (option_map (λ x. x.now)) (host_name_of_record i.now) result }
 {

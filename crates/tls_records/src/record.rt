@@ -17,8 +17,8 @@ use tls_base::{TlsRecordType, TlsVersion};
 /// bytes is accepted.
 pub const MAX_RECORD_LEN: u16 = 16640;
 
-/// The maximum length of an encrypted record's fragment up to TLS 1.2, and in DTLS, in bytes: 2^14
-/// + 2048 (RFC 5246, section 6.2.3). No reader of records accepts more than [`MAX_RECORD_LEN`]; the
+/// The maximum length in bytes of an encrypted record's fragment up to TLS 1.2, and in DTLS: 2^14 +
+/// 2048 (RFC 5246, section 6.2.3). No reader of records accepts more than [`MAX_RECORD_LEN`]; the
 /// reassembly of a stream's messages does.
 pub const MAX_ENCRYPTED_LEN: u16 = 18_432;
 

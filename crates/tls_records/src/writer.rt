@@ -174,9 +174,11 @@ pub fn gen_tls_message<W: Write>(alloc: Global, m: &TlsMessage, w: &mut W) -> Re
 /// Returns the refusal of the first message that can't be written, as [`gen_tls_message`];
 /// `BadLength` if all can, but are longer than 65535 bytes together.
 ///
-/// [`crate::parse_tls_plaintext`] reads it back if it has at least one message, its messages have
-/// the record's type, each ServerHello has a version from 0x0300 to 0x0303 (that of draft 18 of TLS
-/// 1.3: 0x7f12), and its fragment has at most [`crate::MAX_RECORD_LEN`] bytes.
+/// [`crate::parse_tls_plaintext`] reads the record back if all of this holds:
+///
+/// - it has at least one message, and its messages have the record's type;
+/// - each ServerHello has a version from 0x0300 to 0x0303, that of draft 18 of TLS 1.3 has 0x7f12;
+/// - its fragment has at most [`crate::MAX_RECORD_LEN`] bytes.
 #[tactic(auto, using(crate::proofs::RecordTextLemmas::written_reads))]
 pub fn gen_tls_plaintext<W: Write>(
     alloc: Global,

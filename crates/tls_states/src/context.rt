@@ -71,9 +71,9 @@ impl ParseContext {
     ///
     /// - [`TlsState::SessionEncrypted`] exactly if the messages begin with a handshake of the
     ///   grammar. Warnings, and HelloRequests after the ClientHello, may come anywhere in it.
-    /// - [`TlsState::Invalid`] exactly if they don't, no further messages could complete them to a
-    ///   handshake, and they aren't the beginning of one followed by a fatal alert as the last
-    ///   message. A message after that alert makes it `Invalid`.
+    /// - [`TlsState::Invalid`] exactly if they don't begin with a handshake, and no further
+    ///   messages could complete them to one, and no fatal alert, as the last message, broke one
+    ///   off. A message after that alert makes it `Invalid`.
     pub fn run(&mut self, messages: &[(TlsMessage<'_>, bool)])
         ensures by_steps { self.new ≡ run_of self.old (word messages.now) }
         ensures encrypted { self.old ≡ state.None → (self.new ≡ state.SessionEncrypted) ↔ HasHandshake (word messages.now) }

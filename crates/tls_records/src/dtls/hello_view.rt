@@ -17,9 +17,9 @@ use tls_hs::parts::{client_hello_fields, held_bytes};
 pub struct DTLSClientHelloView<'a> {
     /// The version that the client offers.
     pub version: TlsVersion,
-    /// 32 bytes.
+    /// The random, 32 bytes.
     pub random: &'a [u8],
-    /// 1 to 32 bytes; `None` if the length is 0.
+    /// The session id, 1 to 32 bytes; `None` if it is empty.
     pub session_id: Option<&'a [u8]>,
     /// The cookie from the server's HelloVerifyRequest; empty in a first ClientHello.
     pub cookie: &'a [u8],
