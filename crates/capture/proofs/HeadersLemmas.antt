@@ -11,7 +11,8 @@ pub none_left : (next : ℕ) → headers 0 next ≡ transport next
 unfolding headers
 none_left next = refl
 
-pub one_more : (n next : ℕ) → n ≢ 0 → headers n next ≡ chain (step next) (step_then (headers (n - 1)) next)
+pub one_more : (n next : ℕ) → n ≢ 0
+    → headers n next ≡ chain (step next) (step_then (headers (n - 1)) next)
 unfolding headers
 one_more zero next some = absurd (some refl)
 one_more (suc n) next some =

@@ -40,7 +40,8 @@ one_more (suc n) kind (k ∷ len ∷ b) some h =
 one_more n kind xs some h = absurd (omega arith)
 
 -- An option of another kind is skipped.
-pub another : (n kind : ℕ) (xs : Bytes) → n ≢ 0 → 2 ≤ length xs → get_or xs 0 0 ≢ 0 → get_or xs 0 0 ≢ 1
+pub another : (n kind : ℕ) (xs : Bytes) → n ≢ 0 → 2 ≤ length xs → get_or xs 0 0 ≢ 0
+    → get_or xs 0 0 ≢ 1
     → 2 ≤ get_or xs 1 0 → get_or xs 1 0 - 2 ≤ length (drop 2 xs) → get_or xs 0 0 ≢ kind
     → option_in n kind xs ≡ option_in (n - 1) kind (drop (get_or xs 1 0 - 2) (drop 2 xs))
 another n kind xs some h end padding len whole other =

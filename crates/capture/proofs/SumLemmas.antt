@@ -33,10 +33,13 @@ use Rattle.capture.specs.Checksum.{checksum_by}
 
 -- Equal numbers stay equal with the same number added.
 pub same_more : (x y w : ℕ) → x % 65535 ≡ y % 65535 → (x + w) % 65535 ≡ (y + w) % 65535
-same_more x y w h = add-mod x w 65535 ∙ (ap (λ (k : ℕ). (k + w % 65535) % 65535) h ∙ sym (add-mod y w 65535))
+same_more x y w h =
+    add-mod x w 65535 ∙ (ap (λ (k : ℕ). (k + w % 65535) % 65535) h ∙ sym (add-mod y w 65535))
 
-pub same_sums : (x y v w : ℕ) → x % 65535 ≡ y % 65535 → v % 65535 ≡ w % 65535 → (x + v) % 65535 ≡ (y + w) % 65535
-same_sums x y v w h k = same_more x y v h ∙ (add-mod y v 65535 ∙ (ap (λ (n : ℕ). (y % 65535 + n) % 65535) k ∙ sym (add-mod y w 65535)))
+pub same_sums : (x y v w : ℕ) → x % 65535 ≡ y % 65535 → v % 65535 ≡ w % 65535
+    → (x + v) % 65535 ≡ (y + w) % 65535
+same_sums x y v w h k = same_more x y v h
+    ∙ (add-mod y v 65535 ∙ (ap (λ (n : ℕ). (y % 65535 + n) % 65535) k ∙ sym (add-mod y w 65535)))
 
 -- Multiples of 65,535 don't count.
 pub same_but : (x y k : ℕ) → x ≡ y + 65535 * k → x % 65535 ≡ y % 65535
@@ -51,7 +54,8 @@ pub four_words : (t n a b c d : ℕ) (ys : List ℕ) → n ≡ from_le_bytes w32
     → ((t + n) * 256 + words ys) % 65535 ≡ (t * 256 + words (a ∷ b ∷ c ∷ d ∷ ys)) % 65535
 unfolding words
 four_words t n a b c d ys p =
-    same_but ((t + n) * 256 + words ys) (t * 256 + words (a ∷ b ∷ c ∷ d ∷ ys)) (b + 256 * c + 65537 * d) (omega (arith, p))
+    same_but ((t + n) * 256 + words ys) (t * 256 + words (a ∷ b ∷ c ∷ d ∷ ys))
+    (b + 256 * c + 65537 * d) (omega (arith, p))
 
 -- Sixteen bytes, in four sums, and the words behind them.
 pub sixteen_bytes : (s t u v k l m n : ℕ) (xs : List ℕ) → 16 ≤ length xs
@@ -59,10 +63,14 @@ pub sixteen_bytes : (s t u v k l m n : ℕ) (xs : List ℕ) → 16 ≤ length xs
     → l ≡ from_le_bytes w32 (get_or xs 4 0 ∷ get_or xs 5 0 ∷ get_or xs 6 0 ∷ get_or xs 7 0 ∷ [])
     → m ≡ from_le_bytes w32 (get_or xs 8 0 ∷ get_or xs 9 0 ∷ get_or xs 10 0 ∷ get_or xs 11 0 ∷ [])
     → n ≡ from_le_bytes w32 (get_or xs 12 0 ∷ get_or xs 13 0 ∷ get_or xs 14 0 ∷ get_or xs 15 0 ∷ [])
-    → (((s + k) + (t + l) + (u + m) + (v + n)) * 256 + words (take (length xs - 16) (drop 16 xs))) % 65535
+    → (((s + k) + (t + l) + (u + m) + (v + n)) * 256 + words (take (length xs - 16) (drop 16 xs))) %
+    65535
     ≡ ((s + t + u + v) * 256 + words xs) % 65535
-sixteen_bytes s t u v k l m n (x0 ∷ x1 ∷ x2 ∷ x3 ∷ x4 ∷ x5 ∷ x6 ∷ x7 ∷ x8 ∷ x9 ∷ x10 ∷ x11 ∷ x12 ∷ x13 ∷ x14 ∷ x15 ∷ ys) _ pk pl pm pn =
-    let xs : List ℕ = x0 ∷ x1 ∷ x2 ∷ x3 ∷ x4 ∷ x5 ∷ x6 ∷ x7 ∷ x8 ∷ x9 ∷ x10 ∷ x11 ∷ x12 ∷ x13 ∷ x14 ∷ x15 ∷ ys in
+sixteen_bytes s t u v k l m n
+    (x0 ∷ x1 ∷ x2 ∷ x3 ∷ x4 ∷ x5 ∷ x6 ∷ x7 ∷ x8 ∷ x9 ∷ x10 ∷ x11 ∷ x12 ∷ x13 ∷ x14 ∷ x15 ∷ ys) _
+    pk pl pm pn =
+    let xs : List ℕ =
+    x0 ∷ x1 ∷ x2 ∷ x3 ∷ x4 ∷ x5 ∷ x6 ∷ x7 ∷ x8 ∷ x9 ∷ x10 ∷ x11 ∷ x12 ∷ x13 ∷ x14 ∷ x15 ∷ ys in
     let rest : take (length xs - 16) (drop 16 xs) ≡ ys = take_rest xs 16 in
     let before : ℕ = s + t + u + v in
     let order : (s + k) + (t + l) + (u + m) + (v + n) ≡ before + k + l + m + n = omega arith in
@@ -71,7 +79,8 @@ sixteen_bytes s t u v k l m n (x0 ∷ x1 ∷ x2 ∷ x3 ∷ x4 ∷ x5 ∷ x6 ∷ 
     ∙ (four_words (before + k + l + m) n x12 x13 x14 x15 ys pn
     ∙ (four_words (before + k + l) m x8 x9 x10 x11 (x12 ∷ x13 ∷ x14 ∷ x15 ∷ ys) pm
     ∙ (four_words (before + k) l x4 x5 x6 x7 (x8 ∷ x9 ∷ x10 ∷ x11 ∷ x12 ∷ x13 ∷ x14 ∷ x15 ∷ ys) pl
-    ∙ four_words before k x0 x1 x2 x3 (x4 ∷ x5 ∷ x6 ∷ x7 ∷ x8 ∷ x9 ∷ x10 ∷ x11 ∷ x12 ∷ x13 ∷ x14 ∷ x15 ∷ ys) pk))))
+    ∙ four_words before k x0 x1 x2 x3
+    (x4 ∷ x5 ∷ x6 ∷ x7 ∷ x8 ∷ x9 ∷ x10 ∷ x11 ∷ x12 ∷ x13 ∷ x14 ∷ x15 ∷ ys) pk))))
 sixteen_bytes s t u v k l m n xs many _ _ _ _ = absurd (omega arith)
 
 -- Four bytes, and the words behind them.
@@ -101,7 +110,8 @@ two_bytes t r (a ∷ b ∷ ys) n p =
 two_bytes t r xs n p = absurd (omega arith)
 
 -- A last odd byte is an upper half.
-pub one_byte : (t : ℕ) (xs : List ℕ) → 1 ≤ length xs → length xs < 2 → t + get_or xs 0 0 * 256 ≡ t + words xs
+pub one_byte : (t : ℕ) (xs : List ℕ) → 1 ≤ length xs → length xs < 2
+    → t + get_or xs 0 0 * 256 ≡ t + words xs
 unfolding words
 one_byte t (a ∷ []) n p = refl
 one_byte t xs n p = absurd (omega arith)
@@ -112,7 +122,8 @@ no_byte t [] n = omega arith
 no_byte t xs n = absurd (omega arith)
 
 -- A checksum's verification depends only on the sums modulo 65,535.
-pub same_checksum : (p q v w c : ℕ) → p % 65535 ≡ q % 65535 → v % 65535 ≡ w % 65535 → checksum_by p v c ≡ checksum_by q w c
+pub same_checksum : (p q v w c : ℕ) → p % 65535 ≡ q % 65535 → v % 65535 ≡ w % 65535
+    → checksum_by p v c ≡ checksum_by q w c
 unfolding checksum_by
 same_checksum p q v w c h k = rw (same_sums p q v w h k, h)
 

@@ -13,13 +13,15 @@ address_words (V6 upper lower) = words8 upper + words8 lower
 -- The sum of the pseudo-header's words: both addresses, the protocol, and the length of header and
 -- data (RFC 9293, section 3.1; RFC 8200, section 8.1).
 abbrev pub pseudo_words : Datagram → ℕ → ℕ → ℕ
-pseudo_words d protocol len = address_words d.source + address_words d.destination + (protocol + words4 len)
+pseudo_words d protocol len =
+    address_words d.source + address_words d.destination + (protocol + words4 len)
 
 -- The sum of a segment's words, its checksum among them.
 abbrev pub segment_words : Segment → ℕ
 segment_words s =
     s.source + s.destination + words4 s.sequence + words4 s.acknowledgment
-    + (s.offset * 256 + s.flags + s.window + s.checksum + s.urgent_pointer + words s.options + words s.payload)
+    + (s.offset * 256 + s.flags + s.window + s.checksum + s.urgent_pointer + words s.options
+    + words s.payload)
 
 abbrev pub segment_length : Segment → ℕ
 segment_length s = 20 + length s.options + length s.payload
@@ -46,7 +48,8 @@ checksum_by pseudo words checksum =
 -- The result for the content of a datagram; `Right` if there is no checksum to verify. A UDP
 -- checksum that would be 0 is sent as 0xffff, which is the same in ones' complement.
 abbrev pub content_checksum : Datagram → Content → Checksum
-content_checksum d (Tcp s) = checksum_by (pseudo_words d 6 (segment_length s)) (segment_words s) s.checksum
+content_checksum d (Tcp s) =
+    checksum_by (pseudo_words d 6 (segment_length s)) (segment_words s) s.checksum
 content_checksum d (Udp u) =
     if u.checksum == 0 then checksum_without d.source
     else checksum_by (pseudo_words d 17 u.length) (user_words u) u.checksum

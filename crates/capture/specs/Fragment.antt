@@ -69,7 +69,14 @@ pub record Piece : Type 0 where
   pub payload : Bytes
 
 abbrev pub view_piece : LentPiece → Piece
-view_piece p = record { next = p.next; offset = p.offset; identification = p.identification; payload = p.payload.now }
+view_piece p =
+    record {
+      next = p.next;
+      offset = p.offset;
+      identification = p.identification;
+      payload =
+          p.payload.now;
+    }
 
 -- What follows a header, in the search for a Fragment header.
 pub data PieceStep : Type 0 where
@@ -92,7 +99,13 @@ piece = do
   identification ← number 4
   payload ← look rest
   done (if (offset / 8 == 0) && (offset % 2 == 0) then Further next
-      else Cut (record { next = next; offset = offset; identification = identification; payload = payload }))
+      else Cut (record {
+        next = next;
+        offset = offset;
+        identification = identification;
+        payload =
+            payload;
+      }))
 
 -- What follows a header of this number: 51 is the Authentication Header (RFC 4302, section 2.2), 44
 -- a Fragment header.
@@ -140,4 +153,10 @@ joined_content (V6 upper lower) protocol = complete (headers 16 protocol)
 unfoldable pub joined : Address → Address → ℕ → Bool → Layout Datagram
 joined source destination protocol right = do
   content ← joined_content source protocol
-  done (record { source = source; destination = destination; is_header_right = right; content = content })
+  done (record {
+    source = source;
+    destination = destination;
+    is_header_right =
+        right;
+    content = content;
+  })

@@ -90,7 +90,15 @@ pub record FieldsV4 : Type 0 where
   pub words : ℕ
 
 abbrev pub view_fields_v4 : LentFieldsV4 → FieldsV4
-view_fields_v4 f = record { flags = f.flags; protocol = f.protocol; source = f.source; destination = f.destination; words = f.words }
+view_fields_v4 f =
+    record {
+      flags = f.flags;
+      protocol = f.protocol;
+      source = f.source;
+      destination =
+          f.destination;
+      words = f.words;
+    }
 
 -- Identification; flags and fragment offset; time to live; protocol; checksum; source; destination.
 unfoldable pub fields_v4 : Layout FieldsV4
@@ -107,12 +115,14 @@ fields_v4 = do
     protocol = protocol;
     source = source;
     destination = destination;
-    words = identification + flags + (lifetime * 256 + protocol) + checksum + words4 source + words4 destination;
+    words = identification + flags + (lifetime * 256 + protocol) + checksum + words4 source + words4
+        destination;
   })
 
 -- The content, which ends at the total length, or with the captured bytes if that is 0.
 unfoldable pub held_v4 : ℕ → ℕ → Layout Content → Layout Content
-held_v4 header total content = choose (total == 0) (complete content) (window (total - header) (complete content))
+held_v4 header total content =
+    choose (total == 0) (complete content) (window (total - header) (complete content))
 
 -- The header with its options, and the content up to the total length. What follows is the link's
 -- padding.
@@ -197,4 +207,10 @@ ipv6 = do
   source ← address_v6
   destination ← address_v6
   content ← held_v6 front.0 front.1
-  done (record { source = source; destination = destination; is_header_right = true; content = content })
+  done (record {
+    source = source;
+    destination = destination;
+    is_header_right =
+        true;
+    content = content;
+  })

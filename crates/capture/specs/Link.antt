@@ -49,7 +49,8 @@ is_family_v6 n = (n == 24) || ((n == 28) || (n == 30))
 abbrev pub family : ℕ → ℕ
 family n =
     if (n == 2) || (n == 0x02000000) then IPV4 else
-    if is_family_v6 n || ((n == 0x18000000) || ((n == 0x1c000000) || (n == 0x1e000000))) then IPV6 else 0
+    if is_family_v6 n || ((n == 0x18000000) || ((n == 0x1c000000) || (n == 0x1e000000))) then
+    IPV6 else 0
 
 unfoldable pub loopback : Layout ℕ
 loopback = mapped family (number 4)
@@ -140,7 +141,8 @@ carried link_type = link link_type >>= network
 
 -- A datagram of this EtherType.
 unfoldable pub datagram : ℕ → Layout (Option Datagram)
-datagram kind = choose (kind == IPV4) (mapped Some ipv4) (choose (kind == IPV6) (mapped Some ipv6) (done None))
+datagram kind =
+    choose (kind == IPV4) (mapped Some ipv4) (choose (kind == IPV6) (mapped Some ipv6) (done None))
 
 -- A packet of this link type.
 unfoldable pub packet : ℕ → Layout (Option Datagram)

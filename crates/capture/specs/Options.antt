@@ -37,7 +37,8 @@ window_scale b = shift_in (option_of 3 b)
 
 -- The sender's timestamp, TSval (RFC 7323, section 3.2).
 abbrev pub clock_in : Option Bytes → Option ℕ
-clock_in (Some (a ∷ b ∷ c ∷ d ∷ e ∷ f ∷ g ∷ h ∷ [])) = Some (a * 2 ^ 24 + b * 2 ^ 16 + c * 2 ^ 8 + d)
+clock_in (Some (a ∷ b ∷ c ∷ d ∷ e ∷ f ∷ g ∷ h ∷ [])) =
+    Some (a * 2 ^ 24 + b * 2 ^ 16 + c * 2 ^ 8 + d)
 clock_in o = None
 
 abbrev pub timestamp : Bytes → Option ℕ

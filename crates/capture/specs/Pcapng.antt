@@ -114,7 +114,14 @@ pub record Interface : Type 0 where
   pub offset : ℤ
 
 abbrev pub view_interface : StoredInterface → Interface
-view_interface i = record { link_type = i.link_type; snap_length = i.snap_length; units = i.units; offset = i.offset }
+view_interface i =
+    record {
+      link_type = i.link_type;
+      snap_length = i.snap_length;
+      units =
+          i.units;
+      offset = i.offset;
+    }
 
 -- The body of an Interface Description Block: link type, reserved, snap length, options. Without
 -- if_tsresol a second has 10^6 units; without if_tsoffset nothing is added (section 4.2).
@@ -131,7 +138,8 @@ interface order = do
 -- Nanoseconds with this many seconds added; none if below 0.
 abbrev pub moved_by : ℤ → ℕ → Option ℕ
 moved_by (pos s) n = Some (n + s * 1000000000)
-moved_by (negsuc s) n = if nat_le ((s + 1) * 1000000000) n then Some (n - (s + 1) * 1000000000) else None
+moved_by (negsuc s) n = if nat_le ((s + 1) * 1000000000) n then
+    Some (n - (s + 1) * 1000000000) else None
 
 abbrev pub below_2_64 : ℕ → Option ℕ
 below_2_64 n = if nat_lt n (2 ^ 64) then Some n else None

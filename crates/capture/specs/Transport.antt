@@ -60,7 +60,13 @@ numbers = do
   destination ← number 2
   sequence ← number 4
   acknowledgment ← number 4
-  done (record { source = source; destination = destination; sequence = sequence; acknowledgment = acknowledgment })
+  done (record {
+    source = source;
+    destination = destination;
+    sequence = sequence;
+    acknowledgment =
+        acknowledgment;
+  })
 
 pub record Control : Type 0 where
   pub offset : ℕ
@@ -70,7 +76,15 @@ pub record Control : Type 0 where
   pub urgent_pointer : ℕ
 
 abbrev pub view_control : LentControl → Control
-view_control c = record { offset = c.offset; flags = c.flags; window = c.window; checksum = c.checksum; urgent_pointer = c.urgent_pointer }
+view_control c =
+    record {
+      offset = c.offset;
+      flags = c.flags;
+      window = c.window;
+      checksum =
+          c.checksum;
+      urgent_pointer = c.urgent_pointer;
+    }
 
 -- Data offset in the upper 4 bits, in words of 4 bytes; flags; window; checksum; urgent pointer.
 unfoldable pub control_fields : Layout Control
@@ -81,7 +95,14 @@ control_fields = do
   checksum ← number 2
   urgent_pointer ← number 2
   test (nat_le 5 (offset / 16)) LengthValue
-  done (record { offset = offset; flags = flags; window = window; checksum = checksum; urgent_pointer = urgent_pointer })
+  done (record {
+    offset = offset;
+    flags = flags;
+    window = window;
+    checksum =
+        checksum;
+    urgent_pointer = urgent_pointer;
+  })
 
 -- The header, with options up to the data offset, and the data.
 unfoldable pub tcp : Layout Segment
@@ -129,7 +150,14 @@ udp = do
   checksum ← number 2
   test (nat_le 8 length) LengthValue
   payload ← block (length - 8)
-  done (record { source = source; destination = destination; length = length; checksum = checksum; payload = payload })
+  done (record {
+    source = source;
+    destination = destination;
+    length = length;
+    checksum =
+        checksum;
+    payload = payload;
+  })
 
 pub data Content : Type 0 where
   Tcp : Segment → Content

@@ -203,7 +203,8 @@ pub fn parse_fragment_v6(i: &[u8]) -> IResult<&[u8], Fragment>
 
 /// Parses the content of a reassembled datagram.
 fn joined_content(i: &[u8], source: Address, protocol: u8) -> IResult<&[u8], Content>
-    ensures { Gives view_content (joined_content_layout (view_address source) protocol) i.now result }
+    ensures { Gives view_content (joined_content_layout (view_address source) protocol)
+        i.now result }
 {
     match source {
         Address::V4(_) => whole_protected(i, protocol),
@@ -227,7 +228,9 @@ pub fn parse_joined(
     protocol: u8,
     is_header_right: bool,
 ) -> IResult<&[u8], Datagram>
-    ensures { Gives view_datagram (joined (view_address source) (view_address destination) protocol is_header_right) i.now result }
+    ensures { Gives view_datagram
+        (joined (view_address source) (view_address destination) protocol is_header_right)
+        i.now result }
 {
     let (i, content) = joined_content(i, source, protocol)?;
     let datagram = Datagram {

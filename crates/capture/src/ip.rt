@@ -186,7 +186,9 @@ pub(crate) fn fields_v4(i: &[u8]) -> IResult<&[u8], FieldsV4>
 #[inline(always)]
 fn held_v4<'a>(i: &'a [u8], lengths: LengthsV4, fields: FieldsV4) -> IResult<&'a [u8], Content<'a>>
     requires { (lengths.total ≡ 0) ⊎ (lengths.header ≤ lengths.total) }
-    ensures { Gives view_content (held_v4_layout lengths.header lengths.total (content_v4_layout fields.flags fields.protocol)) i.now result }
+    ensures { Gives view_content
+        (held_v4_layout lengths.header lengths.total
+        (content_v4_layout fields.flags fields.protocol)) i.now result }
 {
     if lengths.total == 0 {
         return whole_v4(i, fields.flags, fields.protocol);

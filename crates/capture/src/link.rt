@@ -198,7 +198,8 @@ fn no_link(i: &[u8]) -> IResult<&[u8], u16>
 
 /// Expands to a match that parses the header of each link type in the table.
 macro_rules! header {
-    ($i:ident, $link_type:ident: $($number:literal $name:ident => $read:ident($($of:expr)?), $front:ident($($count:expr)?);)*) => {
+    ($i:ident, $link_type:ident: $($number:literal $name:ident => $read:ident($($of:expr)?),
+        $front:ident($($count:expr)?);)*) => {
         match $link_type {
             $($number => $read($i $(, $of)?),)*
             _ => no_link($i),

@@ -79,7 +79,8 @@ fn no_tags(i: &[u8]) -> IResult<&[u8], Option<u16>>
 
 /// Expands to a match that parses what comes before the VLAN tags, for each link type in the table.
 macro_rules! front {
-    ($i:ident, $link_type:ident: $($number:literal $name:ident => $read:ident($($of:expr)?), $front:ident($($count:expr)?);)*) => {
+    ($i:ident, $link_type:ident: $($number:literal $name:ident => $read:ident($($of:expr)?),
+        $front:ident($($count:expr)?);)*) => {
         match $link_type {
             $($number => $front($i $(, $count)?),)*
             _ => no_tags($i),

@@ -38,10 +38,12 @@ uid_bytes p originator responder microseconds =
 -- `C`, and the 17 lowest digits of the number in the first 16 bytes of the SHA-256.
 abbrev pub uid_of : Protocol → End → End → ℕ → List ℕ
 uid_of p originator responder microseconds =
-    codes "C" ++ base62 17 (from_be_bytes w128 (take 16 (sha256 (uid_bytes p originator responder microseconds))))
+    codes "C" ++ base62 17
+    (from_be_bytes w128 (take 16 (sha256 (uid_bytes p originator responder microseconds))))
 
 -- The number for a connection's Suricata events: 52 bits of the same SHA-256, which every JSON
 -- reader has exactly.
 abbrev pub flow_id_of : Protocol → End → End → ℕ → ℕ
 flow_id_of p originator responder microseconds =
-    from_be_bytes w64 (take 8 (drop 16 (sha256 (uid_bytes p originator responder microseconds)))) / 2 ^ 12
+    from_be_bytes w64
+    (take 8 (drop 16 (sha256 (uid_bytes p originator responder microseconds)))) / 2 ^ 12

@@ -29,7 +29,8 @@ const UID_LEN: usize = 18;
 
 /// Adds an address to the hash.
 fn add_address(hasher: &mut Sha256, address: IpAddr)
-    ensures { (m : List ℕ) → Holds256 hasher.old m → Holds256 hasher.new (m ++ address_bytes address) }
+    ensures { (m : List ℕ) → Holds256 hasher.old m
+        → Holds256 hasher.new (m ++ address_bytes address) }
 {
     match address {
         IpAddr::V4(four) => hasher.update(four.octets()),
@@ -39,7 +40,8 @@ fn add_address(hasher: &mut Sha256, address: IpAddr)
 
 /// Adds the protocol and both ends to the hash.
 fn add_ends(hasher: &mut Sha256, protocol: Protocol, originator: End, responder: End)
-    ensures { (m : List ℕ) → Holds256 hasher.old m → Holds256 hasher.new (m ++ ends_bytes protocol originator responder) }
+    ensures { (m : List ℕ) → Holds256 hasher.old m
+        → Holds256 hasher.new (m ++ ends_bytes protocol originator responder) }
 {
     add_address(hasher, originator.address);
     add_address(hasher, responder.address);
@@ -131,7 +133,8 @@ pub fn uid(
     responder: End,
     microseconds: u64,
 ) -> Result<String, AllocError>
-    ensures { IfOk result (λ text. string_bytes text ≡ uid_of protocol originator responder microseconds) }
+    ensures { IfOk result
+        (λ text. string_bytes text ≡ uid_of protocol originator responder microseconds) }
 {
     let digest = digest(protocol, originator, responder, microseconds);
     let mut text = String::with_capacity(alloc, UID_LEN)?;

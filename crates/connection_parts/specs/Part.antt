@@ -49,4 +49,5 @@ falls_to p a b part = spread (ends_hash p a b) / 2 ^ 32 % (part.last + 1) == par
 -- Parts are numbered from 1 to their count.
 abbrev pub part_of : ℕ → ℕ → Option Part
 part_of number count =
-    if number == 0 || nat_lt count number then None else Some (record { number = number - 1; last = count - 1 })
+    if number == 0 || nat_lt count number then
+    None else Some (record { number = number - 1; last = count - 1 })

@@ -28,13 +28,16 @@ pub begun_at_number : (n : ℕ) (t : Stream) → n < 2 ^ 32 → IsNumberOf t.nex
     → IsNumberOf (begun_at (Some n) t).next (begun_at (Some n) t).reading
 begun_at_number n t small h = begun_number n t.next t.reading small h
 
-put_number : (seq next : ℕ) (b : Bytes) (r : Reading) → IsNumberOf next r → IsNumberOf next (put seq b r)
+put_number : (seq next : ℕ) (b : Bytes) (r : Reading) → IsNumberOf next r
+    → IsNumberOf next (put seq b r)
 put_number seq next b Unbegun h = h
 put_number seq next b (Open held) h = h
 put_number seq next b Over h = h
 
-noted_by : (s : Segment) (t : Stream) (b : Bool) → is_begun t.reading ≡ b → IsNumberOf t.next t.reading
-    → IsNumberOf (if b then with_urgent s (with_numbers s t) else t).next (if b then with_urgent s (with_numbers s t) else t).reading
+noted_by : (s : Segment) (t : Stream) (b : Bool) → is_begun t.reading ≡ b
+    → IsNumberOf t.next t.reading
+    → IsNumberOf (if b then with_urgent s (with_numbers s t) else t).next
+    (if b then with_urgent s (with_numbers s t) else t).reading
 noted_by s t true e h = h
 noted_by s t false e h = h
 
@@ -45,7 +48,8 @@ noted_number s t h = noted_by s t (is_begun t.reading) refl h
 bytes_number : (s : Segment) (old new : Stream) → HasPut s old new → IsNumberOf old.next old.reading
     → IsNumberOf new.next new.reading
 bytes_number s old new (left_out few same) h = rw same h
-bytes_number s old new (taken fits same) h = rw same (put_number (first_of s) old.next s.payload.now old.reading h)
+bytes_number s old new (taken fits same) h =
+    rw same (put_number (first_of s) old.next s.payload.now old.reading h)
 
 by_break : (s : Segment) (old new : Stream) (b : Bool) → breaks s ≡ b → HasTaken s old new
     → IsNumberOf old.next old.reading → IsNumberOf new.next new.reading
@@ -56,7 +60,8 @@ pub accepted : (s : Segment) (old new : Stream) → HasTaken s old new
     → IsNumberOf old.next old.reading → IsNumberOf new.next new.reading
 accepted s old new t h = by_break s old new (breaks s) refl t h
 
-handed : (n next : ℕ) (r : Reading) → IsNumberOf next r → IsNumberOf (next_behind n r next) (behind_front n r)
+handed : (n next : ℕ) (r : Reading) → IsNumberOf next r
+    → IsNumberOf (next_behind n r next) (behind_front n r)
 handed n next Unbegun h = h
 handed n next (Open held) h = let k = length (take n (run held.cells)) in
     (rw h.0 (remainder_of_sum held.first held.taken k (2 ^ 32)), h.1)
@@ -67,13 +72,16 @@ pub forgotten_number : (a : Option ℕ) (t : Stream) → IsNumberOf t.next t.rea
     → IsNumberOf (forgetting a t).next (forgetting a t).reading
 forgotten_number a t h = handed (forgotten a t) t.next t.reading h
 
-passed_by : (t u : Stream) (b : Bool) → u.next ≡ t.next → u.reading ≡ t.reading → IsNumberOf t.next t.reading
+passed_by : (t u : Stream) (b : Bool) → u.next ≡ t.next → u.reading ≡ t.reading
+    → IsNumberOf t.next t.reading
     → IsNumberOf (if b then u else t).next (if b then u else t).reading
 passed_by t u true n r h = rw (n, r) h
 passed_by t u false n r h = h
 
-pub urgent_number : (t : Stream) → IsNumberOf t.next t.reading → IsNumberOf (passing_urgent t).next (passing_urgent t).reading
-urgent_number t h = passed_by t (record t { heard = plus t.heard 1; urgent = None }) (has_urgent_next t) refl refl h
+pub urgent_number : (t : Stream) → IsNumberOf t.next t.reading
+    → IsNumberOf (passing_urgent t).next (passing_urgent t).reading
+urgent_number t h = passed_by t (record t { heard = plus t.heard 1; urgent = None })
+    (has_urgent_next t) refl refl h
 
 by_reading : (t : Stream) (r : Reading) → t.reading ≡ r → IsNumberOf t.next r
     → IsNumberOf (stopped t r).next (stopped t r).reading
@@ -90,7 +98,8 @@ none_unlike : (xs : Bytes) → unlike xs [] ≡ 0
 none_unlike [] = refl
 none_unlike (x ∷ xs) = refl
 
-pub unlike_rest : (xs ys : Bytes) (i : ℕ) → min (length xs) (length ys) ≤ i → unlike (drop i xs) (drop i ys) ≡ 0
+pub unlike_rest : (xs ys : Bytes) (i : ℕ) → min (length xs) (length ys) ≤ i
+    → unlike (drop i xs) (drop i ys) ≡ 0
 unlike_rest xs ys i h = go (ltb i (length xs)) refl
   where
     go : (t : Bool) → ltb i (length xs) ≡ t → unlike (drop i xs) (drop i ys) ≡ 0

@@ -83,12 +83,14 @@ abbrev pub goes_on : Segment → Bool
 goes_on s = acknowledges s && not (begins s)
 
 abbrev pub goes_on_behind : Segment → Segment → Bool
-goes_on_behind s asking = is_end s.source asking.source && (goes_on s && s.sequence == first_of asking)
+goes_on_behind s asking =
+    is_end s.source asking.source && (goes_on s && s.sequence == first_of asking)
 
 abbrev pub confirms : Segment → Segment → Bool
 confirms s answering =
     is_end s.source answering.destination
-    && (goes_on s && (s.sequence == answering.acknowledgment && s.acknowledgment == first_of answering))
+    && (goes_on s
+    && (s.sequence == answering.acknowledgment && s.acknowledgment == first_of answering))
 
 abbrev pub last_of : Segment → Option Segment → Segment
 last_of first None = first
@@ -125,7 +127,8 @@ module _ {T : Type 0} where
 
   -- A new connection, at the first packet's ends and time, with any caller's value.
   abbrev pub IsBegunBy : Segment → Connection T → Type 0
-  IsBegunBy s c = (c ≡ silent Tcp (originator_of s) (responder_of s) s.time c.waiting c.listener) × NoneWaits c
+  IsBegunBy s c = (c ≡ silent Tcp (originator_of s) (responder_of s) s.time c.waiting c.listener)
+      × NoneWaits c
 
   abbrev pub side_of : Connection T → End → Side
   side_of c sender = if is_end sender c.originator then Originator else Responder
@@ -169,18 +172,21 @@ module _ {T : Type 0} where
   }
 
   abbrev pub dropped_from : Side → Reason → Connection T → Connection T
-  dropped_from Originator r c = record c { originator_dropped = with_dropped r c.originator_dropped }
+  dropped_from Originator r c =
+      record c { originator_dropped = with_dropped r c.originator_dropped }
   dropped_from Responder r c = record c { responder_dropped = with_dropped r c.responder_dropped }
 
   -- The sender's state after a segment, and how many earlier packets it shows to be damaged.
   abbrev pub noting_from : Side → Judgement → Segment → Connection T → Connection T
   noting_from Originator j s c = record c {
     originator_host = host_by j c.originator_host c.responder_host s;
-    originator_dropped = with_damaged (damaged_before s.checksum c.originator_host) c.originator_dropped;
+    originator_dropped =
+        with_damaged (damaged_before s.checksum c.originator_host) c.originator_dropped;
   }
   noting_from Responder j s c = record c {
     responder_host = host_by j c.responder_host c.originator_host s;
-    responder_dropped = with_damaged (damaged_before s.checksum c.responder_host) c.responder_dropped;
+    responder_dropped =
+        with_damaged (damaged_before s.checksum c.responder_host) c.responder_dropped;
   }
 
   abbrev pub noting : Judgement → Segment → Connection T → Connection T
@@ -231,7 +237,8 @@ module _ {T : Type 0} where
 
   pub data LeavesOutSyn (s : Segment) (old : Connection T) : Connection T → Type 0 where
     no_data : (waits : Waiting) → LeavesOutSyn s old (record old { waiting = waits })
-    nothing : (waits : Waiting) (bare : Segment) → IsWithoutData s bare → LeavesOutSyn s old (without_bytes bare (record old { waiting = waits }))
+    nothing : (waits : Waiting) (bare : Segment) → IsWithoutData s bare
+        → LeavesOutSyn s old (without_bytes bare (record old { waiting = waits }))
 
   -- A segment is counted, its sender's state updated, and its bytes added to its sender's stream;
   -- those of a SYN are pending. The other side, the ends and the caller's value stay.
@@ -244,7 +251,8 @@ module _ {T : Type 0} where
   PutsPart false j s old new = PutsData (adds_nothing j s) (part_by j s) old new
 
   abbrev pub Accepts : Segment → Connection T → Connection T → Type 0
-  Accepts s old new = PutsPart (begins s) (judgement_of s old) s (noting (judgement_of s old) s (counted s old)) new
+  Accepts s old new =
+      PutsPart (begins s) (judgement_of s old) s (noting (judgement_of s old) s (counted s old)) new
 
   -- Without memory its bytes are left out, and its numbers noted.
   abbrev pub LeavesOutPart : Bool → Judgement → Segment → Connection T → Connection T → Type 0
@@ -252,7 +260,8 @@ module _ {T : Type 0} where
   LeavesOutPart false j s old new = new ≡ without_bytes (part_by j s) old
 
   abbrev pub LeavesOut : Segment → Connection T → Connection T → Type 0
-  LeavesOut s old new = LeavesOutPart (begins s) (judgement_of s old) s (noting (judgement_of s old) s (counted s old)) new
+  LeavesOut s old new = LeavesOutPart (begins s) (judgement_of s old) s
+      (noting (judgement_of s old) s (counted s old)) new
 
   -- A connection that began with these segments.
   abbrev pub AcceptsAnswer : Option Segment → Connection T → Connection T → Type 0
@@ -271,13 +280,15 @@ module _ {T : Type 0} where
   counts_from Originator d c = record c {
     last_time = d.time;
     originator_host = with_checksum d.checksum c.originator_host;
-    originator_dropped = with_damaged (damaged_before d.checksum c.originator_host) c.originator_dropped;
+    originator_dropped =
+        with_damaged (damaged_before d.checksum c.originator_host) c.originator_dropped;
     originator_sent = with_packet (length d.payload.now) c.originator_sent;
   }
   counts_from Responder d c = record c {
     last_time = d.time;
     responder_host = with_checksum d.checksum c.responder_host;
-    responder_dropped = with_damaged (damaged_before d.checksum c.responder_host) c.responder_dropped;
+    responder_dropped =
+        with_damaged (damaged_before d.checksum c.responder_host) c.responder_dropped;
     responder_sent = with_packet (length d.payload.now) c.responder_sent;
   }
 
@@ -287,11 +298,13 @@ module _ {T : Type 0} where
   -- A datagram's checksum counts as wrong.
   abbrev pub is_datagram_damaged : Datagram → Connection T → Bool
   is_datagram_damaged d c =
-      is_damaged (hosts_from (side_of c d.source) c).0 (hosts_from (side_of c d.source) c).1 d.checksum (length d.payload.now)
+      is_damaged (hosts_from (side_of c d.source) c).0 (hosts_from (side_of c d.source) c).1
+      d.checksum (length d.payload.now)
 
   -- An exchange that begins with a datagram, whose sender is the originator.
   abbrev pub begun_by_datagram : Datagram → Waiting → T → Connection T
-  begun_by_datagram d waiting listener = with_datagram d (silent Udp d.source d.destination d.time waiting listener)
+  begun_by_datagram d waiting listener =
+      with_datagram d (silent Udp d.source d.destination d.time waiting listener)
 
   -- How many bytes both its streams store.
   abbrev pub held_by : Connection T → ℕ
@@ -302,11 +315,12 @@ module _ {T : Type 0} where
   pub record IsAnew (time : ℕ) (old new : Connection T) : Type 0 where
     pub originator_damaged : ℕ
     pub responder_damaged : ℕ
-    pub is_silent : new ≡ record (silent old.protocol old.originator old.responder time new.waiting new.listener) {
-      originator_dropped = with_damaged originator_damaged none_dropped;
-      responder_dropped = with_damaged responder_damaged none_dropped;
-      weight = old.weight;
-    }
+    pub is_silent : new
+        ≡ record (silent old.protocol old.originator old.responder time new.waiting new.listener) {
+          originator_dropped = with_damaged originator_damaged none_dropped;
+          responder_dropped = with_damaged responder_damaged none_dropped;
+          weight = old.weight;
+        }
     pub waits : NoneWaits new
 
   -- Another exchange between the same ends, which a datagram begins. What is known about both ends'
@@ -322,11 +336,13 @@ module _ {T : Type 0} where
   -- first.
   abbrev pub TakesDatagramIn : Datagram → Connection T → Connection T → Type 0
   TakesDatagramIn d old new =
-      (new ≡ with_datagram d old) ⊎ ((anew : Connection T) × IsAnew d.time old anew × (new ≡ with_datagram d anew))
+      (new ≡ with_datagram d old)
+      ⊎ ((anew : Connection T) × IsAnew d.time old anew × (new ≡ with_datagram d anew))
 
   -- One side sent RST; or both sent all their data and FIN, and each acknowledged the other's FIN.
   abbrev pub is_closed : Connection T → Bool
   is_closed c =
       c.from_originator.is_broken || c.from_responder.is_broken
       || (is_over c.from_originator && is_over c.from_responder
-      && (has_fin_of c.responder_host c.originator_host && has_fin_of c.originator_host c.responder_host))
+      && (has_fin_of c.responder_host c.originator_host
+      && has_fin_of c.originator_host c.responder_host))

@@ -47,4 +47,5 @@ with_dropped r d = for_reason r (record d { packets = plus d.packets 1 })
 
 -- This many more packets with a wrong checksum.
 abbrev pub with_damaged : ℕ → Dropped → Dropped
-with_damaged n d = if n == 0 then d else for_reason Checksum (record d { packets = plus d.packets n })
+with_damaged n d = if n == 0 then
+    d else for_reason Checksum (record d { packets = plus d.packets n })

@@ -25,7 +25,8 @@ is_five_tuple = ends_eq.ghosts.eq
 -- The lower end comes first.
 abbrev pub five_tuple_between : ℕ → Protocol → End → End → FiveTuple
 five_tuple_between n p a b =
-    if partial_le end_order.ghosts.partial_cmp a b then record { network = n; protocol = p; lower = a; upper = b }
+    if partial_le end_order.ghosts.partial_cmp a b then
+    record { network = n; protocol = p; lower = a; upper = b }
     else record { network = n; protocol = p; lower = b; upper = a }
 
 -- The input of the hash. For IPv4 it is two addresses, and two ports with the protocol, as numbers.
@@ -42,7 +43,8 @@ abbrev pub block_number : ℕ → ℕ → ℕ
 block_number upper lower = upper * 18446744073709551616 + lower
 
 abbrev pub ends_fed : IpAddr → IpAddr → ℕ → HashWrites
-ends_fed (V4 a) (V4 b) ports = fed.u128 (block_number (both_numbers (ipv4_bits a) (ipv4_bits b)) ports)
+ends_fed (V4 a) (V4 b) ports =
+    fed.u128 (block_number (both_numbers (ipv4_bits a) (ipv4_bits b)) ports)
 ends_fed (V4 a) (V6 b) ports = fed.u128 (ipv4_bits a) ++ (fed.u128 (ipv6_bits b) ++ fed.u64 ports)
 ends_fed (V6 a) b ports = fed.u128 (ipv6_bits a) ++ (fed.u128 (address_number b) ++ fed.u64 ports)
 

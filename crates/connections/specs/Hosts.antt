@@ -70,7 +70,8 @@ window_of x y s = s.window * 2 ^ shift_of x y s
 -- beyond its acknowledgement (RFC 7323, section 4.3).
 abbrev pub clock_behind : Host → Host → Segment → Option ℕ
 clock_behind x y s =
-    if not (is_some s.options.clock) || (is_ahead (first_of s) y.acknowledged || is_clock_behind 0 x.clock s.options.clock)
+    if not (is_some s.options.clock)
+    || (is_ahead (first_of s) y.acknowledged || is_clock_behind 0 x.clock s.options.clock)
     then x.clock else s.options.clock
 
 -- What an end's checksums are like, by its first packets. One among them that isn't wrong shows
@@ -121,8 +122,11 @@ abbrev pub with_taken : Host → Host → Segment → Host
 with_taken x y s = record {
   first = if begins s then Some (first_of s) else x.first;
   next = Some (later x.next (end_with_fin s));
-  acknowledged = if acknowledges s then Some (later x.acknowledged s.acknowledgment) else x.acknowledged;
-  edge = if acknowledges s then Some (later (edge_before x s) ((s.acknowledgment + window_of x y s) % 2 ^ 32)) else edge_before x s;
+  acknowledged = if acknowledges s then Some (later x.acknowledged s.acknowledgment) else
+      x.acknowledged;
+  edge = if acknowledges s then
+      Some (later (edge_before x s) ((s.acknowledgment + window_of x y s) % 2 ^ 32)) else
+      edge_before x s;
   widest = max (widest_before x s) (window_of x y s);
   offers = if begins s then s.options else x.offers;
   is_open = x.is_open || (acknowledges s && (is_some x.first && not (begins s)));

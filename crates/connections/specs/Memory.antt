@@ -38,7 +38,8 @@ module _ {T : Type 0} where
 
   -- The accounted memory exceeds a limit.
   abbrev pub is_crowded : ℕ → Table T → Bool
-  is_crowded limit t = nat_lt (open_part limit) t.held || nat_lt (closed_count limit) (length t.closed)
+  is_crowded limit t = nat_lt (open_part limit) t.held
+      || nat_lt (closed_count limit) (length t.closed)
 
   -- The connection's accounted memory is at least the bytes that its streams store, as long as no
   -- machine has more. Everything else stays.

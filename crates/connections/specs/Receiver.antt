@@ -52,7 +52,8 @@ is_signed_apart x s = s.options.is_signed && (is_some x.first && not x.offers.is
 -- Both SYNs have a timestamp, and the segment's is older than one that its receiver took (RFC 7323,
 -- section 5.3). Hosts accept one that is older by 1.
 abbrev pub has_old_clock : Host → Host → Segment → Bool
-has_old_clock x y s = is_some x.offers.clock && (is_some y.offers.clock && is_clock_behind 1 x.clock s.options.clock)
+has_old_clock x y s =
+    is_some x.offers.clock && (is_some y.offers.clock && is_clock_behind 1 x.clock s.options.clock)
 
 -- The number that the receiver y expects next, and the right edge of its window. After the SYNs
 -- alone its window counts from the first number of the sender x on.
@@ -77,7 +78,8 @@ edge_of x y = edge_from y.edge y.first x.first y.widest
 -- (RFC 9293, section 3.10.7.4, first).
 abbrev pub is_beyond : Option ℕ → Segment → Bool
 is_beyond None s = false
-is_beyond (Some edge) s = if has_data s then not (is_behind edge (first_of s)) else is_behind (first_of s) edge
+is_beyond (Some edge) s = if has_data s then
+    not (is_behind edge (first_of s)) else is_behind (first_of s) edge
 
 -- It ends beyond the window. If no window or no scale is known, it ends too far behind the in-order
 -- data to be stored.
@@ -105,12 +107,14 @@ is_known x y s = is_ahead_by 0 (awaited x y) (end_with_fin s)
 -- It has data after its sender's FIN, or a FIN at a later number.
 abbrev pub is_behind_fin : Option ℕ → Segment → Bool
 is_behind_fin None s = false
-is_behind_fin (Some fin) s = if has_data s then not (is_behind fin (first_of s)) else ends s && is_behind (behind_of s) fin
+is_behind_fin (Some fin) s = if has_data s then not (is_behind fin (first_of s)) else ends s
+    && is_behind (behind_of s) fin
 
 -- It acknowledges less than its receiver's SYN, or less than its sender acknowledged before by more
 -- than a window (RFC 5961, section 5.2).
 abbrev pub is_stale : Host → Host → Segment → Bool
-is_stale x y s = is_ahead_by 0 y.first s.acknowledgment || is_ahead_by (max x.widest 65535) x.acknowledged s.acknowledgment
+is_stale x y s = is_ahead_by 0 y.first s.acknowledgment
+    || is_ahead_by (max x.widest 65535) x.acknowledged s.acknowledgment
 
 -- It acknowledges what its receiver isn't known to have sent.
 abbrev pub is_of_unsent : Host → Segment → Bool
@@ -146,7 +150,8 @@ is_answer_to (Some next) s = acknowledges s && s.acknowledgment == next
 abbrev pub is_reset_of : Option ℕ → Host → Host → Front → Segment → Bool
 is_reset_of None x y f s = is_answer_to y.next s
 is_reset_of (Some next) x y f s =
-    first_of s == later y.acknowledged (number_or next f.reached) || (x.offers.selects && y.offers.selects && first_of s == next)
+    first_of s == later y.acknowledged (number_or next f.reached)
+    || (x.offers.selects && y.offers.selects && first_of s == next)
 
 abbrev pub is_reset_taken : Host → Host → Front → Segment → Bool
 is_reset_taken x y f s = is_reset_of x.next x y f s
@@ -158,7 +163,8 @@ abbrev pub answers_to : Host → Segment → Bool
 answers_to y s = not (is_ahead_by 0 y.first s.acknowledgment) && not (is_of_unsent y s)
 
 abbrev pub is_late_syn : Host → Host → Segment → Bool
-is_late_syn x y s = if is_some y.first then y.is_open else is_some x.next || (is_some y.next && not (answers s))
+is_late_syn x y s = if is_some y.first then y.is_open else is_some x.next
+    || (is_some y.next && not (answers s))
 
 abbrev pub judge_first_syn : Host → Host → Segment → Judgement
 judge_first_syn x y s =

@@ -47,7 +47,8 @@ is_refused Wrong = false
 
 -- A connection may begin with it: it is a SYN or a SYN-ACK, or has data that its receiver may take.
 abbrev pub begins_one : Segment → Bool
-begins_one s = not (breaks s) && (not (is_refused s.checksum) && ((begins s || acknowledges s) && begins_stream s))
+begins_one s = not (breaks s)
+    && (not (is_refused s.checksum) && ((begins s || acknowledges s) && begins_stream s))
 
 -- The segment without its data.
 abbrev pub header_of : Segment → Header

@@ -90,7 +90,8 @@ is_urgent_there None n reached = false
 is_urgent_there (Some urgent) n reached = is_behind reached urgent && not (is_behind n urgent)
 
 abbrev pub is_cut_short : Stream → Reading → Bool
-is_cut_short t (Open h) = is_urgent_there t.urgent (unheard_from t) ((t.next + length (run h.cells)) % 2 ^ 32)
+is_cut_short t (Open h) =
+    is_urgent_there t.urgent (unheard_from t) ((t.next + length (run h.cells)) % 2 ^ 32)
 is_cut_short t Unbegun = false
 is_cut_short t Over = false
 
@@ -103,7 +104,8 @@ abbrev pub has_urgent_next : Stream → Bool
 has_urgent_next t = is_number t.urgent (unheard_from t) && is_cut_short t t.reading
 
 abbrev pub passing_urgent : Stream → Stream
-passing_urgent t = if has_urgent_next t then record t { heard = plus t.heard 1; urgent = None } else t
+passing_urgent t = if has_urgent_next t then
+    record t { heard = plus t.heard 1; urgent = None } else t
 
 -- Read bytes are freed: those before the acknowledged number, and those with enough read bytes
 -- behind them.
@@ -112,7 +114,8 @@ acknowledged_from next None = 0
 acknowledged_from next (Some n) = advance n next
 
 abbrev pub forgotten : Option ℕ → Stream → ℕ
-forgotten acknowledged t = min t.heard (max (acknowledged_from t.next acknowledged) (t.heard - KEPT_LIMIT))
+forgotten acknowledged t =
+    min t.heard (max (acknowledged_from t.next acknowledged) (t.heard - KEPT_LIMIT))
 
 abbrev pub kept_of : ℕ → Reading → ℕ → ℕ
 kept_of n (Open h) heard = heard - length (take n (run h.cells))
@@ -146,14 +149,16 @@ unlike (x ∷ xs) (y ∷ ys) = (if x == y then 0 else 1) + unlike xs ys
 -- number.
 abbrev pub differing_in_order : ℕ → Bytes → Segment → ℕ
 differing_in_order next standing s =
-    if nat_lt (ahead_of (first_of s) next) (2 ^ 31) then unlike (drop (ahead_of (first_of s) next) standing) s.payload.now
+    if nat_lt (ahead_of (first_of s) next) (2 ^ 31) then
+    unlike (drop (ahead_of (first_of s) next) standing) s.payload.now
     else unlike standing (drop (ahead_of next (first_of s)) s.payload.now)
 
 -- A count plus the number of bytes that differ from a kept one. For a stream that isn't read none
 -- are known.
 abbrev pub with_disagreeing : ℕ → Segment → Reading → Reading → ℕ → ℕ
 with_disagreeing next s (Open h) (Open k) count =
-    plus (plus count (differing_in_order next (run h.cells) s)) (differing_in (first_of s) s.payload.now h)
+    plus (plus count (differing_in_order next (run h.cells) s))
+    (differing_in (first_of s) s.payload.now h)
 with_disagreeing next s (Open h) Unbegun count = count
 with_disagreeing next s (Open h) Over count = count
 with_disagreeing next s Unbegun r count = count
@@ -183,17 +188,20 @@ passed (Some n) s = bytes_from n s
 
 abbrev pub passing_behind : Option ℕ → Segment → Option ℕ
 passing_behind None s = None
-passing_behind (Some n) s = if is_next n s then Some ((n + length (bytes_from n s)) % 2 ^ 32) else None
+passing_behind (Some n) s = if is_next n s then
+    Some ((n + length (bytes_from n s)) % 2 ^ 32) else None
 
 -- A count plus the number of retransmitted bytes. Adding a segment grows what is stored by less
 -- than its length by this many; in a stream that is read no further they are before the next one to
 -- pass on.
 abbrev pub passed_before : Option ℕ → Segment → ℕ → ℕ
 passed_before None s count = count
-passed_before (Some n) s count = plus count (if is_next n s then min (ahead_of n (first_of s)) (length s.payload.now) else 0)
+passed_before (Some n) s count =
+    plus count (if is_next n s then min (ahead_of n (first_of s)) (length s.payload.now) else 0)
 
 abbrev pub with_repeated : Segment → Option ℕ → Reading → Reading → ℕ → ℕ
-with_repeated s passing (Open h) (Open k) count = plus count (length s.payload.now - (came k - came h))
+with_repeated s passing (Open h) (Open k) count =
+    plus count (length s.payload.now - (came k - came h))
 with_repeated s passing (Open h) Unbegun count = count
 with_repeated s passing (Open h) Over count = count
 with_repeated s passing Unbegun r count = count
@@ -245,7 +253,8 @@ is_newer (Some known) n = is_behind n known
 
 abbrev pub urgent_by : Option ℕ → ℕ → Option ℕ → Option ℕ
 urgent_by None reached known = known
-urgent_by (Some n) reached known = if is_newer known n && not (is_behind reached n) then Some n else known
+urgent_by (Some n) reached known = if is_newer known n && not (is_behind reached n) then
+    Some n else known
 
 abbrev pub urgent_in : Segment → Stream → Reading → Option ℕ
 urgent_in s t (Open h) = urgent_by (urgent_of s) ((t.next + length (run h.cells)) % 2 ^ 32) t.urgent
@@ -293,7 +302,8 @@ lacks s Over = false
 
 -- How far it came in order, and whether it is read.
 abbrev pub front_of : Stream → Reading → Front
-front_of s (Open h) = record { reached = Some ((s.next + length (run h.cells)) % 2 ^ 32); is_read = true }
+front_of s (Open h) =
+    record { reached = Some ((s.next + length (run h.cells)) % 2 ^ 32); is_read = true }
 front_of s Unbegun = record { reached = None; is_read = false }
 front_of s Over = record { reached = s.passing; is_read = false }
 

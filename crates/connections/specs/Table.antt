@@ -49,7 +49,8 @@ module _ {X : Type 0} where
 -- The last entries were removed, each because it was over.
 pub data IsForgotten (time : ℕ) (xs : List (FiveTuple × ℕ)) : List (FiveTuple × ℕ) → Type 0 where
   none : IsForgotten time xs xs
-  one : (ys zs : List (FiveTuple × ℕ)) (e : FiveTuple × ℕ) → IsForgotten time xs ys → ys ≡ zs ++ e ∷ [] → IsOver time ys e.1 → IsForgotten time xs zs
+  one : (ys zs : List (FiveTuple × ℕ)) (e : FiveTuple × ℕ) → IsForgotten time xs ys
+      → ys ≡ zs ++ e ∷ [] → IsOver time ys e.1 → IsForgotten time xs zs
 
 -- Nothing is left to remove: the last entry isn't over.
 abbrev pub NoneToForget : ℕ → List (FiveTuple × ℕ) → Type 0
@@ -57,7 +58,8 @@ NoneToForget time xs = IfSome (last_entry xs) (λ e. ¬ IsOver time xs e.1)
 
 module _ {T : Type 0} where
   -- A packet goes to the one connection of its five-tuple, which comes first then. The others stay.
-  pub record IsPut (e : FiveTuple) (Takes : Option (Connection T) → Connection T → Type 0) (xs ys : List (FiveTuple × Connection T)) : Type 0 where
+  pub record IsPut (e : FiveTuple) (Takes : Option (Connection T) → Connection T → Type 0)
+      (xs ys : List (FiveTuple × Connection T)) : Type 0 where
     pub its : Connection T
     pub takes : Takes (at e xs) its
     pub stands : ys ≡ (e, its) ∷ others e xs
@@ -71,7 +73,12 @@ module _ {T : Type 0} where
   pub record BeginsFirst (s : Segment) (e : FiveTuple) (old new : Table T) : Type 0 where
     pub its : Connection T
     pub takes : TakesSegment s None its
-    pub stands : new ≡ record { live = (e, its) ∷ others e old.live; closed = others e old.closed; held = old.held }
+    pub stands : new ≡ record {
+      live = (e, its) ∷ others e old.live;
+      closed =
+          others e old.closed;
+      held = old.held;
+    }
 
   -- A datagram is counted, and its time noted, in the exchange of its five-tuple, or in one that it
   -- begins.
@@ -90,7 +97,8 @@ module _ {T : Type 0} where
   -- In the connection of this five-tuple only counts and pending segments change.
   abbrev pub ChangesCountsAt : FiveTuple → Option (Connection T) → Table T → Table T → Type 0
   ChangesCountsAt e None old new = new ≡ old
-  ChangesCountsAt e (Some c) old new = (c' : Connection T) × ChangesCountsAlone c c' × (new ≡ with_other e c' old)
+  ChangesCountsAt e (Some c) old new = (c' : Connection T) × ChangesCountsAlone c c'
+      × (new ≡ with_other e c' old)
 
   -- A dropped or pending segment changes nothing else.
   abbrev pub Drops : Segment → Table T → Table T → Type 0
@@ -100,7 +108,8 @@ module _ {T : Type 0} where
   abbrev pub DropsDatagramOf : Datagram → Option (Connection T) → Table T → Table T → Type 0
   DropsDatagramOf d None old new = new ≡ old
   DropsDatagramOf d (Some c) old new =
-      new ≡ with_other (five_tuple_of_datagram d) (dropped_from (side_of c d.source) reason.Checksum c) old
+      new ≡ with_other (five_tuple_of_datagram d)
+      (dropped_from (side_of c d.source) reason.Checksum c) old
 
   abbrev pub DropsDatagram : Datagram → Bool → Table T → Table T → Type 0
   DropsDatagram d false old new = new ≡ old
@@ -110,10 +119,12 @@ module _ {T : Type 0} where
   -- only a SYN does.
   abbrev pub belongs : Segment → Table T → Bool
   belongs s t =
-      is_some (at (five_tuple_of s) t.live) || (begins_one s && (begins s || not (is_some (at (five_tuple_of s) t.closed))))
+      is_some (at (five_tuple_of s) t.live)
+      || (begins_one s && (begins s || not (is_some (at (five_tuple_of s) t.closed))))
 
   abbrev pub closed_behind : Bool → Segment → Table T → List (FiveTuple × ℕ)
-  closed_behind begun s t = without_if (begun && not (is_some (at (five_tuple_of s) t.live))) (five_tuple_of s) t.closed
+  closed_behind begun s t =
+      without_if (begun && not (is_some (at (five_tuple_of s) t.live))) (five_tuple_of s) t.closed
 
   abbrev pub Puts : Bool → Segment → Table T → Table T → Type 0
   Puts true s old new = IsPut (five_tuple_of s) (TakesSegment s) old.live new.live
@@ -124,9 +135,11 @@ module _ {T : Type 0} where
   NoneIsOver time xs = IfSome (last_entry xs) (λ e. ¬ IsOver time xs e.1.last_time)
 
   -- Without memory the bytes are left out of an existing connection, and no connection begins.
-  abbrev pub LeavesOutAt : Segment → Option (Connection T) → List (FiveTuple × Connection T) → List (FiveTuple × Connection T) → Type 0
+  abbrev pub LeavesOutAt : Segment → Option (Connection T) → List (FiveTuple × Connection T)
+      → List (FiveTuple × Connection T) → Type 0
   LeavesOutAt s None xs ys = ys ≡ xs
-  LeavesOutAt s (Some c) xs ys = (c' : Connection T) × LeavesOut s c c' × (ys ≡ (five_tuple_of s, c') ∷ others (five_tuple_of s) xs)
+  LeavesOutAt s (Some c) xs ys = (c' : Connection T) × LeavesOut s c c'
+      × (ys ≡ (five_tuple_of s, c') ∷ others (five_tuple_of s) xs)
 
   -- Both sides closed the connection of this five-tuple.
   abbrev pub ended : FiveTuple → Table T → Option (Connection T)
@@ -140,7 +153,11 @@ module _ {T : Type 0} where
     pub shows : Shows s beginning
     pub begins : Begins beginning its
     pub was : IfSome (at (five_tuple_of s) old.live) (λ c'. c ≡ record c' { waiting = c.waiting })
-    pub stands : new ≡ record old { live = (five_tuple_of s, its) ∷ others (five_tuple_of s) old.live; held = old.held - c.weight }
+    pub stands : new ≡ record old {
+      live = (five_tuple_of s, its) ∷ others (five_tuple_of s) old.live;
+      held =
+          old.held - c.weight;
+    }
 
   abbrev pub Replaced : Segment → Table T → Table T → Option (Connection T) → Type 0
   Replaced s old new None = new ≡ old
@@ -149,7 +166,8 @@ module _ {T : Type 0} where
   -- The connection of this five-tuple restarts.
   abbrev pub IsAnewAt : ℕ → FiveTuple → Option (Connection T) → Table T → Table T → Type 0
   IsAnewAt time e None old new = new ≡ old
-  IsAnewAt time e (Some c) old new = (c' : Connection T) × IsAnew time c c' × (new ≡ with_other e c' old)
+  IsAnewAt time e (Some c) old new = (c' : Connection T) × IsAnew time c c'
+      × (new ≡ with_other e c' old)
 
   abbrev pub Restarts : Segment → Table T → Table T → Type 0
   Restarts s old new = IsAnewAt s.time (five_tuple_of s) (at (five_tuple_of s) old.live) old new
@@ -157,7 +175,8 @@ module _ {T : Type 0} where
   -- Another exchange replaces the one of a datagram's five-tuple.
   abbrev pub BeginsAfter : Datagram → Option (Connection T) → Table T → Table T → Type 0
   BeginsAfter d None old new = new ≡ old
-  BeginsAfter d (Some c) old new = (c' : Connection T) × IsAfter d c c' × (new ≡ record (with_other (five_tuple_of_datagram d) c' old) { held = old.held - c.weight })
+  BeginsAfter d (Some c) old new = (c' : Connection T) × IsAfter d c c'
+      × (new ≡ record (with_other (five_tuple_of_datagram d) c' old) { held = old.held - c.weight })
 
   -- It counts as closed from then on.
   abbrev pub weight_of : Option (Connection T) → ℕ
@@ -166,4 +185,9 @@ module _ {T : Type 0} where
 
   abbrev pub without_ended : FiveTuple → ℕ → Table T → Table T
   without_ended e time t = if is_some (ended e t)
-      then record { live = others e t.live; closed = (e, time) ∷ others e t.closed; held = t.held - weight_of (at e t.live) } else t
+      then record {
+        live = others e t.live;
+        closed = (e, time) ∷ others e t.closed;
+        held =
+            t.held - weight_of (at e t.live);
+      } else t

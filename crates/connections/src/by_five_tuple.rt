@@ -178,7 +178,8 @@ impl<V> ByFiveTuple<V> {
 
     /// Returns the value of a five-tuple for writing, and makes it the most recently used.
     pub(crate) fn get_mut(&mut self, five_tuple: &FiveTuple) -> Option<&mut V>
-        ensures* writes_back { sem 𝓛 (lends_value V.row self.entry five_tuple.now (promoted (is_five_tuple five_tuple.now) self.old.entries) result) }
+        ensures* writes_back { sem 𝓛 (lends_value V.row self.entry five_tuple.now
+            (promoted (is_five_tuple five_tuple.now) self.old.entries) result) }
         ensures value { option_copied_mut result ≡ lookup (is_five_tuple five_tuple.now) self.old.entries }
     {
         self.latest.change_to(self.keys, five_tuple);
@@ -189,7 +190,8 @@ impl<V> ByFiveTuple<V> {
 
     /// Makes a five-tuple the most recently used.
     pub(crate) fn promote(&mut self, five_tuple: &FiveTuple)
-        ensures entries { self.new ≡ lru_cache (promoted (is_five_tuple five_tuple.now) self.old.entries) self.old.cap }
+        ensures entries { self.new ≡ lru_cache (promoted (is_five_tuple five_tuple.now) self.old.entries)
+            self.old.cap }
     {
         self.latest.change_to(self.keys, five_tuple);
         self.table.promote(&self.latest);
@@ -214,7 +216,8 @@ impl<V> ByFiveTuple<V> {
     /// Removes a five-tuple and returns its value.
     pub(crate) fn pop(&mut self, five_tuple: &FiveTuple) -> Option<V>
         ensures value { result ≡ lookup (is_five_tuple five_tuple.now) self.old.entries }
-        ensures entries { self.new ≡ lru_cache (remove_entry (is_five_tuple five_tuple.now) self.old.entries) self.old.cap }
+        ensures entries { self.new ≡ lru_cache (remove_entry (is_five_tuple five_tuple.now) self.old.entries)
+            self.old.cap }
     {
         self.latest.change_to(self.keys, five_tuple);
         self.table.pop(&self.latest)
@@ -223,7 +226,8 @@ impl<V> ByFiveTuple<V> {
     /// Removes the least recently used entry and returns it.
     pub(crate) fn pop_lru(&mut self) -> Option<(FiveTuple, V)>
         ensures value { result ≡ last_entry self.old.entries }
-        ensures entries { self.new ≡ lru_cache (take (length self.old.entries - 1) self.old.entries) self.old.cap }
+        ensures entries { self.new ≡ lru_cache (take (length self.old.entries - 1) self.old.entries)
+            self.old.cap }
     {
         let (ends, value) = self.table.pop_lru()?;
         Some((ends.five_tuple, value))
@@ -233,7 +237,9 @@ impl<V> ByFiveTuple<V> {
     pub(crate) fn put(&mut self, five_tuple: FiveTuple, value: V) -> Result<(), AllocError>
     where
         V: Drop,
-        ensures entries { OnOk result (self.new ≡ lru_cache (put_entries is_five_tuple self.old five_tuple value) self.old.cap) }
+        ensures entries { OnOk result
+            (self.new ≡ lru_cache (put_entries is_five_tuple self.old five_tuple value)
+            self.old.cap) }
         ensures err { OnErr result (self.new ≡ self.old) }
     {
         self.latest.change_to(self.keys, &five_tuple);

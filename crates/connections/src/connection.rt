@@ -637,8 +637,11 @@ impl<T: Listener> Connection<T> {
         alloc: Global,
         segment: &Segment<'_>,
     ) -> Result<Option<Verdict>, AllocError>
-        ensures taken { IfOk result (λ told. IfNone told (IsKept (judgement_of segment.now self.old) × Accepts segment.now self.old self.new)) }
-        ensures judged { IfOk result (λ told. IfSome told (λ verdict. verdict.judgement ≡ judgement_of segment.now self.old)) }
+        ensures taken { IfOk result
+            (λ told. IfNone told
+            (IsKept (judgement_of segment.now self.old) × Accepts segment.now self.old self.new)) }
+        ensures judged { IfOk result
+            (λ told. IfSome told (λ verdict. verdict.judgement ≡ judgement_of segment.now self.old)) }
         ensures stays { IfOk result (λ told. IfSome told (λ verdict. self.new ≡ self.old)) }
         ensures left_out { OnErr result (LeavesOut segment.now self.old self.new) }
         ensures weight { self.new.weight ≡ self.old.weight }
@@ -681,7 +684,9 @@ impl<T: Listener> Connection<T> {
         segment: &Segment<'_>,
         judgement: Judgement,
     ) -> Result<(), AllocError>
-        ensures taken { OnOk result (PutsData (adds_none judgement segment.now) (part_by judgement segment.now) self.old self.new) }
+        ensures taken { OnOk result
+            (PutsData (adds_none judgement segment.now) (part_by judgement segment.now) self.old
+            self.new) }
         ensures left_out { OnErr result (self.new ≡ without_bytes (part_by judgement segment.now) self.old) }
         ensures weight { self.new.weight ≡ self.old.weight }
     {

@@ -56,7 +56,8 @@ impl<T: Listener> Connection<T> {
 
     /// Counts a datagram that its receiver drops for a wrong checksum.
     pub fn drop_datagram(&mut self, datagram: &Datagram<'_>)
-        ensures { self.new ≡ dropped_from (side_of self.old datagram.now.source) reason.Checksum self.old }
+        ensures { self.new ≡ dropped_from (side_of self.old datagram.now.source)
+            reason.Checksum self.old }
     {
         self.count_dropped(self.side_of(datagram.source), Reason::Checksum);
     }

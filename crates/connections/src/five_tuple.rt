@@ -83,7 +83,8 @@ impl PartialEq for FiveTuple {
     ghost use Rattle.connections.specs.contracts.five_tuple.ProtocolPartialEq.TheImpl as protocol_eq;
     ghost use Rattle.connections.specs.contracts.five_tuple.ProtocolEq.TheImpl.Laws.{laws-law as same_protocols};
 
-    ghost eq = { eq_of_both (on (λ e. e.network) nat_eq) (eq_of_both (on (λ e. e.protocol) protocol_eq.ghosts.eq)
+    ghost eq = { eq_of_both (on (λ e. e.network) nat_eq)
+        (eq_of_both (on (λ e. e.protocol) protocol_eq.ghosts.eq)
         (eq_of_both (on (λ e. e.lower) end_eq.ghosts.eq) (on (λ e. e.upper) end_eq.ghosts.eq))) };
 
     ghost laws = { Prim.search (same_ends, same_protocols, comparing, rules) depth 8 };
@@ -133,7 +134,8 @@ impl FiveTuple {
 impl Hash for FiveTuple {
     ghost use Rattle.connections.specs.FiveTuple.{ends_fed, network_fed, ports_number};
 
-    ghost hash_input = { λ e. ends_fed e.lower.address e.upper.address (ports_number e.lower.port e.upper.port e.protocol) ++ network_fed e.network };
+    ghost hash_input = { λ e. ends_fed e.lower.address e.upper.address
+        (ports_number e.lower.port e.upper.port e.protocol) ++ network_fed e.network };
 
     ghost respects_eq = { Prim.search (hashing, rules) };
 

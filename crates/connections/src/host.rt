@@ -171,7 +171,8 @@ impl Host {
 
     /// Notes this end's SYN.
     fn note_syn(&mut self, segment: &Segment<'_>)
-        ensures { self.new ≡ record self.old { first = Some (first_of segment.now); offers = segment.now.options } }
+        ensures { self.new ≡ record self.old
+            { first = Some (first_of segment.now); offers = segment.now.options } }
     {
         self.first = Some(segment.first());
         self.offers = segment.options;

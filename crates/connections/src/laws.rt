@@ -26,7 +26,8 @@ fn is_ordered<T: Ord>()
 
 /// Both directions of a connection have the same five-tuple.
 pub fn both_directions_have_the_same_ends()
-    ensures { (n : ℕ) (p : Protocol) (a b : AnEnd) → five_tuple_between n p a b ≡ five_tuple_between n p b a }
+    ensures { (n : ℕ) (p : Protocol) (a b : AnEnd)
+        → five_tuple_between n p a b ≡ five_tuple_between n p b a }
 {
     is_ordered::<End>();
 }
@@ -34,12 +35,15 @@ pub fn both_directions_have_the_same_ends()
 /// Packets with the same five-tuple have the same protocol and network, and the same two ends, in
 /// this direction or the other.
 pub fn no_other_packets_have_these_ends()
-    ensures { (m n : ℕ) (p q : Protocol) (a b c d : AnEnd) → five_tuple_between m p a b ≡ five_tuple_between n q c d → (m ≡ n) × (p ≡ q) × (((a ≡ c) × (b ≡ d)) ⊎ ((a ≡ d) × (b ≡ c))) }
+    ensures { (m n : ℕ) (p q : Protocol) (a b c d : AnEnd)
+        → five_tuple_between m p a b ≡ five_tuple_between n q c d
+        → (m ≡ n) × (p ≡ q) × (((a ≡ c) × (b ≡ d)) ⊎ ((a ≡ d) × (b ≡ c))) }
 {}
 
 /// Removing a five-tuple from a table leaves the values of all others.
 pub fn what_stands_under_other_ends_stays<T>()
-    ensures { (e f : FiveTuple) → (e ≡ f → ⊥) → (xs : List (FiveTuple × T)) → at f (others e xs) ≡ at f xs }
+    ensures { (e f : FiveTuple) → (e ≡ f → ⊥) → (xs : List (FiveTuple × T))
+        → at f (others e xs) ≡ at f xs }
 {}
 
 /// A stream's next sequence number is that of the first byte that it holds, at first and after each
@@ -48,20 +52,28 @@ pub fn the_next_number_is_that_of_what_is_held()
     ensures silent { IsNumberOf silent_stream.next silent_stream.reading }
     ensures begun { (n : ℕ) (t : Stream) → n < 2 ^ 32 → IsNumberOf t.next t.reading
         → IsNumberOf (begun_at (Some n) t).next (begun_at (Some n) t).reading }
-    ensures accepted { (s : Segment) (old new : Stream) → HasTaken s old new → IsNumberOf old.next old.reading → IsNumberOf new.next new.reading }
-    ensures noted { (s : Segment) (t : Stream) → IsNumberOf t.next t.reading → IsNumberOf (noted s t).next (noted s t).reading }
-    ensures handed_on { (n : ℕ) (t : Stream) → IsNumberOf t.next t.reading → IsNumberOf (handing_on n t).next (handing_on n t).reading }
-    ensures urgent { (t : Stream) → IsNumberOf t.next t.reading → IsNumberOf (passing_urgent t).next (passing_urgent t).reading }
+    ensures accepted { (s : Segment) (old new : Stream) → HasTaken s old new
+        → IsNumberOf old.next old.reading → IsNumberOf new.next new.reading }
+    ensures noted { (s : Segment) (t : Stream) → IsNumberOf t.next t.reading
+        → IsNumberOf (noted s t).next (noted s t).reading }
+    ensures handed_on { (n : ℕ) (t : Stream) → IsNumberOf t.next t.reading
+        → IsNumberOf (handing_on n t).next (handing_on n t).reading }
+    ensures urgent { (t : Stream) → IsNumberOf t.next t.reading
+        → IsNumberOf (passing_urgent t).next (passing_urgent t).reading }
     ensures forgotten { (acknowledged : Option ℕ) (t : Stream) → IsNumberOf t.next t.reading
         → IsNumberOf (forgetting acknowledged t).next (forgetting acknowledged t).reading }
-    ensures stopped { (t : Stream) → IsNumberOf t.next t.reading → IsNumberOf (stopped t t.reading).next (stopped t t.reading).reading }
+    ensures stopped { (t : Stream) → IsNumberOf t.next t.reading
+        → IsNumberOf (stopped t t.reading).next (stopped t t.reading).reading }
 {}
 
 /// Dropped packets change nothing that is read: only counts and the pending segments. So what a
 /// receiver does with later segments, and which streams it reads, stays the same.
 pub fn dropped_packets_change_nothing_that_is_heard<T>()
-    ensures judgement { (s : Segment) (old new : Connection T) → ChangesCountsAlone old new → judgement_of s new ≡ judgement_of s old }
-    ensures streams { (side : Side) (old new : Connection T) → ChangesCountsAlone old new → stream_of side new ≡ stream_of side old }
+    ensures judgement { (s : Segment) (old new : Connection T) → ChangesCountsAlone old new
+        → judgement_of s new ≡ judgement_of s old }
+    ensures streams { (side : Side) (old new : Connection T) → ChangesCountsAlone old new
+        → stream_of side new ≡ stream_of side old }
     ensures listener { (old new : Connection T) → ChangesCountsAlone old new → new.listener ≡ old.listener }
-    ensures many { (old mid new : Connection T) → ChangesCountsAlone old mid → ChangesCountsAlone mid new → ChangesCountsAlone old new }
+    ensures many { (old mid new : Connection T) → ChangesCountsAlone old mid
+        → ChangesCountsAlone mid new → ChangesCountsAlone old new }
 {}

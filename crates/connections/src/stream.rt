@@ -210,7 +210,8 @@ impl Stream {
 
     /// Counts the bytes of a segment before the next one to pass on as retransmitted.
     fn count_passed(&mut self, segment: &Segment<'_>)
-        ensures { self.new ≡ record self.old { repeated = passed_before self.old.passing segment.now self.old.repeated } }
+        ensures { self.new ≡ record self.old
+            { repeated = passed_before self.old.passing segment.now self.old.repeated } }
     {
         let Some(next) = self.passing else {
             return;

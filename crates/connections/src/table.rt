@@ -64,7 +64,8 @@ fn put_under<X: Drop>(
     value: X,
 ) -> Result<(), AllocError>
     requires { table.old.cap ≡ 2 ^ 64 - 1 }
-    ensures put { OnOk result (table.new.entries ≡ (five_tuple, value) ∷ others five_tuple table.old.entries) }
+    ensures put { OnOk result
+        (table.new.entries ≡ (five_tuple, value) ∷ others five_tuple table.old.entries) }
     ensures err { OnErr result (table.new ≡ table.old) }
     ensures cap { table.new.cap ≡ table.old.cap }
 {
@@ -204,11 +205,16 @@ impl<T: Listener> Connections<T> {
     /// left out then.
     pub fn accept(&mut self, segment: &Segment<'_>) -> Result<bool, AllocError>
         ensures belongs { IfOk result (λ belongs_to_one. belongs_to_one ≡ belongs segment.now self.old) }
-        ensures put { IfOk result (λ belongs_to_one. Puts belongs_to_one segment.now self.old self.new) }
-        ensures others { others (five_tuple_of segment.now) self.new.live ≡ others (five_tuple_of segment.now) self.old.live }
+        ensures put { IfOk result
+            (λ belongs_to_one. Puts belongs_to_one segment.now self.old self.new) }
+        ensures others { others (five_tuple_of segment.now) self.new.live ≡ others (five_tuple_of segment.now)
+            self.old.live }
         ensures refused { OnErr result (belongs segment.now self.old ≡ true) }
-        ensures left_out { OnErr result (LeavesOutAt segment.now (at (five_tuple_of segment.now) self.old.live) self.old.live self.new.live) }
-        ensures closed { IfOk result (λ belongs_to_one. self.new.closed ≡ closed_behind belongs_to_one segment.now self.old) }
+        ensures left_out { OnErr result
+            (LeavesOutAt segment.now (at (five_tuple_of segment.now) self.old.live) self.old.live
+            self.new.live) }
+        ensures closed { IfOk result
+            (λ belongs_to_one. self.new.closed ≡ closed_behind belongs_to_one segment.now self.old) }
         ensures accounted { IsAccounted self.old → IsAccounted self.new }
     {
         let five_tuple = segment.between();
@@ -229,7 +235,9 @@ impl<T: Listener> Connections<T> {
     ///
     /// `AllocError` if there is no memory for a new one. The datagram is left out then.
     pub fn accept_datagram(&mut self, datagram: &Datagram<'_>) -> Result<(), AllocError>
-        ensures put { OnOk result (IsPut (five_tuple_of_datagram datagram.now) (TakesDatagram datagram.now) self.old.live self.new.live) }
+        ensures put { OnOk result
+            (IsPut (five_tuple_of_datagram datagram.now) (TakesDatagram datagram.now) self.old.live
+            self.new.live) }
         ensures err { OnErr result (self.new.live ≡ self.old.live) }
         ensures closed { self.new.closed ≡ self.old.closed }
         ensures accounted { IsAccounted self.old → IsAccounted self.new }
@@ -292,8 +300,12 @@ impl<T: Listener> Connections<T> {
         &mut self,
         datagram: &Datagram<'_>,
     ) -> Result<Option<Box<Connection<T>>>, AllocError>
-        ensures taken { IfOk result (λ taken. option_map (λ b. b.value) taken ≡ at (five_tuple_of_datagram datagram.now) self.old.live) }
-        ensures left { OnOk result (BeginsAfter datagram.now (at (five_tuple_of_datagram datagram.now) self.old.live) self.old self.new) }
+        ensures taken { IfOk result
+            (λ taken. option_map (λ b. b.value) taken ≡ at (five_tuple_of_datagram datagram.now)
+            self.old.live) }
+        ensures left { OnOk result
+            (BeginsAfter datagram.now (at (five_tuple_of_datagram datagram.now) self.old.live)
+            self.old self.new) }
         ensures err { OnErr result (self.new ≡ self.old) }
         ensures accounted { IsAccounted self.old → IsAccounted self.new }
     {
@@ -311,7 +323,8 @@ impl<T: Listener> Connections<T> {
     /// not, [`Connections::take_idle`] changes nothing.
     pub fn has_idle(&self, time: u64) -> bool
         ensures none { result ≡ false → NoneIsOver time self.now.live × NoneToForget time self.now.closed }
-        ensures one { NoneIsOver time self.now.live → NoneToForget time self.now.closed → result ≡ false }
+        ensures one { NoneIsOver time self.now.live → NoneToForget time self.now.closed
+            → result ≡ false }
     {
         let is_live_over = match self.live.peek_lru() {
             Some((_, oldest)) => is_over(time, oldest.get().last_time, self.live.len()),
@@ -329,7 +342,8 @@ impl<T: Listener> Connections<T> {
     ///
     /// Call it until it returns `None`.
     pub fn take_idle(&mut self, time: u64) -> Option<Box<Connection<T>>>
-        ensures taken { IfSome result (λ b. WasLast self.old.live self.new.live b.value × IsOver time self.old.live b.value.last_time) }
+        ensures taken { IfSome result (λ b. WasLast self.old.live self.new.live b.value
+            × IsOver time self.old.live b.value.last_time) }
         ensures none { IfNone result ((self.new.live ≡ self.old.live) × NoneIsOver time self.old.live) }
         ensures closed { IsForgotten time self.old.closed self.new.closed }
         ensures none_to_forget { NoneToForget time self.new.closed }
@@ -357,7 +371,8 @@ impl<T: Listener> Connections<T> {
         &mut self,
         segment: &Segment<'_>,
     ) -> Result<Option<Box<Connection<T>>>, AllocError>
-        ensures replaced { IfOk result (λ taken. Replaced segment.now self.old self.new (option_map (λ b. b.value) taken)) }
+        ensures replaced { IfOk result
+            (λ taken. Replaced segment.now self.old self.new (option_map (λ b. b.value) taken)) }
         ensures accounted { IsAccounted self.old → IsAccounted self.new }
     {
         let five_tuple = segment.between();
@@ -385,8 +400,10 @@ impl<T: Listener> Connections<T> {
         &mut self,
         segment: &Segment<'_>,
     ) -> Result<Option<Box<Connection<T>>>, AllocError>
-        ensures taken { IfOk result (λ taken. option_map (λ b. b.value) taken ≡ ended (five_tuple_of segment.now) self.old) }
-        ensures left { OnOk result (self.new ≡ without_ended (five_tuple_of segment.now) segment.now.time self.old) }
+        ensures taken { IfOk result
+            (λ taken. option_map (λ b. b.value) taken ≡ ended (five_tuple_of segment.now) self.old) }
+        ensures left { OnOk result
+            (self.new ≡ without_ended (five_tuple_of segment.now) segment.now.time self.old) }
         ensures err { OnErr result (self.new ≡ self.old) }
         ensures accounted { IsAccounted self.old → IsAccounted self.new }
     {

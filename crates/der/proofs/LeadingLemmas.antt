@@ -23,7 +23,8 @@ unfolding leading_byte behind_one
 leading_read x xs e =
     ap behind_one (one_read x xs) ∙ ap (λ t. reading (chain (test t Verify) (λ _. done x)) xs) e
 
-leading_refused : (x : ℕ) (xs : Bytes) → leb 128 x ≡ false → reading leading_byte (x ∷ xs) ≡ Err (Broken Verify)
+leading_refused : (x : ℕ) (xs : Bytes) → leb 128 x ≡ false
+    → reading leading_byte (x ∷ xs) ≡ Err (Broken Verify)
 unfolding leading_byte behind_one
 leading_refused x xs e =
     ap behind_one (one_read x xs) ∙ ap (λ t. reading (chain (test t Verify) (λ _. done x)) xs) e
@@ -44,7 +45,10 @@ joined (x ∷ xs) = go (leb 128 x) refl (joined xs)
         rw (items, left) (ap (λ ys. x ∷ ys) more)
     go false e more =
         let no : reading leading_byte (x ∷ xs) ≡ Err (Broken Verify) = leading_refused x xs e in
-        rw (items_none leading_byte (x ∷ xs) (Broken Verify) no, left_none leading_byte (x ∷ xs) (Broken Verify) no) refl
+        rw (
+          items_none leading_byte (x ∷ xs) (Broken Verify) no,
+          left_none leading_byte (x ∷ xs) (Broken Verify) no,
+        ) refl
 
 -- one byte is read from a front
 byte_front : (c : Bytes) (x : ℕ) (r : Bytes) → reading (number 1) c ≡ Ok (x, r) → c ≡ x ∷ r
@@ -56,12 +60,14 @@ byte_front (y ∷ ys) x r e =
     ap (λ p. p.0 ∷ p.1) pair
 
 -- the leading bytes and the last one are a front of that length
-pub with_last : (b : Bytes) (x : ℕ) (r : Bytes) → AreBytes b → reading (number 1) (left_in leading_byte b) ≡ Ok (x, r)
+pub with_last : (b : Bytes) (x : ℕ) (r : Bytes) → AreBytes b
+    → reading (number 1) (left_in leading_byte b) ≡ Ok (x, r)
     → reading (block (length b - length r)) b ≡ Ok (items_in leading_byte b ++ x ∷ [], r)
 with_last b x r are e =
     let front : Bytes = items_in leading_byte b ++ x ∷ [] in
     let is : b ≡ front ++ r =
-    sym (joined b) ∙ ap (λ c. items_in leading_byte b ++ c) (byte_front (left_in leading_byte b) x r e)
+    sym (joined b)
+    ∙ ap (λ c. items_in leading_byte b ++ c) (byte_front (left_in leading_byte b) x r e)
     ∙ sym (append_assoc (items_in leading_byte b) (x ∷ []) r)
     in
     let long : length b ≡ length front + length r = ap length is ∙ length-append front r in

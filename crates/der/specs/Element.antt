@@ -62,7 +62,8 @@ tagged t l = do
 unfoldable pub optional : {A : Type 0} → ℕ → Layout A → Layout (Option A)
 optional t l = do
   n ← left
-  choose (n == 0) (done None) (look (number 1) >>= λ k. choose (k == t) (mapped Some (tagged t l)) (done None))
+  choose (n == 0) (done None)
+      (look (number 1) >>= λ k. choose (k == t) (mapped Some (tagged t l)) (done None))
 
 -- An element with any tag of one byte.
 pub record Element : Type 0 where

@@ -31,7 +31,8 @@ full_year = do
 -- The calendar has this day.
 abbrev pub is_day : ℕ → ℕ → ℕ → Bool
 is_day year month day =
-    nat_le 1 month && (nat_le month 12 && (nat_le 1 day && nat_le day (days_in_month (pos year) month)))
+    nat_le 1 month
+    && (nat_le month 12 && (nat_le 1 day && nat_le day (days_in_month (pos year) month)))
 
 -- Month and day, in days since 1970-01-01.
 unfoldable pub day_of : ℕ → Layout ℤ

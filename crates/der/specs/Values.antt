@@ -47,7 +47,8 @@ view_bit_string s = record { unused = s.unused; bytes = s.bytes.now }
 -- The unused bits exist and are 0 (X.690, sections 8.6.2.3 and 11.2.1).
 abbrev pub is_padding : ℕ → Bytes → Bool
 is_padding unused bytes =
-    ((unused == 0) || nat_le 1 (length bytes)) && (slice_index bytes (length bytes - 1) % 2 ^ unused == 0)
+    ((unused == 0) || nat_le 1 (length bytes))
+    && (slice_index bytes (length bytes - 1) % 2 ^ unused == 0)
 
 unfoldable pub bit_string : Layout BitString
 bit_string = do
@@ -60,4 +61,5 @@ bit_string = do
 -- Bit k, where bit 0 is the highest of the first byte; past the last bit it is 0.
 abbrev pub bit_of : BitString → ℕ → Bool
 bit_of s k =
-    nat_lt (k + s.unused) (length s.bytes * 8) && ((slice_index s.bytes (k / 8) / 2 ^ (7 - k % 8)) % 2 == 1)
+    nat_lt (k + s.unused) (length s.bytes * 8)
+    && ((slice_index s.bytes (k / 8) / 2 ^ (7 - k % 8)) % 2 == 1)

@@ -48,7 +48,8 @@ l_bit first = first / 4 % 2 == 1
 
 -- If C is set, a connection ID of the negotiated length, which isn't 0: an empty ID isn't present.
 unfoldable pub connection_id : Bool → ℕ → Layout (Option Bytes)
-connection_id c id_length = choose c (test (nat_le 1 id_length) Verify >> mapped Some (block id_length)) (done None)
+connection_id c id_length =
+    choose c (test (nat_le 1 id_length) Verify >> mapped Some (block id_length)) (done None)
 
 -- 16 bits if S is set, else 8.
 unfoldable pub sequence_number : Bool → Layout SequenceNumber
@@ -67,7 +68,13 @@ unified_hdr id_length = do
   id ← connection_id (c_bit first) id_length
   sequence ← sequence_number (s_bit first)
   length ← length_field (l_bit first)
-  done (record { connection_id = id; sequence_number = sequence; length = length; epoch_bits = first % 4 })
+  done (record {
+    connection_id = id;
+    sequence_number = sequence;
+    length = length;
+    epoch_bits =
+        first % 4;
+  })
 
 -- An encrypted record of n bytes: at most 2^14 + 256 (RFC 8446, section 5.2), and at least the 16
 -- that the sequence number is encrypted with (section 4.2.3).
@@ -87,7 +94,8 @@ pub record Ciphertext : Type 0 where
   pub encrypted_record : Bytes
 
 abbrev pub view_ciphertext : LentCiphertext → Ciphertext
-view_ciphertext c = record { header = view_unified_header c.header; encrypted_record = c.encrypted_record.now }
+view_ciphertext c =
+    record { header = view_unified_header c.header; encrypted_record = c.encrypted_record.now }
 
 -- DTLSCiphertext (figure 2), with connection IDs of this length.
 unfoldable pub ciphertext : ℕ → Layout Ciphertext

@@ -17,7 +17,8 @@ pub record ConnectionIdHeader : Type 0 where
   pub connection_id : Bytes
 
 abbrev pub view_connection_id_header : LentHeader → ConnectionIdHeader
-view_connection_id_header h = record { fields = view_header h.fields; connection_id = h.connection_id.now }
+view_connection_id_header h =
+    record { fields = view_header h.fields; connection_id = h.connection_id.now }
 
 -- Type, version, epoch, sequence number, connection ID, length (RFC 9146, section 4, figure 3). An
 -- empty connection ID isn't sent in this form (RFC 9146, section 3).
@@ -45,7 +46,8 @@ pub record ConnectionIdRecord : Type 0 where
   pub fragment : Bytes
 
 abbrev pub view_connection_id_record : LentRecord → ConnectionIdRecord
-view_connection_id_record r = record { header = view_connection_id_header r.header; fragment = r.fragment.now }
+view_connection_id_record r =
+    record { header = view_connection_id_header r.header; fragment = r.fragment.now }
 
 -- A DTLS 1.2 record with a connection ID. It is encrypted, so it has at most 2^14 + 2048 bytes (RFC
 -- 5246, section 6.2.3).

@@ -85,7 +85,8 @@ content_step (Err e) h = (h, Failed (kind_of e) ∷ [])
 -- RFC 4347, a message number of 2 bytes follows a ChangeCipherSpec.
 unfoldable pub content_bytes : RawRecord → Bytes
 content_bytes r =
-    if r.header.version == 0x0100 && (r.header.content_type == 20 && length r.fragment == 3) then take 1 r.fragment else r.fragment
+    if r.header.version == 0x0100 && (r.header.content_type == 20 && length r.fragment == 3) then
+    take 1 r.fragment else r.fragment
 
 -- A record that isn't of type handshake.
 abbrev pub content_record_step : RawRecord → Heard → Step
@@ -105,7 +106,8 @@ encrypted r = record {
 abbrev pub record_step : Limits → Heard → RawRecord → Step
 record_step l h r =
     cond (nat_lt 0 r.header.epoch) (h, Encrypted (encrypted r) ∷ []) (
-    cond (r.header.content_type == 22) (fragment_record_step r.fragment l h) (content_record_step r h))
+    cond (r.header.content_type == 22) (fragment_record_step r.fragment l h)
+    (content_record_step r h))
 
 -- If no record can be parsed, the rest is a fault.
 abbrev pub unread : Bytes → Refusal → List Event
@@ -135,7 +137,8 @@ abbrev pub views : List (Bor (List ℕ)) → List Bytes
 views ds = map (λ d. d.now) ds
 
 -- The step was made: its events were appended, and the buffer has its state.
-pub record IsStep (l : Limits) (s : Step) (es : List Event) (es' : List Event) (k' : Kept) : Type 0 where
+pub record IsStep (l : Limits) (s : Step) (es : List Event) (es' : List Event)
+    (k' : Kept) : Type 0 where
   pub events : es' ≡ es ++ s.1
   pub stands : Stands l s.0 k'
 
@@ -176,7 +179,8 @@ pub record AreToldInPart (all : List Event) (es : List Event) (es' : List Event)
 -- Memory ran out within records with these fragments and these events. Earlier events stay, and a
 -- prefix of the fragments was added. Each of their messages is either reported or buffered, in
 -- order; the buffered ones are whole and come next.
-pub record IsCut (l : Limits) (h : Heard) (fs : List Fragment) (all : List Event) (es : List Event) (es' : List Event) (k' : Kept) : Type 0 where
+pub record IsCut (l : Limits) (h : Heard) (fs : List Fragment) (all : List Event) (es : List Event)
+    (es' : List Event) (k' : Kept) : Type 0 where
   pub first : List Fragment
   pub behind : List Fragment
   pub split : fs ≡ first ++ behind

@@ -50,7 +50,9 @@ fragment = do
 
 -- The byte at place i of a body, given by the first n of these bytes, which begin at offset.
 abbrev pub given : ℕ → Bytes → ℕ → ℕ → Option ℕ
-given offset b n i = cond (nat_le offset i) (cond (nat_lt i (offset + n)) (Some (slice_index b (i - offset))) None) None
+given offset b n i =
+    cond (nat_le offset i) (cond (nat_lt i (offset + n)) (Some (slice_index b (i - offset))) None)
+    None
 
 -- The byte at place i of a body, given by a fragment.
 abbrev pub byte_at : Fragment → ℕ → Option ℕ
@@ -152,4 +154,5 @@ absent false = 1
 -- counted.
 abbrev pub IsCounted : ℕ → ℕ → List Bool → Bytes → Type 0
 IsCounted size filled there held =
-    (length there ≡ length held) × (length held ≤ size) × (filled + sum_by absent there ≡ length there)
+    (length there ≡ length held) × (length held ≤ size)
+    × (filled + sum_by absent there ≡ length there)

@@ -22,7 +22,8 @@ pub record Message : Type 0 where
   pub body : Bytes
 
 abbrev pub view_message : Owned → Message
-view_message m = record { msg_type = m.msg_type.0; message_seq = m.message_seq; body = m.body.items }
+view_message m =
+    record { msg_type = m.msg_type.0; message_seq = m.message_seq; body = m.body.items }
 
 -- The limits that a caller sets.
 pub record Limits : Type 0 where
@@ -92,7 +93,9 @@ bytes_from fs i (suc n) = with_byte (first_at fs i) (bytes_from fs (suc i) n)
 -- The message of these fragments, once they cover it. The first one gives its fields.
 abbrev pub message_of : List Fragment → Option Message
 message_of [] = None
-message_of (f ∷ fs) = option_map (λ b. record { msg_type = f.msg_type; message_seq = f.message_seq; body = b }) (bytes_from (f ∷ fs) 0 f.length)
+message_of (f ∷ fs) =
+    option_map (λ b. record { msg_type = f.msg_type; message_seq = f.message_seq; body = b })
+    (bytes_from (f ∷ fs) 0 f.length)
 
 abbrev pub followed : Option Message → List Message → List Message
 followed (Some m) ms = m ∷ ms
@@ -134,7 +137,12 @@ with_taken h f = h.taken ++ f ∷ []
 
 abbrev pub heard_by : Result Unit FragmentError → Limits → Heard → Fragment → Heard
 heard_by (Err e) l h f = h
-heard_by (Ok t) l h f = record { taken = with_taken h f; next = h.next + length (whole_from l.ahead h.next (with_taken h f)) }
+heard_by (Ok t) l h f =
+    record {
+      taken = with_taken h f;
+      next =
+          h.next + length (whole_from l.ahead h.next (with_taken h f));
+    }
 
 -- The state after this fragment. If it is added, all next messages that are covered are delivered.
 abbrev pub heard : Limits → Heard → Fragment → Heard
@@ -177,12 +185,14 @@ pub record Stands (l : Limits) (h : Heard) (k : Kept) : Type 0 where
   pub each : (i : ℕ) → IsPart (of_message (h.next + i) h.taken) (slot k i)
 
 -- The next messages are delivered.
-pub record AreHandedOut (l : Limits) (h : Heard) (es : List Event) (es' : List Event) (k' : Kept) : Type 0 where
+pub record AreHandedOut (l : Limits) (h : Heard) (es : List Event) (es' : List Event)
+    (k' : Kept) : Type 0 where
   pub events : es' ≡ es ++ map Handshake (whole_from l.ahead h.next h.taken)
   pub stands : Stands l (record h { next = h.next + length (whole_from l.ahead h.next h.taken) }) k'
 
 -- A fragment was read.
-pub record IsHeard (l : Limits) (h : Heard) (f : Fragment) (es : List Event) (es' : List Event) (k' : Kept) : Type 0 where
+pub record IsHeard (l : Limits) (h : Heard) (f : Fragment) (es : List Event) (es' : List Event)
+    (k' : Kept) : Type 0 where
   pub events : es' ≡ es ++ told l h f
   pub stands : Stands l (heard l h f) k'
 
@@ -204,7 +214,8 @@ messages (e ∷ es) = messages es
 
 -- Memory ran out while messages were delivered: earlier events stay, and the rest of the messages
 -- are buffered and come next.
-pub record AreKept (l : Limits) (h : Heard) (es : List Event) (es' : List Event) (k' : Kept) : Type 0 where
+pub record AreKept (l : Limits) (h : Heard) (es : List Event) (es' : List Event)
+    (k' : Kept) : Type 0 where
   pub kept : List Message
   pub next : ℕ
   pub front : List Event
@@ -216,7 +227,8 @@ pub record AreKept (l : Limits) (h : Heard) (es : List Event) (es' : List Event)
 -- Memory ran out within these fragments: earlier events stay, and a prefix of the fragments was
 -- added. Their events are reported except for messages that are still buffered, which are whole and
 -- come next.
-pub record IsStopped (l : Limits) (h : Heard) (fs : List Fragment) (es : List Event) (es' : List Event) (k' : Kept) : Type 0 where
+pub record IsStopped (l : Limits) (h : Heard) (fs : List Fragment) (es : List Event)
+    (es' : List Event) (k' : Kept) : Type 0 where
   pub first : List Fragment
   pub behind : List Fragment
   pub split : fs ≡ first ++ behind
@@ -252,6 +264,7 @@ pub record IsChangedAt (old : Kept) (at : ℕ) (new : Kept) : Type 0 where
   pub others : (i : ℕ) → (i ≡ at → ⊥) → slot new i ≡ slot old i
 
 -- These fragments were read, in order.
-pub record AreHeard (l : Limits) (h : Heard) (fs : List Fragment) (es : List Event) (es' : List Event) (k' : Kept) : Type 0 where
+pub record AreHeard (l : Limits) (h : Heard) (fs : List Fragment) (es : List Event)
+    (es' : List Event) (k' : Kept) : Type 0 where
   pub events : es' ≡ es ++ events l h fs
   pub stands : Stands l (after l h fs) k'

@@ -18,7 +18,8 @@ sent ms k = get_or ms k (record { msg_type = 0; body = [] })
 -- The messages with their numbers, from k on.
 abbrev pub numbered : ℕ → List Sent → List Message
 numbered k [] = []
-numbered k (m ∷ ms) = record { msg_type = m.msg_type; message_seq = k; body = m.body } ∷ numbered (suc k) ms
+numbered k (m ∷ ms) =
+    record { msg_type = m.msg_type; message_seq = k; body = m.body } ∷ numbered (suc k) ms
 
 -- A fragment of a message: any bytes of its body, at their place.
 pub record IsOf (m : Sent) (f : Fragment) : Type 0 where

@@ -60,7 +60,8 @@ pub struct DTLSCiphertext<'a> {
 /// Parses the connection ID, if it is present.
 #[tactic(auto, using(layouts::proofs::OneAnswerLemmas::read_allowed), unfolding(crate::specs::Ciphertext::connection_id))]
 fn connection_id(i: &[u8], is_present: bool, len: usize) -> IResult<&[u8], Option<&[u8]>>
-    ensures { Gives (λ v. option_map (λ x. x.now) v) (connection_id_layout is_present len) i.now result }
+    ensures { Gives (λ v. option_map (λ x. x.now) v) (connection_id_layout is_present len)
+        i.now result }
 {
     if !is_present {
         return Ok((i, None));

@@ -43,7 +43,8 @@ pub enum DatagramRecord<'a> {
 /// Parses the header of a DTLS 1.2 record with a connection ID of this length.
 #[tactic(auto, using(layouts::proofs::OneAnswerLemmas::read_allowed), unfolding(crate::specs::DatagramRecord::connection_id_header))]
 fn connection_id_header(i: &[u8], connection_id_len: usize) -> IResult<&[u8], ConnectionIdHeader>
-    ensures { Gives view_connection_id_header (connection_id_header_layout connection_id_len) i.now result }
+    ensures { Gives view_connection_id_header (connection_id_header_layout connection_id_len)
+        i.now result }
 {
     if connection_id_len == 0 {
         return refused(i, ErrorKind::Verify);
@@ -70,7 +71,8 @@ fn connection_id_header(i: &[u8], connection_id_len: usize) -> IResult<&[u8], Co
 /// Parses a DTLS 1.2 record with a connection ID of this length.
 #[tactic(auto, using(layouts::proofs::OneAnswerLemmas::read_allowed), unfolding(crate::specs::DatagramRecord::connection_id_record))]
 fn connection_id_record(i: &[u8], connection_id_len: usize) -> IResult<&[u8], ConnectionIdRecord>
-    ensures { Gives view_connection_id_record (connection_id_record_layout connection_id_len) i.now result }
+    ensures { Gives view_connection_id_record (connection_id_record_layout connection_id_len)
+        i.now result }
 {
     let (i, header) = connection_id_header(i, connection_id_len)?;
     if header.fields.length > MAX_ENCRYPTED_LEN {

@@ -43,7 +43,8 @@ impl<'a> Iterator for DatagramRecords<'a> {
 
     type Item = DatagramRecord<'a>;
 
-    ghost next_gives = { YieldsFirstBy view_datagram_record (λ s. items_in (datagram_record13 s.connection_id_len) s.left.now) };
+    ghost next_gives = { YieldsFirstBy view_datagram_record
+        (λ s. items_in (datagram_record13 s.connection_id_len) s.left.now) };
 
     ghost remaining = { item_count (λ s. items_in (datagram_record13 s.connection_id_len) s.left.now) };
 

@@ -26,9 +26,13 @@ pub fn read_datagram<'a>(
     events: &mut Vec<Event<'a>>,
 ) -> Result<(), OutOfMemory>
     ensures told { (l : Allowed) (h : Heard) → Stands l h messages.old
-        → OnOk result (IsStep l (datagram_step l h datagram.now) (view_events events.old.items) (view_events events.new.items) messages.new) }
+        → OnOk result
+        (IsStep l (datagram_step l h datagram.now) (view_events events.old.items)
+        (view_events events.new.items) messages.new) }
     ensures stopped { (l : Allowed) (h : Heard) → Stands l h messages.old
-        → OnErr result (IsDatagramCut l h datagram.now (view_events events.old.items) (view_events events.new.items) messages.new) }
+        → OnErr result
+        (IsDatagramCut l h datagram.now (view_events events.old.items)
+        (view_events events.new.items) messages.new) }
 {
     let mut left = datagram;
     'records: for taken in 0..datagram.len() {
@@ -51,7 +55,9 @@ pub fn read_datagrams<'a>(
     limits: Limits,
     datagrams: &[&'a [u8]],
 ) -> Result<Vec<Event<'a>>, OutOfMemory>
-    ensures { IfOk result (λ es. view_events es.items ≡ (datagrams_step (view_limits limits) nothing (views datagrams.now)).1) }
+    ensures { IfOk result
+        (λ es. view_events es.items
+        ≡ (datagrams_step (view_limits limits) nothing (views datagrams.now)).1) }
 {
     let mut messages = Messages::new(alloc, limits);
     let mut events = Vec::new(alloc);

@@ -101,7 +101,8 @@ impl<'a> Item<'a> for Fragment<'a> {
 fn fill(have: &mut [bool], held: &mut [u8], offset: usize, bytes: &[u8]) -> usize
     requires inside { offset + length bytes.now ≤ length have.old }
     requires both { length have.old ≡ length held.old }
-    ensures cells { (i : ℕ) → cell have.new held.new i ≡ or_else (cell have.old held.old i) (given offset bytes.now (length bytes.now) i) }
+    ensures cells { (i : ℕ) → cell have.new held.new i ≡ or_else (cell have.old held.old i)
+        (given offset bytes.now (length bytes.now) i) }
     ensures count { result + sum_by absent have.new ≡ sum_by absent have.old }
 {
     let mut filled = 0;
@@ -134,7 +135,14 @@ pub struct Fragments {
 impl Model for Fragments {
     ghost Value = { Held };
 
-    ghost view = { λ s. record { msg_type = s.msg_type.0; message_seq = s.message_seq; size = s.size; there = s.have.items; held = s.bytes.items } };
+    ghost view = { λ s. record {
+      msg_type = s.msg_type.0;
+      message_seq = s.message_seq;
+      size = s.size;
+      there =
+          s.have.items;
+      held = s.bytes.items;
+    } };
 
     ghost invariant = { λ s. IsCounted s.size s.filled s.have.items s.bytes.items };
 }
@@ -177,7 +185,8 @@ impl Fragments {
         requires { end ≤ self.old.size }
         ensures refused { IsErr result → self.new ≡ self.old }
         ensures room { OnOk result (end ≤ length self.new.there) }
-        ensures same { OnOk result ((self.new.msg_type ≡ self.old.msg_type) × (self.new.size ≡ self.old.size) × (self.new.message_seq ≡ self.old.message_seq)) }
+        ensures same { OnOk result ((self.new.msg_type ≡ self.old.msg_type) × (self.new.size ≡ self.old.size)
+            × (self.new.message_seq ≡ self.old.message_seq)) }
         ensures bytes { (i : ℕ) → byte self.new i ≡ byte self.old i }
     {
         self.reserve(end)?;
@@ -200,7 +209,8 @@ impl Fragments {
     /// fragment's, if it reaches past the end of the message, or if there is no memory for its
     /// bytes.
     pub fn add(&mut self, fragment: &Fragment) -> Result<(), FragmentError>
-        ensures answer { (result ≡ Err fragment_error.OutOfMemory) ⊎ (result ≡ judged self.old (view_fragment fragment.now)) }
+        ensures answer { (result ≡ Err fragment_error.OutOfMemory)
+            ⊎ (result ≡ judged self.old (view_fragment fragment.now)) }
         ensures added { OnOk result (IsAdded self.old (view_fragment fragment.now) self.new) }
         ensures refused { IsErr result → self.new ≡ self.old }
     {
@@ -223,8 +233,10 @@ impl Fragments {
     /// Copies bytes to `offset` where none are known yet.
     fn put(&mut self, offset: usize, bytes: &[u8])
         requires { offset + length bytes.now ≤ length self.old.there }
-        ensures same { (self.new.msg_type ≡ self.old.msg_type) × (self.new.size ≡ self.old.size) × (self.new.message_seq ≡ self.old.message_seq) }
-        ensures bytes { (i : ℕ) → byte self.new i ≡ or_else (byte self.old i) (given offset bytes.now (length bytes.now) i) }
+        ensures same { (self.new.msg_type ≡ self.old.msg_type) × (self.new.size ≡ self.old.size)
+            × (self.new.message_seq ≡ self.old.message_seq) }
+        ensures bytes { (i : ℕ) → byte self.new i ≡ or_else (byte self.old i)
+            (given offset bytes.now (length bytes.now) i) }
     {
         let filled = fill(&mut self.have, &mut self.bytes, offset, bytes);
         self.filled += filled;
@@ -254,7 +266,12 @@ impl Fragments {
 
     /// The message with the bytes of the buffer.
     pub(crate) fn into_message(self) -> Message
-        ensures { view_message result ≡ record { msg_type = self.msg_type; message_seq = self.message_seq; body = self.held } }
+        ensures { view_message result ≡ record {
+          msg_type = self.msg_type;
+          message_seq =
+              self.message_seq;
+          body = self.held;
+        } }
     {
         Message {
             msg_type: self.msg_type,

@@ -18,6 +18,7 @@ pub fn messages_are_handed_out_in_order()
 /// each message is delivered as soon as it and all before it are covered.
 #[tactic(auto, using(crate::proofs::OutLemmas::all_hand_out))]
 pub fn all_fragments_count()
-    ensures { (ms : List Sent) (l : Limits) (fs : List Fragment) → length ms ≤ l.ahead → AreSmall l ms → AreOf ms fs
+    ensures { (ms : List Sent) (l : Limits) (fs : List Fragment) → length ms ≤ l.ahead
+        → AreSmall l ms → AreOf ms fs
         → IsHandedOut ms fs (messages (events l nothing fs)) }
 {}

@@ -133,7 +133,8 @@ impl Messages {
         requires near { index < self.old.limits.ahead }
         requires number { self.old.next + index < 65536 }
         ensures answer { IsOrMemory result (slot_judged (slot self.old index) (view_fragment fragment.now)) }
-        ensures added { OnOk result (IsSlotAdded (slot self.old index) (view_fragment fragment.now) (slot self.new index)) }
+        ensures added { OnOk result
+            (IsSlotAdded (slot self.old index) (view_fragment fragment.now) (slot self.new index)) }
         ensures changed { OnOk result (IsChangedAt self.old index self.new) }
         ensures refused { IsErr result → self.new ≡ self.old }
     {
@@ -148,9 +149,11 @@ impl Messages {
 
     /// Adds a fragment, or returns why it is refused; then nothing changes.
     pub fn add(&mut self, fragment: &Fragment) -> Result<(), FragmentError>
-        ensures answer { (l : Allowed) (h : Heard) → Stands l h self.old → IsOrMemory result (verdict l h (view_fragment fragment.now)) }
+        ensures answer { (l : Allowed) (h : Heard) → Stands l h self.old
+            → IsOrMemory result (verdict l h (view_fragment fragment.now)) }
         ensures taken { (l : Allowed) (h : Heard) → Stands l h self.old
-            → OnOk result (Stands l (record h { taken = with_taken h (view_fragment fragment.now) }) self.new) }
+            → OnOk result
+            (Stands l (record h { taken = with_taken h (view_fragment fragment.now) }) self.new) }
         ensures refused { IsErr result → self.new ≡ self.old }
     {
         let seq = fragment.message_seq as u32;
@@ -169,7 +172,8 @@ impl Messages {
 
     /// Whether the next message is whole.
     pub fn is_front_whole(&self) -> bool
-        ensures { (l : Allowed) (h : Heard) → Stands l h self.now → result ≡ is_some (message_of (of_message h.next h.taken)) }
+        ensures { (l : Allowed) (h : Heard) → Stands l h self.now
+            → result ≡ is_some (message_of (of_message h.next h.taken)) }
     {
         let Some(Some(part)) = self.slots.first() else {
             return false;
@@ -180,9 +184,11 @@ impl Messages {
     /// Removes and returns the next message, if it is whole. It doesn't allocate.
     pub fn take_front(&mut self) -> Option<Message>
         ensures places { length self.new.slots + (if is_some result then 1 else 0) ≡ length self.old.slots }
-        ensures message { (l : Allowed) (h : Heard) → Stands l h self.old → option_map view_message result ≡ message_of (of_message h.next h.taken) }
+        ensures message { (l : Allowed) (h : Heard) → Stands l h self.old
+            → option_map view_message result ≡ message_of (of_message h.next h.taken) }
         ensures stands { (l : Allowed) (h : Heard) → Stands l h self.old
-            → Stands l (record h { next = (if is_some result then h.next + 1 else h.next) }) self.new }
+            → Stands l (record h { next = (if is_some result then h.next + 1 else h.next) })
+            self.new }
     {
         let Some(Some(part)) = self.slots.first() else {
             return None;

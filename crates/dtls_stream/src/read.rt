@@ -13,9 +13,12 @@ use tls_base::OutOfMemory;
 /// it, so that a message stays buffered if memory runs out.
 fn hand_out(messages: &mut Messages, events: &mut Vec<Event>) -> Result<(), OutOfMemory>
     ensures told { (l : Allowed) (h : Heard) → Stands l h messages.old
-        → OnOk result (AreHandedOut l h (view_events events.old.items) (view_events events.new.items) messages.new) }
+        → OnOk result
+        (AreHandedOut l h (view_events events.old.items) (view_events events.new.items)
+        messages.new) }
     ensures stopped { (l : Allowed) (h : Heard) → Stands l h messages.old
-        → OnErr result (AreKept l h (view_events events.old.items) (view_events events.new.items) messages.new) }
+        → OnErr result
+        (AreKept l h (view_events events.old.items) (view_events events.new.items) messages.new) }
 {
     'whole: while messages.is_front_whole() {
         events.reserve(1)?;
@@ -34,9 +37,13 @@ fn hear(
     events: &mut Vec<Event>,
 ) -> Result<(), OutOfMemory>
     ensures told { (l : Allowed) (h : Heard) → Stands l h messages.old
-        → OnOk result (IsHeard l h (view_fragment fragment.now) (view_events events.old.items) (view_events events.new.items) messages.new) }
+        → OnOk result
+        (IsHeard l h (view_fragment fragment.now) (view_events events.old.items)
+        (view_events events.new.items) messages.new) }
     ensures stopped { (l : Allowed) (h : Heard) → Stands l h messages.old
-        → OnErr result (IsStopped l h (view_fragment fragment.now ∷ []) (view_events events.old.items) (view_events events.new.items) messages.new) }
+        → OnErr result
+        (IsStopped l h (view_fragment fragment.now ∷ []) (view_events events.old.items)
+        (view_events events.new.items) messages.new) }
 {
     match messages.add(fragment) {
         Ok(()) => hand_out(messages, events),
@@ -59,9 +66,13 @@ pub fn read_all(
     events: &mut Vec<Event>,
 ) -> Result<(), OutOfMemory>
     ensures told { (l : Allowed) (h : Heard) → Stands l h messages.old
-        → OnOk result (AreHeard l h (view_fragments fragments.now) (view_events events.old.items) (view_events events.new.items) messages.new) }
+        → OnOk result
+        (AreHeard l h (view_fragments fragments.now) (view_events events.old.items)
+        (view_events events.new.items) messages.new) }
     ensures stopped { (l : Allowed) (h : Heard) → Stands l h messages.old
-        → OnErr result (IsStopped l h (view_fragments fragments.now) (view_events events.old.items) (view_events events.new.items) messages.new) }
+        → OnErr result
+        (IsStopped l h (view_fragments fragments.now) (view_events events.old.items)
+        (view_events events.new.items) messages.new) }
 {
     for fragment in fragments {
         hear(messages, fragment, events)?;
@@ -77,7 +88,9 @@ pub fn read_fragments(
     limits: Limits,
     fragments: &[Fragment],
 ) -> Result<Vec<Event<'static>>, OutOfMemory>
-    ensures { IfOk result (λ es. view_events es.items ≡ events_of (view_limits limits) nothing (view_fragments fragments.now)) }
+    ensures { IfOk result
+        (λ es. view_events es.items ≡ events_of (view_limits limits) nothing
+        (view_fragments fragments.now)) }
 {
     let mut messages = Messages::new(alloc, limits);
     let mut events = Vec::new(alloc);

@@ -97,7 +97,8 @@ fn kind_of(error: Refused<Error<&[u8]>>) -> ErrorKind
 
 /// Appends a fault if bytes are left after what was parsed.
 fn tell_left_over(rest: &[u8], events: &mut Vec<Event>) -> Result<(), OutOfMemory>
-    ensures told { OnOk result (view_events events.new.items ≡ view_events events.old.items ++ left_over rest.now) }
+    ensures told { OnOk result
+        (view_events events.new.items ≡ view_events events.old.items ++ left_over rest.now) }
     ensures stopped { OnErr result (view_events events.new.items ≡ view_events events.old.items) }
 {
     if !rest.is_empty() {
@@ -112,7 +113,9 @@ pub(crate) fn tell_unread(
     error: Refused<Error<&[u8]>>,
     events: &mut Vec<Event>,
 ) -> Result<(), OutOfMemory>
-    ensures told { OnOk result (view_events events.new.items ≡ view_events events.old.items ++ unread left.now (refusal_of error.entry)) }
+    ensures told { OnOk result
+        (view_events events.new.items ≡ view_events events.old.items ++ unread left.now
+        (refusal_of error.entry)) }
     ensures stopped { OnErr result (view_events events.new.items ≡ view_events events.old.items) }
 {
     if !left.is_empty() {
@@ -126,7 +129,9 @@ fn tell_messages<'a>(
     messages: &[DTLSMessage<'a>],
     events: &mut Vec<Event<'a>>,
 ) -> Result<(), OutOfMemory>
-    ensures told { OnOk result (view_events events.new.items ≡ view_events events.old.items ++ map (λ m. event_of (view_content m)) messages.now) }
+    ensures told { OnOk result
+        (view_events events.new.items ≡ view_events events.old.items ++ map
+        (λ m. event_of (view_content m)) messages.now) }
     ensures stopped { OnErr result (AreToldInPart (map (λ m. event_of (view_content m)) messages.now)
         (view_events events.old.items) (view_events events.new.items)) }
 {
@@ -162,9 +167,13 @@ fn tell_content<'a>(
     events: &mut Vec<Event<'a>>,
 ) -> Result<(), OutOfMemory>
     ensures told { (h : Heard)
-        → OnOk result (view_events events.new.items ≡ view_events events.old.items ++ (content_record_step (view_raw_record raw.now) h).1) }
+        → OnOk result
+        (view_events events.new.items ≡ view_events
+        events.old.items ++ (content_record_step (view_raw_record raw.now) h).1) }
     ensures stopped { (h : Heard)
-        → OnErr result (AreToldInPart (content_record_step (view_raw_record raw.now) h).1 (view_events events.old.items) (view_events events.new.items)) }
+        → OnErr result
+        (AreToldInPart (content_record_step (view_raw_record raw.now) h).1
+        (view_events events.old.items) (view_events events.new.items)) }
 {
     match parse_dtls_record_with_header(alloc, content_bytes(raw), &raw.header) {
         Ok((rest, messages)) => {
@@ -187,9 +196,12 @@ fn read_handshake(
     events: &mut Vec<Event>,
 ) -> Result<(), OutOfMemory>
     ensures told { (l : Allowed) (h : Heard) → Stands l h messages.old
-        → OnOk result (IsStep l (fragment_record_step bytes.now l h) (view_events events.old.items) (view_events events.new.items) messages.new) }
+        → OnOk result
+        (IsStep l (fragment_record_step bytes.now l h) (view_events events.old.items)
+        (view_events events.new.items) messages.new) }
     ensures stopped { (l : Allowed) (h : Heard) → Stands l h messages.old
-        → OnErr result (IsCut l h (fragments_in_content bytes.now) (fragment_record_step bytes.now l h).1
+        → OnErr result
+        (IsCut l h (fragments_in_content bytes.now) (fragment_record_step bytes.now l h).1
         (view_events events.old.items) (view_events events.new.items) messages.new) }
 {
     match items1::<Fragment>(alloc, bytes) {
@@ -217,9 +229,13 @@ pub fn hear_record<'a>(
     events: &mut Vec<Event<'a>>,
 ) -> Result<(), OutOfMemory>
     ensures told { (l : Allowed) (h : Heard) → Stands l h messages.old
-        → OnOk result (IsStep l (record_step l h (view_raw_record raw.entry)) (view_events events.old.items) (view_events events.new.items) messages.new) }
+        → OnOk result
+        (IsStep l (record_step l h (view_raw_record raw.entry)) (view_events events.old.items)
+        (view_events events.new.items) messages.new) }
     ensures stopped { (l : Allowed) (h : Heard) → Stands l h messages.old
-        → OnErr result (IsRecordCut l h (view_raw_record raw.entry) (view_events events.old.items) (view_events events.new.items) messages.new) }
+        → OnErr result
+        (IsRecordCut l h (view_raw_record raw.entry) (view_events events.old.items)
+        (view_events events.new.items) messages.new) }
 {
     if raw.header.epoch > 0 {
         events.push(Event::Encrypted(EncryptedRecord {

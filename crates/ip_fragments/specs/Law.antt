@@ -18,11 +18,13 @@ first_at (f ∷ fs) i = earlier (first_at fs i) (given f i)
 -- Each fragment is a part of the datagram d at its offset, and only the last one ends it.
 abbrev pub AreOf : Bytes → List Fragment → Type 0
 AreOf d [] = Unit {0}
-AreOf d (f ∷ fs) = IsPart d f.offset f.payload.now × (f.has_more ≡ false → end_of f ≡ length d) × AreOf d fs
+AreOf d (f ∷ fs) = IsPart d f.offset f.payload.now × (f.has_more ≡ false → end_of f ≡ length d)
+    × AreOf d fs
 
 -- The payload reassembled from these fragments.
 abbrev pub IsOut : List Fragment → Bytes → Type 0
-IsOut fs out = (time : ℕ) × ((w : Waiting) × IsAfter time fs w × (is_whole w ≡ true) × (out ≡ run w.cells))
+IsOut fs out =
+    (time : ℕ) × ((w : Waiting) × IsAfter time fs w × (is_whole w ≡ true) × (out ≡ run w.cells))
 
 -- Each byte is the first that arrived at its offset.
 abbrev pub HasTheFirst : List Fragment → Bytes → Type 0

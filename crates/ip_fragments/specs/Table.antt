@@ -39,17 +39,21 @@ IsOver time more held since = (WAIT_LIMIT < time - since) ⊎ (HELD_LIMIT < held
 -- The oldest datagrams were dropped, each because it was over at the time.
 pub data IsForgotten (time more : ℕ) (t : Table) : Table → Type 0 where
   none : IsForgotten time more t t
-  one : (u v : Table) (k : Key) (w : Waiting) → IsForgotten time more t u → u ≡ v ++ (k, w) ∷ [] → IsOver time more (weight u) w.since
+  one : (u v : Table) (k : Key) (w : Waiting) → IsForgotten time more t u → u ≡ v ++ (k, w) ∷ []
+      → IsOver time more (weight u) w.since
       → IsForgotten time more t v
 
 -- What a fragment does to a datagram in the table, or without one.
 abbrev pub AddsAt : Step → Key → Fragment → Table → Table → Type 0
 AddsAt step.Missing k f t u = (at k t ≡ None) × (u ≡ t)
-AddsAt step.OtherEnd k f t u = (v : Waiting) × (at k t ≡ Some v) × (is_other_end f v ≡ true) × (u ≡ t)
+AddsAt step.OtherEnd k f t u =
+    (v : Waiting) × (at k t ≡ Some v) × (is_other_end f v ≡ true) × (u ≡ t)
 AddsAt step.Waits k f t u =
-    (v w : Waiting) × (at k t ≡ Some v) × (is_other_end f v ≡ false) × IsWith f v w × (is_whole w ≡ false) × (u ≡ with_other k w t)
+    (v w : Waiting) × (at k t ≡ Some v) × (is_other_end f v ≡ false) × IsWith f v w
+    × (is_whole w ≡ false) × (u ≡ with_other k w t)
 AddsAt step.Whole k f t u =
-    (v w : Waiting) × (at k t ≡ Some v) × (is_other_end f v ≡ false) × IsWith f v w × (is_whole w ≡ true) × (u ≡ with_other k w t)
+    (v w : Waiting) × (at k t ≡ Some v) × (is_other_end f v ≡ false) × IsWith f v w
+    × (is_whole w ≡ true) × (u ≡ with_other k w t)
 
 -- The datagram to which a fragment is added: the one in the table, or an empty one.
 abbrev pub found_or_begun : ℕ → Option Waiting → Waiting
@@ -79,10 +83,12 @@ Becomes time f (outcome.Refused refusal.Uneven) t u = ⊥
 Becomes time f (outcome.Refused refusal.OtherEnd) t u =
     (v : Waiting) × (at (key_of f) t ≡ Some v) × (is_other_end f v ≡ true) × (u ≡ t)
 Becomes time f outcome.Waits t u =
-    (w : Waiting) × IsWith f (found_or_begun time (at (key_of f) t)) w × (is_whole w ≡ false) × (at (key_of f) u ≡ Some w)
+    (w : Waiting) × IsWith f (found_or_begun time (at (key_of f) t)) w × (is_whole w ≡ false)
+    × (at (key_of f) u ≡ Some w)
     × (others (key_of f) u ≡ others (key_of f) t)
 Becomes time f (outcome.Whole d) t u =
-    (w : Waiting) × IsWith f (found_or_begun time (at (key_of f) t)) w × (is_whole w ≡ true) × IsHandedOut f w d × (u ≡ others (key_of f) t)
+    (w : Waiting) × IsWith f (found_or_begun time (at (key_of f) t)) w × (is_whole w ≡ true)
+    × IsHandedOut f w d × (u ≡ others (key_of f) t)
 
 -- A fragment that isn't refused for its length. Datagrams that are over are dropped first.
 pub record Takes (time : ℕ) (f : Fragment) (o : Outcome) (t u : Table) : Type 0 where
@@ -95,7 +101,9 @@ pub record Takes (time : ℕ) (f : Fragment) (o : Outcome) (t u : Table) : Type 
 -- What a fragment does to the table.
 abbrev pub Adds : ℕ → Fragment → Outcome → Table → Table → Type 0
 Adds time f (outcome.Refused refusal.TooLong) t u = (is_too_long f ≡ true) × (u ≡ t)
-Adds time f (outcome.Refused refusal.Uneven) t u = (is_too_long f ≡ false) × (is_uneven f ≡ true) × (u ≡ t)
-Adds time f (outcome.Refused refusal.OtherEnd) t u = Takes time f (outcome.Refused refusal.OtherEnd) t u
+Adds time f (outcome.Refused refusal.Uneven) t u =
+    (is_too_long f ≡ false) × (is_uneven f ≡ true) × (u ≡ t)
+Adds time f (outcome.Refused refusal.OtherEnd) t u =
+    Takes time f (outcome.Refused refusal.OtherEnd) t u
 Adds time f outcome.Waits t u = Takes time f outcome.Waits t u
 Adds time f (outcome.Whole d) t u = Takes time f (outcome.Whole d) t u

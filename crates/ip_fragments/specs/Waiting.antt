@@ -53,7 +53,8 @@ is_uneven f = f.has_more && not (length f.payload.now % 8 == 0)
 
 -- Two fragments end the datagram differently, or bytes are past its end.
 abbrev pub is_other_end : Fragment → Waiting → Bool
-is_other_end f w = (not f.has_more && nat_lt (end_of f) w.reach) || (w.is_ended && nat_lt w.reach (end_of f))
+is_other_end f w = (not f.has_more && nat_lt (end_of f) w.reach)
+    || (w.is_ended && nat_lt w.reach (end_of f))
 
 abbrev pub first_protocol : Option ℕ → Fragment → Option ℕ
 first_protocol (Some p) f = Some p

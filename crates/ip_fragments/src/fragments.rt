@@ -81,7 +81,8 @@ impl Model for Fragments {
 
     ghost view = { λ f. f.waiting.entries };
 
-    ghost invariant = { λ f. (f.waiting.cap ≡ 2 ^ 64 - 1) × (f.held ≡ weight f.waiting.entries) × (f.held ≤ 33554432) };
+    ghost invariant = { λ f. (f.waiting.cap ≡ 2 ^ 64 - 1) × (f.held ≡ weight f.waiting.entries)
+        × (f.held ≤ 33554432) };
 }
 
 /// Adds a fragment to its datagram, if that is in the table.
@@ -283,7 +284,8 @@ impl Fragments {
     /// Removes a complete datagram and returns it.
     #[tactic(auto, using(crate::proofs::TableLemmas::missed, crate::proofs::TableLemmas::weight_others, crate::proofs::TableLemmas::weight_at))]
     fn take(&mut self, key: &Key, fragment: &Fragment<'_>) -> Outcome
-        ensures handed_out { IfSome (at key.now self.old) (λ w. is_whole_datagram w ≡ true → HandsOut fragment.now w result) }
+        ensures handed_out { IfSome (at key.now self.old)
+            (λ w. is_whole_datagram w ≡ true → HandsOut fragment.now w result) }
         ensures left { self.new ≡ others key.now self.old }
     {
         match self.waiting.pop(key) {
@@ -326,7 +328,8 @@ impl Fragments {
     /// dropped before stay dropped.
     pub fn add(&mut self, time: u64, fragment: &Fragment<'_>) -> Result<Outcome, AllocError>
         ensures adds { IfOk result (λ o. Adds time fragment.now o self.old self.new) }
-        ensures err { OnErr result (IsForgotten time (weight_of_fragment fragment.now) self.old self.new) }
+        ensures err { OnErr result
+            (IsForgotten time (weight_of_fragment fragment.now) self.old self.new) }
     {
         let end = fragment.offset as usize + fragment.payload.len();
         if fragment.in_front > MAX_DATAGRAM || end > MAX_DATAGRAM - fragment.in_front {

@@ -47,7 +47,18 @@ impl Model for Waiting {
 
     ghost Value = { Waiting };
 
-    ghost view = { λ w. record { cells = w.segments.cells; reach = w.reach; is_ended = w.is_ended; protocol = w.protocol; is_header_right = w.is_header_right; disagreeing = w.disagreeing; weight = w.weight; since = w.since } };
+    ghost view = { λ w. record {
+      cells = w.segments.cells;
+      reach = w.reach;
+      is_ended = w.is_ended;
+      protocol =
+          w.protocol;
+      is_header_right = w.is_header_right;
+      disagreeing = w.disagreeing;
+      weight =
+          w.weight;
+      since = w.since;
+    } };
 
     ghost invariant = { λ w. (w.segments.first ≡ 0) × (w.segments.taken ≡ 0) × (w.disagreeing ≤ w.weight) };
 }
@@ -120,7 +131,8 @@ impl Waiting {
     #[tactic(auto, using(crate::proofs::CountLemmas::differing_behind))]
     fn count_differing(&self, fragment: &Fragment<'_>) -> usize
         requires { length fragment.now.payload.now < 2 ^ 16 }
-        ensures is { result ≡ differing fragment.now.offset fragment.now.payload.now self.now.cells }
+        ensures is { result ≡ differing fragment.now.offset fragment.now.payload.now
+            self.now.cells }
         ensures within { result ≤ length fragment.now.payload.now }
     {
         let front = self.segments.available();

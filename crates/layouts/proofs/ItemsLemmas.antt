@@ -64,7 +64,8 @@ pub items_step : {A : Type 0} (f : Bytes → Answer A) (b : Bytes)
     → items_at f (length b) b ≡ with_items (f b) (λ m. items_at f (length m) m) b
 unfolding items_at
 items_step f [] = sym (none_with (f []) (λ m. items_at f (length m) m) [] (omega arith))
-items_step f (x ∷ b) = with_same (f (x ∷ b)) (items_at f (length b)) (λ m. items_at f (length m) m) (x ∷ b)
+items_step f (x ∷ b) =
+    with_same (f (x ∷ b)) (items_at f (length b)) (λ m. items_at f (length m) m) (x ∷ b)
     (λ m short. items_same f (length b) (length m) m (omega arith) (omega arith))
 
 module _ {A : Type 0} (l : Layout A) (b : Bytes) where
@@ -76,34 +77,40 @@ module _ {A : Type 0} (l : Layout A) (b : Bytes) where
       → ◌≡◌ {A = List A × Bytes} (all_in b) (x ∷ (all_in r).0, (all_in r).1)
   read_first x r e short =
       items_step (reading l) b ∙ ap (λ a. with_items a all_in b) e
-      ∙ ap (λ t. cond t (x ∷ (all_in r).0, (all_in r).1) ([], b)) (ltb_yes (length r) (length b) short)
+      ∙ ap (λ t. cond t (x ∷ (all_in r).0, (all_in r).1) ([], b))
+      (ltb_yes (length r) (length b) short)
 
   pub items_first : (x : A) (r : Bytes) → reading l b ≡ Ok (x, r) → length r < length b
       → items_in l b ≡ x ∷ items_in l r
   items_first x r e short = ap (λ y. y.0) (read_first x r e short)
 
-  pub left_first : (x : A) (r : Bytes) → reading l b ≡ Ok (x, r) → length r < length b → left_in l b ≡ left_in l r
+  pub left_first : (x : A) (r : Bytes) → reading l b ≡ Ok (x, r) → length r < length b
+      → left_in l b ≡ left_in l r
   left_first x r e short = ap (λ y. y.1) (read_first x r e short)
 
   -- if no item is read, or an empty one, the list is over
   read_none : (e : Refusal) → reading l b ≡ Err e → all_in b ≡ ([], b)
   read_none e f = items_step (reading l) b ∙ ap (λ a. with_items a all_in b) f
 
-  read_still : (x : A) (r : Bytes) → reading l b ≡ Ok (x, r) → length b ≤ length r → all_in b ≡ ([], b)
+  read_still : (x : A) (r : Bytes) → reading l b ≡ Ok (x, r) → length b ≤ length r
+      → all_in b ≡ ([], b)
   read_still x r e long =
       items_step (reading l) b ∙ ap (λ a. with_items a all_in b) e
-      ∙ ap (λ t. cond t (x ∷ (all_in r).0, (all_in r).1) ([], b)) (ltb_no (length r) (length b) long)
+      ∙ ap (λ t. cond t (x ∷ (all_in r).0, (all_in r).1) ([], b))
+      (ltb_no (length r) (length b) long)
 
   pub items_none : (e : Refusal) → reading l b ≡ Err e → items_in l b ≡ []
   items_none e f = ap (λ y. y.0) (read_none e f)
 
-  pub items_still : (x : A) (r : Bytes) → reading l b ≡ Ok (x, r) → length b ≤ length r → items_in l b ≡ []
+  pub items_still : (x : A) (r : Bytes) → reading l b ≡ Ok (x, r) → length b ≤ length r
+      → items_in l b ≡ []
   items_still x r e long = ap (λ y. y.0) (read_still x r e long)
 
   pub left_none : (e : Refusal) → reading l b ≡ Err e → left_in l b ≡ b
   left_none e f = ap (λ y. y.1) (read_none e f)
 
-  pub left_still : (x : A) (r : Bytes) → reading l b ≡ Ok (x, r) → length b ≤ length r → left_in l b ≡ b
+  pub left_still : (x : A) (r : Bytes) → reading l b ≡ Ok (x, r) → length b ≤ length r
+      → left_in l b ≡ b
   left_still x r e long = ap (λ y. y.1) (read_still x r e long)
 
   pub items_shorter : (x : A) (r : Bytes) → reading l b ≡ Ok (x, r) → length r < length b
@@ -112,7 +119,8 @@ module _ {A : Type 0} (l : Layout A) (b : Bytes) where
       ap length (items_first x r e short) in omega (arith, more)
 
 -- items that are read and then decoded, and the same items decoded as they are read
-decoded_first : {X A : Type 0} (decode : X → Result A Refusal) (f : Bytes → List X × Bytes) (g : Bytes → List A × Bytes)
+decoded_first : {X A : Type 0} (decode : X → Result A Refusal) (f : Bytes → List X × Bytes)
+    (g : Bytes → List A × Bytes)
     (b : Bytes) (a : Answer X) → ((m : Bytes) → (g m).0 ≡ decode_while decode (f m).0)
     → (with_items (◌and_then◌ {Y = A × Bytes} a (λ x. decode x.0 and_then λ y. Ok (y, x.1))) g b).0
     ≡ decode_while decode (with_items a f b).0
@@ -123,11 +131,13 @@ decoded_first {X} {A} decode f g b (Ok x) more = by_decode (decode x.0) refl
     taken : (y : A) (t : Bool) → decode x.0 ≡ Ok y
         → (cond {A = List A × Bytes} t (y ∷ (g x.1).0, (g x.1).1) ([], b)).0
         ≡ decode_while decode (cond {A = List X × Bytes} t (x.0 ∷ (f x.1).0, (f x.1).1) ([], b)).0
-    taken y true e = ap (λ ys. y ∷ ys) (more x.1) ∙ ap (λ d. with_decoded d (decode_while decode (f x.1).0)) (sym e)
+    taken y true e = ap (λ ys. y ∷ ys) (more x.1)
+        ∙ ap (λ d. with_decoded d (decode_while decode (f x.1).0)) (sym e)
     taken y false e = refl
 
     ended : (k : Refusal) (t : Bool) → decode x.0 ≡ Err k
-        → [] ≡ decode_while decode (cond {A = List X × Bytes} t (x.0 ∷ (f x.1).0, (f x.1).1) ([], b)).0
+        → [] ≡ decode_while decode
+        (cond {A = List X × Bytes} t (x.0 ∷ (f x.1).0, (f x.1).1) ([], b)).0
     ended k true e = ap (λ d. with_decoded d (decode_while decode (f x.1).0)) (sym e)
     ended k false e = refl
 
@@ -137,8 +147,10 @@ decoded_first {X} {A} decode f g b (Ok x) more = by_decode (decode x.0) refl
     by_decode (Ok y) e = taken y (ltb (length x.1) (length b)) e
     by_decode (Err k) e = ended k (ltb (length x.1) (length b)) e
 
-decoded : {X A : Type 0} (f : Bytes → Answer X) (g : Bytes → Answer A) (decode : X → Result A Refusal)
-    → ((b : Bytes) → g b ≡ (f b and_then λ x. decode x.0 and_then λ y. Ok (y, x.1))) → (n : ℕ) (b : Bytes)
+decoded : {X A : Type 0} (f : Bytes → Answer X) (g : Bytes → Answer A)
+    (decode : X → Result A Refusal)
+    → ((b : Bytes) → g b ≡ (f b and_then λ x. decode x.0 and_then λ y. Ok (y, x.1)))
+    → (n : ℕ) (b : Bytes)
     → (items_at g n b).0 ≡ decode_while decode (items_at f n b).0
 unfolding items_at
 decoded f g decode h zero b = refl
@@ -146,7 +158,8 @@ decoded f g decode h (suc n) b = ap (λ a. (with_items a (items_at g n) b).0) (h
     ∙ decoded_first decode (items_at f n) (items_at g n) b (f b) (λ m. decoded f g decode h n m)
 
 pub items_decoded : {X A : Type 0} (l : Layout A) (raw : Layout X) (decode : X → Result A Refusal)
-    → ReadsThenDecodes l raw decode → (b : Bytes) → items_in l b ≡ decode_while decode (items_in raw b)
+    → ReadsThenDecodes l raw decode → (b : Bytes)
+    → items_in l b ≡ decode_while decode (items_in raw b)
 items_decoded l raw decode h b = decoded (reading raw) (reading l) decode h (length b) b
 
 -- no bytes hold no items

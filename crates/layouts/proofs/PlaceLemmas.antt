@@ -6,7 +6,8 @@ use Rattle.layouts.specs.Layout.{Layout}
 use Rattle.layouts.specs.Meaning.{EndsWith, Allows}
 use Rattle.layouts.proofs.EndLemmas.{ends, ends_after}
 
-pub place_is : (b c r : Bytes) → EndsWith b (c ++ r) → take (length c) (drop (length b - length r - length c) b) ≡ c
+pub place_is : (b c r : Bytes) → EndsWith b (c ++ r)
+    → take (length c) (drop (length b - length r - length c) b) ≡ c
 place_is b c r (f, e) =
     let size : length b ≡ length f + (length c + length r) =
     ap length e ∙ length-append f (c ++ r) ∙ ap (λ n. length f + n) (length-append c r) in
@@ -21,7 +22,8 @@ pub ends_here : (b : Bytes) → EndsWith b b
 ends_here b = ([], refl)
 
 -- if b is a suffix of w, so is the rest of a read from b
-pub ends_read : {A : Type 0} (l : Layout A) (w b : Bytes) (v : A) (r : Bytes) → EndsWith w b → Allows l b (Ok (v, r))
+pub ends_read : {A : Type 0} (l : Layout A) (w b : Bytes) (v : A) (r : Bytes) → EndsWith w b
+    → Allows l b (Ok (v, r))
     → EndsWith w r
 unfolding Allows
 ends_read l w b v r at (d, s) = ends_after w b r at (ends l b v r d s)

@@ -27,9 +27,11 @@ use Rattle.std.proofs.lemmas.List.Kept.{AllPairs-from_increasing}
 use Rattle.std.proofs.lemmas.Option.{slice_get-get_or, slice_get_within, get_or_from_slice_get}
 
 -- an entry is at least each one before it
-rises : (xs : List ℕ) → IsStrictlyIncreasing xs → (i j : ℕ) → i ≤ j → j < length xs → get_or xs i 0 ≤ get_or xs j 0
+rises : (xs : List ℕ) → IsStrictlyIncreasing xs → (i j : ℕ) → i ≤ j → j < length xs
+    → get_or xs i 0 ≤ get_or xs j 0
 rises xs up i j h k =
-    let below : i < j → get_or xs i 0 < get_or xs j 0 = λ l. AllPairs-from_increasing xs up i j 0 l k in
+    let below : i < j → get_or xs i 0 < get_or xs j 0 =
+    λ l. AllPairs-from_increasing xs up i j 0 l k in
     let same : i ≡ j → get_or xs i 0 ≡ get_or xs j 0 = λ e. ap (λ n. get_or xs n 0) e in grind arith
 
 -- numbers that increase with their positions: equal numbers have equal positions
@@ -43,7 +45,8 @@ no_place k i x n below above e = grind arith
 one_place : (xs : List ℕ) → IsStrictlyIncreasing xs → (i j : ℕ) → i < length xs → j < length xs
     → get_or xs i 0 ≡ get_or xs j 0 → i ≡ j
 one_place xs up i j h k e =
-    same_place i j _ _ (λ l. AllPairs-from_increasing xs up i j 0 l k) (λ l. AllPairs-from_increasing xs up j i 0 l h) e
+    same_place i j _ _ (λ l. AllPairs-from_increasing xs up i j 0 l k)
+    (λ l. AllPairs-from_increasing xs up j i 0 l h) e
 
 -- the entry at k is n exactly if the search returns k
 pub place_found : (xs : List ℕ) (n : ℕ) (r : Result ℕ ℕ) (o : Option ℕ) → IsStrictlyIncreasing xs
@@ -53,7 +56,8 @@ place_found xs n (Ok i) o up found e k =
     let at = searched xs n (Ok i) found (rises xs up) in (
       λ is.
           let same : i ≡ k = cc in
-          slice_get-get_or xs k 0 (omega (arith, at.0)) ∙ ap Some (ap (λ j. get_or xs j 0) (sym same) ∙ at.1),
+          slice_get-get_or xs k 0 (omega (arith, at.0))
+          ∙ ap Some (ap (λ j. get_or xs j 0) (sym same) ∙ at.1),
       λ there.
           e
           ∙ ap Some

@@ -50,13 +50,15 @@ answer_of view (Ok x) = Ok (view x.1, x.0.now)
 answer_of view (Err e) = Err (refusal_of e)
 
 -- The call returns the answer of the layout l on b: the one that reading gives, and that l allows.
-pub record Gives {X Y : Type 0} (view : X → Y) (l : Layout Y) (b : Bytes) (result : Returned X) : Type 0 where
+pub record Gives {X Y : Type 0} (view : X → Y) (l : Layout Y) (b : Bytes)
+    (result : Returned X) : Type 0 where
   pub answers : IsAnswer result
   pub read : reading l b ≡ answer_of view result
   pub allowed : Allows l b (answer_of view result)
 
 -- The call returns the answer of the layout l on b, unless it ran out of memory.
-pub record GivesOrMemory {X Y : Type 0} (view : X → Y) (l : Layout Y) (b : Bytes) (result : Returned X) : Type 0 where
+pub record GivesOrMemory {X Y : Type 0} (view : X → Y) (l : Layout Y) (b : Bytes)
+    (result : Returned X) : Type 0 where
   pub answers : MemorySufficed result → IsAnswer result
   pub read : MemorySufficed result → reading l b ≡ answer_of view result
   pub allowed : MemorySufficed result → Allows l b (answer_of view result)

@@ -66,7 +66,8 @@ abbrev pub refusal_in : {A : Type 0} → Layout A → Bytes → Option Refusal
 refusal_in l b = if length (left_in l b) == 0 then None else refused_by (reading l (left_in l b))
 
 -- The result of a call that reads on demand and leaves no rest: a value, or a refusal.
-abbrev pub told : {X Y : Type 0} → (X → Y) → Result X (Failed (Error (Bor (List ℕ)))) → Result Y Refusal
+abbrev pub told : {X Y : Type 0} → (X → Y) → Result X (Failed (Error (Bor (List ℕ))))
+    → Result Y Refusal
 told view (Ok x) = Ok (view x)
 told view (Err e) = Err (refusal_of e)
 

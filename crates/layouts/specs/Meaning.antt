@@ -63,7 +63,8 @@ SpellsItem S b v r d = S b v r d × (length r < length b)
 -- A list is items, one after another, and then a rest that begins with no item.
 abbrev pub SpellsItems : {A : Type 0} → Spelling A → Spelling (List A)
 SpellsItems S b [] r d = (b ≡ r) × (d ≡ []) × SpellsNothing (SpellsItem S) b
-SpellsItems S b (v ∷ vs) r d = (m d1 d2 : Bytes) × SpellsItem S b v m d1 × SpellsItems S m vs r d2 × (d ≡ d1 ++ d2)
+SpellsItems S b (v ∷ vs) r d = (m d1 d2 : Bytes) × SpellsItem S b v m d1 × SpellsItems S m vs r d2
+    × (d ≡ d1 ++ d2)
 
 -- An optional part is Some if b begins with it. Else it is None and consumes nothing.
 abbrev pub SpellsOption : {A : Type 0} → Spelling A → Spelling (Option A)
@@ -88,7 +89,8 @@ Spells left b v r d = (v ≡ length b) × (b ≡ r) × (d ≡ [])
 Spells (tag t) b v r d = (b ≡ t ++ r) × (d ≡ [])
 -- b begins with n bytes w, which encode v with the rest e; the window drops f, what l drops in w,
 -- and then e
-Spells (window n l) b v r d = (w e f : Bytes) × (length w ≡ n) × (b ≡ w ++ r) × Spells l w v e f × (d ≡ f ++ e)
+Spells (window n l) b v r d = (w e f : Bytes) × (length w ≡ n) × (b ≡ w ++ r) × Spells l w v e f
+    × (d ≡ f ++ e)
 Spells (list l) b v r d = SpellsItems (Spells l) b v r d
 Spells (maybe l) b v r d = SpellsOption (Spells l) b v r d
 -- the first layout encodes v, or it encodes nothing and the second encodes v
@@ -97,7 +99,8 @@ Spells (complete l) b v r d = Spells l b v r d
 -- b begins with v, and all of b is the rest
 Spells (look l) b v r d = (b ≡ r) × (d ≡ []) × ((e f : Bytes) × Spells l b v e f)
 -- b encodes a with the rest m, and m encodes v; dropped is what either part drops
-Spells (chain l f) b v r d = (a : _) × (m d1 d2 : Bytes) × Spells l b a m d1 × Spells (f a) m v r d2 × (d ≡ d1 ++ d2)
+Spells (chain l f) b v r d = (a : _) × (m d1 d2 : Bytes) × Spells l b a m d1 × Spells (f a) m v r d2
+    × (d ≡ d1 ++ d2)
 
 -- How b is refused under each layout: by the leftmost part that lacks bytes or breaks its rule.
 abbrev pub Refuses : {A : Type 0} → Layout A → Bytes → Refusal → Type 0
@@ -112,7 +115,8 @@ Refuses left b e = ⊥
 -- a byte differs, after a common prefix; or all of b agrees with t and the other bytes of t are
 -- missing
 Refuses (tag t) b e =
-    ((same t' b' : Bytes) × (x y : ℕ) × (t ≡ same ++ x ∷ t') × (b ≡ same ++ y ∷ b') × (x ≢ y) × (e ≡ Broken Tag))
+    ((same t' b' : Bytes) × (x y : ℕ) × (t ≡ same ++ x ∷ t') × (b ≡ same ++ y ∷ b') × (x ≢ y)
+    × (e ≡ Broken Tag))
     ⊎ ((missing : Bytes) × (missing ≢ []) × (t ≡ b ++ missing) × (e ≡ Lacks (length missing)))
 -- bytes of the window are missing, or the window is complete and its content is refused
 Refuses (window n l) b e =
@@ -122,14 +126,16 @@ Refuses (window n l) b e =
 Refuses (list l) b e = ⊥
 Refuses (maybe l) b e = ⊥
 -- neither layout encodes anything
-Refuses (either l m) b e = SpellsNothing (Spells l) b × SpellsNothing (Spells m) b × (e ≡ Broken Complete)
+Refuses (either l m) b e = SpellsNothing (Spells l) b × SpellsNothing (Spells m) b
+    × (e ≡ Broken Complete)
 -- a broken rule is passed on; missing bytes become `Complete`
 Refuses (complete l) b e =
     ((k : ErrorKind) × Refuses l b (Broken k) × (e ≡ Broken k))
     ⊎ ((n : ℕ) × Refuses l b (Lacks n) × (e ≡ Broken Complete))
 Refuses (look l) b e = Refuses l b e
 -- the first part is refused, or it is read and the second is refused
-Refuses (chain l f) b e = Refuses l b e ⊎ ((a : _) × (m d : Bytes) × Spells l b a m d × Refuses (f a) m e)
+Refuses (chain l f) b e =
+    Refuses l b e ⊎ ((a : _) × (m d : Bytes) × Spells l b a m d × Refuses (f a) m e)
 
 -- A value and the rest, or a refusal.
 abbrev pub Answer : Type 0 → Type 0

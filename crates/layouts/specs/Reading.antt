@@ -43,7 +43,8 @@ use Rattle.layouts.specs.declared.result.ErrorKind.TheVariants.{Tag, Complete}
 
 -- Continues after a value; passes a refusal on.
 infixl 10 ◌and_then◌
-abbrev pub ◌and_then◌ : {X Y : Type 0} → Result X Refusal → (X → Result Y Refusal) → Result Y Refusal
+abbrev pub ◌and_then◌ : {X Y : Type 0} → Result X Refusal → (X → Result Y Refusal)
+    → Result Y Refusal
 (Ok x) and_then f = f x
 (Err e) and_then f = Err e
 
@@ -68,7 +69,8 @@ tag_at (x ∷ t) (y ∷ b) = if x == y then tag_at t b else Err (Broken Tag)
 -- The item and further items, if it was read and isn't empty; else no items.
 abbrev pub with_items : {A : Type 0} → Answer A → (Bytes → List A × Bytes) → Bytes → List A × Bytes
 with_items (Err e) more b = ([], b)
-with_items (Ok x) more b = if nat_lt (length x.1) (length b) then (x.0 ∷ (more x.1).0, (more x.1).1) else ([], b)
+with_items (Ok x) more b = if nat_lt (length x.1) (length b) then
+    (x.0 ∷ (more x.1).0, (more x.1).1) else ([], b)
 
 -- Items up to the first that can't be read, at most n.
 unfoldable pub items_at : {A : Type 0} → (Bytes → Answer A) → ℕ → Bytes → List A × Bytes

@@ -70,4 +70,5 @@ pub record Decides {A : Type 0} (l : Layout A) (b s : Bytes) : Type 0 where
 
 -- If n bytes are missing on b, and s has fewer, then the others are missing on b followed by s.
 abbrev pub CountsDown : {A : Type 0} → Layout A → Bytes → Bytes → Type 0
-CountsDown l b s = (n : ℕ) → Allows l b (Err (Lacks n)) → length s < n → Allows l (b ++ s) (Err (Lacks (n - length s)))
+CountsDown l b s = (n : ℕ) → Allows l b (Err (Lacks n)) → length s < n
+    → Allows l (b ++ s) (Err (Lacks (n - length s)))

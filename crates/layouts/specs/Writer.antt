@@ -15,7 +15,8 @@ IsRefusal OutOfMemory = ⊥
 
 -- The first value that doesn't fit is refused, with its own reason. If all fit, they are too long
 -- together.
-abbrev pub RefusesFirst : {A : Type 0} → (A → Type 0) → (A → GenError → Type 0) → List A → GenError → Type 0
+abbrev pub RefusesFirst : {A : Type 0} → (A → Type 0) → (A → GenError → Type 0) → List A
+    → GenError → Type 0
 RefusesFirst Fits Refused [] e = e ≡ BadLength
 RefusesFirst Fits Refused (v ∷ vs) e = Refused v e ⊎ (Fits v × RefusesFirst Fits Refused vs e)
 
@@ -39,4 +40,5 @@ abbrev pub Writes : {W : Type 0} → Type 0 → (GenError → Type 0) → Bytes 
 Writes Fits Refused text contents old new (Ok u) = Fits × Appends (contents old) (contents new) text
 Writes Fits Refused text contents old new (Err OutOfMemory) = Fits × (new ≡ old)
 Writes Fits Refused text contents old new (Err Io) = Fits
-Writes Fits Refused text contents old new (Err e) = IsRefusal e × (Fits → ⊥) × Refused e × (new ≡ old)
+Writes Fits Refused text contents old new (Err e) = IsRefusal e × (Fits → ⊥) × Refused e
+    × (new ≡ old)

@@ -159,7 +159,8 @@ impl<'a, T: Number> Items<'a, T> {
     #[tactic(auto, using(crate::proofs::NumbersLemmas::place_fits, crate::proofs::NumbersLemmas::number_at_place))]
     #[inline(always)]
     pub fn get(self, i: usize) -> Option<T>
-        ensures { option_map T.value result ≡ slice_get (items_in (number T.WIDTH) self.entry.bytes.now) i }
+        ensures { option_map T.value result ≡ slice_get
+            (items_in (number T.WIDTH) self.entry.bytes.now) i }
     {
         if i >= self.len() {
             return None;
@@ -176,7 +177,8 @@ impl<'a, T: Number> Items<'a, T> {
 pub fn numbers_in_place<T: Number>(i: &[u8], count: usize) -> IResult<&[u8], Items<T>>
     requires some { 0 < T.WIDTH }
     requires fits { T.WIDTH * count ≤ length i.now }
-    ensures { Gives (λ v. items_in (number T.WIDTH) v.bytes.now) (times count (number T.WIDTH)) i.now result }
+    ensures { Gives (λ v. items_in (number T.WIDTH) v.bytes.now) (times count (number T.WIDTH))
+        i.now result }
 {
     let (numbers, rest) = i.split_at(T::WIDTH * count);
     Ok((rest, Items::new(numbers)))
@@ -188,7 +190,8 @@ pub fn numbers_in_place<T: Number>(i: &[u8], count: usize) -> IResult<&[u8], Ite
 #[inline(always)]
 pub fn pairs_in_place<T: Number>(i: &[u8]) -> IResult<&[u8], Items<T>>
     requires { T.WIDTH ≡ 2 }
-    ensures { Gives (λ v. items_in (number T.WIDTH) v.bytes.now) (pairs_of (number T.WIDTH)) i.now result }
+    ensures { Gives (λ v. items_in (number T.WIDTH) v.bytes.now) (pairs_of (number T.WIDTH))
+        i.now result }
 {
     if i.len() % 2 != 0 {
         return refused(i, ErrorKind::LengthValue);

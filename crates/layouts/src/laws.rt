@@ -28,7 +28,8 @@ pub fn one_answer_is_allowed<S: Structure>()
 /// Reading gives the one answer that the layout allows.
 #[tactic(auto, using(crate::proofs::OneAnswerLemmas::allowed_is_reading))]
 pub fn reading_is_the_answer<S: Structure>()
-    ensures { (b : Bytes) → AreBytes b → (x : Answer S.Value) → Allows S.layout b x ↔ (x ≡ reading S.layout b) }
+    ensures { (b : Bytes) → AreBytes b → (x : Answer S.Value) → Allows S.layout b x
+        ↔ (x ≡ reading S.layout b) }
 {}
 
 /// The rest in an answer is a suffix of the bytes.
@@ -53,7 +54,8 @@ pub fn more_bytes_change_no_decision<S: Structure>()
 /// If `n` bytes are missing and fewer are appended, exactly the others are still missing.
 #[tactic(auto, using(crate::proofs::StableLemmas::counts_down))]
 pub fn more_bytes_are_counted<S: Structure>()
-    ensures { CountsMissing S.layout → (b s : Bytes) → AreBytes b → AreBytes s → CountsDown S.layout b s }
+    ensures { CountsMissing S.layout → (b s : Bytes) → AreBytes b → AreBytes s
+        → CountsDown S.layout b s }
 {}
 
 /// A layout that counts its missing bytes is stable.
@@ -64,5 +66,6 @@ pub fn counting_is_stable<S: Structure>()
 
 /// Walking items in place yields the items of the list, and leaves the same rest.
 pub fn walk_is_the_list<S: Structure>()
-    ensures { (b : Bytes) → reading (list S.layout) b ≡ Ok (items_in S.layout b, left_in S.layout b) }
+    ensures { (b : Bytes)
+        → reading (list S.layout) b ≡ Ok (items_in S.layout b, left_in S.layout b) }
 {}

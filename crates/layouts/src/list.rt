@@ -15,7 +15,8 @@ fn further_items<'a, T: Item<'a>>(
     i: &'a [u8],
     first: Vec<T::Read>,
 ) -> IResult<&'a [u8], Vec<T::Read>>
-    ensures { GivesOrMemory (λ v. map T.view v.items) (behind (map T.view first.items) (list T.layout)) i.now result }
+    ensures { GivesOrMemory (λ v. map T.view v.items)
+        (behind (map T.view first.items) (list T.layout)) i.now result }
 {
     let mut items = first;
     let mut rest = i;
@@ -40,7 +41,8 @@ fn items_behind<'a, T: Item<'a>>(
     i: &'a [u8],
     first: Vec<T::Read>,
 ) -> IResult<&'a [u8], Vec<T::Read>>
-    ensures { GivesOrMemory (λ v. map T.view v.items) (behind (map T.view first.items) (list T.layout)) i.now result }
+    ensures { GivesOrMemory (λ v. map T.view v.items)
+        (behind (map T.view first.items) (list T.layout)) i.now result }
 {
     if i.is_empty() {
         return Ok((i, first));

@@ -62,7 +62,8 @@ pub struct OutOfMemory;
 /// Returns `Error` of this kind, with the input that is refused.
 #[inline(always)]
 pub fn refused<I, O>(input: I, code: ErrorKind) -> IResult<I, O>
-    ensures { MatchResult result (λ _. ⊥) (λ e. e ≡ Err.Error (record { input = input; code = code })) }
+    ensures { MatchResult result (λ _. ⊥)
+        (λ e. e ≡ Err.Error (record { input = input; code = code })) }
 {
     Err(Err::Error(Error { input, code }))
 }

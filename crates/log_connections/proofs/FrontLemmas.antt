@@ -22,16 +22,19 @@ use Rattle.log_connections.specs.declared.fronts.Beginning.TheVariants as beginn
 use Rattle.log_connections.specs.declared.heard.Said.{Said}
 use Rattle.log_connections.specs.declared.heard.Said.TheVariants as said
 
-pub heard_none : (s : Side) (d : Direction) (t u : Stream) (z : Said) (x : Analyzer) (f : Fronts) (y : Analyzer) (g : Fronts)
+pub heard_none : (s : Side) (d : Direction) (t u : Stream) (z : Said) (x : Analyzer) (f : Fronts)
+    (y : Analyzer) (g : Fronts)
     → z ≡ said.Stream x f → IsHeardAsNone x d y → g ≡ leaving s f → u ≡ stopped t t.reading
     → HearsNone s d t u z (said.Stream y g)
 unfolding HearsNone
 heard_none s d t u z x f y g is heard left stops =
     subst (λ z. HearsNone s d t u z (said.Stream y g)) (sym is) (heard, left, stops)
 
-pub heard_at : (s : Side) (d : Direction) (n : ℕ) (t u : Stream) (z w : Said) (x : Analyzer) (f : Fronts) (y : Analyzer) (g : Fronts)
+pub heard_at : (s : Side) (d : Direction) (n : ℕ) (t u : Stream) (z w : Said) (x : Analyzer)
+    (f : Fronts) (y : Analyzer) (g : Fronts)
     (b : Bytes)
-    → z ≡ said.Stream x f → w ≡ said.Stream y g → b ≡ drop n (next_bytes t t.reading) → IsHeardOn x d b y
+    → z ≡ said.Stream x f → w ≡ said.Stream y g → b ≡ drop n (next_bytes t t.reading)
+    → IsHeardOn x d b y
     → g ≡ with_begun s n f → IsTakenOff t u → HearsAt s d n t u z w
 unfolding HearsAt
 heard_at s d n t u z w x f y g b is its bytes heard begun taken =
@@ -57,7 +60,8 @@ heard_over x d b over = go (hearing x d) refl
 
     go : (h : Hearing) → hearing x d ≡ h → IsHeardBy h x d b x
     go Unknown is =
-        let none : false ≡ true = subst (λ h. over_by h (outcome_at x.hearer.flow.state) ≡ true) is over in cc
+        let none : false ≡ true =
+        subst (λ h. over_by h (outcome_at x.hearer.flow.state) ≡ true) is over in cc
     go Clear is = next
     go Encrypted is = next
     go Other is = next
@@ -78,7 +82,8 @@ unfolding HearsStream HearsAt
 over_stays s last d t u (said.Stream x f) over stops =
     let both = and_parts (not (is_sought (front_of s f))) (is_over x d) over in
     let found : is_sought (front_of s f) ≡ false = not_sought (is_sought (front_of s f)) both.0 in
-    let begins : begins_in s last (said.Stream x f) (next_bytes t t.reading) ≡ beginnings.At 0 = rw found in
+    let begins : begins_in s last (said.Stream x f) (next_bytes t t.reading) ≡ beginnings.At 0 =
+    rw found in
     let begun : f ≡ with_begun s 0 f = rw found in
     subst (λ b. HearsBy b s d t u (said.Stream x f) (said.Stream x f)) (sym begins) (
       heard_over x d (drop 0 (next_bytes t t.reading)) both.1,

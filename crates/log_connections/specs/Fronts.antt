@@ -84,12 +84,14 @@ are_answered f = answers f.originator.passed f.responder && answers f.responder.
 
 -- This many bytes of a side are skipped, and more may be.
 abbrev pub passing : Side → ℕ → Fronts → Fronts
-passing s n f = with_front s (record { passed = behind (front_of s f) n; standing = (front_of s f).standing }) f
+passing s n f =
+    with_front s (record { passed = behind (front_of s f) n; standing = (front_of s f).standing }) f
 
 -- It is analyzed behind these bytes, unless it was decided before.
 abbrev pub with_begun : Side → ℕ → Fronts → Fronts
 with_begun s n f =
-    if is_sought (front_of s f) then with_front s (record { passed = behind (front_of s f) n; standing = Heard }) f else f
+    if is_sought (front_of s f) then
+    with_front s (record { passed = behind (front_of s f) n; standing = Heard }) f else f
 
 -- It doesn't speak TLS, and no bytes count as before it.
 abbrev pub leaving : Side → Fronts → Fronts

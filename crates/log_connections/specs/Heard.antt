@@ -48,19 +48,23 @@ PassesOver s n t u (said.Datagrams x) y = (y ≡ said.Datagrams x) × (u ≡ t)
 
 -- The side was analyzed as one that doesn't speak TLS, and is read no further.
 unfoldable pub HearsNone : Side → Direction → Stream → Stream → Said → Said → Type 0
-HearsNone s d t u (said.Stream x f) (said.Stream y g) = IsHeardAsNone x d y × (g ≡ leaving s f) × (u ≡ stopped t t.reading)
+HearsNone s d t u (said.Stream x f) (said.Stream y g) = IsHeardAsNone x d y × (g ≡ leaving s f)
+    × (u ≡ stopped t t.reading)
 HearsNone s d t u (said.Stream x f) (said.Datagrams y) = ⊥
 HearsNone s d t u (said.Datagrams x) y = (y ≡ said.Datagrams x) × (u ≡ t)
 
 -- The next SSL 2.0 ClientHello of its stream was analyzed and read; without one, nothing.
-abbrev pub HearsHello : Answer ssl2.ClientHello → Side → Direction → Stream → Stream → Analyzer → Fronts → Said → Type 0
+abbrev pub HearsHello : Answer ssl2.ClientHello → Side → Direction → Stream → Stream → Analyzer
+    → Fronts → Said → Type 0
 HearsHello (Ok h) s d t u x f (said.Stream y g) =
-    IsHeardInSsl2 x d h.0 y × (g ≡ with_begun s 0 f) × (u ≡ handing_on (length (next_bytes t t.reading) - length h.1) t)
+    IsHeardInSsl2 x d h.0 y × (g ≡ with_begun s 0 f)
+    × (u ≡ handing_on (length (next_bytes t t.reading) - length h.1) t)
 HearsHello (Ok h) s d t u x f (said.Datagrams y) = ⊥
 HearsHello (Err e) s d t u x f y = (y ≡ said.Stream x f) × (u ≡ t)
 
 unfoldable pub HearsSsl2 : Side → Direction → Stream → Stream → Said → Said → Type 0
-HearsSsl2 s d t u (said.Stream x f) y = HearsHello (reading ssl2.client_hello (next_bytes t t.reading)) s d t u x f y
+HearsSsl2 s d t u (said.Stream x f) y =
+    HearsHello (reading ssl2.client_hello (next_bytes t t.reading)) s d t u x f y
 HearsSsl2 s d t u (said.Datagrams x) y = (y ≡ said.Datagrams x) × (u ≡ t)
 
 -- Where a side's TLS begins, by the next bytes of its stream. It answers if the other's began.
@@ -88,11 +92,14 @@ HearsStream s last d t u x y = HearsBy (begins_in s last x (next_bytes t t.readi
 -- bytes before it are the last that may show where TLS begins.
 pub data HearsNext (side : Side) (d : Direction) (t u : Stream) (x y : Said) : Type 0 where
   all :
-      has_urgent_next u ≡ false → HearsStream side (is_cut_short t t.reading) d t u x y → HearsNext side d t u x y
+      has_urgent_next u ≡ false → HearsStream side (is_cut_short t t.reading) d t u x y
+      → HearsNext side d t u x y
   around_urgent :
       (turned : Bool) (mid : Stream) (z : Said)
-      → HearsStream side (is_cut_short t t.reading) (direction_of turned side) t mid x z → has_urgent_next mid ≡ true
-      → HearsStream side (is_cut_short (passing_urgent mid) (passing_urgent mid).reading) d (passing_urgent mid) u z y
+      → HearsStream side (is_cut_short t t.reading) (direction_of turned side) t mid x z
+      → has_urgent_next mid ≡ true
+      → HearsStream side (is_cut_short (passing_urgent mid) (passing_urgent mid).reading) d
+      (passing_urgent mid) u z y
       → HearsNext side d t u x y
 
 -- The next bytes were analyzed. For a stream that is read no further, the bytes to pass on may

@@ -32,10 +32,12 @@ module _ {K : Type 0} where
   -- other side's stream included.
   abbrev pub HearsSide : Side → Connection (Heard K) → Connection (Heard K) → Type 0
   HearsSide Originator c c' =
-      HearsOn Originator (direction_of c'.listener.is_turned Originator) c.from_originator c'.from_originator c.listener.said c'.listener.said
+      HearsOn Originator (direction_of c'.listener.is_turned Originator) c.from_originator
+      c'.from_originator c.listener.said c'.listener.said
       × (c' ≡ record c { from_originator = c'.from_originator; listener = c'.listener })
   HearsSide Responder c c' =
-      HearsOn Responder (direction_of c'.listener.is_turned Responder) c.from_responder c'.from_responder c.listener.said c'.listener.said
+      HearsOn Responder (direction_of c'.listener.is_turned Responder) c.from_responder
+      c'.from_responder c.listener.said c'.listener.said
       × (c' ≡ record c { from_responder = c'.from_responder; listener = c'.listener })
 
   -- The segment's connection takes it, and the next bytes of its sender's stream are analyzed. All
@@ -56,7 +58,8 @@ module _ {K : Type 0} where
   -- A datagram, or the DTLS datagram inside it, is analyzed. Everything else in the exchange stays.
   abbrev pub HearsFrom : Datagram → Connection (Heard K) → Connection (Heard K) → Type 0
   HearsFrom d c c' =
-      HearsDatagram (direction_of c.listener.is_turned (side_of c d.source)) (held_datagram d.payload.now) c.listener.said c'.listener.said
+      HearsDatagram (direction_of c.listener.is_turned (side_of c d.source))
+      (held_datagram d.payload.now) c.listener.said c'.listener.said
       × (c' ≡ record c { listener = c'.listener })
 
   -- The datagram's exchange takes and analyzes it. All others stay.
@@ -65,7 +68,8 @@ module _ {K : Type 0} where
     pub its : Connection (Heard K)
     pub takes : TakesDatagram d (at (five_tuple_of_datagram d) old.live) put
     pub hears : HearsFrom d put its
-    pub stands : new.live ≡ (five_tuple_of_datagram d, its) ∷ others (five_tuple_of_datagram d) old.live
+    pub stands : new.live ≡ (five_tuple_of_datagram d, its) ∷ others
+        (five_tuple_of_datagram d) old.live
     pub closed : new.closed ≡ old.closed
 
   -- A segment that its open connection analyzed is logged. For any other nothing changes.

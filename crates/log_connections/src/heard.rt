@@ -322,7 +322,8 @@ impl<K: Keeper> Heard<K> {
 
     /// Counts the records in a side's next bytes.
     pub(crate) fn count_records(&mut self, side: Side, bytes: &[u8])
-        ensures { self.new ≡ record self.old { from_originator = self.new.from_originator; from_responder = self.new.from_responder } }
+        ensures { self.new ≡ record self.old
+            { from_originator = self.new.from_originator; from_responder = self.new.from_responder } }
     {
         match side {
             Side::Originator => self.from_originator.add(bytes),
@@ -340,7 +341,9 @@ impl<K: Keeper> Heard<K> {
         n: usize,
         known: &mut KnownCertificates,
     ) -> Result<(), AllocError>
-        ensures { OnOk result (HearsAt side (direction_by self.new.is_turned side) n stream.old stream.new self.old.said self.new.said) }
+        ensures { OnOk result
+            (HearsAt side (direction_by self.new.is_turned side) n stream.old stream.new
+            self.old.said self.new.said) }
     {
         let all = stream.available();
         let bytes = behind(all, n);
@@ -373,7 +376,9 @@ impl<K: Keeper> Heard<K> {
     /// with the next bytes.
     #[tactic(auto, unfolding(crate::specs::Heard::HearsSsl2))]
     fn hear_ssl2(&mut self, stream: &mut Stream, side: Side) -> Result<(), AllocError>
-        ensures { OnOk result (HearsSsl2 side (direction_by self.new.is_turned side) stream.old stream.new self.old.said self.new.said) }
+        ensures { OnOk result
+            (HearsSsl2 side (direction_by self.new.is_turned side) stream.old stream.new
+            self.old.said self.new.said) }
     {
         let bytes = stream.available();
         let Ok((rest, hello)) = parse_ssl2_client_hello(bytes) else {
@@ -396,7 +401,9 @@ impl<K: Keeper> Heard<K> {
     /// Analyzes a side as one that doesn't speak TLS, and stops reading its stream.
     #[tactic(auto, unfolding(crate::specs::Heard::HearsNone))]
     fn hear_none(&mut self, stream: &mut Stream, side: Side) -> Result<(), AllocError>
-        ensures { OnOk result (HearsNone side (direction_by self.new.is_turned side) stream.old stream.new self.old.said self.new.said) }
+        ensures { OnOk result
+            (HearsNone side (direction_by self.new.is_turned side) stream.old stream.new
+            self.old.said self.new.said) }
     {
         let direction = self.direction(side);
         let Said::Stream(analyzer, fronts) = &mut self.said else {
@@ -457,7 +464,9 @@ impl<K: Keeper> Heard<K> {
         are_last: bool,
         known: &mut KnownCertificates,
     ) -> Result<(), AllocError>
-        ensures { OnOk result (HearsStream side (are_last || is_cut_short stream.old stream.old.reading) (direction_by self.new.is_turned side)
+        ensures { OnOk result
+            (HearsStream side (are_last || is_cut_short stream.old stream.old.reading)
+            (direction_by self.new.is_turned side)
             stream.old stream.new self.old.said self.new.said) }
     {
         // (most packets come after the whole handshake was analyzed)
@@ -478,7 +487,9 @@ impl<K: Keeper> Heard<K> {
         are_last: bool,
         known: &mut KnownCertificates,
     ) -> Result<(), AllocError>
-        ensures { OnOk result (HearsStream side (are_last || is_cut_short stream.old stream.old.reading) (direction_by self.new.is_turned side)
+        ensures { OnOk result
+            (HearsStream side (are_last || is_cut_short stream.old stream.old.reading)
+            (direction_by self.new.is_turned side)
             stream.old stream.new self.old.said self.new.said) }
     {
         let are_last = are_last || stream.is_cut();
@@ -501,7 +512,8 @@ impl<K: Keeper> Heard<K> {
         payload: &[u8],
         known: &mut KnownCertificates,
     ) -> Result<(), AllocError>
-        ensures { OnOk result (HearsDatagram direction (held_datagram_of payload.now) self.old.said self.new.said) }
+        ensures { OnOk result
+            (HearsDatagram direction (held_datagram_of payload.now) self.old.said self.new.said) }
     {
         let payload = held_datagram(payload);
         let Said::Datagrams(analyzer) = &mut self.said else {

@@ -110,7 +110,9 @@ fn hear_next<K: Keeper>(
     is_opened: bool,
     known: &mut KnownCertificates,
 ) -> Result<(), AllocError>
-    ensures { OnOk result (HearsNext side (direction heard.new.is_turned side) stream.old stream.new heard.old.said heard.new.said) }
+    ensures { OnOk result
+        (HearsNext side (direction heard.new.is_turned side) stream.old stream.new heard.old.said
+        heard.new.said) }
 {
     heard.hear_stream(stream, side, is_opened, false, known)?;
     if stream.pass_urgent() {
@@ -130,7 +132,9 @@ fn hear_side<K: Keeper>(
     segment: &Segment<'_>,
     known: &mut KnownCertificates,
 ) -> Result<(), AllocError>
-    ensures { OnOk result (HearsOn side (direction heard.new.is_turned side) stream.old stream.new heard.old.said heard.new.said) }
+    ensures { OnOk result
+        (HearsOn side (direction heard.new.is_turned side) stream.old stream.new heard.old.said
+        heard.new.said) }
 {
     hear_next(heard, stream, side, is_opened, known)?;
     if segment.has_data() {
@@ -148,7 +152,8 @@ fn hear<K: Keeper>(
     tunnels: &Tunnels,
     known: &mut KnownCertificates,
 ) -> Result<(), AllocError>
-    ensures { OnOk result (HearsSide (side_of connection.old segment.now.source) connection.old connection.new) }
+    ensures { OnOk result
+        (HearsSide (side_of connection.old segment.now.source) connection.old connection.new) }
 {
     let (side, is_opened) = (connection.side_of(segment.source), connection.has_opening());
     let heard = &mut connection.listener;
@@ -419,7 +424,8 @@ impl<K: Keeper> Log<K> {
     /// Adds the segment to its connection and analyzes the bytes that it completes. Returns whether
     /// both sides closed the connection, or `None` if the segment belongs to none.
     fn hear_segment(&mut self, segment: &Segment<'_>) -> Result<Option<bool>, AllocError>
-        ensures { IfOk result (λ heard. Logs (is_some heard) segment.now self.old.connections self.new.connections) }
+        ensures { IfOk result
+            (λ heard. Logs (is_some heard) segment.now self.old.connections self.new.connections) }
     {
         // (mostly there is a connection already, which is looked up once)
         if let Some(connection) = self.connections.get_first_mut(&segment.between()) {
@@ -439,7 +445,8 @@ impl<K: Keeper> Log<K> {
 
     /// Adds a segment that may begin a connection, and analyzes the bytes that it completes.
     fn hear_first(&mut self, segment: &Segment<'_>) -> Result<Option<bool>, AllocError>
-        ensures { IfOk result (λ heard. Logs (is_some heard) segment.now self.old.connections self.new.connections) }
+        ensures { IfOk result
+            (λ heard. Logs (is_some heard) segment.now self.old.connections self.new.connections) }
     {
         if !self.connections.accept(segment)? {
             return Ok(None);
@@ -544,7 +551,8 @@ impl<K: Keeper> Log<K> {
     /// it completes. If something has to be done first, nothing changes. The connection is looked
     /// up once, and looks at the segment once.
     fn hear_open(&mut self, segment: &Segment<'_>) -> Result<Reception, AllocError>
-        ensures { IfOk result (λ reception. LogsOpen reception segment.now self.old.connections self.new.connections) }
+        ensures { IfOk result
+            (λ reception. LogsOpen reception segment.now self.old.connections self.new.connections) }
     {
         let five_tuple = segment.between();
         let Some(connection) = self.connections.get_mut(&five_tuple) else {
@@ -623,7 +631,9 @@ impl<K: Keeper> Log<K> {
     /// Analyzes a datagram in its open exchange, unless it is damaged or begins another DTLS
     /// association. The exchange is looked up once.
     fn hear_exchange(&mut self, datagram: &Datagram<'_>) -> Result<Delivery, AllocError>
-        ensures { IfOk result (λ delivery. LogsExchange delivery datagram.now self.old.connections self.new.connections) }
+        ensures { IfOk result
+            (λ delivery. LogsExchange delivery datagram.now self.old.connections
+            self.new.connections) }
     {
         let five_tuple = datagram.between();
         let Some(exchange) = self.connections.get_mut(&five_tuple) else {
@@ -685,7 +695,8 @@ impl<K: Keeper> Log<K> {
 
     /// Analyzes a datagram in its exchange, which it begins if there is none.
     fn accept_datagram(&mut self, datagram: &Datagram<'_>) -> Result<(), AllocError>
-        ensures { OnOk result (LogsDatagram datagram.now self.old.connections self.new.connections) }
+        ensures { OnOk result
+            (LogsDatagram datagram.now self.old.connections self.new.connections) }
     {
         self.connections.accept_datagram(datagram)?;
         match self.connections.get_mut(&datagram.between()) {

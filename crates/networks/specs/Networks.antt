@@ -35,7 +35,8 @@ number_of n t = unwrap_or (lookup (is_network n) t.held) (t.last + 1)
 -- are remembered.
 abbrev pub with_packet : Network → Numbering → Numbering
 with_packet n t =
-    if is_some (lookup (is_network n) t.held) then record t { held = promoted (is_network n) t.held }
+    if is_some (lookup (is_network n) t.held) then
+    record t { held = promoted (is_network n) t.held }
     else record { held = (n, t.last + 1) ∷ take 65535 t.held; last = t.last + 1 }
 
 -- Packets in order, each with the number of its network.

@@ -5,5 +5,6 @@ ghost use Rattle.networks.specs.declared.networks.Network.{Network};
 
 /// Two packets of a capture have the same number only if they came in the same network.
 pub fn packets_of_one_number_are_of_one_network()
-    ensures { (ns : List Network) (a b : Numbered) → Contains (numbered none_held ns) a → Contains (numbered none_held ns) b → a.1 ≡ b.1 → IsSame a.0 b.0 }
+    ensures { (ns : List Network) (a b : Numbered) → Contains (numbered none_held ns) a
+        → Contains (numbered none_held ns) b → a.1 ≡ b.1 → IsSame a.0 b.0 }
 {}

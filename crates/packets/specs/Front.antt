@@ -52,7 +52,8 @@ header_front (Err (Broken kind)) = Err error.NoCapture
 -- parser. Any other capture begins with a pcap header.
 abbrev pub form_front : Answer ℕ → Bytes → Said
 form_front (Err e) b = Ok (Wait, Unknown)
-form_front (Ok x) b = if x.0 == SECTION then Ok (Other b, Blocks beginning) else header_front (reading pcap.header b)
+form_front (Ok x) b = if x.0 == SECTION then
+    Ok (Other b, Blocks beginning) else header_front (reading pcap.header b)
 
 -- A packet of a pcap file.
 abbrev pub pcap_front : pcap.Format → ℕ → Answer pcap.Packet → Said
@@ -95,7 +96,8 @@ Longer x (Ok (Wait, s)) y = ⊤
 Longer x (Err e) y = y ≡ Err e
 
 -- A call returns what a definition gives, or runs out of memory. An error changes nothing.
-abbrev pub Answers : {X Y S : Type 0} → (X → Y) → Result (Y × S) CaptureError → S → Result X CaptureError → S → Type 0
+abbrev pub Answers : {X Y S : Type 0} → (X → Y) → Result (Y × S) CaptureError → S
+    → Result X CaptureError → S → Type 0
 Answers view said old (Ok x) new = said ≡ Ok (view x, new)
 Answers view said old (Err error.OutOfMemory) new = new ≡ old
 Answers view said old (Err e) new = (said ≡ Err e) × (new ≡ old)

@@ -72,7 +72,13 @@ described s (Err e) = Err error.Broken
 abbrev pub packet_at : Section → Interface → BlockPacket → Option ℕ → Heard
 packet_at s i p None = Err error.Broken
 packet_at s i p (Some time) = Ok (
-  Some (record { time = time; link_type = i.link_type; original_length = p.original_length; bytes = p.bytes }),
+  Some (record {
+    time = time;
+    link_type = i.link_type;
+    original_length = p.original_length;
+    bytes =
+        p.bytes;
+  }),
   record s { time = time },
 )
 

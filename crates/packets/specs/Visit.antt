@@ -18,27 +18,32 @@ Adds (Some xs) None ps = ⊥
 Adds (Some xs) (Some ys) ps = ys ≡ xs ++ ps
 
 -- A visitor took the packet, or refused it and has the packets from before.
-abbrev pub Visits : {E : Type 0} → Option (List Packet) → Option (List Packet) → Result Unit E → Packet → Type 0
+abbrev pub Visits : {E : Type 0} → Option (List Packet) → Option (List Packet) → Result Unit E
+    → Packet → Type 0
 Visits old new (Ok u) p = Adds old new (p ∷ [])
 Visits old new (Err e) p = Adds old new []
 
 -- The item at the front was visited and taken off the bytes: true. It isn't all there and nothing
 -- changed: false.
-abbrev pub Went : Said → Option (List Packet) → Option (List Packet) → State → State → Bytes → Bytes → Bool → Type 0
-Went (Ok (Captured p rest, s)) old new t t' b b' true = Adds old new (p ∷ []) × (t' ≡ s) × (b' ≡ rest)
+abbrev pub Went : Said → Option (List Packet) → Option (List Packet) → State → State → Bytes → Bytes
+    → Bool → Type 0
+Went (Ok (Captured p rest, s)) old new t t' b b' true =
+    Adds old new (p ∷ []) × (t' ≡ s) × (b' ≡ rest)
 Went (Ok (Other rest, s)) old new t t' b b' true = Adds old new [] × (t' ≡ s) × (b' ≡ rest)
 Went (Ok (Wait, s)) old new t t' b b' false = Adds old new [] × (t' ≡ t) × (b' ≡ b)
 Went said old new t t' b b' went = ⊥
 
 -- The item at the front could not be visited: it breaks a rule, memory ran out, or the visitor
 -- refused it.
-abbrev pub Failed : {E : Type 0} → Said → Option (List Packet) → Option (List Packet) → VisitError E → Type 0
+abbrev pub Failed : {E : Type 0} → Said → Option (List Packet) → Option (List Packet)
+    → VisitError E → Type 0
 Failed said old new (visit.Capture error.OutOfMemory) = Adds old new []
 Failed said old new (visit.Capture e) = Adds old new [] × (said ≡ Err e)
 Failed said old new (visit.Visitor e) = Adds old new []
 Failed said old new e = ⊥
 
-abbrev pub Goes : {E : Type 0} → Said → Option (List Packet) → Option (List Packet) → State → State → Bytes → Bytes
+abbrev pub Goes : {E : Type 0} → Said → Option (List Packet) → Option (List Packet) → State → State
+    → Bytes → Bytes
     → Result Bool (VisitError E) → Type 0
 Goes said old new t t' b b' (Ok went) = Went said old new t t' b b' went
 Goes said old new t t' b b' (Err e) = Failed said old new e
@@ -63,7 +68,8 @@ AddsAll old new all end = Adds old new all.0 × (all.1 ≡ end)
 -- Why a visit ended early, by all packets of the source and the source's remaining bytes. At a
 -- broken rule, or at bytes that end within an item, all packets before were visited; otherwise some
 -- of them.
-abbrev pub IsCause : {E : Type 0} → Packets → Option (List Packet) → Option (List Packet) → Option Bytes → VisitError E
+abbrev pub IsCause : {E : Type 0} → Packets → Option (List Packet) → Option (List Packet)
+    → Option Bytes → VisitError E
     → Type 0
 IsCause all old new left (visit.Capture error.OutOfMemory) = AddsFront old new all
 IsCause all old new left (visit.Capture e) = AddsAll old new all (Refused e)

@@ -72,7 +72,8 @@ impl Buffer {
     ///
     /// It fails if the read fails or memory runs out. The bytes in the buffer stay.
     pub fn fill<R: Read>(&mut self, reader: &mut R) -> io::Result<usize>
-        ensures ok { IfOk result (λ n. Came self.old self.new (R.remaining reader.old) (R.remaining reader.new) n) }
+        ensures ok { IfOk result
+            (λ n. Came self.old self.new (R.remaining reader.old) (R.remaining reader.new) n) }
         ensures held { OnErr result (self.new ≡ self.old) }
         ensures kept { OnErr result (Keeps (R.remaining reader.old) (R.remaining reader.new)) }
     {

@@ -136,7 +136,8 @@ fn pcap_step(i: &[u8], format: Format, link_type: u16) -> Result<Step<'_>, Captu
 /// Parses a block of a pcapng file.
 fn block_step<'a>(section: &mut Section, i: &'a [u8]) -> Result<Step<'a>, CaptureError>
     ensures { let s = view_section section.old in
-        Answers view_step (block_front s (reading (next_block s.order) i.now)) (Blocks s) result (Blocks (view_section section.new)) }
+        Answers view_step (block_front s (reading (next_block s.order) i.now)) (Blocks s) result
+        (Blocks (view_section section.new)) }
 {
     match parse_block(i, section.order) {
         Ok((rest, block)) => match section.hear(block)? {

@@ -43,7 +43,13 @@ pub(crate) struct Section {
 
 /// Returns a packet of an interface, captured at `time`.
 fn packet_of<'a>(interface: Interface, packet: BlockPacket<'a>, time: u64) -> Packet<'a>
-    ensures { result ≡ record { time = time; link_type = interface.link_type; original_length = packet.entry.original_length; bytes = packet.entry.bytes } }
+    ensures { result ≡ record {
+      time = time;
+      link_type = interface.link_type;
+      original_length =
+          packet.entry.original_length;
+      bytes = packet.entry.bytes;
+    } }
 {
     Packet {
         time,
@@ -68,7 +74,9 @@ impl Section {
     /// Adds the interface that a block describes.
     fn describe(&mut self, block: Block<'_>) -> Result<(), CaptureError>
         ensures { let s = view_section self.old in
-            Answers (λ _. None) (described s (reading (interface_layout block.entry.order) block.entry.body.now)) s result (view_section self.new) }
+            Answers (λ _. None)
+            (described s (reading (interface_layout block.entry.order) block.entry.body.now)) s
+            result (view_section self.new) }
     {
         let Ok((_, interface)) = parse_interface(block.body, block.order) else {
             return Err(CaptureError::Broken);
@@ -82,7 +90,8 @@ impl Section {
     /// Returns a packet with its time converted from the units of its interface.
     fn timed<'a>(&mut self, packet: BlockPacket<'a>) -> Result<Packet<'a>, CaptureError>
         ensures { let s = view_section self.old in
-            let said = timed_of s (view_block_packet packet.entry) (slice_get s.interfaces packet.entry.interface) in
+            let said = timed_of s (view_block_packet packet.entry)
+            (slice_get s.interfaces packet.entry.interface) in
             AnswersPacket said s result (view_section self.new) }
     {
         let Some(interface) = self.interfaces.get(packet.interface as usize).copied() else {
@@ -98,7 +107,9 @@ impl Section {
     /// Returns the packet of an Enhanced Packet Block.
     fn enhanced<'a>(&mut self, block: Block<'a>) -> Result<Packet<'a>, CaptureError>
         ensures { let s = view_section self.old in
-            AnswersPacket (timed s (reading (enhanced_packet block.entry.order) block.entry.body.now)) s result (view_section self.new) }
+            AnswersPacket
+            (timed s (reading (enhanced_packet block.entry.order) block.entry.body.now)) s
+            result (view_section self.new) }
     {
         match parse_enhanced_packet(block.body, block.order) {
             Ok((_, packet)) => self.timed(packet),
@@ -109,7 +120,9 @@ impl Section {
     /// Returns the packet of a Packet Block.
     fn obsolete<'a>(&mut self, block: Block<'a>) -> Result<Packet<'a>, CaptureError>
         ensures { let s = view_section self.old in
-            AnswersPacket (timed s (reading (obsolete_packet block.entry.order) block.entry.body.now)) s result (view_section self.new) }
+            AnswersPacket
+            (timed s (reading (obsolete_packet block.entry.order) block.entry.body.now)) s
+            result (view_section self.new) }
     {
         match parse_obsolete_packet(block.body, block.order) {
             Ok((_, packet)) => self.timed(packet),
@@ -120,7 +133,9 @@ impl Section {
     /// Returns the packet of a Simple Packet Block. It has the time of the packet before it.
     fn simple<'a>(&self, block: Block<'a>) -> Result<Packet<'a>, CaptureError>
         ensures { let s = view_section self.now in
-            AnswersPacket (simple s block.entry.order block.entry.body.now (slice_get s.interfaces 0)) s result s }
+            AnswersPacket
+            (simple s block.entry.order block.entry.body.now (slice_get s.interfaces 0))
+            s result s }
     {
         let Some(interface) = self.interfaces.first().copied() else {
             return Err(CaptureError::Broken);
@@ -133,7 +148,8 @@ impl Section {
 
     /// Processes a block by its type: returns its packet, or notes what it describes.
     fn hear_by_kind<'a>(&mut self, block: Block<'a>) -> Result<Option<Packet<'a>>, CaptureError>
-        ensures { Answers (option_map view_packet) (heard_by_kind (view_section self.old) (view_block block.entry))
+        ensures { Answers (option_map view_packet)
+            (heard_by_kind (view_section self.old) (view_block block.entry))
             (view_section self.old) result (view_section self.new) }
     {
         match block.kind {
@@ -154,7 +170,8 @@ impl Section {
 
     /// Processes a block. An error leaves the section as it was.
     pub(crate) fn hear<'a>(&mut self, block: Block<'a>) -> Result<Option<Packet<'a>>, CaptureError>
-        ensures { Answers (option_map view_packet) (hear (view_section self.old) (view_block block.entry))
+        ensures { Answers (option_map view_packet)
+            (hear (view_section self.old) (view_block block.entry))
             (view_section self.old) result (view_section self.new) }
     {
         let packet = self.hear_by_kind(block)?;

@@ -68,7 +68,8 @@ fn visit_front<V: PacketVisitor>(
     buffer: &mut Buffer,
     visitor: &mut V,
 ) -> Result<bool, FrontError<V::Error>>
-    ensures goes { Goes (front capture.old buffer.old) (V.taken visitor.old) (V.taken visitor.new) capture.old capture.new
+    ensures goes { Goes (front capture.old buffer.old) (V.taken visitor.old) (V.taken visitor.new)
+        capture.old capture.new
         buffer.old buffer.new (as_visited result) }
     ensures sound { StaysSound (V.is_sound visitor.old) (V.is_sound visitor.new) (as_visited result) }
 {
@@ -117,9 +118,11 @@ pub fn visit_packets<R: Read, V: PacketVisitor>(
 ) -> Result<(), VisitError<V::Error>>
     // All packets of all bytes were visited, and the source is at its end.
     ensures all { OnOk result (IfSome (R.remaining reader.old) (λ x.
-        AddsAll (V.taken visitor.old) (V.taken visitor.new) (packets_of x) Whole × IsAtEnd (R.remaining reader.new))) }
+        AddsAll (V.taken visitor.old) (V.taken visitor.new) (packets_of x) Whole
+        × IsAtEnd (R.remaining reader.new))) }
     ensures cause { IfErr result (λ e. IfSome (R.remaining reader.old) (λ x.
-        IsCause (packets_of x) (V.taken visitor.old) (V.taken visitor.new) (R.remaining reader.new) e)) }
+        IsCause (packets_of x) (V.taken visitor.old) (V.taken visitor.new)
+        (R.remaining reader.new) e)) }
     ensures sound { StaysSound (V.is_sound visitor.old) (V.is_sound visitor.new) result }
 {
     let mut capture = Capture::new(alloc);

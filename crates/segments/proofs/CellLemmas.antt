@@ -24,7 +24,8 @@ pub put_now : (ys : Bytes) (cs : Cells) → put 0 ys cs ≡ fill cs ys
 put_now [] cs = sym (fill_nil cs)
 put_now (y ∷ ys) cs = refl
 
-pub put_behind : (b : Cells) (cs : Cells) (k : ℕ) (ys : Bytes) → put (length b + k) ys (b ++ cs) ≡ b ++ put k ys cs
+pub put_behind : (b : Cells) (cs : Cells) (k : ℕ) (ys : Bytes)
+    → put (length b + k) ys (b ++ cs) ≡ b ++ put k ys cs
 put_behind b cs k [] = refl
 put_behind b cs k (y ∷ ys) = fill_at_behind b cs k (y ∷ ys)
 
@@ -69,27 +70,33 @@ drop_fill (suc n) (c ∷ cs) [] h = refl
 drop_fill (suc n) (c ∷ cs) (y ∷ ys) h = drop_fill n cs ys (omega (arith, h))
 
 -- no position is added beyond the bytes written
-pub fill_low : (cs : Cells) (ys : Bytes) (n : ℕ) → length cs ≤ n → length ys ≤ n → length (fill cs ys) ≤ n
+pub fill_low : (cs : Cells) (ys : Bytes) (n : ℕ) → length cs ≤ n → length ys ≤ n
+    → length (fill cs ys) ≤ n
 fill_low [] [] n h g = h
 fill_low [] (y ∷ ys) zero h g = absurd (omega (arith, g))
-fill_low [] (y ∷ ys) (suc n) h g = let r = fill_low [] ys n (omega arith) (omega (arith, g)) in omega (arith, r)
+fill_low [] (y ∷ ys) (suc n) h g = let r = fill_low [] ys n (omega arith) (omega (arith, g)) in
+    omega (arith, r)
 fill_low (c ∷ cs) [] n h g = h
 fill_low (c ∷ cs) (y ∷ ys) zero h g = absurd (omega (arith, h))
-fill_low (c ∷ cs) (y ∷ ys) (suc n) h g = let r = fill_low cs ys n (omega (arith, h)) (omega (arith, g)) in
+fill_low (c ∷ cs) (y ∷ ys) (suc n) h g = let r =
+    fill_low cs ys n (omega (arith, h)) (omega (arith, g)) in
     omega (arith, r)
 
 pub fill_at_low : (k : ℕ) (cs : Cells) (ys : Bytes) (n : ℕ) → length cs ≤ n → k + length ys ≤ n
     → length (fill_at k cs ys) ≤ n
 fill_at_low zero cs ys n h g = fill_low cs ys n h (omega (arith, g))
 fill_at_low (suc k) [] ys zero h g = absurd (omega (arith, g))
-fill_at_low (suc k) [] ys (suc n) h g = let r = fill_at_low k [] ys n (omega arith) (omega (arith, g)) in
+fill_at_low (suc k) [] ys (suc n) h g = let r =
+    fill_at_low k [] ys n (omega arith) (omega (arith, g)) in
     omega (arith, r)
 fill_at_low (suc k) (c ∷ cs) ys zero h g = absurd (omega (arith, h))
-fill_at_low (suc k) (c ∷ cs) ys (suc n) h g = let r = fill_at_low k cs ys n (omega (arith, h)) (omega (arith, g)) in
+fill_at_low (suc k) (c ∷ cs) ys (suc n) h g = let r =
+    fill_at_low k cs ys n (omega (arith, h)) (omega (arith, g)) in
     omega (arith, r)
 
 -- an empty first position stays empty if bytes are written after it
-pub fill_at_run : (k : ℕ) (cs : Cells) (ys : Bytes) → 0 < k → run cs ≡ [] → run (fill_at k cs ys) ≡ []
+pub fill_at_run : (k : ℕ) (cs : Cells) (ys : Bytes) → 0 < k → run cs ≡ []
+    → run (fill_at k cs ys) ≡ []
 fill_at_run zero cs ys h e = absurd (omega (arith, h))
 fill_at_run (suc k) [] ys h e = refl
 fill_at_run (suc k) (None ∷ cs) ys h e = refl
@@ -132,7 +139,8 @@ gap_low cs = go (ltb 0 (known cs))
 pub gap_first : (cs : Cells) → 0 < gap cs → run cs ≡ []
 gap_first [] h = refl
 gap_first (None ∷ cs) h = refl
-gap_first (Some x ∷ cs) h = let n = none (ltb 0 (known (Some x ∷ cs))) in absurd (omega (arith, h, n))
+gap_first (Some x ∷ cs) h = let n = none (ltb 0 (known (Some x ∷ cs))) in
+    absurd (omega (arith, h, n))
   where
     none : (t : Bool) → ◌≡◌ {A = ℕ} (cond t 0 0) 0
     none true = refl
@@ -150,8 +158,10 @@ cell_none (c ∷ cs) zero h = absurd (omega (arith, h))
 cell_none (c ∷ cs) (suc i) h = cell_none cs i (omega (arith, h))
 
 -- The prefix from a position on.
-pub run_next : (cs : Cells) (i b : ℕ) → cell cs i ≡ Some b → run (drop i cs) ≡ b ∷ run (drop (i + 1) cs)
-run_next cs i b e = let n : suc i ≡ i + 1 = omega arith in go cs i e ∙ ap (λ k. b ∷ run (drop k cs)) n
+pub run_next : (cs : Cells) (i b : ℕ) → cell cs i ≡ Some b
+    → run (drop i cs) ≡ b ∷ run (drop (i + 1) cs)
+run_next cs i b e = let n : suc i ≡ i + 1 = omega arith in
+    go cs i e ∙ ap (λ k. b ∷ run (drop k cs)) n
   where
     go : (cs : Cells) (i : ℕ) → cell cs i ≡ Some b → run (drop i cs) ≡ b ∷ run (drop (suc i) cs)
     go [] i e = absurd cc
@@ -173,7 +183,8 @@ empties_next cs i h e =
     let m : suc (empties (drop (suc i) cs)) ≡ 1 + empties (drop (suc i) cs) = omega arith in
     go cs i h e ∙ m ∙ ap (λ k. 1 + empties (drop k cs)) n
   where
-    go : (cs : Cells) (i : ℕ) → i < length cs → cell cs i ≡ None → empties (drop i cs) ≡ suc (empties (drop (suc i) cs))
+    go : (cs : Cells) (i : ℕ) → i < length cs → cell cs i ≡ None
+        → empties (drop i cs) ≡ suc (empties (drop (suc i) cs))
     go [] i h e = absurd (omega (arith, h))
     go (None ∷ cs) zero h e = refl
     go (Some x ∷ cs) zero h e = absurd cc

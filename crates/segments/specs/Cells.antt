@@ -104,7 +104,14 @@ located d b = if nat_lt d (2 ^ 31) then (d, b) else (0, drop (2 ^ 32 - d) b)
 
 -- Writes the bytes of a segment to the empty positions.
 abbrev pub with_located : ℕ × Bytes → Held → Held
-with_located p h = record { first = h.first; limit = h.limit; taken = h.taken; cells = put (length (run h.cells) + p.0) p.1 h.cells }
+with_located p h =
+    record {
+      first = h.first;
+      limit = h.limit;
+      taken = h.taken;
+      cells =
+          put (length (run h.cells) + p.0) p.1 h.cells;
+    }
 
 abbrev pub with_segment : ℕ → Bytes → Held → Held
 with_segment seq b h = with_located (located (ahead h.first (wanted h) seq) b) h
@@ -127,12 +134,14 @@ with_part place b h = with_located (placed (wanted h) place b) h
 
 -- Delivers the first n bytes.
 abbrev pub without_front : ℕ → Held → Held
-without_front n h = record { first = h.first; limit = h.limit; taken = h.taken + n; cells = drop n h.cells }
+without_front n h =
+    record { first = h.first; limit = h.limit; taken = h.taken + n; cells = drop n h.cells }
 
 -- There are bytes, and they either begin after the next expected position and end further after it
 -- than the limit, or make the stream longer than 2^62.
 abbrev pub IsBeyond : ℕ × Bytes → Held → Type 0
-IsBeyond p h = (0 < length p.1) × (((0 < p.0) × (h.limit < p.0 + length p.1)) ⊎ (2 ^ 62 < wanted h + p.0 + length p.1))
+IsBeyond p h = (0 < length p.1)
+    × (((0 < p.0) × (h.limit < p.0 + length p.1)) ⊎ (2 ^ 62 < wanted h + p.0 + length p.1))
 
 abbrev pub IsTooMuch : ℕ → Bytes → Held → Type 0
 IsTooMuch seq b h = IsBeyond (located (ahead h.first (wanted h) seq) b) h

@@ -22,7 +22,8 @@ pub record IsPart (stream : Bytes) (place : ℕ) (b : Bytes) : Type 0 where
 -- Each segment is a part of the stream at its position. A sequence number is below 2^32.
 abbrev pub AreParts : Bytes → ℕ → List Segment → Type 0
 AreParts stream first [] = Unit {0}
-AreParts stream first (s ∷ ss) = (s.0 < 2 ^ 32) × IsPart stream (place_of first s) s.1.now × AreParts stream first ss
+AreParts stream first (s ∷ ss) = (s.0 < 2 ^ 32) × IsPart stream (place_of first s) s.1.now
+    × AreParts stream first ss
 
 -- The position is one of those of the bytes.
 abbrev pub IsOver : ℕ → Bytes → ℕ → Type 0
@@ -44,11 +45,13 @@ pub record IsLongestFront (stream : Bytes) (IsKnown : ℕ → Type 0) (front : B
 -- prefix of which each byte is in some segment.
 abbrev pub IsReassembled : ℕ → List Segment → Bytes → Type 0
 IsReassembled first segments out =
-    (stream : Bytes) → length stream < 2 ^ 31 → AreParts stream first segments → IsLongestFront stream (IsCovered first segments) out
+    (stream : Bytes) → length stream < 2 ^ 31 → AreParts stream first segments
+    → IsLongestFront stream (IsCovered first segments) out
 
 -- The buffered bytes are the known bytes of the stream.
 pub record IsMadeOf (stream : Bytes) (IsKnown : ℕ → Type 0) (h : Held) : Type 0 where
-  pub stands : (k y : ℕ) → cell h.cells k ≡ Some y → IsKnown (h.taken + k) × (byte_at stream (h.taken + k) ≡ Some y)
+  pub stands : (k y : ℕ) → cell h.cells k ≡ Some y
+      → IsKnown (h.taken + k) × (byte_at stream (h.taken + k) ≡ Some y)
   pub held : (k : ℕ) → IsKnown (h.taken + k) → IsSome (cell h.cells k)
   pub given : (i : ℕ) → i < h.taken → IsKnown i
 

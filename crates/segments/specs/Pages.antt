@@ -70,7 +70,8 @@ pub record IsWritten (at : ℕ) (ys : Bytes) (m n : Pages) (count : ℕ) : Type 
   pub whole : AreWhole n
   pub stands : (j : ℕ) → place n j ≡ earlier (place m j) (written at ys j)
   pub there : (k : ℕ) → is_some (page m k) ≡ true → is_some (page n k) ≡ true
-  pub counted : (k l : ℕ) → k ≤ at → at + length ys ≤ k + l → known (places l k n) ≡ known (places l k m) + count
+  pub counted : (k l : ℕ) → k ≤ at → at + length ys ≤ k + l
+      → known (places l k n) ≡ known (places l k m) + count
 
 -- What a Window keeps: no byte is present after its last position.
 pub record IsPaged (begin len held : ℕ) (pages : Pages) : Type 0 where

@@ -26,4 +26,5 @@ held_cells start front window = map Some (drop start front) ++ window
 
 -- The value that the fields represent.
 abbrev pub held_of : ℕ → ℕ → ℕ → ℕ → Bytes → Cells → Held
-held_of first limit start taken front window = record { first = first; limit = limit; taken = taken; cells = held_cells start front window }
+held_of first limit start taken front window =
+    record { first = first; limit = limit; taken = taken; cells = held_cells start front window }

@@ -25,7 +25,8 @@ handed (s ∷ ss) h = told s h ++ handed ss (stepped s h)
 
 -- The position is less than 2^31 from the first unknown one.
 abbrev pub IsNear : Bytes → List (ℕ × Bytes) → ℕ → Type 0
-IsNear stream known place = (front : Bytes) → IsLongestFront stream (IsAmong known) front → (length front ≤ place + 2 ^ 31) × (place < length front + 2 ^ 31)
+IsNear stream known place = (front : Bytes) → IsLongestFront stream (IsAmong known) front
+    → (length front ≤ place + 2 ^ 31) × (place < length front + 2 ^ 31)
 
 -- Each segment is a part of the stream at its position, which is near the byte that is the first
 -- missing one when it comes.
@@ -34,7 +35,8 @@ AreNear stream first known [] places = Unit {0}
 AreNear stream first known (Take most ∷ ss) places = AreNear stream first known ss places
 AreNear stream first known (Segment seq b ∷ ss) [] = ⊥
 AreNear stream first known (Segment seq b ∷ ss) (p ∷ places) =
-    IsPart stream p b.now × ((first + p) % 2 ^ 32 ≡ seq) × IsNear stream known p × AreNear stream first ((p, b.now) ∷ known) ss places
+    IsPart stream p b.now × ((first + p) % 2 ^ 32 ≡ seq) × IsNear stream known p
+    × AreNear stream first ((p, b.now) ∷ known) ss places
 
 -- The received segments, each at its position.
 abbrev pub came : List (ℕ × Bytes) → List Step → List ℕ → List (ℕ × Bytes)

@@ -15,17 +15,20 @@ pub fn two_orders_hand_out_the_same()
 /// next expected byte makes its own positions known, and nothing else.
 #[tactic(auto, using(crate::proofs::LawLemmas::made_among))]
 pub fn a_segment_makes_its_places_known()
-    ensures { (stream : Bytes) (known : List (ℕ × Bytes)) (h : Held) → MakesItsPlacesKnown stream known h }
+    ensures { (stream : Bytes) (known : List (ℕ × Bytes)) (h : Held)
+        → MakesItsPlacesKnown stream known h }
 {}
 
 /// Delivering bytes changes nothing about which bytes are known.
 #[tactic(auto, using(crate::proofs::LawLemmas::fewer_among))]
 pub fn handing_out_keeps_what_is_known()
-    ensures { (stream : Bytes) (known : List (ℕ × Bytes)) (h : Held) → KeepsWhatIsKnown stream known h }
+    ensures { (stream : Bytes) (known : List (ℕ × Bytes)) (h : Held)
+        → KeepsWhatIsKnown stream known h }
 {}
 
 /// The delivered bytes, followed by the available ones, are the longest known prefix of the stream.
 #[tactic(auto, using(crate::proofs::LawLemmas::front_among))]
 pub fn what_is_available_ends_the_longest_front()
-    ensures { (stream : Bytes) (known : List (ℕ × Bytes)) (h : Held) → EndsTheLongestFront stream known h }
+    ensures { (stream : Bytes) (known : List (ℕ × Bytes)) (h : Held)
+        → EndsTheLongestFront stream known h }
 {}

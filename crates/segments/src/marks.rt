@@ -100,7 +100,8 @@ fn append_each(
 ) -> Result<(), AllocError>
     requires bytes { length bytes.now ≡ length marks.now }
     requires new { length new.now ≡ length marks.now }
-    ensures out { OnOk result (out.new.items ≡ out.old.items ++ over (marked marks.now bytes.now) new.now) }
+    ensures out { OnOk result
+        (out.new.items ≡ out.old.items ++ over (marked marks.now bytes.now) new.now) }
     ensures err { OnErr result ((s : Bytes) × (out.new.items ≡ out.old.items ++ s)) }
 {
     for i in 0..new.len() {
@@ -121,7 +122,8 @@ pub(crate) fn append_standing(
     requires bytes { length bytes.now ≡ length marks.now }
     requires new { length new.now ≡ length marks.now }
     requires standing { standing ≡ known (marked marks.now bytes.now) }
-    ensures out { OnOk result (out.new.items ≡ out.old.items ++ over (marked marks.now bytes.now) new.now) }
+    ensures out { OnOk result
+        (out.new.items ≡ out.old.items ++ over (marked marks.now bytes.now) new.now) }
     ensures err { OnErr result ((s : Bytes) × (out.new.items ≡ out.old.items ++ s)) }
 {
     if standing == 0 {

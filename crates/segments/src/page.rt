@@ -101,7 +101,9 @@ impl Page {
         out: &mut Vec<u8>,
     ) -> Result<(), AllocError>
         requires { at + length new.now ≤ page_length }
-        ensures out { OnOk result (out.new.items ≡ out.old.items ++ over (take (length new.now) (drop at self.now)) new.now) }
+        ensures out { OnOk result
+            (out.new.items ≡ out.old.items ++ over
+            (take (length new.now) (drop at self.now)) new.now) }
         ensures err { OnErr result ((s : Bytes) × (out.new.items ≡ out.old.items ++ s)) }
     {
         let end = at + new.len();
@@ -119,7 +121,8 @@ impl Page {
     pub(crate) fn write(&mut self, at: usize, new: &[u8]) -> usize
         requires { at + length new.now ≤ page_length }
         ensures put { self.new ≡ put at new.now self.old }
-        ensures counted { known (take (length new.now) (drop at self.new)) ≡ known (take (length new.now) (drop at self.old)) + result }
+        ensures counted { known (take (length new.now) (drop at self.new)) ≡ known
+            (take (length new.now) (drop at self.old)) + result }
         ensures within { result ≤ length new.now }
     {
         let end = at + new.len();

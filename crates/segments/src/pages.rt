@@ -148,7 +148,9 @@ fn append_over_page(
 ) -> Result<(), AllocError>
     requires whole { AreWhole pages.now }
     requires one { first % page_length + length bytes.now ≤ page_length }
-    ensures out { OnOk result (out.new.items ≡ out.old.items ++ over (places (length bytes.now) first pages.now) bytes.now) }
+    ensures out { OnOk result
+        (out.new.items ≡ out.old.items ++ over (places (length bytes.now) first pages.now)
+        bytes.now) }
     ensures err { OnErr result ((s : Bytes) × (out.new.items ≡ out.old.items ++ s)) }
 {
     match pages.get(&number_of(first)) {
@@ -168,7 +170,9 @@ pub(crate) fn append_over(
 ) -> Result<(), AllocError>
     requires whole { AreWhole pages.now }
     requires small { first + length bytes.now < 2 ^ 64 }
-    ensures out { OnOk result (out.new.items ≡ out.old.items ++ over (places (length bytes.now) first pages.now) bytes.now) }
+    ensures out { OnOk result
+        (out.new.items ≡ out.old.items ++ over (places (length bytes.now) first pages.now)
+        bytes.now) }
     ensures err { OnErr result ((s : Bytes) × (out.new.items ≡ out.old.items ++ s)) }
 {
     let mut done = 0;
@@ -204,7 +208,8 @@ pub(crate) fn make_pages(
 ) -> Result<(), AllocError>
     requires { AreWhole pages.old }
     ensures same { IsSame pages.old pages.new }
-    ensures made { OnOk result ((j : ℕ) → first ≤ j → j ≤ last → is_some (page pages.new (j / page_length)) ≡ true) }
+    ensures made { OnOk result
+        ((j : ℕ) → first ≤ j → j ≤ last → is_some (page pages.new (j / page_length)) ≡ true) }
 {
     for number in number_of(first)..number_of(last) + 1 {
         make_page(alloc, pages, number)?;
@@ -229,7 +234,8 @@ fn write_in_page(pages: &mut Pages, at: u64, bytes: &[u8]) -> usize
 /// Writes bytes to the empty positions from `at` on, and returns how many it wrote.
 pub(crate) fn write_bytes(pages: &mut Pages, at: u64, bytes: &[u8]) -> usize
     requires whole { AreWhole pages.old }
-    requires there { (j : ℕ) → at ≤ j → j < at + length bytes.now → is_some (page pages.old (j / page_length)) ≡ true }
+    requires there { (j : ℕ) → at ≤ j → j < at + length bytes.now
+        → is_some (page pages.old (j / page_length)) ≡ true }
     requires small { at + length bytes.now < 2 ^ 64 }
     ensures { IsWritten at bytes.now pages.old pages.new result }
 {

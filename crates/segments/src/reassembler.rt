@@ -244,7 +244,8 @@ impl TcpReassembler {
     pub fn put(&mut self, place: u32, bytes: &[u8]) -> Result<(), SegmentError>
         ensures ok { OnOk result (self.new ≡ with_part place bytes.now self.old) }
         ensures err { OnErr result (self.new ≡ self.old) }
-        ensures too_much { (result ≡ Err segment_error.TooMuch) ↔ IsBeyond (placed (wanted self.old) place bytes.now) self.old }
+        ensures too_much { (result ≡ Err segment_error.TooMuch)
+            ↔ IsBeyond (placed (wanted self.old) place bytes.now) self.old }
     {
         let (ahead, rest) = place_at(self.wanted(), place, bytes);
         self.add(ahead, rest)

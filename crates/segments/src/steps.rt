@@ -49,7 +49,9 @@ pub fn replay(
     steps: &[Step],
 ) -> Result<(Vec<u8>, Vec<u8>), SegmentError>
     ensures front { IfOk result (λ r. IsReplayed first_place steps.now r.0.items r.1.items) }
-    ensures told { IfOk result (λ r. r.0.items ≡ handed steps.now record { first = first_place; limit = limit; taken = 0; cells = [] }) }
+    ensures told { IfOk result
+        (λ r. r.0.items ≡ handed steps.now
+        record { first = first_place; limit = limit; taken = 0; cells = [] }) }
 {
     let mut stream = TcpReassembler::new(alloc, first_place, limit);
     let mut out = Vec::new(alloc);

@@ -36,7 +36,8 @@ number_took k b = go (ltb (length b) k) refl
   where
     go : (t : Bool) → ltb (length b) k ≡ t
         → Took k (length b) (◌and_then◌ {Y = ℕ × Bytes}
-        (cond {A = Answer Bytes} t (Err (Lacks (k - length b))) (Ok (take k b, drop k b))) (λ x. Ok (number_of x.0, x.1)))
+        (cond {A = Answer Bytes} t (Err (Lacks (k - length b))) (Ok (take k b, drop k b)))
+        (λ x. Ok (number_of x.0, x.1)))
     go true e = ltb-true (length b) k e
     go false e = omega (arith, length-drop k b, ltb-false (length b) k e)
 
@@ -53,10 +54,12 @@ takes_test t k = record { took = test_took t k }
 pub takes_done : {A : Type 0} (a : A) → Takes 0 (done a)
 takes_done a = record { took = λ b. omega arith }
 
-pub takes_chain : {A B : Type 0} (j k : ℕ) (l : Layout A) (f : A → Layout B) → Takes j l → ((a : A) → Takes k (f a))
+pub takes_chain : {A B : Type 0} (j k : ℕ) (l : Layout A) (f : A → Layout B) → Takes j l
+    → ((a : A) → Takes k (f a))
     → Takes (j + k) (chain l f)
 takes_chain j k l f h g = record {
-  took = λ b. took_then j k (length b) (reading l b) (λ x. reading (f x.0) x.1) (h.took b) (λ x. (g x.0).took x.1);
+  took = λ b. took_then j k (length b) (reading l b) (λ x. reading (f x.0) x.1) (h.took b)
+      (λ x. (g x.0).took x.1);
 }
 
 pub stable_test : (t : Bool) (k : ErrorKind) → IsStable (test t k)

@@ -30,7 +30,13 @@ message n = do
   specs ← window f.cipher_spec_length (list (number 3))
   id ← block f.session_id_length
   challenge ← block f.challenge_length
-  done (record { version = f.version; cipher_specs = specs; session_id = id; challenge = challenge })
+  done (record {
+    version = f.version;
+    cipher_specs = specs;
+    session_id = id;
+    challenge =
+        challenge;
+  })
 
 -- The message in its record, which it must fill; a shorter record is refused, not Incomplete.
 unfoldable pub client_hello : Layout ClientHello

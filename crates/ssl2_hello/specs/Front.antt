@@ -44,7 +44,13 @@ lengths version = do
   test (nat_le id 32) Verify
   challenge ← number 2
   test (nat_le 16 challenge && nat_le challenge 32) Verify
-  done (record { version = version; cipher_spec_length = specs; session_id_length = id; challenge_length = challenge })
+  done (record {
+    version = version;
+    cipher_spec_length = specs;
+    session_id_length =
+        id;
+    challenge_length = challenge;
+  })
 
 -- uint8 msg_type, which is 1; Version version; and the lengths, which add up to a record of n bytes
 -- with the 9 bytes before them.

@@ -12,13 +12,15 @@ ghost use Rattle.ssl2_hello.specs.ClientHello.{ClientHello, client_hello, hello_
 /// whole.
 #[tactic(auto, using(crate::proofs::HelloLemmas::hello_read))]
 pub fn hello_is_read_where_it_begins()
-    ensures { (b : Bytes) → IsOk (reading client_hello b) ↔ (IsTrue (begins_ssl2_hello_in b) × HasWholeRecord b) }
+    ensures { (b : Bytes) → IsOk (reading client_hello b)
+        ↔ (IsTrue (begins_ssl2_hello_in b) × HasWholeRecord b) }
 {}
 
 /// If a stream begins with a hello, it parses or bytes are missing: no rule is broken.
 #[tactic(auto, using(crate::proofs::HelloLemmas::begun_not_refused))]
 pub fn what_begins_is_not_refused()
-    ensures { (b : Bytes) (k : ErrorKind) → IsTrue (begins_ssl2_hello_in b) → reading client_hello b ≡ Err (Broken k) → ⊥ }
+    ensures { (b : Bytes) (k : ErrorKind) → IsTrue (begins_ssl2_hello_in b)
+        → reading client_hello b ≡ Err (Broken k) → ⊥ }
 {}
 
 /// Fewer than 11 bytes never begin a hello; beyond that, the first 11 decide.
@@ -32,8 +34,10 @@ pub fn first_11_bytes_tell()
 /// most 32 bytes, and a challenge of 16 to 32.
 #[tactic(auto, using(crate::proofs::LengthLemmas::hello_fills, crate::proofs::LengthLemmas::hello_allowed))]
 pub fn hello_fills_its_record()
-    ensures fills { (b : Bytes) (h : ClientHello) (r : Bytes) → reading client_hello b ≡ Ok (h, r) → length b ≡ hello_length h + length r }
-    ensures allowed { (b : Bytes) (h : ClientHello) (r : Bytes) → reading client_hello b ≡ Ok (h, r) → HasAllowedLengths h }
+    ensures fills { (b : Bytes) (h : ClientHello) (r : Bytes) → reading client_hello b ≡ Ok (h, r)
+        → length b ≡ hello_length h + length r }
+    ensures allowed { (b : Bytes) (h : ClientHello) (r : Bytes) → reading client_hello b ≡ Ok (h, r)
+        → HasAllowedLengths h }
 {}
 
 /// More bytes change neither a value nor a refusal, except for missing bytes, and follow the rest.

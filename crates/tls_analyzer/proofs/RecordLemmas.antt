@@ -20,7 +20,8 @@ passed_front (suc n) (b ∷ bs) r h k =
     ∙ ap (λ m. with_bytes (drop n bs) (record r { left = m })) less
 
 -- Some of them are skipped.
-pub passed : (n i : ℕ) (bs : List ℕ) (r s : Records) (all : Records) → n ≤ r.left → i + n ≤ length bs
+pub passed : (n i : ℕ) (bs : List ℕ) (r s : Records) (all : Records) → n ≤ r.left
+    → i + n ≤ length bs
     → s ≡ record r { left = r.left - n }
     → with_bytes (drop i bs) r ≡ all → with_bytes (drop (i + n) bs) s ≡ all
 passed n i bs r s all h k s_is inv =

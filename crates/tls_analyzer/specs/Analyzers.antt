@@ -92,7 +92,8 @@ AreHeard h s k (v ∷ vs) = (over_behind h s k vs ≡ false) × AreHeard h s k v
 -- What is left: for a side that is over, anything; for another, nothing for now, unless 2^64 - 1
 -- events were taken.
 abbrev pub IsLeft : Bool → Side → List Said → Conversation → Conversation → Type 0
-IsLeft true s vs c d = (ear d (other s) ≡ ear c (other s)) × (d.is_tls13 ≡ c.is_tls13) × (d.flow ≡ c.flow)
+IsLeft true s vs c d = (ear d (other s) ≡ ear c (other s)) × (d.is_tls13 ≡ c.is_tls13)
+    × (d.flow ≡ c.flow)
 IsLeft false s vs c d = (d ≡ c) × ((says (ear c s) [] ≡ []) ⊎ (2 ^ 64 - 1 ≤ length vs))
 
 -- A side that isn't over gets another piece. Each of its events is followed and recorded, in order,
@@ -104,7 +105,8 @@ pub record IsFollowed (t : Analyzer) (s : Side) (p : Bytes) (u : Analyzer) : Typ
   pub fed : IsFedBy t.hearer.conversation s p begun
   pub past : IsPast begun s said behind
   pub heard : AreHeard (hearing t s) s (known_of t.hearer) said
-  pub left : IsLeft (over_behind (hearing t s) s (known_of t.hearer) said) s said behind u.hearer.conversation
+  pub left : IsLeft (over_behind (hearing t s) s (known_of t.hearer) said) s said behind
+      u.hearer.conversation
   pub known : known_of u.hearer ≡ known s (known_of t.hearer) said
   pub history : u.hearer.history.items ≡ history s t.hearer.history.items said
   pub same : u ≡ with_hearing (record t { hearer = u.hearer }) s (hearing_behind (hearing t s) said)
@@ -129,13 +131,15 @@ front w b = w ++ take (5 - length w) b
 -- these 5 bytes are read.
 abbrev pub IsFirstBy : Bool → Bool → Analyzer → Side → Bytes → Bytes → Analyzer → Type 0
 IsFirstBy true tls t s w b u = Waits t s (w ++ b) u
-IsFirstBy false true t s w b u = (m : Analyzer) × Waits t s [] m × IsNext (told_tls m s) s (w ++ b) u
+IsFirstBy false true t s w b u =
+    (m : Analyzer) × Waits t s [] m × IsNext (told_tls m s) s (w ++ b) u
 IsFirstBy false false t s w b u =
     (m n : Analyzer) × Waits t s [] m × IsNext m s (front w b) n × (u ≡ with_hearing n s Other)
 
 -- The first bytes of a side are read.
 abbrev pub IsFirstHeard : Analyzer → Side → Bytes → Bytes → Analyzer → Type 0
-IsFirstHeard t s w b u = IsFirstBy (nat_lt (length b) (5 - length w)) (begins_tls (front w b)) t s w b u
+IsFirstHeard t s w b u =
+    IsFirstBy (nat_lt (length b) (5 - length w)) (begins_tls (front w b)) t s w b u
 
 abbrev pub IsHeardBy : Hearing → Analyzer → Side → Bytes → Analyzer → Type 0
 IsHeardBy Unknown t s b u = IsFirstHeard t s (waiting t s).items b u
@@ -147,12 +151,14 @@ IsHeardOn t s b u = IsHeardBy (hearing t s) t s b u
 
 -- The side begins with a ClientHello of SSL 2.0's form. What follows it is TLS.
 abbrev pub IsHeardInSsl2 : Analyzer → Side → ssl2.ClientHello → Analyzer → Type 0
-IsHeardInSsl2 t s x u = IsHelloNoted t.hearer s x u.hearer × (u ≡ with_hearing (record t { hearer = u.hearer; is_tls = true }) s Clear)
+IsHeardInSsl2 t s x u = IsHelloNoted t.hearer s x u.hearer
+    × (u ≡ with_hearing (record t { hearer = u.hearer; is_tls = true }) s Clear)
 
 -- The side isn't TLS, whatever it sends: it is treated as if it had sent 5 bytes that are no header
 -- of a record.
 abbrev pub IsHeardAsNone : Analyzer → Side → Analyzer → Type 0
-IsHeardAsNone t s u = (n : Analyzer) × IsNext t s (0 ∷ 0 ∷ 0 ∷ 0 ∷ 0 ∷ []) n × (u ≡ with_hearing n s Other)
+IsHeardAsNone t s u = (n : Analyzer) × IsNext t s (0 ∷ 0 ∷ 0 ∷ 0 ∷ 0 ∷ []) n
+    × (u ≡ with_hearing n s Other)
 
 -- These pieces are read in order, each of its side.
 abbrev pub AreHeardOn : Analyzer → List (Side × Bytes) → Analyzer → Type 0

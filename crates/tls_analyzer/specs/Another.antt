@@ -22,7 +22,8 @@ random_in (Err e) = None
 
 -- This fragment is a whole ClientHello, and the first message of its sender.
 abbrev pub is_first_hello : Fragment → Bool
-is_first_hello f = f.msg_type == 1 && f.message_seq == 0 && f.fragment_offset == 0 && length f.body == f.length
+is_first_hello f = f.msg_type == 1 && f.message_seq == 0 && f.fragment_offset == 0
+    && length f.body == f.length
 
 abbrev pub random_by : Option Fragment → Option Bytes
 random_by None = None
@@ -31,7 +32,8 @@ random_by (Some f) = if is_first_hello f then random_in (reading client_hello f.
 -- In a record in the clear.
 abbrev pub random_of : Answer RawRecord → Option Bytes
 random_of (Err e) = None
-random_of (Ok x) = if is_known x.0.header && x.0.header.epoch == 0 then random_by (first_fragment x.0) else None
+random_of (Ok x) = if is_known x.0.header && x.0.header.epoch == 0 then
+    random_by (first_fragment x.0) else None
 
 -- The random of the ClientHello with which a datagram begins an association: it comes first, in the
 -- clear, whole, and has the number 0.

@@ -10,7 +10,8 @@ use Rattle.tls_analyzer.specs.declared.datagram_records.DatagramRecords.{Datagra
 -- A known content type, including 26, the acknowledgments of DTLS 1.3 (RFC 9147, section 7), and a
 -- version of DTLS.
 abbrev pub is_known : RecordHeader → Bool
-is_known h = (is_within 20 24 h.content_type || h.content_type == 26) && is_datagram_version h.version
+is_known h = (is_within 20 24 h.content_type || h.content_type == 26)
+    && is_datagram_version h.version
 
 -- Whether a record of any form counts. One in the form of DTLS 1.3 counts if that was negotiated.
 abbrev pub is_record : Bool → DatagramRecord → Bool
@@ -26,7 +27,8 @@ no_datagrams = record { count = 0 }
 abbrev pub with_records : Bool → List DatagramRecord → DatagramRecords → DatagramRecords
 with_records is_13 [] r = r
 with_records is_13 (x ∷ xs) r =
-    if is_record is_13 x then with_records is_13 xs (record { count = min (r.count + 1) (2 ^ 64 - 1) }) else r
+    if is_record is_13 x then
+    with_records is_13 xs (record { count = min (r.count + 1) (2 ^ 64 - 1) }) else r
 
 -- Counts the records at the beginning of a datagram, with connection IDs of this length.
 abbrev pub with_datagram : Bool → ℕ → Bytes → DatagramRecords → DatagramRecords

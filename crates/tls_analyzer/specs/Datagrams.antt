@@ -36,7 +36,8 @@ abbrev pub noted_by : Side → Option HandshakeMessage → HandshakeSummary → 
 noted_by s (Some m) f = of_datagrams s m f
 noted_by s None f = f
 
-abbrev pub noted_in_datagram_with : Side → HandshakeSummary → Event → Option HandshakeMessage → HandshakeSummary
+abbrev pub noted_in_datagram_with : Side → HandshakeSummary → Event → Option HandshakeMessage
+    → HandshakeSummary
 noted_in_datagram_with s f (Handshake h) m = noted_by s m f
 noted_in_datagram_with s f (Alert a) m = of_alert a.description f
 noted_in_datagram_with s f e m = f
@@ -110,7 +111,8 @@ has_come_to_change s f a =
 -- after the ServerHello. Any other is dropped: it is a retransmission (RFC 6347, section 4.2.4), or
 -- there is nothing to change to.
 abbrev pub awaits_change : Side → Told → Bool
-awaits_change s t = not t.has_changed && is_some t.handshake.server && has_come_to_change s t.flow t.handshake
+awaits_change s t = not t.has_changed && is_some t.handshake.server
+    && has_come_to_change s t.flow t.handshake
 
 abbrev pub saying : Side → Told → Event → Told
 saying s t e = record {
@@ -154,11 +156,27 @@ pub record Analyzer : Type 0 where
   pub is_dtls : Bool
 
 abbrev pub none_spoken : Spoken
-none_spoken = record { heard = none_heard; is_begun = false; lacks_front = false; has_changed = false; is_encrypted = false }
+none_spoken =
+    record {
+      heard = none_heard;
+      is_begun = false;
+      lacks_front = false;
+      has_changed =
+          false;
+      is_encrypted = false;
+    }
 
 -- Nothing came.
 abbrev pub untold : Analyzer
-untold = record { client = none_spoken; server = none_spoken; flow = silence; handshake = nothing; history = []; is_dtls = false }
+untold = record {
+  client = none_spoken;
+  server = none_spoken;
+  flow = silence;
+  handshake =
+      nothing;
+  history = [];
+  is_dtls = false;
+}
 
 abbrev pub spoken : Analyzer → Side → Spoken
 spoken k ToServer = k.client
@@ -169,14 +187,36 @@ abbrev pub is_over : Analyzer → Side → Bool
 is_over k s = (spoken k s).is_encrypted && not (is_waiting (outcome_at k.flow.state))
 
 abbrev pub told_to : Analyzer → Spoken → Told
-told_to k p = record { flow = k.flow; handshake = k.handshake; history = k.history; has_changed = p.has_changed; is_encrypted = p.is_encrypted }
+told_to k p =
+    record {
+      flow = k.flow;
+      handshake = k.handshake;
+      history = k.history;
+      has_changed =
+          p.has_changed;
+      is_encrypted = p.is_encrypted;
+    }
 
 abbrev pub spoken_by : Spoken → Heard → Told → Spoken
 spoken_by p h t = record p { heard = h; has_changed = t.has_changed; is_encrypted = t.is_encrypted }
 
 abbrev pub with_told : Analyzer → Side → Heard → Told → Analyzer
-with_told k ToServer h t = record k { client = spoken_by k.client h t; flow = t.flow; handshake = t.handshake; history = t.history }
-with_told k FromServer h t = record k { server = spoken_by k.server h t; flow = t.flow; handshake = t.handshake; history = t.history }
+with_told k ToServer h t =
+    record k {
+      client = spoken_by k.client h t;
+      flow = t.flow;
+      handshake = t.handshake;
+      history =
+          t.history;
+    }
+with_told k FromServer h t =
+    record k {
+      server = spoken_by k.server h t;
+      flow = t.flow;
+      handshake = t.handshake;
+      history =
+          t.history;
+    }
 
 -- A side's events are followed and recorded.
 abbrev pub stepped : Analyzer → Side → Step → Analyzer
@@ -188,7 +228,8 @@ fragment_in (Err e) = None
 
 -- The handshake fragment that a record begins with.
 abbrev pub first_fragment : RawRecord → Option Fragment
-first_fragment r = if r.header.content_type == 22 then fragment_in (reading fragment r.fragment) else None
+first_fragment r = if r.header.content_type == 22 then
+    fragment_in (reading fragment r.fragment) else None
 
 -- The first message after the missing ones: a second ClientHello, or the ServerHello after a
 -- HelloVerifyRequest (RFC 6347, section 4.2.2, which numbers the first messages 0).
@@ -203,7 +244,8 @@ is_behind_front s f = f.msg_type == hello_type s && f.message_seq == 1
 abbrev pub begun : Side → Fragment → Spoken → Spoken
 begun s f p =
     if p.is_begun then p
-    else if is_behind_front s f then record p { heard = nothing_from 1; is_begun = true; lacks_front = true }
+    else if is_behind_front s f then
+    record p { heard = nothing_from 1; is_begun = true; lacks_front = true }
     else record p { is_begun = true }
 
 abbrev pub with_spoken : Analyzer → Side → Spoken → Analyzer
@@ -228,12 +270,14 @@ is_hello f = f.msg_type == 1 || f.msg_type == 2 || f.msg_type == 3
 -- A new one is dropped.
 abbrev pub is_late : Option Fragment → Analyzer → Side → Bool
 is_late None k s = false
-is_late (Some f) k s = is_some k.handshake.server && is_hello f && not (nat_lt f.message_seq (spoken k s).heard.next)
+is_late (Some f) k s =
+    is_some k.handshake.server && is_hello f && not (nat_lt f.message_seq (spoken k s).heard.next)
 
 -- Whether a record of this side is read.
 abbrev pub takes : Analyzer → Side → RawRecord → Bool
 takes k s r =
-    k.is_dtls && not (is_over k s) && r.header.epoch == epoch_of (spoken k s) && not (is_late (first_fragment r) k s)
+    k.is_dtls && not (is_over k s) && r.header.epoch == epoch_of (spoken k s)
+    && not (is_late (first_fragment r) k s)
 
 abbrev pub taken : Analyzer → Side → RawRecord → Analyzer
 taken k s r = stepped k s (record_step allowed (spoken k s).heard r)
@@ -254,7 +298,8 @@ is_sealed_record (Err e) = false
 -- encrypted. A record that comes before its peer knows that is dropped.
 abbrev pub is_sealed_next : Analyzer → Side → Bytes → Bool
 is_sealed_next k s b =
-    is_13 (outcome_at k.flow.state) && is_sealed_record (reading (ciphertext (connection_id_length s k.handshake)) b)
+    is_13 (outcome_at k.flow.state)
+    && is_sealed_record (reading (ciphertext (connection_id_length s k.handshake)) b)
 
 abbrev pub sealed : Spoken → Spoken
 sealed p = record p { is_encrypted = true }
@@ -262,9 +307,11 @@ sealed p = record p { is_encrypted = true }
 abbrev pub sealed_by : Analyzer → Side → Bytes → Analyzer
 sealed_by k s b = if is_sealed_next k s b then with_spoken k s (sealed (spoken k s)) else k
 
-abbrev pub next_heard : Answer RawRecord → Analyzer → Side → Bytes → (Analyzer → Bytes → Analyzer) → Analyzer
+abbrev pub next_heard : Answer RawRecord → Analyzer → Side → Bytes
+    → (Analyzer → Bytes → Analyzer) → Analyzer
 next_heard (Err e) k s b more = sealed_by k s b
-next_heard (Ok x) k s b more = if is_known x.0.header then more (record_heard k s x.0) x.1 else sealed_by k s b
+next_heard (Ok x) k s b more = if is_known x.0.header then
+    more (record_heard k s x.0) x.1 else sealed_by k s b
 
 -- At most n records of a datagram, in order. Bytes that are no whole DTLS record are dropped with
 -- what follows them (section 4.1.2.7); so is a datagram that begins with such bytes, since other
@@ -272,7 +319,8 @@ next_heard (Ok x) k s b more = if is_known x.0.header then more (record_heard k 
 -- and the first one marks the side as encrypted.
 unfoldable pub records_heard : ℕ → Analyzer → Side → Bytes → Analyzer
 records_heard zero k s b = k
-records_heard (suc n) k s b = next_heard (reading datagram_record b) k s b (λ k b. records_heard n k s b)
+records_heard (suc n) k s b =
+    next_heard (reading datagram_record b) k s b (λ k b. records_heard n k s b)
 
 -- A datagram of this side. A record has at least one byte, so there are no more records than bytes.
 abbrev pub heard : Analyzer → Side → Bytes → Analyzer

@@ -32,7 +32,8 @@ pub record Known : Type 0 where
   pub handshake : HandshakeSummary
 
 abbrev pub known_by : Side → Known → Said → Known
-known_by s k v = record { flow = followed s k.flow k.handshake v; handshake = noted s k.handshake v }
+known_by s k v =
+    record { flow = followed s k.flow k.handshake v; handshake = noted s k.handshake v }
 
 -- What is known after these events of this side, the latest first.
 abbrev pub known : Side → Known → List Said → Known

@@ -12,7 +12,13 @@ abbrev pub with_byte : ℕ → Records → Records
 with_byte b r =
     if nat_lt 0 r.left then record r { left = r.left - 1 }
     else if nat_lt r.came 4 then record r { came = r.came + 1; last = b }
-    else record { count = min (r.count + 1) (2 ^ 64 - 1); came = 0; last = 0; left = r.last * 256 + b }
+    else record {
+      count = min (r.count + 1) (2 ^ 64 - 1);
+      came = 0;
+      last = 0;
+      left =
+          r.last * 256 + b;
+    }
 
 -- Bytes, in order.
 abbrev pub with_bytes : List ℕ → Records → Records

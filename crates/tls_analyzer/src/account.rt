@@ -54,7 +54,9 @@ fn note(
     message: Option<&HandshakeMessage<'_>>,
     known: Option<&mut KnownCertificates>,
 ) -> Result<(), AllocError>
-    ensures { OnOk result (view_summary handshake.new ≡ noted_in_datagram_with side (view_summary handshake.old) (view_event event.now)
+    ensures { OnOk result
+        (view_summary handshake.new ≡ noted_in_datagram_with side (view_summary handshake.old)
+        (view_event event.now)
         (option_map (λ m. view_heard m.now) message.entry)) }
 {
     match event {
@@ -147,8 +149,12 @@ impl Account {
         witness: &mut W,
     ) -> Result<(), AllocError>
         ensures flow { OnOk result (self.new.flow ≡ followed side self.old.flow (view_event event.now)) }
-        ensures handshake { OnOk result (view_summary self.new.handshake ≡ noted_in_datagram side (view_summary self.old.handshake) (view_event event.now)) }
-        ensures history { OnOk result (self.new.history.items ≡ with_letter side self.old.history.items (letter_in_datagram (view_event event.now))) }
+        ensures handshake { OnOk result
+            (view_summary self.new.handshake ≡ noted_in_datagram side
+            (view_summary self.old.handshake) (view_event event.now)) }
+        ensures history { OnOk result
+            (self.new.history.items ≡ with_letter side self.old.history.items
+            (letter_in_datagram (view_event event.now))) }
     {
         let message = datagram_message(event);
         let kind = Kind::of_datagrams(message.as_ref());
@@ -176,7 +182,9 @@ impl Account {
         event: &Event<'_>,
         witness: &mut W,
     ) -> Result<(), AllocError>
-        ensures { OnOk result (told_of self.new progress.new ≡ saying side (told_of self.old progress.old) (view_event event.now)) }
+        ensures { OnOk result
+            (told_of self.new progress.new ≡ saying side (told_of self.old progress.old)
+            (view_event event.now)) }
     {
         self.tell(alloc, side, event, witness)?;
         progress.has_changed = progress.has_changed || is_change(event);
@@ -194,7 +202,9 @@ impl Account {
         event: &Event<'_>,
         witness: &mut W,
     ) -> Result<(), AllocError>
-        ensures { OnOk result (told_of self.new progress.new ≡ said side (told_of self.old progress.old) (view_event event.now)) }
+        ensures { OnOk result
+            (told_of self.new progress.new ≡ said side (told_of self.old progress.old)
+            (view_event event.now)) }
     {
         if is_change(event) && !self.awaits_change(side, progress) {
             return Ok(());
@@ -211,7 +221,9 @@ impl Account {
         events: &[Event<'_>],
         witness: &mut W,
     ) -> Result<(), AllocError>
-        ensures { OnOk result (told_of self.new progress.new ≡ said_all side (told_of self.old progress.old) (view_events events.now)) }
+        ensures { OnOk result
+            (told_of self.new progress.new ≡ said_all side (told_of self.old progress.old)
+            (view_events events.now)) }
     {
         for event in events {
             self.add(alloc, side, progress, event, witness)?;

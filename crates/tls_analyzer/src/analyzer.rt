@@ -116,7 +116,8 @@ impl Analyzer {
 
     /// Whether a session was resumed, or a pre-shared key accepted.
     pub fn is_resumed(&self) -> bool
-        ensures { result ≡ resumed_by (outcome_at self.now.hearer.flow.state) (view_summary self.now.hearer.handshake) }
+        ensures { result ≡ resumed_by (outcome_at self.now.hearer.flow.state)
+            (view_summary self.now.hearer.handshake) }
     {
         ends::is_resumed(self.outcome(), &self.hearer.handshake)
     }
@@ -163,7 +164,8 @@ impl Analyzer {
 
     /// Stores more of the first bytes of a side.
     fn wait(&mut self, side: Direction, bytes: &[u8]) -> Result<(), AllocError>
-        ensures { OnOk result (Waits self.old side ((waiting_of self.old side).items ++ bytes.now) self.new) }
+        ensures { OnOk result
+            (Waits self.old side ((waiting_of self.old side).items ++ bytes.now) self.new) }
     {
         match side {
             Direction::ToServer => self.client_first.extend_from_slice(bytes),
@@ -190,8 +192,11 @@ impl Analyzer {
         side: Direction,
         witness: &mut W,
     ) -> Result<bool, AllocError>
-        ensures taken { IfOk result (λ taken. IsTaken (front_of (ear self.old.hearer.conversation side)) self.old side taken self.new) }
-        ensures ready { OnOk result (IsReady (ear self.old.hearer.conversation side) → IsReady (ear self.new.hearer.conversation side)) }
+        ensures taken { IfOk result
+            (λ taken. IsTaken (front_of (ear self.old.hearer.conversation side)) self.old side taken
+            self.new) }
+        ensures ready { OnOk result (IsReady (ear self.old.hearer.conversation side)
+            → IsReady (ear self.new.hearer.conversation side)) }
     {
         match self.hearer.take_next(alloc, side, witness)? {
             Some(true) => {
@@ -233,7 +238,8 @@ impl Analyzer {
         bytes: &[u8],
         witness: &mut W,
     ) -> Result<(), AllocError>
-        ensures { OnOk result (IsFirstHeard self.old side (waiting_of self.old side).items bytes.now self.new) }
+        ensures { OnOk result
+            (IsFirstHeard self.old side (waiting_of self.old side).items bytes.now self.new) }
     {
         let missing = HEADER_LEN.saturating_sub(self.waiting(side).len());
         if bytes.len() < missing {

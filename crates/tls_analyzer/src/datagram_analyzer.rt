@@ -95,14 +95,16 @@ impl DatagramAnalyzer {
 
     /// Whether the visible part of the handshake is complete.
     pub fn is_established(&self) -> bool
-        ensures { (k : Analyzer) → IsKnown k self.now → result ≡ established_by (outcome_at k.flow.state) }
+        ensures { (k : Analyzer) → IsKnown k self.now
+            → result ≡ established_by (outcome_at k.flow.state) }
     {
         ends::is_established(self.outcome())
     }
 
     /// Whether a session was resumed.
     pub fn is_resumed(&self) -> bool
-        ensures { (k : Analyzer) → IsKnown k self.now → result ≡ resumed_by (outcome_at k.flow.state) k.handshake }
+        ensures { (k : Analyzer) → IsKnown k self.now
+            → result ≡ resumed_by (outcome_at k.flow.state) k.handshake }
     {
         ends::is_resumed(self.outcome(), &self.account.handshake)
     }
@@ -145,7 +147,8 @@ impl DatagramAnalyzer {
 
     /// Whether a record begins with a new hello that comes too late: after the ServerHello.
     fn is_late(&self, side: Direction, record: &DTLSRawRecord<'_>) -> bool
-        ensures { (k : Analyzer) → IsKnown k self.now → result ≡ is_late_in (first (view_raw_record record.now)) k side }
+        ensures { (k : Analyzer) → IsKnown k self.now
+            → result ≡ is_late_in (first (view_raw_record record.now)) k side }
     {
         match first_fragment(record) {
             Some(fragment) => {
@@ -159,7 +162,8 @@ impl DatagramAnalyzer {
 
     /// Whether a record of this side is read.
     fn takes(&self, side: Direction, record: &DTLSRawRecord<'_>) -> bool
-        ensures { (k : Analyzer) → IsKnown k self.now → result ≡ is_taken k side (view_raw_record record.now) }
+        ensures { (k : Analyzer) → IsKnown k self.now
+            → result ≡ is_taken k side (view_raw_record record.now) }
     {
         self.is_dtls
             && !self.is_over(side)
@@ -170,7 +174,8 @@ impl DatagramAnalyzer {
     /// Begins a side with its first fragment.
     fn begin(&mut self, alloc: Global, side: Direction, fragment: &Fragment<'_>)
         ensures { (k : Analyzer) → IsKnown k self.old
-            → IsKnown (with_spoken k side (begun side (view_fragment fragment.now) (spoken k side))) self.new }
+            → IsKnown (with_spoken k side (begun side (view_fragment fragment.now) (spoken k side)))
+            self.new }
     {
         match side {
             Direction::ToServer => self.client.begin(alloc, side, fragment),
@@ -186,7 +191,8 @@ impl DatagramAnalyzer {
         record: DTLSRawRecord<'_>,
         witness: &mut W,
     ) -> Result<(), AllocError>
-        ensures { (k : Analyzer) → IsKnown k self.old → OnOk result (IsKnown (taken k side (view_raw_record record.entry)) self.new) }
+        ensures { (k : Analyzer) → IsKnown k self.old
+            → OnOk result (IsKnown (taken k side (view_raw_record record.entry)) self.new) }
     {
         match side {
             Direction::ToServer => self
@@ -206,7 +212,8 @@ impl DatagramAnalyzer {
         record: DTLSRawRecord<'_>,
         witness: &mut W,
     ) -> Result<(), AllocError>
-        ensures { (k : Analyzer) → IsKnown k self.old → OnOk result (IsKnown (record_heard k side (view_raw_record record.entry)) self.new) }
+        ensures { (k : Analyzer) → IsKnown k self.old
+            → OnOk result (IsKnown (record_heard k side (view_raw_record record.entry)) self.new) }
     {
         self.is_dtls = self.is_dtls || record.header.epoch == 0;
         if !self.takes(side, &record) {
@@ -220,7 +227,8 @@ impl DatagramAnalyzer {
 
     /// Whether DTLS 1.3 was negotiated.
     pub fn is_13(&self) -> bool
-        ensures { (k : Analyzer) → IsKnown k self.now → result ≡ is_13_by (outcome_at k.flow.state) }
+        ensures { (k : Analyzer) → IsKnown k self.now
+            → result ≡ is_13_by (outcome_at k.flow.state) }
     {
         ends::is_13(self.outcome())
     }
@@ -238,7 +246,8 @@ impl DatagramAnalyzer {
 
     /// Marks the side as encrypted if the next bytes are an encrypted record of DTLS 1.3.
     fn see_sealed(&mut self, side: Direction, bytes: &[u8])
-        ensures { (k : Analyzer) → IsKnown k self.old → IsKnown (sealed_by k side bytes.now) self.new }
+        ensures { (k : Analyzer) → IsKnown k self.old
+            → IsKnown (sealed_by k side bytes.now) self.new }
     {
         if !self.is_sealed_next(side, bytes) {
             return;
@@ -271,7 +280,8 @@ impl DatagramAnalyzer {
         side: Direction,
         datagram: &[u8],
     ) -> Result<(), AllocError>
-        ensures { (k : Analyzer) → IsKnown k self.old → OnOk result (IsKnown (heard k side datagram.now) self.new) }
+        ensures { (k : Analyzer) → IsKnown k self.old
+            → OnOk result (IsKnown (heard k side datagram.now) self.new) }
     {
         self.hear_with(alloc, side, datagram, &mut Nobody)
     }
@@ -285,7 +295,8 @@ impl DatagramAnalyzer {
         datagram: &[u8],
         witness: &mut W,
     ) -> Result<(), AllocError>
-        ensures { (k : Analyzer) → IsKnown k self.old → OnOk result (IsKnown (heard k side datagram.now) self.new) }
+        ensures { (k : Analyzer) → IsKnown k self.old
+            → OnOk result (IsKnown (heard k side datagram.now) self.new) }
     {
         let mut left = datagram;
         'records: for read in 0..datagram.len() {

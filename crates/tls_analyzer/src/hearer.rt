@@ -68,7 +68,9 @@ fn note(
     message: Option<&HandshakeMessage<'_>>,
     known: Option<&mut KnownCertificates>,
 ) -> Result<(), AllocError>
-    ensures { OnOk result (view_summary handshake.new ≡ noted_with side (view_summary handshake.old) (view_said said.now)
+    ensures { OnOk result
+        (view_summary handshake.new ≡ noted_with side (view_summary handshake.old)
+        (view_said said.now)
         (option_map (λ m. view_heard m.now) message.entry)) }
 {
     match said {
@@ -98,9 +100,12 @@ fn tell<W: Witness>(
     said: &Said<'_>,
     witness: &mut W,
 ) -> Result<tls_flow::Event, AllocError>
-    ensures flow { OnOk result (flow.new ≡ followed side flow.old (view_summary handshake.old) (view_said said.now)) }
-    ensures handshake { OnOk result (view_summary handshake.new ≡ noted side (view_summary handshake.old) (view_said said.now)) }
-    ensures history { OnOk result (history.new.items ≡ with_letter side history.old.items (letter_of (view_said said.now))) }
+    ensures flow { OnOk result
+        (flow.new ≡ followed side flow.old (view_summary handshake.old) (view_said said.now)) }
+    ensures handshake { OnOk result
+        (view_summary handshake.new ≡ noted side (view_summary handshake.old) (view_said said.now)) }
+    ensures history { OnOk result
+        (history.new.items ≡ with_letter side history.old.items (letter_of (view_said said.now))) }
     ensures event { IfOk result (λ e. e ≡ event_of side (view_said said.now)) }
 {
     let message = said_message(said);
@@ -161,8 +166,10 @@ impl Hearer {
         side: Direction,
         witness: &mut W,
     ) -> Result<Option<bool>, AllocError>
-        ensures taken { IfOk result (λ r. IsNextTaken (front_of (ear self.old.conversation side)) self.old side r self.new) }
-        ensures ready { OnOk result (IsReady (ear self.old.conversation side) → IsReady (ear self.new.conversation side)) }
+        ensures taken { IfOk result
+            (λ r. IsNextTaken (front_of (ear self.old.conversation side)) self.old side r self.new) }
+        ensures ready { OnOk result
+            (IsReady (ear self.old.conversation side) → IsReady (ear self.new.conversation side)) }
     {
         let (event, is_encrypted) = match self.conversation.front(side) {
             Some(said) => {

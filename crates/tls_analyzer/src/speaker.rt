@@ -83,14 +83,16 @@ impl Speaker {
 
     /// Whether a fragment's message wasn't delivered yet.
     pub(crate) fn is_new(&self, fragment: &Fragment<'_>) -> bool
-        ensures { (p : Spoken) → IsSpoken p self.now → result ≡ not (nat_lt fragment.now.message_seq p.heard.next) }
+        ensures { (p : Spoken) → IsSpoken p self.now
+            → result ≡ not (nat_lt fragment.now.message_seq p.heard.next) }
     {
         fragment.message_seq as u32 >= self.messages.next_number()
     }
 
     /// Begins the side with its first fragment, and after the missing messages if there are any.
     pub(crate) fn begin(&mut self, alloc: Global, side: Direction, first: &Fragment<'_>)
-        ensures { (p : Spoken) → IsSpoken p self.old → IsSpoken (begun side (view_fragment first.now) p) self.new }
+        ensures { (p : Spoken) → IsSpoken p self.old
+            → IsSpoken (begun side (view_fragment first.now) p) self.new }
     {
         if self.is_begun {
             return;
@@ -112,7 +114,9 @@ impl Speaker {
         witness: &mut W,
     ) -> Result<(), AllocError>
         ensures told { (h : Heard) → Stands allowed h self.old.messages
-            → OnOk result (SpeakerHears side h (view_raw_record record.entry) account.old account.new self.old self.new) }
+            → OnOk result
+            (SpeakerHears side h (view_raw_record record.entry) account.old account.new self.old
+            self.new) }
         ensures same { IsSameSide self.old self.new }
     {
         let mut events = Vec::new(alloc);

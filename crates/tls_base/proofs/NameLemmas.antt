@@ -22,9 +22,11 @@ use Rattle.std.specs.Borrow.{Bor}
 use Rattle.std.specs.Option.{option_map}
 use Rattle.tls_base.specs.Names.{Text, look_up, shown, name}
 
-either_way : {A B : Type 0} (v : A → B) (b : Bool) (x : ℕ × A) (o : Option (ℕ × B)) (p : Option (ℕ × A))
+either_way : {A B : Type 0} (v : A → B) (b : Bool) (x : ℕ × A) (o : Option (ℕ × B))
+    (p : Option (ℕ × A))
     → option_map (λ y. y.1) o ≡ option_map v (option_map (λ y. y.1) p)
-    → option_map (λ y. y.1) (cond b (Some (x.0, v x.1)) o) ≡ option_map v (option_map (λ y. y.1) (cond b (Some x) p))
+    → option_map (λ y. y.1) (cond b (Some (x.0, v x.1)) o) ≡ option_map v
+    (option_map (λ y. y.1) (cond b (Some x) p))
 either_way v true x o p e = refl
 either_way v false x o p e = e
 

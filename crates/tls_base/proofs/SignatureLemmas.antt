@@ -15,14 +15,18 @@ with_content content (Ok x) = Ok (x.0, (content, x.1))
 with_content content (Err e) = Err e
 
 -- the signature's answer decides that of content and signature
-pub put_beside : {T : Type 0} (content : T) (ext : Bool) (b : Bytes) (r : Returned signed_of.DigitallySigned)
+pub put_beside : {T : Type 0} (content : T) (ext : Bool) (b : Bytes)
+    (r : Returned signed_of.DigitallySigned)
     → Gives view_signed (signature ext) b r
     → Gives (λ v. (v.0, view_signed v.1)) (beside_signature content ext) b (with_content content r)
 unfolding Allows beside_signature
 put_beside content ext b (Ok x) h = record {
   answers = h.answers;
   read = ap (λ a. a and_then λ y. Ok ((content, y.0), y.1)) h.read;
-  allowed = (h.allowed.0 ++ [], (view_signed x.1, x.0.now, h.allowed.0, [], h.allowed.1, (refl, refl, refl), refl));
+  allowed = (
+    h.allowed.0 ++ [],
+    (view_signed x.1, x.0.now, h.allowed.0, [], h.allowed.1, (refl, refl, refl), refl),
+  );
 }
 put_beside content ext b (Err e) h = record {
   answers = h.answers;

@@ -41,11 +41,13 @@ modes =
 
 abbrev pub macs : List TlsCipherMac
 macs =
-    mac.Null ∷ mac.HmacMd5 ∷ mac.HmacSha1 ∷ mac.HmacSha256 ∷ mac.HmacSha384 ∷ mac.HmacSha512 ∷ mac.Aead ∷ []
+    mac.Null ∷ mac.HmacMd5 ∷ mac.HmacSha1 ∷ mac.HmacSha256 ∷ mac.HmacSha384 ∷ mac.HmacSha512
+    ∷ mac.Aead ∷ []
 
 abbrev pub functions : List TlsPRF
 functions =
-    prf.Default ∷ prf.Null ∷ prf.Md5AndSha1 ∷ prf.Sha1 ∷ prf.Sha256 ∷ prf.Sha384 ∷ prf.Sha512 ∷ prf.Sm3 ∷ []
+    prf.Default ∷ prf.Null ∷ prf.Md5AndSha1 ∷ prf.Sha1 ∷ prf.Sha256 ∷ prf.Sha384 ∷ prf.Sha512
+    ∷ prf.Sm3 ∷ []
 
 -- The block length of the cipher, in bytes; 0 for a stream cipher, and without encryption.
 abbrev pub block_size : TlsCipherEnc → ℕ

@@ -28,11 +28,13 @@ abbrev pub repeats_id : List TlsCipherSuite → ℕ → Bool
 repeats_id suites k = option_map_or (λ s. has_id (take k suites) s.id.0) (slice_get suites k) false
 
 abbrev pub repeats_name : List TlsCipherSuite → ℕ → Bool
-repeats_name suites k = option_map_or (λ s. has_name (take k suites) s.name.now) (slice_get suites k) false
+repeats_name suites k =
+    option_map_or (λ s. has_name (take k suites) s.name.now) (slice_get suites k) false
 
 -- The suites before position n have distinct ids and distinct names.
 abbrev pub DifferBelow : List TlsCipherSuite → ℕ → Type 0
-DifferBelow suites n = (k : ℕ) → k < n → (repeats_id suites k ≡ false) × (repeats_name suites k ≡ false)
+DifferBelow suites n = (k : ℕ) → k < n → (repeats_id suites k ≡ false)
+    × (repeats_name suites k ≡ false)
 
 -- All suites have distinct ids and distinct names.
 abbrev pub Differ : List TlsCipherSuite → Type 0
@@ -41,4 +43,5 @@ Differ suites = DifferBelow suites (length suites)
 -- The first position that repeats an id or a name. One that repeats both is reported by its id.
 abbrev pub IsFirstFault : List TlsCipherSuite → CipherTableFault → Type 0
 IsFirstFault suites (SameId k) = DifferBelow suites k × (repeats_id suites k ≡ true)
-IsFirstFault suites (SameName k) = DifferBelow suites k × (repeats_id suites k ≡ false) × (repeats_name suites k ≡ true)
+IsFirstFault suites (SameName k) = DifferBelow suites k × (repeats_id suites k ≡ false)
+    × (repeats_name suites k ≡ true)

@@ -100,7 +100,8 @@ pub record ECParameters : Type 0 where
   pub parameters : CurveParameters
 
 abbrev pub view_ec_parameters : parameters_of.ECParameters → ECParameters
-view_ec_parameters p = record { curve_type = p.curve_type.0; parameters = view_curve_parameters p.params_content }
+view_ec_parameters p =
+    record { curve_type = p.curve_type.0; parameters = view_curve_parameters p.params_content }
 
 unfoldable pub ec_parameters : Layout ECParameters
 ec_parameters = do
@@ -114,7 +115,8 @@ pub record ServerECDHParams : Type 0 where
   pub public : Bytes
 
 abbrev pub view_ecdh_params : ecdh_params_of.ServerECDHParams → ServerECDHParams
-view_ecdh_params p = record { curve_params = view_ec_parameters p.curve_params; public = view_point p.public }
+view_ecdh_params p =
+    record { curve_params = view_ec_parameters p.curve_params; public = view_point p.public }
 
 unfoldable pub ecdh_params : Layout ServerECDHParams
 ecdh_params = do

@@ -49,7 +49,8 @@ digitally_signed = do
   done (record { algorithm = Some a; signature = signature })
 
 unfoldable pub digitally_signed_old : Layout DigitallySigned
-digitally_signed_old = mapped (λ signature. record { algorithm = None; signature = signature }) (counted 2)
+digitally_signed_old =
+    mapped (λ signature. record { algorithm = None; signature = signature }) (counted 2)
 
 -- The form of TLS 1.2 if `ext`, else the older one.
 unfoldable pub signature : Bool → Layout DigitallySigned
@@ -61,6 +62,8 @@ beside_signature content ext = mapped (λ s. (content, s)) (signature ext)
 
 -- What the call returns after the reader of the content: a refusal is passed on, and after a value
 -- the signature gives the answer.
-abbrev pub GivesSignature : {T : Type 0} → Bool → Returned T → Returned (T × signed_of.DigitallySigned) → Type 0
+abbrev pub GivesSignature : {T : Type 0} → Bool → Returned T
+    → Returned (T × signed_of.DigitallySigned) → Type 0
 GivesSignature ext (Err e) result = result ≡ Err e
-GivesSignature ext (Ok x) result = Gives (λ v. (v.0, view_signed v.1)) (beside_signature x.1 ext) x.0.now result
+GivesSignature ext (Ok x) result =
+    Gives (λ v. (v.0, view_signed v.1)) (beside_signature x.1 ext) x.0.now result

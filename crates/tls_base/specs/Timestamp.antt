@@ -39,7 +39,14 @@ timestamp = do
   time ← number 8
   extensions ← counted 2
   signature ← signatures.digitally_signed
-  done (record { sct_version = version; id = id; timestamp = time; extensions = extensions; signature = signature })
+  done (record {
+    sct_version = version;
+    id = id;
+    timestamp = time;
+    extensions =
+        extensions;
+    signature = signature;
+  })
 
 -- A SignedCertificateTimestamp within opaque SerializedSCT<1..2^16-1> (RFC 6962, section 3.3).
 abbrev pub serialized_timestamp : Layout SignedCertificateTimestamp

@@ -150,14 +150,16 @@ impl CipherTable {
 
     /// Returns the suite with this id. Refuses an id that no suite has.
     pub fn try_from_u16(&self, id: u16) -> Result<&TlsCipherSuite, CipherSuiteNotFound>
-        ensures { MatchOption (suite_of_id self.now id) (IsErr result) (λ s. IsOkAnd result (λ r. r.now ≡ s)) }
+        ensures { MatchOption (suite_of_id self.now id) (IsErr result)
+            (λ s. IsOkAnd result (λ r. r.now ≡ s)) }
     {
         self.by_id(id).ok_or(CipherSuiteNotFound(()))
     }
 
     /// Returns the suite with this id. Refuses an id that no suite has.
     pub fn try_from_id(&self, id: TlsCipherSuiteID) -> Result<&TlsCipherSuite, CipherSuiteNotFound>
-        ensures { MatchOption (suite_of_id self.now id.0) (IsErr result) (λ s. IsOkAnd result (λ r. r.now ≡ s)) }
+        ensures { MatchOption (suite_of_id self.now id.0) (IsErr result)
+            (λ s. IsOkAnd result (λ r. r.now ≡ s)) }
     {
         self.try_from_u16(id.0)
     }
@@ -167,7 +169,8 @@ impl CipherTable {
         &'a self,
         name: &str,
     ) -> Result<&'a TlsCipherSuite, CipherSuiteNotFound>
-        ensures { MatchOption (suite_of_name self.now name.now) (IsErr result) (λ s. IsOkAnd result (λ r. r.now ≡ s)) }
+        ensures { MatchOption (suite_of_name self.now name.now) (IsErr result)
+            (λ s. IsOkAnd result (λ r. r.now ≡ s)) }
     {
         self.by_name(name).ok_or(CipherSuiteNotFound(()))
     }

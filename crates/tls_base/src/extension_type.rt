@@ -246,7 +246,8 @@ macro_rules! rows {
             57 = "quic_transport_parameters"; // RFC 9001
             58 = "ticket_request"; // RFC 9149
             59 = "dnssec_chain"; // RFC 9102
-            60 = "sequence_number_encryption_algorithms"; // draft-pismenny-tls-dtls-plaintext-sequence-number
+            60 = "sequence_number_encryption_algorithms";
+                // draft-pismenny-tls-dtls-plaintext-sequence-number
             61 = "rrc"; // draft-ietf-tls-dtls-rrc
             62 = "tls_flags"; // draft-ietf-tls-tlsflags
             NextProtocolNegotiation = "next_protocol_negotiation";

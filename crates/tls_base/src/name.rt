@@ -20,8 +20,11 @@ macro_rules! names {
     ($type:ident: $($constant:ident),*) => {
         &[$(($type::$constant.0 as u16, stringify!($constant))),*]
     };
-    ($type:ident: $($($constant:ident = $name:literal)? $([$own:ident])? $($number:literal = $other:literal)?;)*) => {
-        &[$($(($type::$constant.0 as u16, stringify!($constant)),)? $(($type::$own.0 as u16, stringify!($own)),)?)*]
+    ($type:ident:
+        $($($constant:ident = $name:literal)? $([$own:ident])?
+        $($number:literal = $other:literal)?;)*) => {
+        &[$($(($type::$constant.0 as u16, stringify!($constant)),)?
+            $(($type::$own.0 as u16, stringify!($own)),)?)*]
     };
 }
 
@@ -29,7 +32,9 @@ pub(crate) use names;
 
 /// Expands to the numbers of the constants in a registry's rows.
 macro_rules! numbers {
-    ($type:ident: $($($constant:ident = $name:literal)? $([$own:ident])? $($number:literal = $other:literal)?;)*) => {
+    ($type:ident:
+        $($($constant:ident = $name:literal)? $([$own:ident])?
+        $($number:literal = $other:literal)?;)*) => {
         &[$($($type::$constant.0,)? $($type::$own.0,)?)*]
     };
 }
@@ -38,7 +43,9 @@ pub(crate) use numbers;
 
 /// Expands to the names of the constants in a registry's rows.
 macro_rules! texts {
-    ($type:ident: $($($constant:ident = $name:literal)? $([$own:ident])? $($number:literal = $other:literal)?;)*) => {
+    ($type:ident:
+        $($($constant:ident = $name:literal)? $([$own:ident])?
+        $($number:literal = $other:literal)?;)*) => {
         &[$($(stringify!($constant),)? $(stringify!($own),)?)*]
     };
 }
@@ -47,7 +54,9 @@ pub(crate) use texts;
 
 /// Expands to the numbers with a name in IANA's registry, each with that name.
 macro_rules! registered {
-    ($type:ident: $($($constant:ident = $name:literal)? $([$own:ident])? $($number:literal = $other:literal)?;)*) => {
+    ($type:ident:
+        $($($constant:ident = $name:literal)? $([$own:ident])?
+        $($number:literal = $other:literal)?;)*) => {
         &[$($(($type::$constant.0 as u16, $name),)? $(($number, $other),)?)*]
     };
 }
@@ -77,7 +86,8 @@ pub(crate) fn write_shown<W: fmt::Write>(
     n: u16,
     known: Option<&'static str>,
 ) -> fmt::Result
-    ensures { DisplaysOnOk W.Write.write_str_gives f.old result (Some (shown type_name.now n (option_map (λ t. t.now) known.entry))) f.new }
+    ensures { DisplaysOnOk W.Write.write_str_gives f.old result
+        (Some (shown type_name.now n (option_map (λ t. t.now) known.entry))) f.new }
 {
     match known {
         Some(name) => f.write_str(name),
@@ -93,7 +103,8 @@ pub(crate) fn write_name<W: fmt::Write>(
     table: &[(u16, &'static str)],
     n: u16,
 ) -> fmt::Result
-    ensures { DisplaysOnOk W.Write.write_str_gives f.old result (Some (name type_name.now (names_of table.now) n)) f.new }
+    ensures { DisplaysOnOk W.Write.write_str_gives f.old result
+        (Some (name type_name.now (names_of table.now) n)) f.new }
 {
     write_shown(f, type_name, n, find_number(table, n))
 }
@@ -132,7 +143,8 @@ pub(crate) fn write_rising<W: fmt::Write>(
     n: u16,
 ) -> fmt::Result
     requires { IsStrictlyIncreasing numbers.now }
-    ensures { DisplaysOnOk W.Write.write_str_gives f.old result (Some (name type_name.now (names_of (zip numbers.now names.now)) n)) f.new }
+    ensures { DisplaysOnOk W.Write.write_str_gives f.old result
+        (Some (name type_name.now (names_of (zip numbers.now names.now)) n)) f.new }
 {
     write_shown(f, type_name, n, find_rising(numbers, names, n))
 }

@@ -14,7 +14,8 @@ is_within least most n = nat_le least n && nat_le n most
 -- and a length within the limit. The rest of the version is ignored for all purposes; a ClientHello
 -- may have any value 03 XX (RFC 5246, appendix E.1).
 abbrev pub is_front : stream.RecordHeader → Bool
-is_front h = is_within 20 24 h.content_type && is_within 0x0300 0x03ff h.version && nat_le h.length max_fragment_length
+is_front h = is_within 20 24 h.content_type && is_within 0x0300 0x03ff h.version
+    && nat_le h.length max_fragment_length
 
 abbrev pub is_front_in : Answer stream.RecordHeader → Bool
 is_front_in (Ok x) = is_front x.0
@@ -46,7 +47,8 @@ is_datagram_version n = is_within 0xfe00 0xfeff n || n == 0x0100
 -- The header of a DTLS record (RFC 6347, section 4.1) before these bytes of its datagram: a known
 -- content type, a version of DTLS, and a length that fits in the datagram.
 abbrev pub is_front_of_datagram : datagram.RecordHeader → Bytes → Bool
-is_front_of_datagram h b = is_within 20 24 h.content_type && is_datagram_version h.version && nat_le h.length (length b)
+is_front_of_datagram h b = is_within 20 24 h.content_type && is_datagram_version h.version
+    && nat_le h.length (length b)
 
 abbrev pub epoch_in : Answer datagram.RecordHeader → Option ℕ
 epoch_in (Ok x) = if is_front_of_datagram x.0 x.1 then Some x.0.epoch else None
@@ -60,7 +62,9 @@ front_epoch b = epoch_in (reading datagram.record_header b)
 -- type 1, and 3 bytes of 0 (RFC 5415, section 4.2).
 abbrev pub has_capwap_header : Bytes → Bool
 has_capwap_header b =
-    nat_le 4 (length b) && ((slice_index b 0 == 1) && ((slice_index b 1 == 0) && ((slice_index b 2 == 0) && (slice_index b 3 == 0))))
+    nat_le 4 (length b)
+    && ((slice_index b 0 == 1)
+    && ((slice_index b 1 == 0) && ((slice_index b 2 == 0) && (slice_index b 3 == 0))))
 
 abbrev pub held_datagram : Bytes → Bytes
 held_datagram b = if has_capwap_header b && is_some (front_epoch (drop 4 b)) then drop 4 b else b

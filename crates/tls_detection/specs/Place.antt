@@ -20,7 +20,8 @@ unfoldable pub is_alert : Bytes → Bool
 is_alert b =
     slice_index b 0 == 21
     && (slice_index b 1 == 3
-    && (slice_index b 3 == 0 && (slice_index b 4 == 2 && (slice_index b 5 == 1 || slice_index b 5 == 2))))
+    && (slice_index b 3 == 0
+    && (slice_index b 4 == 2 && (slice_index b 5 == 1 || slice_index b 5 == 2))))
 
 -- A server begins with a ServerHello or an alert, a client with a ClientHello. 11 bytes decide it.
 unfoldable pub is_answer : Bytes → Bool
@@ -28,7 +29,8 @@ is_answer b = is_hello 2 b || is_alert b
 
 unfoldable pub begins_behind : Bool → Bytes → Bool
 begins_behind answers b =
-    if nat_le 11 (length b) then (if answers then is_answer (take 11 b) else is_hello 1 (take 11 b)) else false
+    if nat_le 11 (length b) then
+    (if answers then is_answer (take 11 b) else is_hello 1 (take 11 b)) else false
 
 -- The first place where it begins.
 unfoldable pub place_behind : Bool → Bytes → Option ℕ

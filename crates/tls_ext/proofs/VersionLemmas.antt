@@ -40,21 +40,26 @@ latest_end (Some v) = refl
 pub latest_grease : (v : ℕ) (vs : List ℕ) → is_grease v ≡ true → latest (v ∷ vs) ≡ latest vs
 latest_grease v vs e = ap (λ t. cond t (latest vs) (Some (later v (latest vs)))) e
 
-pub latest_other : (v : ℕ) (vs : List ℕ) → is_grease v ≡ false → latest (v ∷ vs) ≡ Some (later v (latest vs))
+pub latest_other : (v : ℕ) (vs : List ℕ) → is_grease v ≡ false
+    → latest (v ∷ vs) ≡ Some (later v (latest vs))
 latest_other v vs e = ap (λ t. cond t (latest vs) (Some (later v (latest vs)))) e
 
-stays : (v w : ℕ) (best : Option ℕ) → lateness v < lateness w → later w (Some (later v best)) ≡ later w best
+stays : (v w : ℕ) (best : Option ℕ) → lateness v < lateness w
+    → later w (Some (later v best)) ≡ later w best
 stays v w None low = ap (λ t. cond t w v) (ltb_yes (lateness v) (lateness w) low)
 stays v w (Some x) low = go (ltb (lateness x) (lateness v)) refl
   where
     go : (t : Bool) → ltb (lateness x) (lateness v) ≡ t
-        → cond (ltb (lateness (cond t v x)) (lateness w)) w (cond t v x) ≡ cond (ltb (lateness x) (lateness w)) w x
+        → cond (ltb (lateness (cond t v x)) (lateness w)) w (cond t v x) ≡ cond
+        (ltb (lateness x) (lateness w)) w x
     go true e = ap (λ t. cond t w v) (ltb_yes (lateness v) (lateness w) low)
         ∙ sym (ap (λ t. cond t w x)
-        (ltb_yes (lateness x) (lateness w) (omega (arith, low, ltb-true (lateness x) (lateness v) e))))
+        (ltb_yes (lateness x) (lateness w)
+        (omega (arith, low, ltb-true (lateness x) (lateness v) e))))
     go false e = refl
 
-better : (v w : ℕ) (best : Option ℕ) → lateness w ≤ lateness v → later w (Some (later v best)) ≡ later v best
+better : (v w : ℕ) (best : Option ℕ) → lateness w ≤ lateness v
+    → later w (Some (later v best)) ≡ later v best
 better v w None high = ap (λ t. cond t w v) (ltb_no (lateness v) (lateness w) (omega (arith, high)))
 better v w (Some x) high = go (ltb (lateness x) (lateness v)) refl
   where
@@ -62,7 +67,8 @@ better v w (Some x) high = go (ltb (lateness x) (lateness v)) refl
         → cond (ltb (lateness (cond t v x)) (lateness w)) w (cond t v x) ≡ cond t v x
     go true e = ap (λ t. cond t w v) (ltb_no (lateness v) (lateness w) (omega (arith, high)))
     go false e = ap (λ t. cond t w x)
-        (ltb_no (lateness x) (lateness w) (omega (arith, high, ltb-false (lateness x) (lateness v) e)))
+        (ltb_no (lateness x) (lateness w)
+        (omega (arith, high, ltb-false (lateness x) (lateness v) e)))
 
 -- the best version so far stays, or the next is later
 pub known_stays : (v w : ℕ) (best : Option ℕ) → lateness v < lateness w

@@ -108,7 +108,8 @@ pre_shared_key = opaque_content ext.pre_shared_key
 unfoldable pub early_data : Layout Extension
 early_data = do
   n ← left
-  choose (n == 0) (done (ext.early_data None)) (mapped (λ size. ext.early_data (Some size)) (number 4))
+  choose (n == 0) (done (ext.early_data None))
+      (mapped (λ size. ext.early_data (Some size)) (number 4))
 
 -- ProtocolVersion selected_version, of 2 bytes; else ProtocolVersion versions<2..254> (RFC 8446,
 -- section 4.2.1), whose length isn't checked. In TLS 1.3 the version in use is the one selected

@@ -41,7 +41,8 @@ other_rows =
     ∷ row extension_number.status_request content.status_request all_sides
     ∷ row extension_number.ec_point_formats content.ec_point_formats all_sides
     ∷ row extension_number.heartbeat content.heartbeat all_sides
-    ∷ row extension_number.signed_certificate_timestamp content.signed_certificate_timestamp all_sides
+    ∷ row extension_number.signed_certificate_timestamp
+    content.signed_certificate_timestamp all_sides
     ∷ row extension_number.padding content.padding not_server
     ∷ row extension_number.encrypt_then_mac content.encrypt_then_mac all_sides
     ∷ row extension_number.extended_master_secret content.extended_master_secret all_sides
@@ -64,7 +65,8 @@ list_rows =
     row extension_number.server_name content.server_names all_sides
     ∷ row extension_number.supported_groups content.supported_groups not_server
     ∷ row extension_number.signature_algorithms content.signature_algorithms all_sides
-    ∷ row extension_number.application_layer_protocol_negotiation content.application_layer_protocol_negotiation all_sides
+    ∷ row extension_number.application_layer_protocol_negotiation
+    content.application_layer_protocol_negotiation all_sides
     ∷ row extension_number.supported_versions content.supported_versions all_sides
     ∷ row extension_number.psk_key_exchange_modes content.psk_key_exchange_modes not_server
     ∷ row extension_number.oid_filters content.oid_filters not_server

@@ -88,7 +88,8 @@ view (rust.EcPointFormats formats) = ec_point_formats formats.now
 view (rust.SignatureAlgorithms algorithms) = signature_algorithms algorithms.items
 view (rust.Heartbeat mode) = heartbeat mode
 view (rust.ALPN names) = application_layer_protocol_negotiation (map (λ n. n.now) names.items)
-view (rust.SignedCertificateTimestamp timestamps) = signed_certificate_timestamp (option_map (λ t. t.now) timestamps)
+view (rust.SignedCertificateTimestamp timestamps) =
+    signed_certificate_timestamp (option_map (λ t. t.now) timestamps)
 view (rust.Padding bytes) = padding bytes.now
 view rust.EncryptThenMac = encrypt_then_mac
 view rust.ExtendedMasterSecret = extended_master_secret
@@ -124,8 +125,10 @@ extension_type (supported_groups groups) = extension_number.supported_groups
 extension_type (ec_point_formats formats) = extension_number.ec_point_formats
 extension_type (signature_algorithms algorithms) = extension_number.signature_algorithms
 extension_type (heartbeat mode) = extension_number.heartbeat
-extension_type (application_layer_protocol_negotiation names) = extension_number.application_layer_protocol_negotiation
-extension_type (signed_certificate_timestamp timestamps) = extension_number.signed_certificate_timestamp
+extension_type (application_layer_protocol_negotiation names) =
+    extension_number.application_layer_protocol_negotiation
+extension_type (signed_certificate_timestamp timestamps) =
+    extension_number.signed_certificate_timestamp
 extension_type (padding bytes) = extension_number.padding
 extension_type encrypt_then_mac = extension_number.encrypt_then_mac
 extension_type extended_master_secret = extension_number.extended_master_secret

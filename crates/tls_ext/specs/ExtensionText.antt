@@ -83,11 +83,13 @@ abbrev pub JudgesExtensions : List Extension → Result ℕ GenError → Type 0
 JudgesExtensions es = Judges (FitsExtensions es) (RefusedExtensions es) (extensions_text es)
 
 -- What the writers of an extension, and of a list, return, for a `Write` that holds `contents`.
-abbrev pub WritesExtension : {W : Type 0} → Extension → (W → Option Bytes) → W → W → Result Unit GenError → Type 0
+abbrev pub WritesExtension : {W : Type 0} → Extension → (W → Option Bytes) → W → W
+    → Result Unit GenError → Type 0
 WritesExtension e contents old new =
     Writes (FitsExtension e) (RefusedExtension e) (extension_text e) contents old new
 
-abbrev pub WritesExtensions : {W : Type 0} → List Extension → (W → Option Bytes) → W → W → Result Unit GenError → Type 0
+abbrev pub WritesExtensions : {W : Type 0} → List Extension → (W → Option Bytes) → W → W
+    → Result Unit GenError → Type 0
 WritesExtensions es contents old new =
     Writes (FitsExtensions es) (RefusedExtensions es) (extensions_text es) contents old new
 

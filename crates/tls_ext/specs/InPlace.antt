@@ -56,11 +56,13 @@ abbrev pub content_of : ℕ → Bytes → Result (Option Bytes) Refusal
 content_of kind b = found (first_of kind (items_in raw_extension b)) (refusal_in raw_extension b)
 
 -- The part of a content that `pick` takes, if the content is read.
-abbrev pub picked : {A : Type 0} → (Extension → Option A) → Answer Extension → Result (Option A) Refusal
+abbrev pub picked : {A : Type 0} → (Extension → Option A) → Answer Extension
+    → Result (Option A) Refusal
 picked pick (Ok x) = Ok (pick x.0)
 picked pick (Err e) = Err e
 
-abbrev pub in_content : {A : Type 0} → Layout Extension → (Extension → Option A) → Result (Option Bytes) Refusal
+abbrev pub in_content : {A : Type 0} → Layout Extension → (Extension → Option A)
+    → Result (Option Bytes) Refusal
     → Result (Option A) Refusal
 in_content l pick (Ok (Some c)) = picked pick (reading l c)
 in_content l pick (Ok None) = Ok None

@@ -25,7 +25,8 @@ use tls_base::{NamedGroup, TlsVersion};
 #[tactic(auto, using(layouts::proofs::OneAnswerLemmas::read_allowed, layouts::proofs::ItemsLemmas::none_in), unfolding(crate::specs::Content::server_names))]
 #[inline(always)]
 pub fn server_names(i: &[u8]) -> IResult<&[u8], Items<ServerName>>
-    ensures { Gives (λ v. extension.server_name (items_in content.server_name v.bytes.now)) content.server_names i.now result }
+    ensures { Gives (λ v. extension.server_name (items_in content.server_name v.bytes.now))
+        content.server_names i.now result }
 {
     if i.is_empty() {
         return Ok((i, Items::new(i)));
@@ -38,7 +39,8 @@ pub fn server_names(i: &[u8]) -> IResult<&[u8], Items<ServerName>>
 #[tactic(auto, using(layouts::proofs::OneAnswerLemmas::read_allowed), unfolding(crate::specs::Content::application_layer_protocol_negotiation))]
 #[inline(always)]
 pub fn protocol_names(i: &[u8]) -> IResult<&[u8], Items<Counted1>>
-    ensures { Gives (λ v. extension.application_layer_protocol_negotiation (items_in (counted 1) v.bytes.now))
+    ensures { Gives
+        (λ v. extension.application_layer_protocol_negotiation (items_in (counted 1) v.bytes.now))
         content.application_layer_protocol_negotiation i.now result }
 {
     let (i, window) = counted2(i)?;
@@ -50,7 +52,8 @@ pub fn protocol_names(i: &[u8]) -> IResult<&[u8], Items<Counted1>>
 #[tactic(auto, using(layouts::proofs::OneAnswerLemmas::read_allowed), unfolding(crate::specs::Content::signature_algorithms))]
 #[inline(always)]
 pub fn signature_algorithms(i: &[u8]) -> IResult<&[u8], Items<u16>>
-    ensures { Gives (λ v. extension.signature_algorithms (items_in (number 2) v.bytes.now)) content.signature_algorithms i.now result }
+    ensures { Gives (λ v. extension.signature_algorithms (items_in (number 2) v.bytes.now))
+        content.signature_algorithms i.now result }
 {
     let (i, window) = counted2(i)?;
     Ok((i, Items::new(window)))
@@ -60,7 +63,8 @@ pub fn signature_algorithms(i: &[u8]) -> IResult<&[u8], Items<u16>>
 #[tactic(auto, using(layouts::proofs::OneAnswerLemmas::read_allowed), unfolding(crate::specs::Content::supported_groups))]
 #[inline(always)]
 pub fn supported_groups(i: &[u8]) -> IResult<&[u8], Items<NamedGroup>>
-    ensures { Gives (λ v. extension.supported_groups (items_in (number 2) v.bytes.now)) content.supported_groups i.now result }
+    ensures { Gives (λ v. extension.supported_groups (items_in (number 2) v.bytes.now))
+        content.supported_groups i.now result }
 {
     let (i, window) = counted2(i)?;
     let (_, groups) = pairs_in_place::<NamedGroup>(window)?;
@@ -82,7 +86,8 @@ pub fn ec_point_formats(i: &[u8]) -> IResult<&[u8], &[u8]>
 #[tactic(auto, using(layouts::proofs::OneAnswerLemmas::read_allowed), unfolding(crate::specs::Content::psk_key_exchange_modes))]
 #[inline(always)]
 pub fn psk_key_exchange_modes(i: &[u8]) -> IResult<&[u8], &[u8]>
-    ensures { Gives (λ v. extension.psk_key_exchange_modes v.now) content.psk_key_exchange_modes i.now result }
+    ensures { Gives (λ v. extension.psk_key_exchange_modes v.now) content.psk_key_exchange_modes
+        i.now result }
 {
     counted1(i)
 }
@@ -95,7 +100,8 @@ pub fn psk_key_exchange_modes(i: &[u8]) -> IResult<&[u8], &[u8]>
 #[tactic(auto, using(layouts::proofs::OneAnswerLemmas::read_allowed), unfolding(crate::specs::Content::oid_filters))]
 #[inline(always)]
 pub fn oid_filters<'a>(i: &'a [u8]) -> IResult<&'a [u8], Items<'a, OidFilter<'a>>>
-    ensures { Gives (λ v. extension.oid_filters (items_in content.oid_filter v.bytes.now)) content.oid_filters i.now result }
+    ensures { Gives (λ v. extension.oid_filters (items_in content.oid_filter v.bytes.now))
+        content.oid_filters i.now result }
 {
     let (i, window) = counted2(i)?;
     Ok((i, Items::new(window)))
@@ -110,7 +116,8 @@ pub fn oid_filters<'a>(i: &'a [u8]) -> IResult<&'a [u8], Items<'a, OidFilter<'a>
 #[tactic(auto, using(layouts::proofs::OneAnswerLemmas::read_allowed, layouts::proofs::NumbersLemmas::one_in), unfolding(crate::specs::Content::supported_versions, layouts::specs::Reading::ignored_at))]
 #[inline(always)]
 pub fn supported_versions(i: &[u8]) -> IResult<&[u8], Items<TlsVersion>>
-    ensures { Gives (λ v. extension.supported_versions (items_in (number 2) v.bytes.now)) content.supported_versions i.now result }
+    ensures { Gives (λ v. extension.supported_versions (items_in (number 2) v.bytes.now))
+        content.supported_versions i.now result }
 {
     if i.len() == 2 {
         let (rest, _) = TlsVersion::parse(i)?;

@@ -136,7 +136,8 @@ fn copied<T: Copy>(alloc: Global, items: &Vec<T>) -> Result<Vec<T>, AllocError>
 /// several fields have no arm here.
 macro_rules! copy_of {
     ([$extension:ident $alloc:ident] $($number:tt =>
-        $(list($list:ident, $l:ident))? $(value($value:ident, $v:ident))? $(empty($empty:ident, $e:ident))?
+        $(list($list:ident, $l:ident))? $(value($value:ident, $v:ident))?
+            $(empty($empty:ident, $e:ident))?
         $(fields $f:tt)?, $sides:ident;)*) => {
         match $extension {
             $($(TlsExtension::$list(items) => TlsExtension::$list(copied($alloc, items)?),)?)*

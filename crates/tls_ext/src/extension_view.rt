@@ -94,7 +94,8 @@ pub fn first_content<'a>(
     extensions: Items<'a, RawExtension<'a>>,
     kind: TlsExtensionType,
 ) -> Result<Option<&'a [u8]>, Err<Error<&'a [u8]>>>
-    ensures { Tells (option_map (λ x. x.now)) (content_of kind.0 extensions.entry.bytes.now) result }
+    ensures { Tells (option_map (λ x. x.now))
+        (content_of kind.0 extensions.entry.bytes.now) result }
 {
     let block = extensions.bytes();
     let walk: Items<RawExtension> = Items::new(block);

@@ -25,7 +25,8 @@ use tls_base::{TlsExtensionType, TlsVersion};
 /// `None` if there is no such extension, or it has no name. Refuses if the extension's content is
 /// refused, or if there is no such extension and the extensions end with an incomplete one.
 pub fn server_name<'a>(ext: Option<&'a [u8]>) -> Result<Option<&'a [u8]>, Err<Error<&'a [u8]>>>
-    ensures { Tells (option_map (λ x. x.now)) (host_name (held (option_map (λ x. x.now) ext.entry))) result }
+    ensures { Tells (option_map (λ x. x.now))
+        (host_name (held (option_map (λ x. x.now) ext.entry))) result }
 {
     let Some(content) = first_content(extensions(ext), TlsExtensionType::ServerName)? else {
         return Ok(None);
@@ -45,7 +46,8 @@ pub fn server_name<'a>(ext: Option<&'a [u8]>) -> Result<Option<&'a [u8]>, Err<Er
 pub fn application_protocols<'a>(
     ext: Option<&'a [u8]>,
 ) -> Result<Option<Items<'a, Counted1>>, Err<Error<&'a [u8]>>>
-    ensures { Tells (option_map (λ v. items_in (counted 1) v.bytes.now)) (protocol_names_in (held (option_map (λ x. x.now) ext.entry))) result }
+    ensures { Tells (option_map (λ v. items_in (counted 1) v.bytes.now))
+        (protocol_names_in (held (option_map (λ x. x.now) ext.entry))) result }
 {
     let kind = TlsExtensionType::ApplicationLayerProtocolNegotiation;
     let Some(content) = first_content(extensions(ext), kind)? else {
@@ -105,7 +107,8 @@ pub fn best_version<'a>(
     version: TlsVersion,
     ext: Option<&'a [u8]>,
 ) -> Result<Option<TlsVersion>, Err<Error<&'a [u8]>>>
-    ensures { Tells (option_map (λ v. v.0)) (best_version_in version.0 (held (option_map (λ x. x.now) ext.entry))) result }
+    ensures { Tells (option_map (λ v. v.0))
+        (best_version_in version.0 (held (option_map (λ x. x.now) ext.entry))) result }
 {
     let kind = TlsExtensionType::SupportedVersions;
     let Some(content) = first_content(extensions(ext), kind)? else {

@@ -49,38 +49,50 @@ macro_rules! rows {
             $then [$($words)*]
             {
                 MaxFragmentLength =>
-                    value(MaxFragmentLength, parse_tls_extension_max_fragment_length_content), all_sides;
+                    value(MaxFragmentLength, parse_tls_extension_max_fragment_length_content),
+                        all_sides;
                 StatusRequest => value(StatusRequest, status_request_content), all_sides;
-                EcPointFormats => value(EcPointFormats, parse_tls_extension_ec_point_formats_content), all_sides;
+                EcPointFormats =>
+                    value(EcPointFormats, parse_tls_extension_ec_point_formats_content), all_sides;
                 Heartbeat => value(Heartbeat, parse_tls_extension_heartbeat_content), all_sides;
                 SignedCertificateTimestamp =>
-                    value(SignedCertificateTimestamp, parse_tls_extension_signed_certificate_timestamp_content), all_sides;
+                    value(SignedCertificateTimestamp,
+                        parse_tls_extension_signed_certificate_timestamp_content), all_sides;
                 Padding => value(Padding, padding_content), not_server;
                 EncryptThenMac => empty(EncryptThenMac, encrypt_then_mac_content), all_sides;
-                ExtendedMasterSecret => empty(ExtendedMasterSecret, extended_master_secret_content), all_sides;
+                ExtendedMasterSecret => empty(ExtendedMasterSecret, extended_master_secret_content),
+                    all_sides;
                 RecordSizeLimit => value(RecordSizeLimit, record_size_limit_content), all_sides;
                 SessionTicketTLS => value(SessionTicket, session_ticket_content), all_sides;
                 KeyShareOld => value(KeyShareOld, key_share_old_content), general_only;
                 PreSharedKey => value(PreSharedKey, pre_shared_key_content), all_sides;
                 EarlyData => value(EarlyData, early_data_content), all_sides;
                 Cookie => value(Cookie, cookie_content), all_sides;
-                PostHandshakeAuth => empty(PostHandshakeAuth, post_handshake_auth_content), not_server;
+                PostHandshakeAuth => empty(PostHandshakeAuth, post_handshake_auth_content),
+                    not_server;
                 KeyShare => value(KeyShare, key_share_content), all_sides;
-                NextProtocolNegotiation => empty(NextProtocolNegotiation, next_protocol_negotiation_content), all_sides;
+                NextProtocolNegotiation =>
+                    empty(NextProtocolNegotiation, next_protocol_negotiation_content), all_sides;
                 RenegotiationInfo =>
-                    value(RenegotiationInfo, parse_tls_extension_renegotiation_info_content), all_sides;
+                    value(RenegotiationInfo, parse_tls_extension_renegotiation_info_content),
+                        all_sides;
                 EncryptedServerName =>
-                    fields(EncryptedServerName, parse_tls_extension_encrypted_server_name), not_server;
+                    fields(EncryptedServerName, parse_tls_extension_encrypted_server_name),
+                        not_server;
             }
             {
                 ServerName => list(SNI, parse_tls_extension_sni_content), all_sides;
-                SupportedGroups => list(EllipticCurves, parse_tls_extension_elliptic_curves_content), not_server;
+                SupportedGroups =>
+                    list(EllipticCurves, parse_tls_extension_elliptic_curves_content), not_server;
                 SignatureAlgorithms =>
-                    list(SignatureAlgorithms, parse_tls_extension_signature_algorithms_content), all_sides;
-                ApplicationLayerProtocolNegotiation => list(ALPN, parse_tls_extension_alpn_content), all_sides;
+                    list(SignatureAlgorithms, parse_tls_extension_signature_algorithms_content),
+                        all_sides;
+                ApplicationLayerProtocolNegotiation => list(ALPN, parse_tls_extension_alpn_content),
+                    all_sides;
                 SupportedVersions => list(SupportedVersions, supported_versions_content), all_sides;
                 PskExchangeModes =>
-                    list(PskExchangeModes, parse_tls_extension_psk_key_exchange_modes_content), not_server;
+                    list(PskExchangeModes, parse_tls_extension_psk_key_exchange_modes_content),
+                        not_server;
                 OidFilters => list(OidFilters, oid_filters_content), not_server;
             }
         }

@@ -16,7 +16,8 @@ ghost use Rattle.tls_ext.specs.InPlace.{extension_of, raw_extension};
 /// value in memory do.
 #[tactic(auto, using(crate::proofs::ExtensionTextLemmas::extension_spelled))]
 pub fn extension_is_read_back()
-    ensures { (e : Extension) (r : Bytes) → FitsExtension e → InRangeExtension e → IsReadBackBefore e r }
+    ensures { (e : Extension) (r : Bytes) → FitsExtension e → InRangeExtension e
+        → IsReadBackBefore e r }
 {}
 
 /// Extensions that can be written read back from their encoding without its 2 bytes of length, and
@@ -30,5 +31,6 @@ pub fn extensions_are_read_back()
 /// first whose content is refused.
 #[tactic(auto, using(layouts::proofs::FramedLemmas::items_of_windows), unfolding(crate::specs::Dispatch::extension))]
 pub fn extensions_are_walked_and_decoded()
-    ensures { (side : _) (b : Bytes) → items_in (extension side) b ≡ decode_while (extension_of (extension_content side)) (items_in raw_extension b) }
+    ensures { (side : _) (b : Bytes) → items_in (extension side) b ≡ decode_while
+        (extension_of (extension_content side)) (items_in raw_extension b) }
 {}

@@ -21,7 +21,8 @@ pub fn none<'a, T: InPlace<'a>>() -> Items<'a, T>
 
 /// Returns the content of the first extension of this type; `None` if none was found.
 pub fn content<'a>(ext: Option<&'a [u8]>, kind: TlsExtensionType) -> Option<&'a [u8]>
-    ensures { option_map (λ x. x.now) result ≡ content_in kind.0 (held (option_map (λ x. x.now) ext.entry)) }
+    ensures { option_map (λ x. x.now) result ≡ content_in kind.0
+        (held (option_map (λ x. x.now) ext.entry)) }
 {
     match first_content(extensions(ext), kind) {
         Ok(content) => content,
@@ -32,7 +33,8 @@ pub fn content<'a>(ext: Option<&'a [u8]>, kind: TlsExtensionType) -> Option<&'a 
 /// Returns the groups in the first supported_groups (RFC 8446, section 4.2.7); none if it is
 /// missing or refused.
 pub fn groups<'a>(ext: Option<&'a [u8]>) -> Items<'a, NamedGroup>
-    ensures { items_in (number 2) result.bytes.now ≡ groups_in (held (option_map (λ x. x.now) ext.entry)) }
+    ensures { items_in (number 2) result.bytes.now ≡ groups_in
+        (held (option_map (λ x. x.now) ext.entry)) }
 {
     let Ok(Some(content)) = first_content(extensions(ext), TlsExtensionType::SupportedGroups) else {
         return none::<NamedGroup>();
@@ -60,7 +62,8 @@ pub fn formats<'a>(ext: Option<&'a [u8]>) -> &'a [u8]
 /// Returns the algorithms in the first signature_algorithms (RFC 8446, section 4.2.3); none if it
 /// is missing or refused.
 pub fn algorithms<'a>(ext: Option<&'a [u8]>) -> Items<'a, u16>
-    ensures { items_in (number 2) result.bytes.now ≡ algorithms_in (held (option_map (λ x. x.now) ext.entry)) }
+    ensures { items_in (number 2) result.bytes.now ≡ algorithms_in
+        (held (option_map (λ x. x.now) ext.entry)) }
 {
     let Ok(Some(content)) = first_content(extensions(ext), TlsExtensionType::SignatureAlgorithms)
     else {

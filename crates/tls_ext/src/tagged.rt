@@ -64,7 +64,8 @@ macro_rules! tagged {
 /// - `Incomplete` with the number of missing bytes if the extension is incomplete.
 /// - The refusals of the content, and `OutOfMemory` if the list can't be allocated.
 pub fn parse_tls_extension_sni(alloc: Global, i: &[u8]) -> IResult<&[u8], TlsExtension>
-    ensures { GivesOrMemory view (tagged extension_number.server_name content.server_names) i.now result }
+    ensures { GivesOrMemory view (tagged extension_number.server_name content.server_names)
+        i.now result }
 {
     tagged! { i, ServerName, parse_tls_extension_sni_content, alloc }
 }
@@ -76,7 +77,8 @@ pub fn parse_tls_extension_sni(alloc: Global, i: &[u8]) -> IResult<&[u8], TlsExt
 /// - `Incomplete` with the number of missing bytes if the extension is incomplete.
 /// - `Incomplete(1)` if the content is empty.
 pub fn parse_tls_extension_max_fragment_length(i: &[u8]) -> IResult<&[u8], TlsExtension>
-    ensures { Gives view (tagged extension_number.max_fragment_length content.max_fragment_length) i.now result }
+    ensures { Gives view (tagged extension_number.max_fragment_length content.max_fragment_length)
+        i.now result }
 {
     tagged! { i, MaxFragmentLength, parse_tls_extension_max_fragment_length_content }
 }
@@ -87,7 +89,8 @@ pub fn parse_tls_extension_max_fragment_length(i: &[u8]) -> IResult<&[u8], TlsEx
 /// - `Error` of kind `Tag` if the type differs.
 /// - `Incomplete` with the number of missing bytes if the extension is incomplete.
 pub fn parse_tls_extension_status_request(i: &[u8]) -> IResult<&[u8], TlsExtension>
-    ensures { Gives view (tagged extension_number.status_request content.status_request) i.now result }
+    ensures { Gives view (tagged extension_number.status_request content.status_request)
+        i.now result }
 {
     tagged! { i, StatusRequest, status_request_content }
 }
@@ -99,7 +102,8 @@ pub fn parse_tls_extension_status_request(i: &[u8]) -> IResult<&[u8], TlsExtensi
 /// - `Incomplete` with the number of missing bytes if the extension is incomplete.
 /// - The refusals of the content, and `OutOfMemory` if the list can't be allocated.
 pub fn parse_tls_extension_elliptic_curves(alloc: Global, i: &[u8]) -> IResult<&[u8], TlsExtension>
-    ensures { GivesOrMemory view (tagged extension_number.supported_groups content.supported_groups) i.now result }
+    ensures { GivesOrMemory view (tagged extension_number.supported_groups content.supported_groups)
+        i.now result }
 {
     tagged! { i, SupportedGroups, parse_tls_extension_elliptic_curves_content, alloc }
 }
@@ -111,7 +115,8 @@ pub fn parse_tls_extension_elliptic_curves(alloc: Global, i: &[u8]) -> IResult<&
 /// - `Incomplete` with the number of missing bytes if the extension is incomplete.
 /// - The refusals of the content.
 pub fn parse_tls_extension_ec_point_formats(i: &[u8]) -> IResult<&[u8], TlsExtension>
-    ensures { Gives view (tagged extension_number.ec_point_formats content.ec_point_formats) i.now result }
+    ensures { Gives view (tagged extension_number.ec_point_formats content.ec_point_formats)
+        i.now result }
 {
     tagged! { i, EcPointFormats, parse_tls_extension_ec_point_formats_content }
 }
@@ -126,7 +131,8 @@ pub fn parse_tls_extension_signature_algorithms(
     alloc: Global,
     i: &[u8],
 ) -> IResult<&[u8], TlsExtension>
-    ensures { GivesOrMemory view (tagged extension_number.signature_algorithms content.signature_algorithms) i.now result }
+    ensures { GivesOrMemory view
+        (tagged extension_number.signature_algorithms content.signature_algorithms) i.now result }
 {
     tagged! { i, SignatureAlgorithms, parse_tls_extension_signature_algorithms_content, alloc }
 }
@@ -137,7 +143,8 @@ pub fn parse_tls_extension_signature_algorithms(
 /// - `Incomplete` with the number of missing bytes if the extension is incomplete.
 /// - `Error` of kind `Verify` if the content isn't empty.
 pub fn parse_tls_extension_encrypt_then_mac(i: &[u8]) -> IResult<&[u8], TlsExtension>
-    ensures { Gives view (tagged extension_number.encrypt_then_mac content.encrypt_then_mac) i.now result }
+    ensures { Gives view (tagged extension_number.encrypt_then_mac content.encrypt_then_mac)
+        i.now result }
 {
     tagged! { i, EncryptThenMac, encrypt_then_mac_content }
 }
@@ -148,7 +155,9 @@ pub fn parse_tls_extension_encrypt_then_mac(i: &[u8]) -> IResult<&[u8], TlsExten
 /// - `Incomplete` with the number of missing bytes if the extension is incomplete.
 /// - `Error` of kind `Verify` if the content isn't empty.
 pub fn parse_tls_extension_extended_master_secret(i: &[u8]) -> IResult<&[u8], TlsExtension>
-    ensures { Gives view (tagged extension_number.extended_master_secret content.extended_master_secret) i.now result }
+    ensures { Gives view
+        (tagged extension_number.extended_master_secret content.extended_master_secret)
+        i.now result }
 {
     tagged! { i, ExtendedMasterSecret, extended_master_secret_content }
 }
@@ -158,7 +167,8 @@ pub fn parse_tls_extension_extended_master_secret(i: &[u8]) -> IResult<&[u8], Tl
 /// - `Error` of kind `Tag` if the type differs.
 /// - `Incomplete` with the number of missing bytes if the extension is incomplete.
 pub fn parse_tls_extension_session_ticket(i: &[u8]) -> IResult<&[u8], TlsExtension>
-    ensures { Gives view (tagged extension_number.session_ticket content.session_ticket) i.now result }
+    ensures { Gives view (tagged extension_number.session_ticket content.session_ticket)
+        i.now result }
 {
     tagged! { i, SessionTicketTLS, session_ticket_content }
 }
@@ -178,7 +188,8 @@ pub fn parse_tls_extension_key_share(i: &[u8]) -> IResult<&[u8], TlsExtension>
 /// - `Error` of kind `Tag` if the type differs.
 /// - `Incomplete` with the number of missing bytes if the extension is incomplete.
 pub fn parse_tls_extension_pre_shared_key(i: &[u8]) -> IResult<&[u8], TlsExtension>
-    ensures { Gives view (tagged extension_number.pre_shared_key content.pre_shared_key) i.now result }
+    ensures { Gives view (tagged extension_number.pre_shared_key content.pre_shared_key)
+        i.now result }
 {
     tagged! { i, PreSharedKey, pre_shared_key_content }
 }
@@ -209,7 +220,8 @@ pub fn parse_tls_extension_supported_versions(
     alloc: Global,
     i: &[u8],
 ) -> IResult<&[u8], TlsExtension>
-    ensures { GivesOrMemory view (tagged extension_number.supported_versions content.supported_versions) i.now result }
+    ensures { GivesOrMemory view
+        (tagged extension_number.supported_versions content.supported_versions) i.now result }
 {
     tagged! { i, SupportedVersions, supported_versions_content, alloc }
 }
@@ -234,7 +246,9 @@ pub fn parse_tls_extension_psk_key_exchange_modes(
     alloc: Global,
     i: &[u8],
 ) -> IResult<&[u8], TlsExtension>
-    ensures { GivesOrMemory view (tagged extension_number.psk_key_exchange_modes content.psk_key_exchange_modes) i.now result }
+    ensures { GivesOrMemory view
+        (tagged extension_number.psk_key_exchange_modes content.psk_key_exchange_modes)
+        i.now result }
 {
     tagged! { i, PskExchangeModes, parse_tls_extension_psk_key_exchange_modes_content, alloc }
 }

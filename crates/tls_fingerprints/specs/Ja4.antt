@@ -54,7 +54,8 @@ ends_text _ _ = codes "00"
 
 -- The name of the first protocol, if there is one.
 abbrev pub protocol_text : Option (List Bytes) → Bytes
-protocol_text (Some (name ∷ names)) = ends_text (slice_get name 0) (slice_get name (length name - 1))
+protocol_text (Some (name ∷ names)) =
+    ends_text (slice_get name 0) (slice_get name (length name - 1))
 protocol_text _ = codes "00"
 
 -- The first part, with these counts of suites and extensions: the transport, the version, whether a
@@ -71,7 +72,8 @@ ja4_front_with t h suites types =
 -- The first part, with the counts of the hello.
 abbrev pub ja4_front_of : Transport → Client → Bytes
 ja4_front_of t h =
-    ja4_front_with t h (length (without_grease h.suites)) (length (without_grease (types_in h.extensions)))
+    ja4_front_with t h (length (without_grease h.suites))
+    (length (without_grease (types_in h.extensions)))
 
 -- The text of the second part: the suites in rising order.
 abbrev pub ja4_suites_of : Client → Bytes
@@ -79,7 +81,8 @@ ja4_suites_of h = hex_list (rising (without_grease h.suites))
 
 -- The first part covers server_name and application_layer_protocol_negotiation.
 abbrev pub is_told_before : ℕ → Bool
-is_told_before n = n == extension_number.server_name || n == extension_number.application_layer_protocol_negotiation
+is_told_before n = n == extension_number.server_name
+    || n == extension_number.application_layer_protocol_negotiation
 
 abbrev pub other_types : List ℕ → List ℕ
 other_types ns = filter (λ n. not (is_told_before n)) ns
@@ -97,7 +100,8 @@ ja4_types_of h = with_algorithms
 
 -- The first 6 bytes of a text's SHA-256, in hexadecimal; zeros for an empty text.
 abbrev pub short_digest : Bytes → Bytes
-short_digest text = if length text == 0 then codes "000000000000" else encode_lower (take 6 (sha256 text))
+short_digest text = if length text == 0 then
+    codes "000000000000" else encode_lower (take 6 (sha256 text))
 
 -- The three parts as texts.
 abbrev pub ja4_text_of : Transport → Client → Bytes
@@ -105,14 +109,17 @@ ja4_text_of t h = join_with_byte 95 (ja4_front_of t h ∷ ja4_suites_of h ∷ ja
 
 -- The first part, and the digests of the others.
 abbrev pub ja4_of : Transport → Client → Bytes
-ja4_of t h = join_with_byte 95 (ja4_front_of t h ∷ short_digest (ja4_suites_of h) ∷ short_digest (ja4_types_of h) ∷ [])
+ja4_of t h =
+    join_with_byte 95
+    (ja4_front_of t h ∷ short_digest (ja4_suites_of h) ∷ short_digest (ja4_types_of h) ∷ [])
 
 -- JA4 from its first part and stored numbers of a hello.
 abbrev pub ja4_of_numbers : Bytes → Ja4Numbers → Bytes
 ja4_of_numbers front n = join_with_byte 95 (
     front
     ∷ short_digest (hex_list (rising n.suites.items))
-    ∷ short_digest (with_algorithms (hex_list (rising (other_types n.types.items))) n.algorithms.items)
+    ∷ short_digest
+    (with_algorithms (hex_list (rising (other_types n.types.items))) n.algorithms.items)
     ∷ [])
 
 -- The numbers are those of the hello, without GREASE.
@@ -128,4 +135,5 @@ pub record IsPart (n : ℕ) (part : Bytes) (ns : List ℕ) (text : Bytes) : Type
 
 -- There are more suites or extensions than this.
 abbrev pub IsTooLong : ℕ → Client → Type 0
-IsTooLong most h = (most < length (without_grease h.suites)) ⊎ (most < length (without_grease (types_in h.extensions)))
+IsTooLong most h = (most < length (without_grease h.suites))
+    ⊎ (most < length (without_grease (types_in h.extensions)))

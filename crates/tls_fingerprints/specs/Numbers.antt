@@ -31,7 +31,8 @@ hex_digit d = if nat_lt d 10 then 48 + d else 87 + d
 
 -- The four hexadecimal digits of a number of 2 bytes.
 abbrev pub four_digits : ℕ → Bytes
-four_digits n = hex_digit (n / 4096) ∷ hex_digit (n / 256 % 16) ∷ hex_digit (n / 16 % 16) ∷ hex_digit (n % 16) ∷ []
+four_digits n = hex_digit (n / 4096) ∷ hex_digit (n / 256 % 16) ∷ hex_digit (n / 16 % 16)
+    ∷ hex_digit (n % 16) ∷ []
 
 -- The numbers as four hexadecimal digits each, separated by `,`.
 abbrev pub hex_list : List ℕ → Bytes

@@ -44,7 +44,8 @@ fn digits_of(text: Md5) -> [u8; 32]
 
 /// The hexadecimal digits of the first 6 bytes of a text's SHA-256; zeros for an empty text.
 fn short_digits_of(text: Sha256, is_empty: bool) -> [u8; 12]
-    ensures { (m : List ℕ) → Holds256 text m → is_empty ≡ (length m == 0) → result ≡ short_digest_of m }
+    ensures { (m : List ℕ) → Holds256 text m → is_empty ≡ (length m == 0)
+        → result ≡ short_digest_of m }
 {
     if is_empty {
         return *b"000000000000";
@@ -57,7 +58,8 @@ fn short_digits_of(text: Sha256, is_empty: bool) -> [u8; 12]
 
 /// Hashes the numbers in rising order, in the form of [`feed_hex_list`].
 fn feed_rising(text: &mut Sha256, numbers: &mut [u16])
-    ensures { (m : List ℕ) → Holds256 text.old m → Holds256 text.new (m ++ hex_list (rising numbers.old)) }
+    ensures { (m : List ℕ) → Holds256 text.old m
+        → Holds256 text.new (m ++ hex_list (rising numbers.old)) }
 {
     numbers.sort_unstable();
     feed_hex_list(text, numbers);
@@ -106,7 +108,8 @@ fn ends(name: &[u8]) -> [u8; 2]
 
 /// `d` if the client names a host, else `i`.
 fn name_letter(ext: Option<&[u8]>) -> [u8; 1]
-    ensures { result ≡ name_letter_of (content_in server_name (held (option_map (λ x. x.now) ext.entry))) }
+    ensures { result ≡ name_letter_of
+        (content_in server_name (held (option_map (λ x. x.now) ext.entry))) }
 {
     match content(ext, TlsExtensionType::ServerName) {
         Some(_) => *b"d",
@@ -116,7 +119,8 @@ fn name_letter(ext: Option<&[u8]>) -> [u8; 1]
 
 /// The two characters of the client's first application protocol.
 fn protocol(ext: Option<&[u8]>) -> [u8; 2]
-    ensures { result ≡ protocol_text (known (protocol_names (held (option_map (λ x. x.now) ext.entry)))) }
+    ensures { result ≡ protocol_text
+        (known (protocol_names (held (option_map (λ x. x.now) ext.entry)))) }
 {
     let Ok(Some(mut names)) = application_protocols(ext) else {
         return *b"00";
@@ -160,7 +164,8 @@ impl ClientHelloParts<'_> {
 
     /// The latest version that the client offers, from its extensions if these have one.
     fn latest_version(&self) -> Option<TlsVersion>
-        ensures { option_map (λ v. v.0) result ≡ known (best_version_in (view_client self.now).version (view_client self.now).extensions) }
+        ensures { option_map (λ v. v.0) result ≡ known
+            (best_version_in (view_client self.now).version (view_client self.now).extensions) }
     {
         match best_version(self.version, self.ext) {
             Ok(version) => version,
@@ -192,8 +197,11 @@ impl ClientHelloParts<'_> {
     /// small for the suites.
     fn suites_part(&self, room: &mut [u16]) -> Option<(usize, [u8; 12])>
         ensures size { length room.new ≡ length room.old }
-        ensures some { IfSome result (λ p. IsPart p.0 p.1 (without_grease (view_client self.now).suites) (ja4_suites_of (view_client self.now))) }
-        ensures none { IfNone result (length room.old < length (without_grease (view_client self.now).suites)) }
+        ensures some { IfSome result
+            (λ p. IsPart p.0 p.1 (without_grease (view_client self.now).suites)
+            (ja4_suites_of (view_client self.now))) }
+        ensures none { IfNone result
+            (length room.old < length (without_grease (view_client self.now).suites)) }
     {
         let count = kept_in(Items::new(self.ciphers.bytes()), room)?;
         let mut text = Sha256::new();
@@ -205,8 +213,11 @@ impl ClientHelloParts<'_> {
     /// The count of extension types without GREASE, and the third part of JA4. `None` if `room` is
     /// too small for the types.
     fn types_part(&self, room: &mut [u16]) -> Option<(usize, [u8; 12])>
-        ensures some { IfSome result (λ p. IsPart p.0 p.1 (without_grease (types_in (view_client self.now).extensions)) (ja4_types_of (view_client self.now))) }
-        ensures none { IfNone result (length room.old < length (without_grease (types_in (view_client self.now).extensions))) }
+        ensures some { IfSome result
+            (λ p. IsPart p.0 p.1 (without_grease (types_in (view_client self.now).extensions))
+            (ja4_types_of (view_client self.now))) }
+        ensures none { IfNone result
+            (length room.old < length (without_grease (types_in (view_client self.now).extensions))) }
     {
         let types = other_types_in(extension_types(self.ext), room)?;
         let mut text = Sha256::new();

@@ -27,7 +27,8 @@ pub(crate) fn feed_decimal<N: Integer>(text: &mut Md5, n: N)
 
 /// Hashes a number in decimal, after `-` unless it is the first of its list.
 fn feed_next<N: Integer>(text: &mut Md5, is_first: bool, n: N)
-    ensures { (m : List ℕ) → Holds text.old m → Holds text.new (m ++ behind_others 45 is_first (N.text n)) }
+    ensures { (m : List ℕ) → Holds text.old m
+        → Holds text.new (m ++ behind_others 45 is_first (N.text n)) }
 {
     if !is_first {
         text.update(b"-");
@@ -38,7 +39,8 @@ fn feed_next<N: Integer>(text: &mut Md5, is_first: bool, n: N)
 /// Hashes the numbers without GREASE in decimal, separated by `-`.
 pub(crate) fn feed_kept(text: &mut Md5, numbers: Items<u16>)
     ensures { (m : List ℕ) → Holds text.old m
-        → Holds text.new (m ++ dashed (without_grease (items_in (number 2) numbers.entry.bytes.now))) }
+        → Holds text.new
+        (m ++ dashed (without_grease (items_in (number 2) numbers.entry.bytes.now))) }
 {
     let mut is_first = true;
     for n in numbers {
@@ -53,7 +55,8 @@ pub(crate) fn feed_kept(text: &mut Md5, numbers: Items<u16>)
 /// Hashes the extension types without GREASE in decimal, separated by `-`.
 pub(crate) fn feed_types(text: &mut Md5, types: Items<ExtensionType>)
     ensures { (m : List ℕ) → Holds text.old m
-        → Holds text.new (m ++ dashed (without_grease (items_in extension_type types.entry.bytes.now))) }
+        → Holds text.new
+        (m ++ dashed (without_grease (items_in extension_type types.entry.bytes.now))) }
 {
     let mut is_first = true;
     for kind in types {
@@ -104,8 +107,10 @@ fn lead_of(is_first: bool) -> u8
 /// nothing if there are none. Returns whether there are any.
 pub(crate) fn feed_algorithms(text: &mut Sha256, algorithms: Items<u16>) -> bool
     ensures text { (m : List ℕ) → Holds256 text.old m
-        → Holds256 text.new (with_algorithms m (without_grease (items_in (number 2) algorithms.entry.bytes.now))) }
-    ensures any { result ≡ has_any (without_grease (items_in (number 2) algorithms.entry.bytes.now)) }
+        → Holds256 text.new
+        (with_algorithms m (without_grease (items_in (number 2) algorithms.entry.bytes.now))) }
+    ensures any { result ≡ has_any
+        (without_grease (items_in (number 2) algorithms.entry.bytes.now)) }
 {
     let mut is_first = true;
     for n in algorithms {

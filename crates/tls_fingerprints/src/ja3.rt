@@ -21,7 +21,8 @@ const SERVERS_TEXT_LEN: usize = 64;
 /// Appends `,` and the extension types without GREASE.
 fn add_types(alloc: Global, text: &mut String, ext: Option<&[u8]>) -> Result<(), AllocError>
     ensures { OnOk result (string_bytes text.new
-        ≡ string_bytes text.old ++ 44 ∷ dashed (without_grease (types_in (held (option_map (λ x. x.now) ext.entry))))) }
+        ≡ string_bytes text.old ++ 44 ∷ dashed
+        (without_grease (types_in (held (option_map (λ x. x.now) ext.entry))))) }
 {
     let kept = kept_types(alloc, extension_types(ext))?;
     text.push(',')?;

@@ -28,7 +28,9 @@ pub(crate) struct Ja3Numbers {
 
 /// Appends `,` and a list.
 fn add_list<N: Integer>(text: &mut String, numbers: &[N]) -> Result<(), AllocError>
-    ensures { OnOk result (string_bytes text.new ≡ string_bytes text.old ++ 44 ∷ join_with_byte 45 (map N.text numbers.now)) }
+    ensures { OnOk result
+        (string_bytes text.new ≡ string_bytes text.old ++ 44 ∷ join_with_byte 45
+        (map N.text numbers.now)) }
 {
     text.push(',')?;
     add_dashed(text, numbers)
@@ -37,7 +39,8 @@ fn add_list<N: Integer>(text: &mut String, numbers: &[N]) -> Result<(), AllocErr
 impl Ja3Numbers {
     /// The numbers of a hello.
     pub(crate) fn of(alloc: Global, hello: &ClientHelloParts<'_>) -> Result<Ja3Numbers, AllocError>
-        ensures { IfOk result (λ numbers. text_of_numbers numbers ≡ ja3_text_of (view_client hello.now)) }
+        ensures { IfOk result
+            (λ numbers. text_of_numbers numbers ≡ ja3_text_of (view_client hello.now)) }
     {
         Ok(Ja3Numbers {
             version: hello.version.0,

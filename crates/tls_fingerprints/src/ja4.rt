@@ -74,7 +74,8 @@ fn add_two_digits(text: &mut String, count: usize) -> Result<(), AllocError>
 /// Appends two characters for the first and the last byte of a name.
 fn add_ends(text: &mut String, name: &[u8]) -> Result<(), AllocError>
     ensures { OnOk result (string_bytes text.new
-        ≡ string_bytes text.old ++ ends_text (slice_get name.now 0) (slice_get name.now (length name.now - 1))) }
+        ≡ string_bytes text.old ++ ends_text (slice_get name.now 0)
+        (slice_get name.now (length name.now - 1))) }
 {
     let (Some(first), Some(last)) = (name.first(), name.last()) else {
         return text.push_str("00");
@@ -91,7 +92,8 @@ fn add_ends(text: &mut String, name: &[u8]) -> Result<(), AllocError>
 /// Appends the two characters of the client's first application protocol.
 fn add_protocol(text: &mut String, ext: Option<&[u8]>) -> Result<(), AllocError>
     ensures { OnOk result (string_bytes text.new
-        ≡ string_bytes text.old ++ protocol_text (known (protocol_names (held (option_map (λ x. x.now) ext.entry))))) }
+        ≡ string_bytes text.old ++ protocol_text
+        (known (protocol_names (held (option_map (λ x. x.now) ext.entry))))) }
 {
     let Ok(Some(mut names)) = application_protocols(ext) else {
         return text.push_str("00");
@@ -156,7 +158,8 @@ pub(crate) fn part_text(
     numbers: &[u16],
     algorithms: &[u16],
 ) -> Result<Vec<u8>, AllocError>
-    ensures { IfOk result (λ text. text.items ≡ with_algorithms (hex_list numbers.now) algorithms.now) }
+    ensures { IfOk result
+        (λ text. text.items ≡ with_algorithms (hex_list numbers.now) algorithms.now) }
 {
     let mut text = Vec::with_capacity(alloc, TEXT_LEN)?;
     push_hex_list(&mut text, numbers)?;
@@ -166,7 +169,9 @@ pub(crate) fn part_text(
 
 /// Appends the second and the third part, each after `_`.
 fn add_parts(text: &mut String, second: &str, third: &str) -> Result<(), AllocError>
-    ensures { OnOk result (string_bytes text.new ≡ join_with_byte 95 (string_bytes text.old ∷ second.now ∷ third.now ∷ [])) }
+    ensures { OnOk result
+        (string_bytes text.new ≡ join_with_byte 95
+        (string_bytes text.old ∷ second.now ∷ third.now ∷ [])) }
 {
     text.push('_')?;
     text.push_str(second)?;
@@ -183,7 +188,9 @@ impl ClientHelloParts<'_> {
         suites: usize,
         types: usize,
     ) -> Result<String, AllocError>
-        ensures { IfOk result (λ text. string_bytes text ≡ ja4_front_with transport (view_client self.now) suites types) }
+        ensures { IfOk result
+            (λ text. string_bytes text ≡ ja4_front_with transport (view_client self.now)
+            suites types) }
     {
         let version = match best_version(self.version, self.ext) {
             Ok(version) => version,
@@ -211,14 +218,16 @@ impl ClientHelloParts<'_> {
 
     /// The extension types without GREASE.
     fn kept_types(&self, alloc: Global) -> Result<Vec<u16>, AllocError>
-        ensures { IfOk result (λ v. v.items ≡ without_grease (types_in (view_client self.now).extensions)) }
+        ensures { IfOk result
+            (λ v. v.items ≡ without_grease (types_in (view_client self.now).extensions)) }
     {
         kept_types(alloc, extension_types(self.ext))
     }
 
     /// The signature algorithms without GREASE.
     fn kept_algorithms(&self, alloc: Global) -> Result<Vec<u16>, AllocError>
-        ensures { IfOk result (λ v. v.items ≡ without_grease (algorithms_in (view_client self.now).extensions)) }
+        ensures { IfOk result
+            (λ v. v.items ≡ without_grease (algorithms_in (view_client self.now).extensions)) }
     {
         kept(alloc, algorithms(self.ext))
     }
@@ -253,7 +262,8 @@ impl ClientHelloParts<'_> {
     ///
     /// `AllocError` if there is no memory for it.
     pub fn ja4_text(&self, alloc: Global, transport: Transport) -> Result<String, AllocError>
-        ensures { IfOk result (λ text. string_bytes text ≡ ja4_text_of transport (view_client self.now)) }
+        ensures { IfOk result
+            (λ text. string_bytes text ≡ ja4_text_of transport (view_client self.now)) }
     {
         let (suites, types) = (self.kept_suites(alloc)?, self.kept_types(alloc)?);
         let mut text = self.ja4_front(alloc, transport, suites.len(), types.len())?;
@@ -270,7 +280,8 @@ impl ClientHelloParts<'_> {
     ///
     /// `AllocError` if there is no memory for it.
     pub fn ja4(&self, alloc: Global, transport: Transport) -> Result<String, AllocError>
-        ensures { IfOk result (λ text. string_bytes text ≡ ja4_of transport (view_client self.now)) }
+        ensures { IfOk result
+            (λ text. string_bytes text ≡ ja4_of transport (view_client self.now)) }
     {
         let (text, _is_new) = self.ja4_by_parts(alloc, transport, &mut KnownDigests::new(alloc))?;
         Ok(text)
@@ -284,7 +295,8 @@ impl ClientHelloParts<'_> {
         transport: Transport,
         known: &mut KnownDigests,
     ) -> Result<(String, bool), AllocError>
-        ensures { IfOk result (λ made. string_bytes made.0 ≡ ja4_of transport (view_client self.now)) }
+        ensures { IfOk result
+            (λ made. string_bytes made.0 ≡ ja4_of transport (view_client self.now)) }
     {
         let (suites, types) = (self.kept_suites(alloc)?, self.kept_types(alloc)?);
         let mut text = self.ja4_front(alloc, transport, suites.len(), types.len())?;
@@ -307,7 +319,8 @@ impl ClientHelloParts<'_> {
         transport: Transport,
         known: &mut KnownDigests,
     ) -> Result<String, AllocError>
-        ensures { IfOk result (λ text. string_bytes text ≡ ja4_of transport (view_client self.now)) }
+        ensures { IfOk result
+            (λ text. string_bytes text ≡ ja4_of transport (view_client self.now)) }
     {
         if let Some(text) = known.known_ja4(self, transport) {
             return String::from_str(alloc, text);

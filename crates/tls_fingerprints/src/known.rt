@@ -29,7 +29,8 @@ struct DigestedPart {
     numbers: Vec<u16>,
     algorithms: Vec<u16>,
     digits: String,
-    ghost is: { string_bytes digits ≡ short_digest_of (with_algorithms (hex_list numbers.items) algorithms.items) },
+    ghost is: { string_bytes digits ≡ short_digest_of
+        (with_algorithms (hex_list numbers.items) algorithms.items) },
 }
 
 /// A text of JA3 or JA3S, and its digest.
@@ -53,7 +54,8 @@ struct DigestedHello {
 impl DigestedHello {
     /// Computes the entry of a hello.
     fn of(alloc: Global, hello: &ClientHelloParts<'_>) -> Result<DigestedHello, AllocError>
-        ensures { IfOk result (λ one. text_of_numbers one.numbers ≡ ja3_text_of (view_client hello.now)) }
+        ensures { IfOk result
+            (λ one. text_of_numbers one.numbers ≡ ja3_text_of (view_client hello.now)) }
     {
         let numbers = Ja3Numbers::of(alloc, hello)?;
         let text = numbers.text(alloc)?;
@@ -78,7 +80,8 @@ struct KnownJa4 {
 impl KnownJa4 {
     /// Whether this is the JA4 of a hello.
     fn is_of(&self, hello: &ClientHelloParts<'_>, transport: Transport) -> bool
-        ensures { result ≡ true → string_bytes self.now.text ≡ ja4_of transport (view_client hello.now) }
+        ensures { result ≡ true
+            → string_bytes self.now.text ≡ ja4_of transport (view_client hello.now) }
     {
         if !self.numbers.are_of(hello) {
             return false;
@@ -112,7 +115,9 @@ impl KnownDigests {
 
     /// The digest of a part, if it is cached.
     fn part_digits(&self, numbers: &[u16], algorithms: &[u16]) -> Option<&str>
-        ensures { IfSome result (λ digits. digits.now ≡ short_digest_of (with_algorithms (hex_list numbers.now) algorithms.now)) }
+        ensures { IfSome result
+            (λ digits. digits.now ≡ short_digest_of
+            (with_algorithms (hex_list numbers.now) algorithms.now)) }
     {
         for one in &self.parts {
             if one.numbers.as_slice() == numbers && one.algorithms.as_slice() == algorithms {
@@ -145,7 +150,8 @@ impl KnownDigests {
         algorithms: Vec<u16>,
     ) -> Result<bool, AllocError>
         ensures { OnOk result (string_bytes ja4.new
-            ≡ string_bytes ja4.old ++ short_digest_of (with_algorithms (hex_list numbers.items) algorithms.items)) }
+            ≡ string_bytes ja4.old ++ short_digest_of
+            (with_algorithms (hex_list numbers.items) algorithms.items)) }
     {
         if let Some(digits) = self.part_digits(numbers.as_slice(), algorithms.as_slice()) {
             ja4.push_str(digits)?;
@@ -205,7 +211,8 @@ impl KnownDigests {
     /// The entry of a hello with the same numbers. The last one is tried first, since a line may
     /// need both its text and its digest.
     fn known_hello(&self, hello: &ClientHelloParts<'_>) -> Option<&DigestedHello>
-        ensures { IfSome result (λ one. text_of_numbers one.now.numbers ≡ ja3_text_of (view_client hello.now)) }
+        ensures { IfSome result
+            (λ one. text_of_numbers one.now.numbers ≡ ja3_text_of (view_client hello.now)) }
     {
         for one in self.hellos.iter().rev() {
             if one.numbers.are_of(hello) {

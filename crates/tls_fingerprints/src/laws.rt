@@ -19,5 +19,6 @@ pub fn ja4_suites_in_any_order()
 /// Clients that send the same extension types, in any order, and the same signature algorithms, in
 /// the same order, have the same third part of JA4.
 pub fn ja4_types_in_any_order()
-    ensures { (g h : Client) → SendSameTypes g h → algorithms_in g.extensions ≡ algorithms_in h.extensions → ja4_types_of g ≡ ja4_types_of h }
+    ensures { (g h : Client) → SendSameTypes g h → algorithms_in g.extensions ≡ algorithms_in
+        h.extensions → ja4_types_of g ≡ ja4_types_of h }
 {}

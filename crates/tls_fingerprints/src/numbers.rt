@@ -22,7 +22,8 @@ pub(crate) fn is_grease(n: u16) -> bool
 
 /// The numbers without GREASE, in order.
 pub(crate) fn kept(alloc: Global, numbers: Items<u16>) -> Result<Vec<u16>, AllocError>
-    ensures { IfOk result (λ v. v.items ≡ without_grease (items_in (number 2) numbers.entry.bytes.now)) }
+    ensures { IfOk result
+        (λ v. v.items ≡ without_grease (items_in (number 2) numbers.entry.bytes.now)) }
 {
     let mut kept = Vec::with_capacity(alloc, numbers.len())?;
     for n in numbers {
@@ -39,7 +40,8 @@ const MOST_TYPES: usize = 32;
 
 /// The types without GREASE, in order.
 pub(crate) fn kept_types(alloc: Global, types: Items<ExtensionType>) -> Result<Vec<u16>, AllocError>
-    ensures { IfOk result (λ v. v.items ≡ without_grease (items_in extension_type types.entry.bytes.now)) }
+    ensures { IfOk result
+        (λ v. v.items ≡ without_grease (items_in extension_type types.entry.bytes.now)) }
 {
     let mut kept = Vec::with_capacity(alloc, MOST_TYPES)?;
     for kind in types {
@@ -53,7 +55,8 @@ pub(crate) fn kept_types(alloc: Global, types: Items<ExtensionType>) -> Result<V
 
 /// Whether the numbers without GREASE are these. The comparison stops at the first difference.
 pub(crate) fn are_kept(numbers: Items<u16>, known: &[u16]) -> bool
-    ensures { result ≡ true → without_grease (items_in (number 2) numbers.entry.bytes.now) ≡ known.now }
+    ensures { result ≡ true
+        → without_grease (items_in (number 2) numbers.entry.bytes.now) ≡ known.now }
 {
     let mut left = known;
     for n in numbers {
@@ -73,7 +76,8 @@ pub(crate) fn are_kept(numbers: Items<u16>, known: &[u16]) -> bool
 
 /// Whether the types without GREASE are these. The comparison stops at the first difference.
 pub(crate) fn are_kept_types(types: Items<ExtensionType>, known: &[u16]) -> bool
-    ensures { result ≡ true → without_grease (items_in extension_type types.entry.bytes.now) ≡ known.now }
+    ensures { result ≡ true
+        → without_grease (items_in extension_type types.entry.bytes.now) ≡ known.now }
 {
     let mut types_left = known;
     for kind in types {
@@ -110,7 +114,9 @@ pub(crate) fn add_decimal<N: Integer>(text: &mut String, n: N) -> Result<(), All
 /// Appends numbers in decimal, separated by `-`.
 #[tactic(auto, using(crate::proofs::JoinLemmas::each_next))]
 pub(crate) fn add_dashed<N: Integer>(text: &mut String, numbers: &[N]) -> Result<(), AllocError>
-    ensures { OnOk result (string_bytes text.new ≡ string_bytes text.old ++ join_with_byte 45 (map N.text numbers.now)) }
+    ensures { OnOk result
+        (string_bytes text.new ≡ string_bytes text.old ++ join_with_byte 45
+        (map N.text numbers.now)) }
 {
     let Some((first, others)) = numbers.split_first() else {
         return Ok(());

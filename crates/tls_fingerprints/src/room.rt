@@ -15,8 +15,10 @@ use tls_ext::ExtensionType;
 /// `None` if there are more than fit.
 pub(crate) fn kept_in(numbers: Items<u16>, room: &mut [u16]) -> Option<usize>
     ensures size { length room.new ≡ length room.old }
-    ensures some { IfSome result (λ n. IsFilled room.new n (without_grease (items_in (number 2) numbers.entry.bytes.now))) }
-    ensures none { IfNone result (length room.old < length (without_grease (items_in (number 2) numbers.entry.bytes.now))) }
+    ensures some { IfSome result
+        (λ n. IsFilled room.new n (without_grease (items_in (number 2) numbers.entry.bytes.now))) }
+    ensures none { IfNone result
+        (length room.old < length (without_grease (items_in (number 2) numbers.entry.bytes.now))) }
 {
     let mut count = 0;
     for n in numbers {
@@ -54,9 +56,12 @@ pub(crate) struct Types {
 /// that it covers.
 pub(crate) fn other_types_in(types: Items<ExtensionType>, room: &mut [u16]) -> Option<Types>
     ensures size { length room.new ≡ length room.old }
-    ensures some { IfSome result (λ t. (t.all ≡ length (without_grease (items_in extension_type types.entry.bytes.now)))
-        × IsFilled room.new t.others (other_types (without_grease (items_in extension_type types.entry.bytes.now)))) }
-    ensures none { IfNone result (length room.old < length (without_grease (items_in extension_type types.entry.bytes.now))) }
+    ensures some { IfSome result
+        (λ t. (t.all ≡ length (without_grease (items_in extension_type types.entry.bytes.now)))
+        × IsFilled room.new t.others
+        (other_types (without_grease (items_in extension_type types.entry.bytes.now)))) }
+    ensures none { IfNone result
+        (length room.old < length (without_grease (items_in extension_type types.entry.bytes.now))) }
 {
     let mut all = 0;
     let mut others = 0;

@@ -31,7 +31,8 @@ use Rattle.tls_flow.specs.Bytes.{hello_or_draft, kind_of_body, kind_of_hello, ki
 use Rattle.tls_flow.specs.Messages.{kind_of, kind_of_handshake, kind_of_type}
 use Rattle.tls_flow.specs.Read.{IsSameKind}
 
-then_ok : {X Y : Type 0} (r : Result X Refusal) (f : X → Result Y Refusal) (y : Y) → (r and_then f) ≡ Ok y
+then_ok : {X Y : Type 0} (r : Result X Refusal) (f : X → Result Y Refusal) (y : Y)
+    → (r and_then f) ≡ Ok y
     → (x : X) × (r ≡ Ok x) × (f x ≡ Ok y)
 then_ok (Ok x) f y e = (x, refl, e)
 then_ok (Err r) f y e = cc
@@ -66,7 +67,8 @@ same_body t n w x e = go (t == 2) refl
         other ∙ ap kind_of_type is ∙ sym (kind_by_type x.0 (ap (λ t. t == 2) (sym is) ∙ at))
 
 -- Goes on after an answer that is known.
-after : {X Y : Type 0} (r : Result X Refusal) (f : X → Result Y Refusal) (x : X) (z : Result Y Refusal)
+after : {X Y : Type 0} (r : Result X Refusal) (f : X → Result Y Refusal) (x : X)
+    (z : Result Y Refusal)
     → r ≡ Ok x → f x ≡ z → (r and_then f) ≡ z
 after r f x z e h = ap (λ r. r and_then f) e ∙ h
 
@@ -84,11 +86,13 @@ unfolding messages.handshake
 same_kind b m e =
     let t = then_ok (number_at 1 b) _ (m, []) e in
     let n = then_ok (number_at 3 t.0.1) _ (m, []) t.2 in
-    let y = then_ok (split_at n.0.0 n.0.1 and_then λ w. reading (handshakes.handshake_body t.0.0 n.0.0) w.0
+    let y = then_ok
+    (split_at n.0.0 n.0.1 and_then λ w. reading (handshakes.handshake_body t.0.0 n.0.0) w.0
     and_then λ x. Ok (x.0, w.1)) _ (m, []) n.2 in
     let w = then_ok (split_at n.0.0 n.0.1) _ y.0 y.1 in
     let x = then_ok (reading (handshakes.handshake_body t.0.0 n.0.0) w.0.0) _ y.0 w.2 in
-    let is_y : ◌≡◌ {A = handshakes.Handshake × Bytes} (x.0.0, w.0.1) y.0 = ok_is (x.0.0, w.0.1) y.0 x.2 in
+    let is_y : ◌≡◌ {A = handshakes.Handshake × Bytes} (x.0.0, w.0.1) y.0 =
+    ok_is (x.0.0, w.0.1) y.0 x.2 in
     let is_m : ◌≡◌ {A = messages.Message × Bytes} (messages.Handshake y.0.0, y.0.1) (m, []) =
     ok_is (messages.Handshake y.0.0, y.0.1) (m, []) y.2 in
     ap (λ r. kind_of_message (message_of_raw r)) (raw_of b t.0 n.0 w.0 t.1 n.1 w.1)

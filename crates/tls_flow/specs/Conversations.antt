@@ -62,14 +62,16 @@ IsOutcome outcome.NoHandshake w = IsNoHandshake w
 
 -- w is under way, l is no noise, and with l a handshake is complete or can still come.
 abbrev pub IsAwaited : Symbol → Word → Type 0
-IsAwaited l w = IsUnderWay w × (is_noise l ≡ false) × (HasHandshake (w ++ l ∷ []) ⊎ MayBecomeHandshake (w ++ l ∷ []))
+IsAwaited l w = IsUnderWay w × (is_noise l ≡ false)
+    × (HasHandshake (w ++ l ∷ []) ⊎ MayBecomeHandshake (w ++ l ∷ []))
 
 -- The event that stopped a conversation, and the count of events before it: a handshake was under
 -- way up to it, and is neither under way nor complete after it.
 abbrev pub StopsAt : Stop → List Event → Type 0
 StopsAt s events =
     (u v : List Event) × (events ≡ u ++ s.event ∷ v) × (s.place ≡ min (length u) (2 ^ 64 - 1))
-    × IsUnderWay (symbols_of u) × ¬ IsUnderWay (symbols_of (u ++ s.event ∷ [])) × ¬ HasHandshake (symbols_of events)
+    × IsUnderWay (symbols_of u) × ¬ IsUnderWay (symbols_of (u ++ s.event ∷ []))
+    × ¬ HasHandshake (symbols_of events)
 
 -- When the answer of Flow::stop is right.
 abbrev pub IsStop : Option Stop → List Event → Type 0

@@ -12,4 +12,5 @@ abbrev pub plain : Kind → Direction → Event
 plain k s = record { symbol = symbol k s; alert = None }
 
 abbrev pub of_alert : Alert → Direction → Event
-of_alert a s = record { symbol = symbol (kind_of_alert a) s; alert = Some (record { 0 = a.description }) }
+of_alert a s =
+    record { symbol = symbol (kind_of_alert a) s; alert = Some (record { 0 = a.description }) }

@@ -43,7 +43,8 @@ opening = client ClientHello then many (server HelloVerifyRequest then client Cl
 -- From ServerHelloDone to the client's ChangeCipherSpec, without a client certificate (RFC 5246,
 -- 7.3).
 abbrev pub without_client_certificate : Pattern Symbol
-without_client_certificate = server ServerDone then client ClientKeyExchange then client ChangeCipherSpec
+without_client_certificate = server ServerDone then client ClientKeyExchange then
+    client ChangeCipherSpec
 
 -- The client answers a CertificateRequest with a certificate or an empty list (7.4.6). If the
 -- certificate can sign, it proves that it owns the key (7.4.8). A client of SSL 3.0 sends a warning
@@ -56,7 +57,8 @@ clients_answer =
 -- From the CertificateRequest to the client's ChangeCipherSpec.
 abbrev pub with_client_certificate : Pattern Symbol
 with_client_certificate =
-    server CertificateRequest then server ServerDone then clients_answer then client ChangeCipherSpec
+    server CertificateRequest then server ServerDone then clients_answer then
+    client ChangeCipherSpec
 
 -- After the server's Certificate: its CertificateStatus (RFC 6066, 8), the ServerKeyExchange, and
 -- the CertificateRequest, which an anonymous server may not send (RFC 5246, 7.4.4).
@@ -87,7 +89,8 @@ full = opening then server ServerHello then new_session then servers_change
 -- 5077, 3.1, the second figure).
 abbrev pub resumed : Pattern Symbol
 resumed =
-    opening then server ServerHello then maybe (server NewSessionTicket) then server ChangeCipherSpec
+    opening then server ServerHello then maybe (server NewSessionTicket) then
+    server ChangeCipherSpec
     then many (server Encrypted) then client ChangeCipherSpec
 
 -- TLS 1.3 ignores a ChangeCipherSpec of either side at any time after the first ClientHello (RFC
@@ -112,11 +115,13 @@ tls13 true false =
     then client ClientHello then many change then server ServerHello13
 tls13 true true =
     client ClientHello
-    then (early_data then server HelloRetryRequest then more_early_data or many change then server HelloRetryRequest then early_data)
+    then (early_data then server HelloRetryRequest then more_early_data or many change then
+    server HelloRetryRequest then early_data)
     then client ClientHello then many change then server ServerHello13
 
 abbrev pub handshake : Pattern Symbol
-handshake = full or resumed or tls13 false false or tls13 false true or tls13 true false or tls13 true true
+handshake = full or resumed or tls13 false false or tls13 false true or tls13 true false or
+    tls13 true true
 
 -- Noise: warnings, heartbeats (RFC 6520, 4), and the server's HelloRequests, which it may send at
 -- any time (RFC 5246, 7.4.1.1).

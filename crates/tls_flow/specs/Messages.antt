@@ -37,7 +37,8 @@ use Rattle.tls_flow.specs.declared.symbol.Direction.TheVariants.{ToServer, FromS
 -- The version that the server picks (RFC 8446, 4.2.1) is TLS 1.3 (0x0304), a draft of it (0x7f and
 -- the draft's number), or DTLS 1.3 (0xfefc; RFC 9147, 5.4).
 abbrev pub is_tls13_version : Bytes → Bool
-is_tls13_version (major ∷ minor ∷ []) = (major == 3 && minor == 4) || major == 127 || (major == 0xfe && minor == 0xfc)
+is_tls13_version (major ∷ minor ∷ []) = (major == 3 && minor == 4) || major == 127
+    || (major == 0xfe && minor == 0xfc)
 is_tls13_version _ = false
 
 -- The extension is supported_versions and names such a version.

@@ -42,13 +42,15 @@ next_in (r ∷ rows) k d =
 abbrev pub next_after : List Row → State → Kind → Direction → Option State
 next_after [] q k d = None
 next_after (r ∷ rows) q k d = if sameb states r.state q &&
-    (sameb kinds r.kind k && sameb directions r.direction d) then Some r.next else next_after rows q k d
+    (sameb kinds r.kind k && sameb directions r.direction d) then
+    Some r.next else next_after rows q k d
 
 -- The symbols of a state's rows: what it waits for.
 abbrev pub awaited_in : List Row → State → List Symbol
 awaited_in [] q = []
 awaited_in (r ∷ rows) q =
-    if sameb states r.state q then symbol r.kind r.direction ∷ awaited_in rows q else awaited_in rows q
+    if sameb states r.state q then
+    symbol r.kind r.direction ∷ awaited_in rows q else awaited_in rows q
 
 -- No two rows have the same state, kind and direction.
 abbrev pub IsOneRowEach : List Row → Type 0

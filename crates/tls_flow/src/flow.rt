@@ -130,7 +130,8 @@ impl Flow {
     /// [`Flow::stop`] is the event that made it one of the last three, and how many came before it.
     pub fn run(&mut self, events: &[Event])
         ensures by_steps { self.new ≡ run_of follow self.old events.now }
-        ensures told { self.old ≡ silence → (o : Outcome) → (outcome_at self.new.state ≡ o) ↔ IsOutcome o (symbols_of events.now) }
+        ensures told { self.old ≡ silence → (o : Outcome) → (outcome_at self.new.state ≡ o)
+            ↔ IsOutcome o (symbols_of events.now) }
         ensures stopped { self.old ≡ silence → IsStop self.new.stop events.now }
     {
         for i in 0..events.len() {

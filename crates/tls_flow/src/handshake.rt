@@ -37,7 +37,8 @@ pub struct HandshakeMessage<'a> {
 
 /// The ServerHello of a draft of TLS 1.3, if this body has one.
 fn draft_hello_of(body: &[u8]) -> Option<ReadServerHello<'_>>
-    ensures { option_map (λ h. view_handshake h.message) result ≡ draft_hello (reading handshakes.server_hello_of_draft_body body.now) }
+    ensures { option_map (λ h. view_handshake h.message) result ≡ draft_hello
+        (reading handshakes.server_hello_of_draft_body body.now) }
 {
     match parse_tls_handshake_msg_server_hello_of_draft(body) {
         Ok((rest, message)) => Some(ReadServerHello { message, rest }),

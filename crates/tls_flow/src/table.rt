@@ -179,22 +179,26 @@ macro_rules! entry {
     ($at:ident ClientHello ToServer; ClientHello ToServer => $next:ident; $($rows:tt)*) => {
         State::$next
     };
-    ($at:ident HelloVerifyRequest FromServer; HelloVerifyRequest FromServer => $next:ident; $($rows:tt)*) => {
+    ($at:ident HelloVerifyRequest FromServer; HelloVerifyRequest FromServer => $next:ident;
+        $($rows:tt)*) => {
         State::$next
     };
     ($at:ident ServerHello FromServer; ServerHello FromServer => $next:ident; $($rows:tt)*) => {
         State::$next
     };
-    ($at:ident HelloRetryRequest FromServer; HelloRetryRequest FromServer => $next:ident; $($rows:tt)*) => {
+    ($at:ident HelloRetryRequest FromServer; HelloRetryRequest FromServer => $next:ident;
+        $($rows:tt)*) => {
         State::$next
     };
     ($at:ident ServerHello13 FromServer; ServerHello13 FromServer => $next:ident; $($rows:tt)*) => {
         State::$next
     };
-    ($at:ident ChangeCipherSpec ToServer; ChangeCipherSpec ToServer => $next:ident; $($rows:tt)*) => {
+    ($at:ident ChangeCipherSpec ToServer; ChangeCipherSpec ToServer => $next:ident; $($rows:tt)*) =>
+        {
         State::$next
     };
-    ($at:ident ChangeCipherSpec FromServer; ChangeCipherSpec FromServer => $next:ident; $($rows:tt)*) => {
+    ($at:ident ChangeCipherSpec FromServer; ChangeCipherSpec FromServer => $next:ident;
+        $($rows:tt)*) => {
         State::$next
     };
     ($at:ident Encrypted ToServer; Encrypted ToServer => $next:ident; $($rows:tt)*) => {
@@ -203,19 +207,23 @@ macro_rules! entry {
     ($at:ident Certificate FromServer; Certificate FromServer => $next:ident; $($rows:tt)*) => {
         State::$next
     };
-    ($at:ident ServerKeyExchange FromServer; ServerKeyExchange FromServer => $next:ident; $($rows:tt)*) => {
+    ($at:ident ServerKeyExchange FromServer; ServerKeyExchange FromServer => $next:ident;
+        $($rows:tt)*) => {
         State::$next
     };
     ($at:ident ServerDone FromServer; ServerDone FromServer => $next:ident; $($rows:tt)*) => {
         State::$next
     };
-    ($at:ident NewSessionTicket FromServer; NewSessionTicket FromServer => $next:ident; $($rows:tt)*) => {
+    ($at:ident NewSessionTicket FromServer; NewSessionTicket FromServer => $next:ident;
+        $($rows:tt)*) => {
         State::$next
     };
-    ($at:ident CertificateStatus FromServer; CertificateStatus FromServer => $next:ident; $($rows:tt)*) => {
+    ($at:ident CertificateStatus FromServer; CertificateStatus FromServer => $next:ident;
+        $($rows:tt)*) => {
         State::$next
     };
-    ($at:ident CertificateRequest FromServer; CertificateRequest FromServer => $next:ident; $($rows:tt)*) => {
+    ($at:ident CertificateRequest FromServer; CertificateRequest FromServer => $next:ident;
+        $($rows:tt)*) => {
         State::$next
     };
     ($at:ident Certificate ToServer; Certificate ToServer => $next:ident; $($rows:tt)*) => {
@@ -224,16 +232,19 @@ macro_rules! entry {
     ($at:ident NoCertificate ToServer; NoCertificate ToServer => $next:ident; $($rows:tt)*) => {
         State::$next
     };
-    ($at:ident ClientKeyExchange ToServer; ClientKeyExchange ToServer => $next:ident; $($rows:tt)*) => {
+    ($at:ident ClientKeyExchange ToServer; ClientKeyExchange ToServer => $next:ident; $($rows:tt)*)
+        => {
         State::$next
     };
-    ($at:ident CertificateVerify ToServer; CertificateVerify ToServer => $next:ident; $($rows:tt)*) => {
+    ($at:ident CertificateVerify ToServer; CertificateVerify ToServer => $next:ident; $($rows:tt)*)
+        => {
         State::$next
     };
     ($at:ident Encrypted FromServer; Encrypted FromServer => $next:ident; $($rows:tt)*) => {
         State::$next
     };
-    ($at:ident $kind:ident $to:ident; $other:ident $other_to:ident => $next:ident; $($rows:tt)*) => {
+    ($at:ident $kind:ident $to:ident; $other:ident $other_to:ident => $next:ident; $($rows:tt)*) =>
+        {
         entry!($at $kind $to; $($rows)*)
     };
     ($at:ident Warning $to:ident;) => {
@@ -316,7 +327,8 @@ macro_rules! steps {
 macro_rules! symbols {
     ([$at:ident] $($state:ident { $($kind:ident $direction:ident => $next:ident;)* })*) => {
         match $at {
-            $(State::$state => &[$(Symbol { kind: Kind::$kind, direction: Direction::$direction }),*],)*
+            $(State::$state =>
+                &[$(Symbol { kind: Kind::$kind, direction: Direction::$direction }),*],)*
             State::Full | State::Resumed | State::Tls13 | State::EarlyTls13 | State::RetriedTls13
             | State::EarlyRetriedTls13 | State::BrokenOff | State::Unknown | State::NoHandshake => &[],
         }

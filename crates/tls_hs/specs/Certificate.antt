@@ -74,7 +74,8 @@ certificate_request_without_algorithms = do
 -- The body of a CertificateRequest. Its bytes don't reveal which form it has: it is the first that
 -- can be read.
 unfoldable pub certificate_request : Layout CertificateRequest
-certificate_request = either certificate_request_with_algorithms certificate_request_without_algorithms
+certificate_request =
+    either certificate_request_with_algorithms certificate_request_without_algorithms
 
 -- The value of a CertificateStatus (RFC 6066, section 8).
 pub record CertificateStatus : Type 0 where

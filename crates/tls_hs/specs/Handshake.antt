@@ -39,18 +39,24 @@ abbrev pub view_handshake : TlsMessageHandshake → Handshake
 view_handshake tls_handshake.HelloRequest = HelloRequest
 view_handshake (tls_handshake.ClientHello h) = ClientHello (hello.view_client_hello h)
 view_handshake (tls_handshake.ServerHello h) = ServerHello (server.view_server_hello h)
-view_handshake (tls_handshake.ServerHelloV13Draft18 h) = ServerHelloV13Draft18 (server.view_server_hello_draft18 h)
-view_handshake (tls_handshake.NewSessionTicket t) = NewSessionTicket (session.view_new_session_ticket t)
+view_handshake (tls_handshake.ServerHelloV13Draft18 h) =
+    ServerHelloV13Draft18 (server.view_server_hello_draft18 h)
+view_handshake (tls_handshake.NewSessionTicket t) =
+    NewSessionTicket (session.view_new_session_ticket t)
 view_handshake tls_handshake.EndOfEarlyData = EndOfEarlyData
-view_handshake (tls_handshake.HelloRetryRequest r) = HelloRetryRequest (server.view_hello_retry_request r)
+view_handshake (tls_handshake.HelloRetryRequest r) =
+    HelloRetryRequest (server.view_hello_retry_request r)
 view_handshake (tls_handshake.Certificate c) = Certificate (certificates.view_certificate c)
 view_handshake (tls_handshake.ServerKeyExchange k) = ServerKeyExchange k.parameters.now
-view_handshake (tls_handshake.CertificateRequest r) = CertificateRequest (certificates.view_certificate_request r)
+view_handshake (tls_handshake.CertificateRequest r) =
+    CertificateRequest (certificates.view_certificate_request r)
 view_handshake (tls_handshake.ServerDone b) = ServerDone b.now
 view_handshake (tls_handshake.CertificateVerify b) = CertificateVerify b.now
-view_handshake (tls_handshake.ClientKeyExchange k) = ClientKeyExchange (session.view_client_key_exchange k)
+view_handshake (tls_handshake.ClientKeyExchange k) =
+    ClientKeyExchange (session.view_client_key_exchange k)
 view_handshake (tls_handshake.Finished b) = Finished b.now
-view_handshake (tls_handshake.CertificateStatus s) = CertificateStatus (certificates.view_certificate_status s)
+view_handshake (tls_handshake.CertificateStatus s) =
+    CertificateStatus (certificates.view_certificate_status s)
 view_handshake (tls_handshake.NextProtocol p) = NextProtocol (session.view_next_protocol p)
 view_handshake (tls_handshake.KeyUpdate n) = KeyUpdate n
 
@@ -74,7 +80,8 @@ server_hello_body = do
 unfoldable pub server_hello_of_draft_body : Layout Handshake
 server_hello_of_draft_body = do
   version ← look (number 2)
-  choose (nat_le 0x7f0e version && nat_le version 0x7f15) (mapped ServerHelloV13Draft18 server.server_hello_draft18)
+  choose (nat_le 0x7f0e version && nat_le version 0x7f15)
+      (mapped ServerHelloV13Draft18 server.server_hello_draft18)
       (refuse Tag)
 
 unfoldable pub new_session_ticket_body : ℕ → Layout Handshake

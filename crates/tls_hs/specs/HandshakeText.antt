@@ -90,7 +90,8 @@ normal_server_hello h = record {
 -- The body of a ServerHello of draft 18 of TLS 1.3 (draft-ietf-tls-tls13-18, section 4.1.3).
 unfoldable pub server_hello_draft18_text : server.ServerHelloDraft18 → Bytes
 server_hello_draft18_text h =
-    bytes_of 2 h.version ++ h.random ++ bytes_of 2 h.cipher_suite ++ counted_text 2 (held h.extensions)
+    bytes_of 2 h.version ++ h.random ++ bytes_of 2 h.cipher_suite ++ counted_text 2
+    (held h.extensions)
 
 pub record FitsServerHelloDraft18 (h : server.ServerHelloDraft18) : Type 0 where
   pub random : length h.random ≡ 32
@@ -198,7 +199,8 @@ abbrev pub normal_handshake : Handshake → Handshake
 normal_handshake (ClientHello h) = ClientHello (normal_client_hello h)
 normal_handshake (ServerHello h) = ServerHello (normal_server_hello h)
 normal_handshake (ServerHelloV13Draft18 h) = ServerHelloV13Draft18 (normal_server_hello_draft18 h)
-normal_handshake (ClientKeyExchange k) = ClientKeyExchange (session.Unknown (client_key_exchange_text k))
+normal_handshake (ClientKeyExchange k) =
+    ClientKeyExchange (session.Unknown (client_key_exchange_text k))
 normal_handshake m = m
 
 -- The writer knows the kind, and a hello has extensions. So bytes that are read as this message,

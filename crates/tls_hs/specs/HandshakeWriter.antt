@@ -21,14 +21,17 @@ JudgesCountedBody m r = Judges (FitsHandshake m) (λ e. e ≡ BadLength) (body_t
 
 -- Computes the length of the encoding of a message of any kind.
 abbrev pub JudgesHandshake : Handshake → Result ℕ GenError → Type 0
-JudgesHandshake m r = Judges (FitsHandshake m) (λ e. e ≡ refusal_of_handshake m) (handshake_text m) r
+JudgesHandshake m r =
+    Judges (FitsHandshake m) (λ e. e ≡ refusal_of_handshake m) (handshake_text m) r
 
 -- Returns the encoding of a message of any kind in newly allocated memory.
 abbrev pub BuildsHandshake : Handshake → Result Bytes GenError → Type 0
-BuildsHandshake m r = Builds (FitsHandshake m) (λ e. e ≡ refusal_of_handshake m) (handshake_text m) r
+BuildsHandshake m r =
+    Builds (FitsHandshake m) (λ e. e ≡ refusal_of_handshake m) (handshake_text m) r
 
 -- Appends the encoding of a message of any kind to what a `Write` holds.
-abbrev pub WritesHandshake : {W : Type 0} → Handshake → (W → Option Bytes) → W → W → Result Unit GenError → Type 0
+abbrev pub WritesHandshake : {W : Type 0} → Handshake → (W → Option Bytes) → W → W
+    → Result Unit GenError → Type 0
 WritesHandshake m contents old new r =
     Writes (FitsHandshake m) (λ e. e ≡ refusal_of_handshake m) (handshake_text m) contents old new r
 
@@ -37,7 +40,8 @@ WritesHandshake m contents old new r =
 abbrev pub IsReadBack : Handshake → Bytes → Type 0
 IsReadBack m r =
     FitsHandshake m → InRangeHandshake m → IsReadableHandshake m
-    → Allows message.handshake (handshake_text m ++ r) (Ok (message.Handshake (normal_handshake m), r))
+    → Allows message.handshake (handshake_text m ++ r)
+    (Ok (message.Handshake (normal_handshake m), r))
 
 -- The message can be written, and b is its encoding followed by r.
 pub record HasText (m : Handshake) (b r : Bytes) : Type 0 where

@@ -33,19 +33,23 @@ view_client_hello_in_place h = record {
 }
 
 -- The fields of a hello in place, with a cookie if it has one.
-abbrev pub view_fields_in_place : ClientHelloView × Option (Bor (List ℕ)) → ClientHello × Option Bytes
+abbrev pub view_fields_in_place : ClientHelloView × Option (Bor (List ℕ))
+    → ClientHello × Option Bytes
 view_fields_in_place x = (view_client_hello_in_place x.0, option_map (λ c. c.now) x.1)
 
 abbrev pub view_certificate_request_in_place : CertificateRequestView → CertificateRequest
 view_certificate_request_in_place r = record {
   certificate_types = r.cert_types.now;
-  supported_signature_algorithms = option_map (λ v. items_in (number 2) v.bytes.now) r.sig_hash_algs;
+  supported_signature_algorithms =
+      option_map (λ v. items_in (number 2) v.bytes.now) r.sig_hash_algs;
   certificate_authorities = items_in (counted 2) r.unparsed_ca.bytes.now;
 }
 
 abbrev pub view_handshake_in_place : HandshakeView → Handshake
-view_handshake_in_place (in_place.ClientHello h) = handshakes.ClientHello (view_client_hello_in_place h)
-view_handshake_in_place (in_place.Certificate c) = handshakes.Certificate (items_in (counted 3) c.bytes.now)
+view_handshake_in_place (in_place.ClientHello h) =
+    handshakes.ClientHello (view_client_hello_in_place h)
+view_handshake_in_place (in_place.Certificate c) =
+    handshakes.Certificate (items_in (counted 3) c.bytes.now)
 view_handshake_in_place (in_place.CertificateRequest r) =
     handshakes.CertificateRequest (view_certificate_request_in_place r)
 view_handshake_in_place (in_place.Other m) = view_handshake m

@@ -17,7 +17,12 @@ pub record HeartbeatMessage : Type 0 where
 
 abbrev pub view_heartbeat : TlsMessageHeartbeat → HeartbeatMessage
 view_heartbeat h =
-    record { heartbeat_type = h.heartbeat_type.0; payload_length = h.payload_len; payload = h.payload.now }
+    record {
+      heartbeat_type = h.heartbeat_type.0;
+      payload_length = h.payload_len;
+      payload =
+          h.payload.now;
+    }
 
 -- The value of a message, regardless of its place in memory.
 pub data Message : Type 0 where
@@ -66,4 +71,5 @@ heartbeat length = do
   n ← number 2
   test (nat_le 3 length) Verify
   payload ← block n
-  done (Heartbeat (record { heartbeat_type = heartbeat_type; payload_length = n; payload = payload }) ∷ [])
+  done (Heartbeat
+      (record { heartbeat_type = heartbeat_type; payload_length = n; payload = payload }) ∷ [])

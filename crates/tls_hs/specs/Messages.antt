@@ -46,8 +46,10 @@ messages_of_other_type content_type length b =
 -- The messages in the fragment of a record of this type and length.
 abbrev pub messages_of_type : ℕ → ℕ → Bytes → List Raw
 messages_of_type content_type length b =
-    if content_type == 20 then change_cipher_specs b else messages_of_other_type content_type length b
+    if content_type == 20 then
+    change_cipher_specs b else messages_of_other_type content_type length b
 
 -- The messages that a walk has yet to reach.
 abbrev pub raw_messages : Messages → List Raw
-raw_messages m = if m.is_change then change_cipher_specs m.bytes.now else messages_of_other_type m.record_type.0 m.len m.bytes.now
+raw_messages m = if m.is_change then
+    change_cipher_specs m.bytes.now else messages_of_other_type m.record_type.0 m.len m.bytes.now

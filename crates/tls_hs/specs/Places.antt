@@ -54,7 +54,8 @@ pub record HelloStands (b : Bytes) (h : ClientHelloView) (p : ClientHelloPlaces)
   pub extensions : StandsAt b p.ext h.ext
 
 -- Each part of the hello h is at its place in b, and each place is within b.
-pub record HelloStandsWithin (b : Bytes) (h : ClientHelloView) (p : ClientHelloPlaces) : Type 0 where
+pub record HelloStandsWithin (b : Bytes) (h : ClientHelloView)
+    (p : ClientHelloPlaces) : Type 0 where
   pub random : Stands b p.random h.random.now
   pub session_id : MayStand b p.session_id (option_map (λ x. x.now) h.session_id)
   pub cipher_suites : Stands b p.ciphers h.ciphers.bytes.now

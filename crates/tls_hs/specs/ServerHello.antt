@@ -34,8 +34,10 @@ view_server_hello h = record {
 -- The random of a ServerHello that is a HelloRetryRequest (RFC 8446, section 4.1.3).
 abbrev pub hello_retry_random : Bytes
 hello_retry_random =
-    0xcf ∷ 0x21 ∷ 0xad ∷ 0x74 ∷ 0xe5 ∷ 0x9a ∷ 0x61 ∷ 0x11 ∷ 0xbe ∷ 0x1d ∷ 0x8c ∷ 0x02 ∷ 0x1e ∷ 0x65 ∷ 0xb8 ∷ 0x91 ∷
-    0xc2 ∷ 0xa2 ∷ 0x11 ∷ 0x16 ∷ 0x7a ∷ 0xbb ∷ 0x8c ∷ 0x5e ∷ 0x07 ∷ 0x9e ∷ 0x09 ∷ 0xe2 ∷ 0xc8 ∷ 0xa8 ∷ 0x33 ∷ 0x9c ∷ []
+    0xcf ∷ 0x21 ∷ 0xad ∷ 0x74 ∷ 0xe5 ∷ 0x9a ∷ 0x61 ∷ 0x11 ∷ 0xbe ∷ 0x1d ∷ 0x8c ∷ 0x02 ∷ 0x1e ∷ 0x65
+    ∷ 0xb8 ∷ 0x91 ∷
+    0xc2 ∷ 0xa2 ∷ 0x11 ∷ 0x16 ∷ 0x7a ∷ 0xbb ∷ 0x8c ∷ 0x5e ∷ 0x07 ∷ 0x9e ∷ 0x09 ∷ 0xe2 ∷ 0xc8 ∷ 0xa8
+    ∷ 0x33 ∷ 0x9c ∷ []
 
 abbrev pub is_retry_request : ServerHello → Bool
 is_retry_request h = bytes_eq h.random hello_retry_random
@@ -96,7 +98,13 @@ server_hello_draft18 = do
   random ← block 32
   suite ← number 2
   extensions ← maybe (counted 2)
-  done (record { version = version; random = random; cipher_suite = suite; extensions = extensions })
+  done (record {
+    version = version;
+    random = random;
+    cipher_suite = suite;
+    extensions =
+        extensions;
+  })
 
 -- The value of a HelloRetryRequest of drafts of TLS 1.3 (draft-ietf-tls-tls13-19, section 4.1.4).
 -- In RFC 8446 it is a ServerHello.

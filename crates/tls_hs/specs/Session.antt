@@ -15,7 +15,8 @@ pub record NewSessionTicket : Type 0 where
   pub ticket : Bytes
 
 abbrev pub view_new_session_ticket : TlsNewSessionTicketContent → NewSessionTicket
-view_new_session_ticket t = record { ticket_lifetime_hint = t.ticket_lifetime_hint; ticket = t.ticket.now }
+view_new_session_ticket t =
+    record { ticket_lifetime_hint = t.ticket_lifetime_hint; ticket = t.ticket.now }
 
 -- The body of a NewSessionTicket of this length in bytes.
 unfoldable pub new_session_ticket : ℕ → Layout NewSessionTicket
@@ -43,7 +44,8 @@ pub record NextProtocol : Type 0 where
   pub padding : Bytes
 
 abbrev pub view_next_protocol : TlsNextProtocolContent → NextProtocol
-view_next_protocol p = record { selected_protocol = p.selected_protocol.now; padding = p.padding.now }
+view_next_protocol p =
+    record { selected_protocol = p.selected_protocol.now; padding = p.padding.now }
 
 -- The body of a NextProtocol.
 unfoldable pub next_protocol : Layout NextProtocol

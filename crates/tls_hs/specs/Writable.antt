@@ -11,6 +11,7 @@ abbrev pub view_writable : Writable → Handshake
 view_writable writable.HelloRequest = HelloRequest
 view_writable (writable.ClientHello h) = ClientHello (view_client_hello h.now)
 view_writable (writable.ServerHello h) = ServerHello (view_server_hello h.now)
-view_writable (writable.ServerHelloV13Draft18 h) = ServerHelloV13Draft18 (view_server_hello_draft18 h.now)
+view_writable (writable.ServerHelloV13Draft18 h) =
+    ServerHelloV13Draft18 (view_server_hello_draft18 h.now)
 view_writable (writable.ClientKeyExchange k) = ClientKeyExchange (view_client_key_exchange k.now)
 view_writable (writable.Finished b) = Finished b.now

@@ -31,19 +31,25 @@ macro_rules! rows {
             $then [$($words)*]
             {
                 empty HelloRequest: bodies::parse_tls_handshake_msg_hello_request(i);
-                lists ClientHello(ClientHelloView::parse): bodies::parse_tls_handshake_msg_client_hello(alloc, i);
+                lists ClientHello(ClientHelloView::parse):
+                    bodies::parse_tls_handshake_msg_client_hello(alloc, i);
                 contents ServerHello: bodies::parse_tls_handshake_msg_server_hello(i);
-                contents NewSessionTicket: session::parse_tls_handshake_msg_newsessionticket(i, len);
+                contents NewSessionTicket:
+                    session::parse_tls_handshake_msg_newsessionticket(i, len);
                 empty EndOfEarlyData: bodies::end_of_early_data(i);
                 contents HelloRetryRequest: bodies::parse_tls_handshake_msg_hello_retry_request(i);
             }
             {
-                lists Certificate(certificates): bodies::parse_tls_handshake_msg_certificate(alloc, i);
-                contents ServerKeyExchange: session::parse_tls_handshake_msg_serverkeyexchange(i, len);
-                lists CertificateRequest(CertificateRequestView::parse): bodies::parse_tls_handshake_msg_certificaterequest(alloc, i);
+                lists Certificate(certificates):
+                    bodies::parse_tls_handshake_msg_certificate(alloc, i);
+                contents ServerKeyExchange:
+                    session::parse_tls_handshake_msg_serverkeyexchange(i, len);
+                lists CertificateRequest(CertificateRequestView::parse):
+                    bodies::parse_tls_handshake_msg_certificaterequest(alloc, i);
                 value ServerDone: bodies::parse_tls_handshake_msg_serverdone(i, len);
                 value CertificateVerify: bodies::parse_tls_handshake_msg_certificateverify(i, len);
-                contents ClientKeyExchange: session::parse_tls_handshake_msg_clientkeyexchange(i, len);
+                contents ClientKeyExchange:
+                    session::parse_tls_handshake_msg_clientkeyexchange(i, len);
             }
             {
                 value Finished: bodies::parse_tls_handshake_msg_finished(i, len);
@@ -105,7 +111,8 @@ pub(crate) use rows;
 /// Expands to a match on the type: the call of its row, or `$other` if no row has it.
 macro_rules! by_type {
     ([$msg_type:ident $given:tt => $other:expr]
-        $($form:ident $name:ident $(($view:path))?: $module:ident::$read:ident $arguments:tt;)*) => {
+        $($form:ident $name:ident $(($view:path))?: $module:ident::$read:ident
+            $arguments:tt;)*) => {
         match $msg_type {
             $(TlsHandshakeType::$name => read_body!($module::$read $arguments, $given),)*
             _ => $other,
@@ -139,7 +146,8 @@ fn body_from_certificate(
     msg_type: TlsHandshakeType,
     len: usize,
 ) -> IResult<&[u8], TlsMessageHandshake>
-    ensures { GivesOrMemory view_handshake (body_from_certificate_layout msg_type.0 len) i.now result }
+    ensures { GivesOrMemory view_handshake (body_from_certificate_layout msg_type.0 len)
+        i.now result }
 {
     rows!(certificate_rows by_type msg_type (i len alloc) => body_from_finished(i, msg_type, len))
 }
@@ -156,5 +164,6 @@ pub(crate) fn handshake_body(
 ) -> IResult<&[u8], TlsMessageHandshake>
     ensures { GivesOrMemory view_handshake (handshake_body_layout msg_type.0 len) i.now result }
 {
-    rows!(first_rows by_type msg_type (i len alloc) => body_from_certificate(alloc, i, msg_type, len))
+    rows!(first_rows by_type msg_type
+        (i len alloc) => body_from_certificate(alloc, i, msg_type, len))
 }

@@ -28,7 +28,8 @@ impl<'a> TlsCertificateRequestContents<'a> {
     ///
     /// `OutOfMemory` if a list can't be allocated.
     pub fn try_clone(&self, alloc: Global) -> Result<Self, OutOfMemory>
-        ensures { IfOk result (λ r. view_certificate_request r ≡ view_certificate_request self.now) }
+        ensures { IfOk result
+            (λ r. view_certificate_request r ≡ view_certificate_request self.now) }
     {
         let sig_hash_algs = match &self.sig_hash_algs {
             Some(algorithms) => Some(Vec::from_slice(alloc, algorithms)?),
@@ -65,7 +66,8 @@ fn signature_algorithms(alloc: Global, i: &[u8]) -> IResult<&[u8], Vec<u16>>
 /// of length.
 #[tactic(auto, using(layouts::proofs::OneAnswerLemmas::read_allowed), unfolding(crate::specs::Certificate::certificate_authorities))]
 fn certificate_authorities(alloc: Global, i: &[u8]) -> IResult<&[u8], Vec<&[u8]>>
-    ensures { GivesOrMemory (λ v. map (λ x. x.now) v.items) certificate_authorities_layout i.now result }
+    ensures { GivesOrMemory (λ v. map (λ x. x.now) v.items) certificate_authorities_layout
+        i.now result }
 {
     let (i, window) = counted2(i)?;
     let (_, authorities) = items::<Counted2>(alloc, window)?;
@@ -75,7 +77,8 @@ fn certificate_authorities(alloc: Global, i: &[u8]) -> IResult<&[u8], Vec<&[u8]>
 /// Reads a request in the form of TLS 1.2.
 #[tactic(auto, using(layouts::proofs::OneAnswerLemmas::read_allowed), unfolding(crate::specs::Certificate::certificate_request_with_algorithms))]
 fn with_algorithms(alloc: Global, i: &[u8]) -> IResult<&[u8], TlsCertificateRequestContents>
-    ensures { GivesOrMemory view_certificate_request certificate_request_with_algorithms i.now result }
+    ensures { GivesOrMemory view_certificate_request certificate_request_with_algorithms
+        i.now result }
 {
     let (i, cert_types) = certificate_types(alloc, i)?;
     let (i, algorithms) = signature_algorithms(alloc, i)?;
@@ -91,7 +94,8 @@ fn with_algorithms(alloc: Global, i: &[u8]) -> IResult<&[u8], TlsCertificateRequ
 /// Reads a request in the form up to TLS 1.1.
 #[tactic(auto, using(layouts::proofs::OneAnswerLemmas::read_allowed), unfolding(crate::specs::Certificate::certificate_request_without_algorithms))]
 fn without_algorithms(alloc: Global, i: &[u8]) -> IResult<&[u8], TlsCertificateRequestContents>
-    ensures { GivesOrMemory view_certificate_request certificate_request_without_algorithms i.now result }
+    ensures { GivesOrMemory view_certificate_request certificate_request_without_algorithms
+        i.now result }
 {
     let (i, cert_types) = certificate_types(alloc, i)?;
     let (i, unparsed_ca) = certificate_authorities(alloc, i)?;

@@ -58,7 +58,8 @@ pub struct CertificateRequestView<'a> {
 #[tactic(auto, using(layouts::proofs::OneAnswerLemmas::read_allowed), unfolding(crate::specs::Certificate::signature_algorithms))]
 #[inline(always)]
 fn signature_algorithms(i: &[u8]) -> IResult<&[u8], Items<u16>>
-    ensures { Gives (λ v. items_in (number 2) v.bytes.now) signature_algorithms_layout i.now result }
+    ensures { Gives (λ v. items_in (number 2) v.bytes.now) signature_algorithms_layout
+        i.now result }
 {
     let (i, window) = counted2(i)?;
     Ok((i, Items::new(window)))
@@ -69,7 +70,8 @@ fn signature_algorithms(i: &[u8]) -> IResult<&[u8], Items<u16>>
 #[tactic(auto, using(layouts::proofs::OneAnswerLemmas::read_allowed), unfolding(crate::specs::Certificate::certificate_authorities))]
 #[inline(always)]
 fn certificate_authorities(i: &[u8]) -> IResult<&[u8], Items<Counted2>>
-    ensures { Gives (λ v. items_in (counted 2) v.bytes.now) certificate_authorities_layout i.now result }
+    ensures { Gives (λ v. items_in (counted 2) v.bytes.now) certificate_authorities_layout
+        i.now result }
 {
     let (i, window) = counted2(i)?;
     Ok((i, Items::new(window)))
@@ -79,7 +81,8 @@ fn certificate_authorities(i: &[u8]) -> IResult<&[u8], Items<Counted2>>
 #[tactic(auto, using(layouts::proofs::OneAnswerLemmas::read_allowed), unfolding(crate::specs::Certificate::certificate_request_with_algorithms, crate::specs::Certificate::certificate_types))]
 #[inline(always)]
 fn with_algorithms(i: &[u8]) -> IResult<&[u8], CertificateRequestView>
-    ensures { Gives view_certificate_request_in_place certificate_request_with_algorithms i.now result }
+    ensures { Gives view_certificate_request_in_place certificate_request_with_algorithms
+        i.now result }
 {
     let (i, cert_types) = counted1(i)?;
     let (i, algorithms) = signature_algorithms(i)?;
@@ -96,7 +99,8 @@ fn with_algorithms(i: &[u8]) -> IResult<&[u8], CertificateRequestView>
 #[tactic(auto, using(layouts::proofs::OneAnswerLemmas::read_allowed), unfolding(crate::specs::Certificate::certificate_request_without_algorithms, crate::specs::Certificate::certificate_types))]
 #[inline(always)]
 fn without_algorithms(i: &[u8]) -> IResult<&[u8], CertificateRequestView>
-    ensures { Gives view_certificate_request_in_place certificate_request_without_algorithms i.now result }
+    ensures { Gives view_certificate_request_in_place certificate_request_without_algorithms
+        i.now result }
 {
     let (i, cert_types) = counted1(i)?;
     let (i, unparsed_ca) = certificate_authorities(i)?;

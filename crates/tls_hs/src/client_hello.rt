@@ -73,7 +73,9 @@ impl<'a> TlsClientHelloContents<'a> {
         alloc: Global,
         table: &'t CipherTable,
     ) -> Result<Vec<Option<&'t TlsCipherSuite>>, OutOfMemory>
-        ensures { IfOk result (λ v. map (option_map (λ s. s.now)) v.items ≡ map (suite_of_id table.now) (view_client_hello self.now).cipher_suites) }
+        ensures { IfOk result
+            (λ v. map (option_map (λ s. s.now)) v.items ≡ map (suite_of_id table.now)
+            (view_client_hello self.now).cipher_suites) }
     {
         suites(alloc, table, &self.ciphers)
     }

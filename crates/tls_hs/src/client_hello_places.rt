@@ -30,7 +30,8 @@ pub struct ClientHelloPlaces {
 /// Returns where `part` is in `whole`, if it begins `between` bytes after the end of `place`.
 #[inline(always)]
 fn behind(whole: &[u8], place: Place, between: usize, part: &[u8]) -> Place
-    ensures { BeginsAt whole.now (place.offset + place.length + between) part.now → result ≡ place_from (place.offset + place.length + between) part.now }
+    ensures { BeginsAt whole.now (place.offset + place.length + between) part.now
+        → result ≡ place_from (place.offset + place.length + between) part.now }
 {
     Place {
         offset: place
@@ -46,7 +47,10 @@ fn behind(whole: &[u8], place: Place, between: usize, part: &[u8]) -> Place
 /// `place`.
 #[inline(always)]
 fn held_behind(whole: &[u8], place: Place, between: usize, part: Option<&[u8]>) -> Option<Place>
-    ensures { MayBeginAt whole.now (place.offset + place.length + between) (option_map (λ x. x.now) part.entry) → result ≡ option_map (λ x. place_from (place.offset + place.length + between) x.now) part.entry }
+    ensures { MayBeginAt whole.now (place.offset + place.length + between)
+        (option_map (λ x. x.now) part.entry)
+        → result ≡ option_map (λ x. place_from (place.offset + place.length + between) x.now)
+        part.entry }
 {
     match part {
         Some(bytes) => Some(behind(whole, place, between, bytes)),
@@ -61,8 +65,10 @@ pub fn client_hello_places_in(
     hello: &ClientHelloView,
     cookie: Option<&[u8]>,
 ) -> (ClientHelloPlaces, Option<Place>)
-    ensures places { LiesAsClientHello whole.now hello.now (option_map (λ x. x.now) cookie.entry) → HelloStandsWithin whole.now hello.now result.0 }
-    ensures cookie { LiesAsClientHello whole.now hello.now (option_map (λ x. x.now) cookie.entry) → MayStand whole.now result.1 (option_map (λ x. x.now) cookie.entry) }
+    ensures places { LiesAsClientHello whole.now hello.now (option_map (λ x. x.now) cookie.entry)
+        → HelloStandsWithin whole.now hello.now result.0 }
+    ensures cookie { LiesAsClientHello whole.now hello.now (option_map (λ x. x.now) cookie.entry)
+        → MayStand whole.now result.1 (option_map (λ x. x.now) cookie.entry) }
 {
     let random = Place {
         offset: 2,

@@ -47,7 +47,9 @@ pub trait ClientHello<'a> {
         alloc: Global,
         table: &'t CipherTable,
     ) -> Result<Vec<Option<&'t TlsCipherSuite>>, OutOfMemory>
-        ensures { IfOk result (λ v. map (option_map (λ s. s.now)) v.items ≡ map (suite_of_id table.now) (hello self.now).cipher_suites) };
+        ensures { IfOk result
+            (λ v. map (option_map (λ s. s.now)) v.items ≡ map (suite_of_id table.now)
+            (hello self.now).cipher_suites) };
 
     /// Returns the compression methods that the client offers, in its order.
     fn comp(&self) -> &Vec<TlsCompressionID>

@@ -36,7 +36,8 @@ pub struct ClientHelloView<'a> {
 /// many bytes, if `has_cookie`.
 #[inline(always)]
 fn cookie_where(i: &[u8], has_cookie: bool) -> IResult<&[u8], Option<&[u8]>>
-    ensures { Gives (option_map (λ x. x.now)) (choose has_cookie (mapped Some (counted 1)) (done None)) i.now result }
+    ensures { Gives (option_map (λ x. x.now))
+        (choose has_cookie (mapped Some (counted 1)) (done None)) i.now result }
 {
     if !has_cookie {
         return Ok((i, None));
@@ -59,7 +60,8 @@ pub fn client_hello_fields(
     i: &[u8],
     has_cookie: bool,
 ) -> IResult<&[u8], (ClientHelloView, Option<&[u8]>)>
-    ensures gives { Gives view_fields_in_place (client_hello_with (choose has_cookie (mapped Some (counted 1)) (done None))) i.now result }
+    ensures gives { Gives view_fields_in_place
+        (client_hello_with (choose has_cookie (mapped Some (counted 1)) (done None))) i.now result }
     ensures lies { IfOk result (λ x. LiesAsClientHello i.now x.1.0 (option_map (λ c. c.now) x.1.1)) }
 {
     let (i, version) = TlsVersion::parse(i)?;

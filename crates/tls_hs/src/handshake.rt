@@ -62,7 +62,9 @@ pub enum TlsMessageHandshake<'a> {
 
 /// Expands to a match with an arm for each row of the table: the type of its variant.
 macro_rules! type_of {
-    ([$message:ident] $($form:ident $name:ident $(($view:path))?: $module:ident::$read:ident $arguments:tt;)*) => {
+    ([$message:ident]
+        $($form:ident $name:ident $(($view:path))?: $module:ident::$read:ident
+        $arguments:tt;)*) => {
         match $message {
             $(TlsMessageHandshake::$name { .. } => TlsHandshakeType::$name,)*
             TlsMessageHandshake::ServerHelloV13Draft18(_) => TlsHandshakeType::ServerHello,
@@ -72,7 +74,9 @@ macro_rules! type_of {
 
 /// Expands to whether a row has the type.
 macro_rules! has_row {
-    ([$msg_type:ident] $($form:ident $name:ident $(($view:path))?: $module:ident::$read:ident $arguments:tt;)*) => {
+    ([$msg_type:ident]
+        $($form:ident $name:ident $(($view:path))?: $module:ident::$read:ident
+        $arguments:tt;)*) => {
         match $msg_type {
             $(TlsHandshakeType::$name => true,)*
             _ => false,
@@ -82,13 +86,16 @@ macro_rules! has_row {
 
 /// Expands to a match with an arm for each row of the table: a copy of its variant, by its form.
 macro_rules! copy_of {
-    ([$message:ident $alloc:ident] $($(empty $empty:ident)? $(value $value:ident)? $(contents $contents:ident)?
+    ([$message:ident $alloc:ident]
+        $($(empty $empty:ident)? $(value $value:ident)? $(contents $contents:ident)?
         $(lists $lists:ident($view:path))?: $module:ident::$read:ident $arguments:tt;)*) => {
         match $message {
             $($(TlsMessageHandshake::$empty => TlsMessageHandshake::$empty,)?)*
             $($(TlsMessageHandshake::$value(value) => TlsMessageHandshake::$value(*value),)?)*
-            $($(TlsMessageHandshake::$contents(contents) => TlsMessageHandshake::$contents(contents.clone()?),)?)*
-            $($(TlsMessageHandshake::$lists(lists) => TlsMessageHandshake::$lists(lists.try_clone($alloc)?),)?)*
+            $($(TlsMessageHandshake::$contents(contents) =>
+                TlsMessageHandshake::$contents(contents.clone()?),)?)*
+            $($(TlsMessageHandshake::$lists(lists) =>
+                TlsMessageHandshake::$lists(lists.try_clone($alloc)?),)?)*
             TlsMessageHandshake::ServerHelloV13Draft18(hello) => {
                 TlsMessageHandshake::ServerHelloV13Draft18(hello.clone()?)
             }

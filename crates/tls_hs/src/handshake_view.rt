@@ -86,7 +86,9 @@ impl<'a> RawHandshake<'a> {
     /// rest is what the body leaves of its bytes.
     #[inline(always)]
     pub fn parse_body(self) -> IResult<&'a [u8], HandshakeView<'a>>
-        ensures { Gives view_handshake_in_place (handshake_body self.entry.msg_type.0 (length self.entry.body.now)) self.entry.body.now result }
+        ensures { Gives view_handshake_in_place
+            (handshake_body self.entry.msg_type.0 (length self.entry.body.now))
+            self.entry.body.now result }
     {
         body_in_place(self.body, self.msg_type, self.body.len())
     }
@@ -108,9 +110,11 @@ fn other<'a>(
 /// Expands to a match on the type: the reader in place of its row, or `$other` if no row has it.
 macro_rules! in_place {
     ([$msg_type:ident $i:ident $len:ident => $other:expr]
-        $($form:ident $name:ident $(($view:path))?: $module:ident::$read:ident $arguments:tt;)*) => {
+        $($form:ident $name:ident $(($view:path))?: $module:ident::$read:ident
+            $arguments:tt;)*) => {
         match $msg_type {
-            $(TlsHandshakeType::$name => one_in_place!($form $name $(($view))?: $module::$read $arguments, $i $len),)*
+            $(TlsHandshakeType::$name =>
+                one_in_place!($form $name $(($view))?: $module::$read $arguments, $i $len),)*
             _ => $other,
         }
     };
@@ -119,7 +123,8 @@ macro_rules! in_place {
 /// Expands to the reader in place of a row: for lists the call in brackets, for any other message
 /// its usual call.
 macro_rules! one_in_place {
-    (lists $name:ident($view:path): $module:ident::$read:ident $arguments:tt, $i:ident $len:ident) => {{
+    (lists $name:ident($view:path): $module:ident::$read:ident $arguments:tt, $i:ident $len:ident)
+        => {{
         let (i, lists) = $view($i)?;
         Ok((i, HandshakeView::$name(lists)))
     }};

@@ -56,7 +56,8 @@ pub fn held_bytes(part: Option<&[u8]>) -> &[u8]
 #[inline(always)]
 pub fn listed<T: Number>(alloc: Global, items: Items<T>) -> Result<Vec<T>, AllocError>
     requires { 0 < T.WIDTH }
-    ensures { IfOk result (λ v. map T.value v.items ≡ items_in (number T.WIDTH) items.entry.bytes.now) }
+    ensures { IfOk result
+        (λ v. map T.value v.items ≡ items_in (number T.WIDTH) items.entry.bytes.now) }
 {
     let bytes = items.bytes();
     match numbers::<T>(alloc, bytes, bytes.len() / T::WIDTH) {
@@ -145,7 +146,9 @@ pub fn suites<'t>(
     table: &'t CipherTable,
     ciphers: &[TlsCipherSuiteID],
 ) -> Result<Vec<Option<&'t TlsCipherSuite>>, OutOfMemory>
-    ensures { IfOk result (λ v. map (option_map (λ s. s.now)) v.items ≡ map (suite_of_id table.now) (map (λ c. c.0) ciphers.now)) }
+    ensures { IfOk result
+        (λ v. map (option_map (λ s. s.now)) v.items ≡ map (suite_of_id table.now)
+        (map (λ c. c.0) ciphers.now)) }
 {
     let mut suites = Vec::with_capacity(alloc, ciphers.len())?;
     for cipher in ciphers {

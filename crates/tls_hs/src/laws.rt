@@ -21,5 +21,6 @@ pub fn handshake_is_read_back()
 /// knows its kind and a hello has extensions.
 #[tactic(auto, using(crate::proofs::HandshakeTextLemmas::handshake_written_back))]
 pub fn handshake_is_written_back()
-    ensures { (b r : Bytes) (m : Handshake) → IsWrittenBack m → Spells handshake b (handshake_message m) r [] → HasText m b r }
+    ensures { (b r : Bytes) (m : Handshake) → IsWrittenBack m
+        → Spells handshake b (handshake_message m) r [] → HasText m b r }
 {}

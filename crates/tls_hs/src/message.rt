@@ -131,7 +131,8 @@ pub fn parse_tls_message_heartbeat(
     i: &[u8],
     tls_plaintext_len: u16,
 ) -> IResult<&[u8], Vec<TlsMessage>>
-    ensures { GivesOrMemory (λ v. map view_message v.items) (heartbeat tls_plaintext_len) i.now result }
+    ensures { GivesOrMemory (λ v. map view_message v.items) (heartbeat tls_plaintext_len)
+        i.now result }
 {
     let (i, message) = heartbeat_in_place(i, tls_plaintext_len)?;
     let mut messages = Vec::new(alloc);

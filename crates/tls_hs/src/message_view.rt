@@ -164,7 +164,8 @@ impl<'a> Iterator for Messages<'a> {
 #[tactic(auto, using(layouts::proofs::OneAnswerLemmas::read_allowed), unfolding(crate::specs::Message::heartbeat))]
 #[inline(always)]
 pub fn heartbeat(i: &[u8], tls_plaintext_len: u16) -> IResult<&[u8], TlsMessageHeartbeat>
-    ensures { Gives (λ h. message.Heartbeat (message.view_heartbeat h) ∷ []) (message.heartbeat tls_plaintext_len) i.now result }
+    ensures { Gives (λ h. message.Heartbeat (message.view_heartbeat h) ∷ [])
+        (message.heartbeat tls_plaintext_len) i.now result }
 {
     let (i, heartbeat_type) = TlsHeartbeatMessageType::parse(i)?;
     let (i, payload_len) = number2(i)?;

@@ -116,7 +116,8 @@ pub struct TlsHelloRetryRequestContents<'a> {
 /// Reads the fields of a ServerHello; extensions may follow if `extensible`.
 #[inline(always)]
 fn server_hello_fields(i: &[u8], extensible: bool) -> IResult<&[u8], TlsServerHelloContents>
-    ensures { Gives view_server_hello (server_hello_with (choose extensible (maybe (counted 2)) (done None))) i.now result }
+    ensures { Gives view_server_hello
+        (server_hello_with (choose extensible (maybe (counted 2)) (done None))) i.now result }
 {
     let (i, version) = TlsVersion::parse(i)?;
     let (i, random) = block(i, 32)?;

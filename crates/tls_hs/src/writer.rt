@@ -63,7 +63,8 @@ fn writable_of<'b, 'a>(m: &'b TlsMessageHandshake<'a>) -> Option<Writable<'b, 'a
 impl Writable<'_, '_> {
     /// Returns the encoding, in an allocation of exactly its length.
     fn to_bytes(&self, alloc: Global) -> Result<Vec<u8>, GenError>
-        ensures text { BuildsHandshake (view_writable self.now) (result_map_both (λ v. v.items) (λ e. e) result) }
+        ensures text { BuildsHandshake (view_writable self.now)
+            (result_map_both (λ v. v.items) (λ e. e) result) }
         ensures range { IfOk result (λ _. InRangeHandshake (view_writable self.now)) }
     {
         let n = self.body_len()?;
@@ -98,7 +99,8 @@ pub fn gen_tls_clienthello<W: Write>(
     m: &TlsClientHelloContents,
     w: &mut W,
 ) -> Result<(), GenError>
-    ensures { WritesHandshake (ClientHello (view_client_hello m.now)) W.contents w.old w.new result }
+    ensures { WritesHandshake (ClientHello (view_client_hello m.now)) W.contents w.old
+        w.new result }
 {
     Writable::ClientHello(m).write(alloc, w)
 }
@@ -114,7 +116,8 @@ pub fn gen_tls_serverhello<W: Write>(
     m: &TlsServerHelloContents,
     w: &mut W,
 ) -> Result<(), GenError>
-    ensures { WritesHandshake (ServerHello (view_server_hello m.now)) W.contents w.old w.new result }
+    ensures { WritesHandshake (ServerHello (view_server_hello m.now)) W.contents w.old
+        w.new result }
 {
     Writable::ServerHello(m).write(alloc, w)
 }
@@ -128,7 +131,8 @@ pub fn gen_tls_serverhellodraft18<W: Write>(
     m: &TlsServerHelloV13Draft18Contents,
     w: &mut W,
 ) -> Result<(), GenError>
-    ensures { WritesHandshake (ServerHelloV13Draft18 (view_server_hello_draft18 m.now)) W.contents w.old w.new result }
+    ensures { WritesHandshake (ServerHelloV13Draft18 (view_server_hello_draft18 m.now)) W.contents
+        w.old w.new result }
 {
     Writable::ServerHelloV13Draft18(m).write(alloc, w)
 }
@@ -144,7 +148,8 @@ pub fn gen_tls_clientkeyexchange<W: Write>(
     m: &TlsClientKeyExchangeContents,
     w: &mut W,
 ) -> Result<(), GenError>
-    ensures { WritesHandshake (ClientKeyExchange (view_client_key_exchange m.now)) W.contents w.old w.new result }
+    ensures { WritesHandshake (ClientKeyExchange (view_client_key_exchange m.now)) W.contents w.old
+        w.new result }
 {
     Writable::ClientKeyExchange(m).write(alloc, w)
 }

@@ -64,7 +64,8 @@ cut b x p s = record {
   front = take p.offset b;
   behind = drop p.length (drop p.offset b);
   whole = sym (ap (λ y. take p.offset b ++ y)
-      (ap (λ y. y ++ drop p.length (drop p.offset b)) (sym s.is) ∙ take-append-drop p.length (drop p.offset b))
+      (ap (λ y. y ++ drop p.length (drop p.offset b)) (sym s.is)
+      ∙ take-append-drop p.length (drop p.offset b))
       ∙ take-append-drop p.offset b);
   size = length-take-le p.offset b (omega (arith, s.within));
 }
@@ -86,7 +87,8 @@ stands_within b x y p q outer inner =
     ∙ ap (λ z. here.front ++ z) (append_assoc y here.behind out.behind))
     ∙ sym (append_assoc out.front here.front (y ++ (here.behind ++ out.behind))) in
     let at : Stands b (record { offset = p.offset + q.offset; length = length y }) y =
-    stands_behind (p.offset + q.offset) b (out.front ++ here.front) y (here.behind ++ out.behind) whole
+    stands_behind (p.offset + q.offset) b (out.front ++ here.front) y
+    (here.behind ++ out.behind) whole
     (length-append out.front here.front ∙ ap₂ (λ i j. i + j) out.size here.size) in
     let P : ℕ → Type 0 = λ n. Stands b (record { offset = p.offset + q.offset; length = n }) y in
     subst P (size_of x y q inner) at
@@ -96,10 +98,12 @@ pub ends_in : (w b x r : Bytes) → EndsWith w b → EndsWith b (x ++ r) → End
 ends_in w b x r = ends_after w b (x ++ r)
 
 -- the bytes x that an item ends in, known as y
-pub frame_stands : (w b x y r : Bytes) (p : Place) → y ≡ x → (EndsWith w (y ++ r) → Stands w p y) → EndsWith w b
+pub frame_stands : (w b x y r : Bytes) (p : Place) → y ≡ x → (EndsWith w (y ++ r) → Stands w p y)
+    → EndsWith w b
     → EndsWith b (x ++ r) → Stands w p x
 frame_stands w b x y r p same place at last =
-    let there : EndsWith w (y ++ r) = subst (λ z. EndsWith w (z ++ r)) (sym same) (ends_in w b x r at last) in
+    let there : EndsWith w (y ++ r) =
+    subst (λ z. EndsWith w (z ++ r)) (sym same) (ends_in w b x r at last) in
     subst (λ z. Stands w p z) same (place there)
 
 pub is_end : (b r : Bytes) → EndsWith b r → IsEnd b r
@@ -115,7 +119,8 @@ is_end b r (f, e) =
 pub ends_of : (b r : Bytes) → IsEnd b r → EndsWith b r
 ends_of b r end = (
   take (length b - length r) b,
-  sym (ap (λ x. take (length b - length r) b ++ x) (sym end.is) ∙ take-append-drop (length b - length r) b),
+  sym (ap (λ x. take (length b - length r) b ++ x) (sym end.is)
+      ∙ take-append-drop (length b - length r) b),
 )
 
 -- all bytes are their own end
@@ -142,4 +147,5 @@ lies_stands b p h = record { is = refl; within = h }
 pub cut_there : (b x : Bytes) (o n m k : ℕ) → m ≡ min o (length b) → k ≡ min n (length (drop m b))
     → x ≡ take k (drop m b) → x ≡ take n (drop o b)
 cut_there b x o n m k em ek ex =
-    ex ∙ ap (λ i. take i (drop m b)) ek ∙ take_min n (drop m b) ∙ ap (take n) (ap (λ i. drop i b) em ∙ drop_min o b)
+    ex ∙ ap (λ i. take i (drop m b)) ek ∙ take_min n (drop m b)
+    ∙ ap (take n) (ap (λ i. drop i b) em ∙ drop_min o b)

@@ -6,7 +6,8 @@ use Rattle.tls_places.specs.Place.{Stands, MayStand, MayBeginAt, EndsIn}
 use Rattle.tls_places.specs.declared.server_hello.ServerHelloPlaces.{ServerHelloPlaces}
 
 -- Each part of the hello h is at its place in b.
-pub record ServerHelloStands (b : Bytes) (h : TlsServerHelloContents) (p : ServerHelloPlaces) : Type 0 where
+pub record ServerHelloStands (b : Bytes) (h : TlsServerHelloContents)
+    (p : ServerHelloPlaces) : Type 0 where
   pub random : Stands b p.random h.random.now
   pub session_id : MayStand b p.session_id (option_map (λ x. x.now) h.session_id)
   pub extensions : MayStand b p.ext (option_map (λ x. x.now) h.ext)

@@ -39,7 +39,8 @@ EndsIn b (Some x) r = EndsWith b (x ++ r)
 EndsIn b None r = ⊤
 
 -- The next item is the first of the list, and its content is at its place in the whole.
-pub record YieldsPlaced {S X A : Type 0} (view : X → A) (content : X → Bytes) (whole : S → Bytes) (items : S → List A)
+pub record YieldsPlaced {S X A : Type 0} (view : X → A) (content : X → Bytes) (whole : S → Bytes)
+    (items : S → List A)
     (s : S) (r : Option (X × Place)) (t : S) : Type 0 where
   pub first : YieldsFirstBy (λ x. view x.0) items s r t
   pub same : whole t ≡ whole s
@@ -57,5 +58,7 @@ Found = Result (Option Place) (Failed (Error (Bor (List ℕ))))
 -- A place in the part of b at p becomes one in b: it has the same bytes, or the call the same
 -- refusal.
 abbrev pub TellsTheSame : Bytes → Place → Found → Found → Type 0
-TellsTheSame b p found result = (a : Result (Option Bytes) Refusal) → Lies b p → IsWithin (bytes_at b p) found
-    → Tells (option_map (bytes_at (bytes_at b p))) a found → Tells (option_map (bytes_at b)) a result
+TellsTheSame b p found result = (a : Result (Option Bytes) Refusal) → Lies b p
+    → IsWithin (bytes_at b p) found
+    → Tells (option_map (bytes_at (bytes_at b p))) a found
+    → Tells (option_map (bytes_at b)) a result

@@ -51,7 +51,8 @@ pub fn content_place(
 #[tactic(auto, using(layouts::proofs::OneAnswerLemmas::read_allowed, layouts::proofs::ItemsLemmas::none_in, layouts::proofs::PlaceLemmas::ends_here, crate::proofs::PlaceLemmas::none_stands), unfolding(tls_ext::specs::Content::server_names))]
 #[inline(always)]
 fn server_names_placed(i: &[u8]) -> IResult<&[u8], (Items<ServerName>, Place)>
-    ensures gives { Gives (λ x. extension.server_name (items_in content.server_name x.0.bytes.now)) content.server_names i.now result }
+    ensures gives { Gives (λ x. extension.server_name (items_in content.server_name x.0.bytes.now))
+        content.server_names i.now result }
     ensures stands { IfOk result (λ x. Stands i.now x.1.1 x.1.0.bytes.now) }
 {
     if i.is_empty() {
@@ -67,7 +68,8 @@ fn server_names_placed(i: &[u8]) -> IResult<&[u8], (Items<ServerName>, Place)>
 
 /// The place of the first name in the content of a server_name extension.
 fn first_name_place(i: &[u8]) -> Result<Option<Place>, Err<Error<&[u8]>>>
-    ensures tells { Tells (option_map (bytes_there i.now)) (picked first_name (reading content.server_names i.now)) result }
+    ensures tells { Tells (option_map (bytes_there i.now))
+        (picked first_name (reading content.server_names i.now)) result }
     ensures within { IsWithin i.now result }
 {
     let (_, (names, outer)) = server_names_placed(i)?;
@@ -99,7 +101,8 @@ pub fn host_name_place(block: &[u8]) -> Result<Option<Place>, Err<Error<&[u8]>>>
 #[tactic(auto, using(layouts::proofs::OneAnswerLemmas::read_allowed, layouts::proofs::PlaceLemmas::ends_here), unfolding(tls_ext::specs::Content::application_layer_protocol_negotiation))]
 #[inline(always)]
 fn protocol_names_placed(i: &[u8]) -> IResult<&[u8], (Items<Counted1>, Place)>
-    ensures gives { Gives (λ x. protocol_names_in x.0.bytes.now) content.application_layer_protocol_negotiation i.now result }
+    ensures gives { Gives (λ x. protocol_names_in x.0.bytes.now)
+        content.application_layer_protocol_negotiation i.now result }
     ensures stands { IfOk result (λ x. Stands i.now x.1.1 x.1.0.bytes.now) }
 {
     let (rest, (window, place)) = frame_at::<Counted2>(i, i)?;
@@ -113,7 +116,8 @@ fn protocol_names_placed(i: &[u8]) -> IResult<&[u8], (Items<Counted1>, Place)>
 /// The result and the refusals are those of [`tls_ext::application_protocols`]. The names are the
 /// items of [`Counted1`] there.
 pub fn protocol_names_place(block: &[u8]) -> Result<Option<Place>, Err<Error<&[u8]>>>
-    ensures tells { Tells (option_map (λ p. items_in (counted 1) (bytes_there block.now p))) (protocol_names block.now) result }
+    ensures tells { Tells (option_map (λ p. items_in (counted 1) (bytes_there block.now p)))
+        (protocol_names block.now) result }
     ensures within { IsWithin block.now result }
 {
     let kind = TlsExtensionType::ApplicationLayerProtocolNegotiation;

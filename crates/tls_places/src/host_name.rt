@@ -48,7 +48,8 @@ pub fn body_place(
 #[tactic(auto, using(layouts::proofs::OneAnswerLemmas::read_allowed, crate::proofs::HostNameLemmas::none_told))]
 #[inline(always)]
 pub fn host_name_place_of_hello(body: &[u8]) -> Result<Option<Place>, Err<Error<&[u8]>>>
-    ensures tells { Tells (option_map (bytes_there body.now)) (name_in_hello (reading client_hello body.now)) result }
+    ensures tells { Tells (option_map (bytes_there body.now))
+        (name_in_hello (reading client_hello body.now)) result }
     ensures within { IsWithin body.now result }
 {
     let (rest, (hello, places)) = ClientHelloView::parse_with_places(body)?;
@@ -60,7 +61,8 @@ pub fn host_name_place_of_hello(body: &[u8]) -> Result<Option<Place>, Err<Error<
 
 /// The place of the host name in `fragment`, from the first ClientHello of its handshake messages.
 fn host_name_place_of_fragment(fragment: &[u8]) -> Result<Option<Place>, Err<Error<&[u8]>>>
-    ensures tells { Tells (option_map (bytes_there fragment.now)) (name_in_body (body_of_type 1 fragment.now)) result }
+    ensures tells { Tells (option_map (bytes_there fragment.now))
+        (name_in_body (body_of_type 1 fragment.now)) result }
     ensures within { IsWithin fragment.now result }
 {
     match body_place(fragment, TlsHandshakeType::ClientHello)? {

@@ -27,7 +27,8 @@ pub fn place_before(whole: &[u8], part: &[u8], rest: &[u8]) -> Place
 #[tactic(auto, using(crate::proofs::PlaceLemmas::stands_within))]
 #[inline(always)]
 pub fn place_within(whole: &[u8], outer: Place, inner: Place) -> Place
-    ensures { (x y : Bytes) → Stands whole.now outer x → Stands x inner y → Stands whole.now result y }
+    ensures { (x y : Bytes) → Stands whole.now outer x → Stands x inner y
+        → Stands whole.now result y }
 {
     let offset = outer.offset.saturating_add(inner.offset).min(whole.len());
     Place {
@@ -50,7 +51,8 @@ pub fn bytes_at(whole: &[u8], place: Place) -> &[u8]
 /// The place of an optional part in `whole`, which ends with the part and then `rest`.
 #[inline(always)]
 pub(crate) fn held_before(whole: &[u8], part: Option<&[u8]>, rest: &[u8]) -> Option<Place>
-    ensures { EndsIn whole.now (option_map (λ x. x.now) part.entry) rest.now → MayStand whole.now result (option_map (λ x. x.now) part.entry) }
+    ensures { EndsIn whole.now (option_map (λ x. x.now) part.entry) rest.now
+        → MayStand whole.now result (option_map (λ x. x.now) part.entry) }
 {
     match part {
         Some(bytes) => Some(place_before(whole, bytes, rest)),
@@ -61,7 +63,8 @@ pub(crate) fn held_before(whole: &[u8], part: Option<&[u8]>, rest: &[u8]) -> Opt
 /// The place of an optional part in `whole`, if it begins at `offset`.
 #[inline(always)]
 pub(crate) fn held_from(whole: &[u8], offset: usize, part: Option<&[u8]>) -> Option<Place>
-    ensures { MayBeginAt whole.now offset (option_map (λ x. x.now) part.entry) → MayStand whole.now result (option_map (λ x. x.now) part.entry) }
+    ensures { MayBeginAt whole.now offset (option_map (λ x. x.now) part.entry)
+        → MayStand whole.now result (option_map (λ x. x.now) part.entry) }
 {
     match part {
         Some(bytes) => Some(Place {
@@ -81,7 +84,8 @@ pub(crate) fn outward<'a>(
     found: Result<Option<Place>, Err<Error<&'a [u8]>>>,
 ) -> Result<Option<Place>, Err<Error<&'a [u8]>>>
     ensures tells { TellsTheSame whole.now outer found.entry result }
-    ensures within { Lies whole.now outer → IsWithin (bytes_there whole.now outer) found.entry → IsWithin whole.now result }
+    ensures within { Lies whole.now outer → IsWithin (bytes_there whole.now outer) found.entry
+        → IsWithin whole.now result }
 {
     match found? {
         Some(inner) => Ok(Some(place_within(whole, outer, inner))),

@@ -26,7 +26,8 @@ pub struct ServerHelloPlaces {
 /// The places of a hello's parts in `i`, its body followed by `rest`.
 #[inline(always)]
 fn places_in(i: &[u8], hello: &TlsServerHelloContents, rest: &[u8]) -> ServerHelloPlaces
-    ensures { LiesAsServerHello i.now hello.now rest.now → ServerHelloStands i.now hello.now result }
+    ensures { LiesAsServerHello i.now hello.now rest.now
+        → ServerHelloStands i.now hello.now result }
 {
     ServerHelloPlaces {
         random: Place {

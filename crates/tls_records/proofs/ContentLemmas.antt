@@ -6,11 +6,13 @@ use Rattle.tls_records.specs.Record.{record_header, raw_record, record_content, 
 use Rattle.tls_records.specs.DtlsRecord as dtls
 use Rattle.tls_records.proofs.FramedLemmas.{framed_is_raw_then_content}
 
-pub plaintext_is_raw_then_content : (b : Bytes) → reading plaintext b ≡ reading raw_record b and_then read_content
+pub plaintext_is_raw_then_content : (b : Bytes)
+    → reading plaintext b ≡ reading raw_record b and_then read_content
 unfolding plaintext raw_record
 plaintext_is_raw_then_content b =
     framed_is_raw_then_content record_header (λ h. h.length) record_content
-    (λ h m. record { header = h; messages = m }) (λ h f. record { header = h; fragment = f }) read_content
+    (λ h m. record { header = h; messages = m }) (λ h f. record { header = h; fragment = f })
+    read_content
     (λ h f r. refl) b
 
 -- A record of DTLS is a raw record, then its fragment.
@@ -19,5 +21,6 @@ pub dtls_plaintext_is_raw_then_content : (b : Bytes)
 unfolding dtls.plaintext dtls.raw_record
 dtls_plaintext_is_raw_then_content b =
     framed_is_raw_then_content dtls.record_header (λ h. h.length) dtls.record_content
-    (λ h m. record { header = h; messages = m }) (λ h f. record { header = h; fragment = f }) dtls.read_content
+    (λ h m. record { header = h; messages = m }) (λ h f. record { header = h; fragment = f })
+    dtls.read_content
     (λ h f r. refl) b

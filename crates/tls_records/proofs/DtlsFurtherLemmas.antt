@@ -24,7 +24,8 @@ picked_never_lacks false false false = never-refuse (List Message) Switch
 
 pub content_never_lacks : (h : RecordHeader) → NeverLacks (record_content h)
 unfolding record_content
-content_never_lacks h = picked_never_lacks (h.content_type == 20) (h.content_type == 21) (h.content_type == 22)
+content_never_lacks h =
+    picked_never_lacks (h.content_type == 20) (h.content_type == 21) (h.content_type == 22)
 
 header_counts : CountsMissing record_header
 unfolding record_header
@@ -39,16 +40,19 @@ raw_of h f = record { header = h; fragment = f }
 plaintext_counts : CountsMissing plaintext
 unfolding plaintext
 plaintext_counts =
-    framed_counts record_header (λ h. h.length) record_content whole_of raw_of content_never_lacks header_counts
+    framed_counts record_header (λ h. h.length) record_content whole_of raw_of content_never_lacks
+    header_counts
 
 pub header_decides : (b s : Bytes) → AreBytes b → AreBytes s → Decides record_header b s
-header_decides b s are more = decides record_header (counting_is_stable record_header header_counts) b s are more
+header_decides b s are more =
+    decides record_header (counting_is_stable record_header header_counts) b s are more
 
 pub header_counts_down : (b s : Bytes) → AreBytes b → AreBytes s → CountsDown record_header b s
 header_counts_down b s are more = counts_down record_header header_counts b s are more
 
 pub plaintext_decides : (b s : Bytes) → AreBytes b → AreBytes s → Decides plaintext b s
-plaintext_decides b s are more = decides plaintext (counting_is_stable plaintext plaintext_counts) b s are more
+plaintext_decides b s are more =
+    decides plaintext (counting_is_stable plaintext plaintext_counts) b s are more
 
 pub plaintext_counts_down : (b s : Bytes) → AreBytes b → AreBytes s → CountsDown plaintext b s
 plaintext_counts_down b s are more = counts_down plaintext plaintext_counts b s are more

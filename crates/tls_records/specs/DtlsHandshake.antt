@@ -33,18 +33,22 @@ pub data Body : Type 0 where
 abbrev pub view_body : DTLSMessageHandshakeBody → Body
 view_body dtls_body.HelloRequest = HelloRequest
 view_body (dtls_body.ClientHello h) = ClientHello (dtls_hello.view_client_hello h)
-view_body (dtls_body.HelloVerifyRequest r) = HelloVerifyRequest (dtls_hello.view_hello_verify_request r)
+view_body (dtls_body.HelloVerifyRequest r) =
+    HelloVerifyRequest (dtls_hello.view_hello_verify_request r)
 view_body (dtls_body.ServerHello h) = ServerHello (server_hello.view_server_hello h)
 view_body (dtls_body.NewSessionTicket t) = NewSessionTicket (session.view_new_session_ticket t)
-view_body (dtls_body.HelloRetryRequest r) = HelloRetryRequest (server_hello.view_hello_retry_request r)
+view_body (dtls_body.HelloRetryRequest r) =
+    HelloRetryRequest (server_hello.view_hello_retry_request r)
 view_body (dtls_body.Certificate c) = Certificate (certificate.view_certificate c)
 view_body (dtls_body.ServerKeyExchange k) = ServerKeyExchange k.parameters.now
-view_body (dtls_body.CertificateRequest r) = CertificateRequest (certificate.view_certificate_request r)
+view_body (dtls_body.CertificateRequest r) =
+    CertificateRequest (certificate.view_certificate_request r)
 view_body (dtls_body.ServerDone b) = ServerDone b.now
 view_body (dtls_body.CertificateVerify b) = CertificateVerify b.now
 view_body (dtls_body.ClientKeyExchange k) = ClientKeyExchange (session.view_client_key_exchange k)
 view_body (dtls_body.Finished b) = Finished b.now
-view_body (dtls_body.CertificateStatus s) = CertificateStatus (certificate.view_certificate_status s)
+view_body (dtls_body.CertificateStatus s) =
+    CertificateStatus (certificate.view_certificate_status s)
 view_body (dtls_body.NextProtocol p) = NextProtocol (session.view_next_protocol p)
 view_body (dtls_body.Fragment b) = Fragment b.now
 

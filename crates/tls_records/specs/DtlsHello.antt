@@ -29,7 +29,8 @@ view_client_hello h = record {
 -- The body of a ClientHello: that of TLS, with the cookie after the session id.
 unfoldable pub client_hello : Layout ClientHello
 client_hello =
-    mapped (λ x. record { hello = x.0; cookie = held x.1 }) (hello.client_hello_with (mapped Some (counted 1)))
+    mapped (λ x. record { hello = x.0; cookie = held x.1 })
+    (hello.client_hello_with (mapped Some (counted 1)))
 
 -- The value of a HelloVerifyRequest.
 pub record HelloVerifyRequest : Type 0 where

@@ -36,8 +36,10 @@ view_client_hello_in_place h = record {
 }
 
 abbrev pub view_body_in_place : DTLSBodyView → Body
-view_body_in_place (in_place.ClientHello h) = dtls_handshake.ClientHello (view_client_hello_in_place h)
-view_body_in_place (in_place.Certificate c) = dtls_handshake.Certificate (items_in (counted 3) c.bytes.now)
+view_body_in_place (in_place.ClientHello h) =
+    dtls_handshake.ClientHello (view_client_hello_in_place h)
+view_body_in_place (in_place.Certificate c) =
+    dtls_handshake.Certificate (items_in (counted 3) c.bytes.now)
 view_body_in_place (in_place.Other b) = view_body b
 
 -- A handshake message whose body isn't parsed.

@@ -88,7 +88,8 @@ abbrev pub view_raw_record : DTLSRawRecord → RawRecord
 view_raw_record r = record { header = view_header r.header; fragment = r.fragment.now }
 
 unfoldable pub raw_record : Layout RawRecord
-raw_record = framed_raw_record record_header (λ h. h.length) (λ h fragment. record { header = h; fragment = fragment })
+raw_record = framed_raw_record record_header (λ h. h.length)
+    (λ h fragment. record { header = h; fragment = fragment })
 
 -- The messages in the fragment of a record with this header.
 unfoldable pub record_content : RecordHeader → Layout (List Message)
@@ -104,7 +105,8 @@ pub record Plaintext : Type 0 where
   pub messages : List Message
 
 abbrev pub view_plaintext : DTLSPlaintext → Plaintext
-view_plaintext p = record { header = view_header p.header; messages = map view_message p.messages.items }
+view_plaintext p =
+    record { header = view_header p.header; messages = map view_message p.messages.items }
 
 unfoldable pub plaintext : Layout Plaintext
 plaintext =

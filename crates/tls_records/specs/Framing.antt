@@ -28,7 +28,8 @@ framed_raw_record header length_in record_of = do
 
 -- A record whose fragment is parsed, within the fragment's bytes. Bytes that the content leaves are
 -- dropped.
-abbrev pub framed_record : {H C R : Type 0} → Layout H → (H → ℕ) → (H → Layout C) → (H → C → R) → Layout R
+abbrev pub framed_record : {H C R : Type 0} → Layout H → (H → ℕ) → (H → Layout C)
+    → (H → C → R) → Layout R
 framed_record header length_in content record_of = do
   h ← header
   test (nat_le (length_in h) max_fragment_length) TooLarge

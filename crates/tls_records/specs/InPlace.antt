@@ -39,7 +39,8 @@ first_judged l b = judged (completed (reading l b))
 -- The body of the first handshake message with this type. If there is none, the refusal that ended
 -- the messages before the end of their bytes, if there was one.
 abbrev pub body_of_type : ℕ → Bytes → Result (Option Bytes) Refusal
-body_of_type msg_type b = found (first_of msg_type (items_in raw_handshake b)) (refusal_in raw_handshake b)
+body_of_type msg_type b =
+    found (first_of msg_type (items_in raw_handshake b)) (refusal_in raw_handshake b)
 
 abbrev pub name_in_hello : Answer ClientHello → Result (Option Bytes) Refusal
 name_in_hello (Ok h) = host_name (held h.0.extensions)
@@ -51,7 +52,8 @@ name_in_body (Ok None) = Ok None
 name_in_body (Err e) = Err e
 
 abbrev pub name_in_record : Answer RawRecord → Result (Option Bytes) Refusal
-name_in_record (Ok x) = if x.0.header.content_type == 22 then name_in_body (body_of_type 1 x.0.fragment) else Ok None
+name_in_record (Ok x) = if x.0.header.content_type == 22 then
+    name_in_body (body_of_type 1 x.0.fragment) else Ok None
 name_in_record (Err e) = Err e
 
 -- The host name in the first ClientHello of the record at the start of b.

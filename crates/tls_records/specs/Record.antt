@@ -43,7 +43,8 @@ abbrev pub view_encrypted : TlsEncrypted → RawRecord
 view_encrypted r = record { header = view_header r.hdr; fragment = r.msg.blob.now }
 
 unfoldable pub raw_record : Layout RawRecord
-raw_record = framed_raw_record record_header (λ h. h.length) (λ h fragment. record { header = h; fragment = fragment })
+raw_record = framed_raw_record record_header (λ h. h.length)
+    (λ h fragment. record { header = h; fragment = fragment })
 
 -- The bytes of the raw record v at the start of b: the 5 of its header, and as many as the length
 -- there.

@@ -59,7 +59,8 @@ fragment_text messages = flat_map message_text messages
 -- record's header is ignored.
 unfoldable pub plaintext_text : Plaintext → Bytes
 plaintext_text p =
-    bytes_of 1 p.header.content_type ++ bytes_of 2 p.header.version ++ counted_text 2 (fragment_text p.messages)
+    bytes_of 1 p.header.content_type ++ bytes_of 2 p.header.version ++ counted_text 2
+    (fragment_text p.messages)
 
 -- The record can be written.
 pub record FitsPlaintext (p : Plaintext) : Type 0 where
@@ -106,4 +107,5 @@ normal_plaintext p = record {
 -- Then it can be written, and b is its encoding followed by r.
 abbrev pub WritesBack : Plaintext → Bytes → Bytes → Type 0
 WritesBack p b r =
-    Spells plaintext b p r [] → All IsWrittenBackMessage p.messages → FitsPlaintext p × (b ≡ plaintext_text p ++ r)
+    Spells plaintext b p r [] → All IsWrittenBackMessage p.messages
+    → FitsPlaintext p × (b ≡ plaintext_text p ++ r)

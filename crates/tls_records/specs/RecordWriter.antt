@@ -23,7 +23,8 @@ FitsFragment messages = All FitsMessage messages × (length (fragment_text messa
 -- Computes the length of the messages of a record.
 abbrev pub JudgesFragment : List Message → Result ℕ GenError → Type 0
 JudgesFragment messages r =
-    Judges (FitsFragment messages) (RefusesFirst FitsMessage RefusesMessage messages) (fragment_text messages) r
+    Judges (FitsFragment messages) (RefusesFirst FitsMessage RefusesMessage messages)
+    (fragment_text messages) r
 
 -- Returns the encoding of a message in newly allocated memory.
 abbrev pub BuildsMessage : Message → Result Bytes GenError → Type 0
@@ -34,19 +35,22 @@ abbrev pub BuildsPlaintext : Plaintext → Result Bytes GenError → Type 0
 BuildsPlaintext p r = Builds (FitsPlaintext p) (RefusesPlaintext p) (plaintext_text p) r
 
 -- Appends the encoding of a message to what a `Write` holds.
-abbrev pub WritesMessage : {W : Type 0} → Message → (W → Option Bytes) → W → W → Result Unit GenError → Type 0
+abbrev pub WritesMessage : {W : Type 0} → Message → (W → Option Bytes) → W → W
+    → Result Unit GenError → Type 0
 WritesMessage m contents old new r =
     Writes (FitsMessage m) (λ e. e ≡ refusal_of_message m) (message_text m) contents old new r
 
 -- Appends the encoding of a record to what a `Write` holds.
-abbrev pub WritesPlaintext : {W : Type 0} → Plaintext → (W → Option Bytes) → W → W → Result Unit GenError → Type 0
+abbrev pub WritesPlaintext : {W : Type 0} → Plaintext → (W → Option Bytes) → W → W
+    → Result Unit GenError → Type 0
 WritesPlaintext p contents old new r =
     Writes (FitsPlaintext p) (RefusesPlaintext p) (plaintext_text p) contents old new r
 
 -- These bytes read back as the normal form of the handshake message, with no bytes left, if it can
 -- be read back.
 abbrev pub HandshakeReadsBack : handshakes.Handshake → Bytes → Type 0
-HandshakeReadsBack m b = IsReadableHandshake m → Allows handshake b (Ok (Handshake (normal_handshake m), []))
+HandshakeReadsBack m b = IsReadableHandshake m
+    → Allows handshake b (Ok (Handshake (normal_handshake m), []))
 
 -- These bytes read back as the normal form of the record, with no bytes left, if it can be read
 -- back.

@@ -14,27 +14,31 @@ ghost use Rattle.tls_records.specs.DtlsRecord as dtls;
 /// the rest is that of the raw record.
 #[tactic(auto, using(crate::proofs::ContentLemmas::plaintext_is_raw_then_content))]
 pub fn plaintext_is_raw_record_then_content()
-    ensures { (b : Bytes) → reading tls.plaintext b ≡ (reading tls.raw_record b and_then tls.read_content) }
+    ensures { (b : Bytes)
+        → reading tls.plaintext b ≡ (reading tls.raw_record b and_then tls.read_content) }
 {}
 
 /// A DTLS record is a raw record, then its fragment: the messages are those of the fragment alone,
 /// and the rest is that of the raw record.
 #[tactic(auto, using(crate::proofs::ContentLemmas::dtls_plaintext_is_raw_then_content))]
 pub fn dtls_plaintext_is_raw_record_then_content()
-    ensures { (b : Bytes) → reading dtls.plaintext b ≡ (reading dtls.raw_record b and_then dtls.read_content) }
+    ensures { (b : Bytes)
+        → reading dtls.plaintext b ≡ (reading dtls.raw_record b and_then dtls.read_content) }
 {}
 
 /// The bytes begin with the raw record that is read from them: the 5 bytes of its header, and as
 /// many as the length there, which are its fragment. The others are the rest.
 pub fn raw_record_stands_in_front()
-    ensures { (b r : Bytes) (v : tls.RawRecord) → reading tls.raw_record b ≡ Ok (v, r) → tls.IsInFront v b r }
+    ensures { (b r : Bytes) (v : tls.RawRecord) → reading tls.raw_record b ≡ Ok (v, r)
+        → tls.IsInFront v b r }
 {}
 
 /// A raw record is incomplete exactly if not all of its bytes are present, and the length in its
 /// header of 5 bytes isn't too large.
 #[tactic(auto, using(crate::proofs::RawRecordLemmas::raw_record_lacks))]
 pub fn raw_record_is_incomplete_while_not_whole()
-    ensures { (b : Bytes) → AreBytes b → ((n : ℕ) × Allows tls.raw_record b (Err (Lacks n))) ↔ NeedsMore 5 b }
+    ensures { (b : Bytes) → AreBytes b → ((n : ℕ) × Allows tls.raw_record b (Err (Lacks n)))
+        ↔ NeedsMore 5 b }
 {}
 
 /// A raw record is refused as too large exactly if the 5 bytes of a header are present, and the
@@ -106,25 +110,29 @@ pub fn dtls_plaintext_with_further_bytes()
 /// of 5 bytes isn't too large.
 #[tactic(auto, using(crate::proofs::IncompleteLemmas::plaintext_lacks))]
 pub fn plaintext_is_incomplete_while_not_whole()
-    ensures { (b : Bytes) → AreBytes b → ((n : ℕ) × Allows tls.plaintext b (Err (Lacks n))) ↔ NeedsMore 5 b }
+    ensures { (b : Bytes) → AreBytes b → ((n : ℕ) × Allows tls.plaintext b (Err (Lacks n)))
+        ↔ NeedsMore 5 b }
 {}
 
 /// A DTLS record is incomplete exactly if not all of its bytes are present, and the length in its
 /// header of 13 bytes isn't too large.
 #[tactic(auto, using(crate::proofs::IncompleteLemmas::dtls_plaintext_lacks))]
 pub fn dtls_plaintext_is_incomplete_while_not_whole()
-    ensures { (b : Bytes) → AreBytes b → ((n : ℕ) × Allows dtls.plaintext b (Err (Lacks n))) ↔ NeedsMore 13 b }
+    ensures { (b : Bytes) → AreBytes b → ((n : ℕ) × Allows dtls.plaintext b (Err (Lacks n)))
+        ↔ NeedsMore 13 b }
 {}
 
 /// A record that is read consumes bytes, so a list of records ends exactly where none can be read.
 #[tactic(auto, using(crate::proofs::IncompleteLemmas::plaintext_takes))]
 pub fn plaintext_takes_bytes()
-    ensures { (b r : Bytes) (p : tls.Plaintext) → reading tls.plaintext b ≡ Ok (p, r) → length r < length b }
+    ensures { (b r : Bytes) (p : tls.Plaintext) → reading tls.plaintext b ≡ Ok (p, r)
+        → length r < length b }
 {}
 
 /// A DTLS record that is read consumes bytes, so a list of records ends exactly where none can be
 /// read.
 #[tactic(auto, using(crate::proofs::IncompleteLemmas::dtls_plaintext_takes))]
 pub fn dtls_plaintext_takes_bytes()
-    ensures { (b r : Bytes) (p : dtls.Plaintext) → reading dtls.plaintext b ≡ Ok (p, r) → length r < length b }
+    ensures { (b r : Bytes) (p : dtls.Plaintext) → reading dtls.plaintext b ≡ Ok (p, r)
+        → length r < length b }
 {}

@@ -76,7 +76,8 @@ impl<'a> Protocol<'a> for Tls {
 
 /// Reads application data as a list of one message.
 fn application_data_alone(alloc: Global, i: &[u8]) -> IResult<&[u8], Vec<TlsMessage>>
-    ensures { GivesOrMemory (λ v. map view_message v.items) (mapped (λ m. m ∷ []) application_data) i.now result }
+    ensures { GivesOrMemory (λ v. map view_message v.items) (mapped (λ m. m ∷ []) application_data)
+        i.now result }
 {
     let (i, data) = parse_tls_message_applicationdata(i)?;
     let mut messages = Vec::new(alloc);
@@ -87,7 +88,8 @@ fn application_data_alone(alloc: Global, i: &[u8]) -> IResult<&[u8], Vec<TlsMess
 /// Reads a Heartbeat message as a list of one. Missing bytes are refused as `Complete`: no further
 /// bytes could supply them.
 fn heartbeat_alone(alloc: Global, i: &[u8], len: u16) -> IResult<&[u8], Vec<TlsMessage>>
-    ensures { GivesOrMemory (λ v. map view_message v.items) (complete (heartbeat len)) i.now result }
+    ensures { GivesOrMemory (λ v. map view_message v.items) (complete (heartbeat len))
+        i.now result }
 {
     match parse_tls_message_heartbeat(alloc, i, len) {
         Err(Err::Incomplete(_)) => refused(i, ErrorKind::Complete),
@@ -116,7 +118,8 @@ pub fn parse_tls_record_with_header<'a>(
     i: &'a [u8],
     hdr: &TlsRecordHeader,
 ) -> IResult<&'a [u8], Vec<TlsMessage<'a>>>
-    ensures gives { GivesOrMemory (λ v. map view_message v.items) (record_content (view_header hdr.now)) i.now result }
+    ensures gives { GivesOrMemory (λ v. map view_message v.items) (record_content (view_header hdr.now))
+        i.now result }
     ensures never_incomplete { AsksNoMore result }
 {
     match hdr.record_type {

@@ -34,7 +34,8 @@ pub struct PlaintextView<'a> {
 /// further bytes can follow.
 #[inline(always)]
 pub(crate) fn completed<'a>(i: &'a [u8], e: Err<Error<&'a [u8]>>) -> Err<Error<&'a [u8]>>
-    ensures { IsRefusal e.entry → IsRefusal result × (refusal_of result ≡ as_complete (refusal_of e.entry)) }
+    ensures { IsRefusal e.entry
+        → IsRefusal result × (refusal_of result ≡ as_complete (refusal_of e.entry)) }
 {
     match e {
         Err::Incomplete(_) => Err::Error(Error {
@@ -74,7 +75,8 @@ fn heartbeat_judged(i: &[u8], len: u16) -> Result<(), Err<Error<&[u8]>>>
 /// [`crate::parse_tls_record_with_header`].
 #[tactic(auto, using(crate::proofs::InPlaceLemmas::judges_change_cipher_specs, crate::proofs::InPlaceLemmas::judges_alerts, crate::proofs::InPlaceLemmas::judges_handshakes, crate::proofs::InPlaceLemmas::all_data, crate::proofs::InPlaceLemmas::judges_heartbeat), unfolding(crate::specs::Record::record_content))]
 fn fragment_judged<'a>(i: &'a [u8], hdr: &TlsRecordHeader) -> Result<(), Err<Error<&'a [u8]>>>
-    ensures { Tells (λ u. messages_of_fragment hdr.now i.now) (value_of (reading (record_content (view_header hdr.now)) i.now)) result }
+    ensures { Tells (λ u. messages_of_fragment hdr.now i.now)
+        (value_of (reading (record_content (view_header hdr.now)) i.now)) result }
 {
     match hdr.record_type {
         TlsRecordType::ChangeCipherSpec => first_judged::<ChangeCipherSpec>(i),
@@ -99,7 +101,8 @@ pub fn parse_tls_record_with_header_in_place<'a>(
     i: &'a [u8],
     hdr: &TlsRecordHeader,
 ) -> Result<Messages<'a>, Err<Error<&'a [u8]>>>
-    ensures { Tells (λ m. decode_while message_of (raw_messages m)) (value_of (reading (record_content (view_header hdr.now)) i.now)) result }
+    ensures { Tells (λ m. decode_while message_of (raw_messages m))
+        (value_of (reading (record_content (view_header hdr.now)) i.now)) result }
 {
     fragment_judged(i, hdr)?;
     Ok(Messages::new(hdr.record_type, hdr.len, i))

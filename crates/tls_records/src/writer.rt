@@ -52,7 +52,8 @@ pub trait Serialize {
 
     /// Returns the encoding of the value. Never refuses with `Io`.
     fn serialize(&self, alloc: Global) -> Result<Vec<u8>, GenError>
-        ensures { Builds (Fits self.now) (Refused self.now) (text self.now) (result_map_both (λ v. v.items) (λ e. e) result) };
+        ensures { Builds (Fits self.now) (Refused self.now) (text self.now)
+            (result_map_both (λ v. v.items) (λ e. e) result) };
 }
 
 /// Returns the encoding of a handshake message.
@@ -108,7 +109,8 @@ impl<'a> Serialize for TlsMessageHandshake<'a> {
     /// [`tls_hs::parse_tls_message_handshake`] reads it back, if a ServerHello has a version from
     /// 0x0300 to 0x0303, and that of draft 18 of TLS 1.3 has 0x7f12.
     fn serialize(&self, alloc: Global) -> Result<Vec<u8>, GenError>
-        ensures text { BuildsHandshake (view_handshake self.now) (result_map_both (λ v. v.items) (λ e. e) result) }
+        ensures text { BuildsHandshake (view_handshake self.now)
+            (result_map_both (λ v. v.items) (λ e. e) result) }
         ensures read_back { IfOk result (λ v. HandshakeReadsBack (view_handshake self.now) v.items) }
     {
         handshake_bytes(alloc, self)
@@ -139,7 +141,8 @@ impl<'a> Serialize for TlsPlaintext<'a> {
     /// described there.
     #[tactic(auto, using(crate::proofs::RecordTextLemmas::built_reads))]
     fn serialize(&self, alloc: Global) -> Result<Vec<u8>, GenError>
-        ensures builds { BuildsPlaintext (view_plaintext self.now) (result_map_both (λ v. v.items) (λ e. e) result) }
+        ensures builds { BuildsPlaintext (view_plaintext self.now)
+            (result_map_both (λ v. v.items) (λ e. e) result) }
         ensures read_back { IfOk result (λ v. PlaintextReadsBack (view_plaintext self.now) v.items) }
     {
         plaintext_bytes(alloc, self)
@@ -186,7 +189,8 @@ pub fn gen_tls_plaintext<W: Write>(
     w: &mut W,
 ) -> Result<(), GenError>
     ensures writes { WritesPlaintext (view_plaintext p.now) W.contents w.old w.new result }
-    ensures read_back { IfOk result (λ _. PlaintextReadsBack (view_plaintext p.now) (plaintext_text (view_plaintext p.now))) }
+    ensures read_back { IfOk result
+        (λ _. PlaintextReadsBack (view_plaintext p.now) (plaintext_text (view_plaintext p.now))) }
 {
     let text = plaintext_bytes(alloc, p)?;
     write_whole(w, &text)

@@ -53,22 +53,31 @@ road state.ServerHello = after_hello []
 road state.Certificate = after_certificate []
 road state.CertificateSt = after_certificate (symbol CertificateStatus FromServer ∷ [])
 road state.ServerKeyExchange = after_certificate (symbol ServerKeyExchange FromServer ∷ [])
-road state.ServerHelloDone = after_certificate (symbol ServerKeyExchange FromServer ∷ symbol ServerDone FromServer ∷ [])
-road state.ClientKeyExchange = after_certificate (symbol ServerDone FromServer ∷ symbol ClientKeyExchange ToServer ∷ [])
-road state.ClientChangeCipherSpec = symbol ClientHello ToServer ∷ symbol ServerHelloV13Draft18 FromServer ∷ []
+road state.ServerHelloDone =
+    after_certificate (symbol ServerKeyExchange FromServer ∷ symbol ServerDone FromServer ∷ [])
+road state.ClientKeyExchange =
+    after_certificate (symbol ServerDone FromServer ∷ symbol ClientKeyExchange ToServer ∷ [])
+road state.ClientChangeCipherSpec =
+    symbol ClientHello ToServer ∷ symbol ServerHelloV13Draft18 FromServer ∷ []
 road state.CRCertRequest = after_request []
 road state.CRHelloDone = after_request (symbol ServerDone FromServer ∷ [])
 road state.CRCert = after_request (symbol ServerDone FromServer ∷ symbol Certificate ToServer ∷ [])
 road state.CRClientKeyExchange = after_request
-    (symbol ServerDone FromServer ∷ symbol Certificate ToServer ∷ symbol ClientKeyExchange ToServer ∷ [])
-road state.CRCertVerify = after_certificate (symbol ServerDone FromServer ∷ symbol ClientKeyExchange ToServer ∷ [])
+    (symbol ServerDone FromServer ∷ symbol Certificate ToServer ∷ symbol ClientKeyExchange
+    ToServer ∷ [])
+road state.CRCertVerify =
+    after_certificate (symbol ServerDone FromServer ∷ symbol ClientKeyExchange ToServer ∷ [])
 road state.NoCertSKE = after_hello (symbol ServerKeyExchange FromServer ∷ [])
-road state.NoCertHelloDone = after_hello (symbol ServerKeyExchange FromServer ∷ symbol ServerDone FromServer ∷ [])
-road state.NoCertCKE = after_certificate (symbol ServerDone FromServer ∷ symbol ClientKeyExchange ToServer ∷ [])
+road state.NoCertHelloDone =
+    after_hello (symbol ServerKeyExchange FromServer ∷ symbol ServerDone FromServer ∷ [])
+road state.NoCertCKE =
+    after_certificate (symbol ServerDone FromServer ∷ symbol ClientKeyExchange ToServer ∷ [])
 road state.PskHelloDone = after_certificate (symbol ServerDone FromServer ∷ [])
-road state.PskCKE = after_certificate (symbol ServerDone FromServer ∷ symbol ClientKeyExchange ToServer ∷ [])
+road state.PskCKE =
+    after_certificate (symbol ServerDone FromServer ∷ symbol ClientKeyExchange ToServer ∷ [])
 road state.SessionEncrypted =
-    symbol ClientHello ToServer ∷ symbol ServerHelloV13Draft18 FromServer ∷ symbol ChangeCipherSpec FromServer ∷ []
+    symbol ClientHello ToServer ∷ symbol ServerHelloV13Draft18 FromServer ∷ symbol ChangeCipherSpec
+    FromServer ∷ []
 road state.Alert = symbol Other ToServer ∷ []
 road state.Finished = symbol Other ToServer ∷ []
 road state.Invalid = symbol Other ToServer ∷ []
@@ -95,7 +104,8 @@ abbrev pub turn : Bool → Symbol → Bool
 turn before l = before || is_client_hello l
 
 clean_after_hello : (w : Word)
-    → without_after is_noise turn true w ≡ filter (λ x. not (is_hello_request x)) (filter (λ x. not (is_warning x)) w)
+    → without_after is_noise turn true w ≡ filter (λ x. not (is_hello_request x))
+    (filter (λ x. not (is_warning x)) w)
 clean_after_hello [] = refl
 clean_after_hello (symbol Warning d ∷ w) = clean_after_hello w
 clean_after_hello (symbol HelloRequest d ∷ w) = clean_after_hello w
@@ -105,7 +115,8 @@ pub clean_is : (w : Word) → without_after is_noise turn false w ≡ clean w
 clean_is [] = refl
 clean_is (symbol Warning d ∷ w) = clean_is w
 clean_is (symbol ClientHello d ∷ w) = ap (λ x. symbol ClientHello d ∷ x) (clean_after_hello w)
-clean_is (symbol ClientHelloWithId d ∷ w) = ap (λ x. symbol ClientHelloWithId d ∷ x) (clean_after_hello w)
+clean_is (symbol ClientHelloWithId d ∷ w) =
+    ap (λ x. symbol ClientHelloWithId d ∷ x) (clean_after_hello w)
 clean_is (symbol k d ∷ w) = ap (λ x. symbol k d ∷ x) (clean_is w)
 
 abbrev is_finished : TlsState → Bool
@@ -132,7 +143,8 @@ next_test q x before l =
 abbrev tests_at : TlsState → Bool → Bool
 tests_at q before = list_all (next_test q (waits q) before) symbols
 
-tests_pass : (q : TlsState) → (not (fits q false) || tests_at q false) && (not (fits q true) || tests_at q true) ≡ true
+tests_pass : (q : TlsState) → (not (fits q false) || tests_at q false)
+    && (not (fits q true) || tests_at q true) ≡ true
 tests_pass = elim [ state.None ↦ refl | _ ↦ refl ]
 
 follows_if : (a b : Bool) → (not a || b) ≡ true → a ≡ true → b ≡ true
@@ -140,9 +152,11 @@ follows_if true b h e = h
 follows_if false b h e = cc
 
 tests_pass_at : (q : TlsState) (before : Bool) → (not (fits q before) || tests_at q before) ≡ true
-tests_pass_at q false = (both_and (not (fits q false) || tests_at q false) (not (fits q true) || tests_at q true)
+tests_pass_at q false =
+    (both_and (not (fits q false) || tests_at q false) (not (fits q true) || tests_at q true)
     (tests_pass q)).0
-tests_pass_at q true = (both_and (not (fits q false) || tests_at q false) (not (fits q true) || tests_at q true)
+tests_pass_at q true =
+    (both_and (not (fits q false) || tests_at q false) (not (fits q true) || tests_at q true)
     (tests_pass q)).1
 
 -- Which states and memories belong together.
@@ -159,14 +173,18 @@ module _ (q : TlsState) (before : Bool) (l : Symbol) (h : Fits q before) where
   pub next_fits : Fits (next q l) (turn before l)
   next_fits = next_passes.0
 
-  pub next_waits : waits (next q l) ≡ cond (is_noise before l) (waits q) (behind same_symbol (waits q) l)
-  next_waits = yes_is (same_pattern (waits (next q l)) (waits_next (waits q) before l)) (both_and _ _ next_passes.1).0
+  pub next_waits : waits (next q l) ≡ cond (is_noise before l) (waits q)
+      (behind same_symbol (waits q) l)
+  next_waits = yes_is (same_pattern (waits (next q l)) (waits_next (waits q) before l))
+      (both_and _ _ next_passes.1).0
 
   only_fatal : is_finished (next q l) ≡ true → is_fatal l ≡ true
   only_fatal = follows_if (is_finished (next q l)) (is_fatal l)
-      (both_and (is_yes (same_pattern (waits (next q l)) (waits_next (waits q) before l))) _ next_passes.1).1
+      (both_and (is_yes (same_pattern (waits (next q l)) (waits_next (waits q) before l))) _
+      next_passes.1).1
 
-pub run_fits : (q : TlsState) (before : Bool) (w : Word) → Fits q before → (after : Bool) × Fits (run q w) after
+pub run_fits : (q : TlsState) (before : Bool) (w : Word) → Fits q before
+    → (after : Bool) × Fits (run q w) after
 run_fits q before [] h = (before, h)
 run_fits q before (l ∷ w) h = run_fits (next q l) (turn before l) w (next_fits q before l h)
 
@@ -174,6 +192,7 @@ fatal_symbol : (l : Symbol) → is_fatal l ≡ true → (d : Direction) × (l �
 fatal_symbol (symbol Fatal d) h = (d, refl)
 fatal_symbol _ h = cc
 
-pub finished_by_fatal : (q : TlsState) (before : Bool) (l : Symbol) → Fits q before → next q l ≡ state.Finished
+pub finished_by_fatal : (q : TlsState) (before : Bool) (l : Symbol) → Fits q before
+    → next q l ≡ state.Finished
     → (d : Direction) × (l ≡ symbol Fatal d)
 finished_by_fatal q before l h e = fatal_symbol l (only_fatal q before l h (ap is_finished e))

@@ -35,14 +35,16 @@ any k = client k or server k
 
 -- The end of the server's first messages, and the client's answer without a certificate.
 abbrev pub without_client_certificate : Pattern Symbol
-without_client_certificate = server ServerDone then client ClientKeyExchange then any ChangeCipherSpec
+without_client_certificate = server ServerDone then client ClientKeyExchange then
+    any ChangeCipherSpec
 
 -- The end of the server's first messages with a request for a certificate: the client sends one,
 -- and may prove that it owns it.
 abbrev pub with_client_certificate : Pattern Symbol
 with_client_certificate =
     server CertificateRequest then server ServerDone
-    then client Certificate then client ClientKeyExchange then maybe (any CertificateVerify) then any ChangeCipherSpec
+    then client Certificate then client ClientKeyExchange then maybe (any CertificateVerify) then
+    any ChangeCipherSpec
 
 -- The server's key exchange, optionally after the status of its certificate (RFC 6066, section 8).
 abbrev pub key_exchange : Pattern Symbol
@@ -57,7 +59,8 @@ after_certificate =
 
 -- What follows the ServerHello of a new session: a certificate, or a key exchange alone.
 abbrev pub new_session : Pattern Symbol
-new_session = server Certificate then after_certificate or server ServerKeyExchange then without_client_certificate
+new_session = server Certificate then after_certificate or server ServerKeyExchange then
+    without_client_certificate
 
 -- The first figure of section 7.3, in which the client offers no session.
 abbrev pub full_handshake : Pattern Symbol
@@ -73,7 +76,8 @@ not_resumed = server Certificate then after_certificate
 
 abbrev pub resumption : Pattern Symbol
 resumption =
-    client ClientHelloWithId then many (client ChangeCipherSpec) then server ServerHello then (resumed or not_resumed)
+    client ClientHelloWithId then many (client ChangeCipherSpec) then server ServerHello then
+    (resumed or not_resumed)
 
 -- Draft 18 of TLS 1.3, section 2, up to the first encrypted message.
 abbrev pub draft_18 : Pattern Symbol

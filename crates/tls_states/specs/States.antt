@@ -5,7 +5,8 @@ use Rattle.tls_states.specs.declared.state.TlsState.TheVariants as states
 
 -- No state is at two positions.
 abbrev pub IsOncePlaced : List TlsState → Type 0
-IsOncePlaced qs = (i j : ℕ) (q : TlsState) → slice_get qs i ≡ Some q → slice_get qs j ≡ Some q → i ≡ j
+IsOncePlaced qs = (i j : ℕ) (q : TlsState) → slice_get qs i ≡ Some q
+    → slice_get qs j ≡ Some q → i ≡ j
 
 -- The name of a state is that of its variant.
 abbrev pub state_name : TlsState → List ℕ

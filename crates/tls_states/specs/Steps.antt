@@ -16,7 +16,8 @@ abbrev pub step : TlsState → Symbol → Result TlsState StateChangeError
 step state.None (symbol kind.ClientHello ToServer) = Ok state.ClientHello
 step state.None (symbol kind.ClientHelloWithId ToServer) = Ok state.AskResumeSession
 step state.ClientHello (symbol kind.ServerHello FromServer) = Ok state.ServerHello
-step state.ClientHello (symbol kind.ServerHelloV13Draft18 FromServer) = Ok state.ClientChangeCipherSpec
+step state.ClientHello (symbol kind.ServerHelloV13Draft18 FromServer) =
+    Ok state.ClientChangeCipherSpec
 step state.AskResumeSession (symbol kind.ChangeCipherSpec ToServer) = Ok state.AskResumeSession
 step state.AskResumeSession (symbol kind.ServerHello FromServer) = Ok state.ResumeSession
 step state.ResumeSession (symbol kind.Certificate FromServer) = Ok state.Certificate
@@ -43,8 +44,10 @@ step state.ClientKeyExchange (symbol kind.ChangeCipherSpec d) = Ok state.ClientC
 step state.CRCertVerify (symbol kind.ChangeCipherSpec d) = Ok state.ClientChangeCipherSpec
 step state.NoCertCKE (symbol kind.ChangeCipherSpec d) = Ok state.ClientChangeCipherSpec
 step state.PskCKE (symbol kind.ChangeCipherSpec d) = Ok state.ClientChangeCipherSpec
-step state.ClientChangeCipherSpec (symbol kind.NewSessionTicket FromServer) = Ok state.ClientChangeCipherSpec
-step state.ClientChangeCipherSpec (symbol kind.ChangeCipherSpec FromServer) = Ok state.SessionEncrypted
+step state.ClientChangeCipherSpec (symbol kind.NewSessionTicket FromServer) =
+    Ok state.ClientChangeCipherSpec
+step state.ClientChangeCipherSpec (symbol kind.ChangeCipherSpec FromServer) =
+    Ok state.SessionEncrypted
 step state.Invalid l = Ok state.Invalid
 step state.SessionEncrypted l = Ok state.SessionEncrypted
 step state.Finished l = Ok state.Invalid
@@ -78,6 +81,7 @@ abbrev pub run : TlsState → Word → TlsState
 run q w = words.run next q w
 
 -- A step was taken: the state that it leads to, and the result of the call.
-abbrev pub IsUpdate : Result TlsState StateChangeError → TlsState → Result Unit StateChangeError → Type 0
+abbrev pub IsUpdate : Result TlsState StateChangeError → TlsState
+    → Result Unit StateChangeError → Type 0
 IsUpdate (Ok q) end answer = (end ≡ q) × (answer ≡ Ok tt)
 IsUpdate (Err e) end answer = (end ≡ state.Invalid) × (answer ≡ Err e)

@@ -19,7 +19,8 @@ next_in (r ∷ rows) k d =
 abbrev pub next_after : List Row → TlsState → Kind → Direction → Option TlsState
 next_after [] q k d = None
 next_after (r ∷ rows) q k d = if sameb states r.state q &&
-    (sameb kinds r.kind k && sameb directions r.direction d) then Some r.next else next_after rows q k d
+    (sameb kinds r.kind k && sameb directions r.direction d) then
+    Some r.next else next_after rows q k d
 
 -- No two rows have the same state, kind and direction.
 abbrev pub IsOneRowEach : List Row → Type 0

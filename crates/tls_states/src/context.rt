@@ -47,7 +47,8 @@ impl ParseContext {
     /// [`TlsState::Finished`] comes `Invalid`.
     pub fn update(&mut self, msg: &TlsMessage<'_>, to_server: bool) -> Result<(), StateChangeError>
         ensures step { IsUpdate (step self.old (symbol_of msg.now to_server)) self.new result }
-        ensures encrypted_kept { self.old ≡ state.SessionEncrypted → (self.new ≡ state.SessionEncrypted) × (result ≡ Ok tt) }
+        ensures encrypted_kept { self.old ≡ state.SessionEncrypted
+            → (self.new ≡ state.SessionEncrypted) × (result ≡ Ok tt) }
         ensures invalid_kept { self.old ≡ state.Invalid → (self.new ≡ state.Invalid) × (result ≡ Ok tt) }
         ensures nothing_follows { self.old ≡ state.Finished → (self.new ≡ state.Invalid) × (result ≡ Ok tt) }
     {
@@ -76,8 +77,10 @@ impl ParseContext {
     ///   off. A message after that alert makes it `Invalid`.
     pub fn run(&mut self, messages: &[(TlsMessage<'_>, bool)])
         ensures by_steps { self.new ≡ run_of self.old (word messages.now) }
-        ensures encrypted { self.old ≡ state.None → (self.new ≡ state.SessionEncrypted) ↔ HasHandshake (word messages.now) }
-        ensures invalid { self.old ≡ state.None → (self.new ≡ state.Invalid) ↔ IsNoHandshake (word messages.now) }
+        ensures encrypted { self.old ≡ state.None → (self.new ≡ state.SessionEncrypted)
+            ↔ HasHandshake (word messages.now) }
+        ensures invalid { self.old ≡ state.None → (self.new ≡ state.Invalid)
+            ↔ IsNoHandshake (word messages.now) }
     {
         for i in 0..messages.len() {
             let (message, to_server) = &messages[i];
@@ -89,8 +92,10 @@ impl ParseContext {
     /// messages into a list.
     pub fn run_borrowed(&mut self, messages: &[(&TlsMessage<'_>, bool)])
         ensures by_steps { self.new ≡ run_of self.old (borrowed_word messages.now) }
-        ensures encrypted { self.old ≡ state.None → (self.new ≡ state.SessionEncrypted) ↔ HasHandshake (borrowed_word messages.now) }
-        ensures invalid { self.old ≡ state.None → (self.new ≡ state.Invalid) ↔ IsNoHandshake (borrowed_word messages.now) }
+        ensures encrypted { self.old ≡ state.None → (self.new ≡ state.SessionEncrypted)
+            ↔ HasHandshake (borrowed_word messages.now) }
+        ensures invalid { self.old ≡ state.None → (self.new ≡ state.Invalid)
+            ↔ IsNoHandshake (borrowed_word messages.now) }
     {
         for i in 0..messages.len() {
             let (message, to_server) = &messages[i];

@@ -83,9 +83,12 @@ macro_rules! states {
     ($then:ident $($words:tt)*) => {
         $then! {
             [$($words)*]
-            None, ClientHello, AskResumeSession, ResumeSession, ServerHello, Certificate, CertificateSt,
-            ServerKeyExchange, ServerHelloDone, ClientKeyExchange, ClientChangeCipherSpec, CRCertRequest,
-            CRHelloDone, CRCert, CRClientKeyExchange, CRCertVerify, NoCertSKE, NoCertHelloDone, NoCertCKE,
+            None, ClientHello, AskResumeSession, ResumeSession, ServerHello, Certificate,
+                CertificateSt,
+            ServerKeyExchange, ServerHelloDone, ClientKeyExchange, ClientChangeCipherSpec,
+                CRCertRequest,
+            CRHelloDone, CRCert, CRClientKeyExchange, CRCertVerify, NoCertSKE,
+                NoCertHelloDone, NoCertCKE,
             PskHelloDone, PskCKE, SessionEncrypted, Alert, Finished, Invalid
         }
     };

@@ -141,10 +141,13 @@ macro_rules! count {
 /// Expands to a match with an arm for each state, which searches its rows. The compiler turns it
 /// into comparisons with constants.
 macro_rules! search {
-    ([$at:ident $sought:ident $to:ident] $($state:ident { $($kind:ident $direction:ident => $next:ident;)* })*) => {
+    ([$at:ident $sought:ident $to:ident]
+        $($state:ident { $($kind:ident $direction:ident => $next:ident;)* })*) => {
         match $at {
-            $(TlsState::$state => next_in(&[$(row!($state $kind $direction $next)),*], $sought, $to),)*
-            TlsState::SessionEncrypted | TlsState::Alert | TlsState::Finished | TlsState::Invalid => None,
+            $(TlsState::$state =>
+                next_in(&[$(row!($state $kind $direction $next)),*], $sought, $to),)*
+            TlsState::SessionEncrypted | TlsState::Alert | TlsState::Finished
+                | TlsState::Invalid => None,
         }
     };
 }

@@ -18,7 +18,8 @@ use Rattle.tls_stream.specs.Held.{Held}
 
 pub both : {a b c d : Bytes} → a ≡ b → c ≡ d
     → ◌≡◌ {A = Held} (record { part = a; unread = c }) (record { part = b; unread = d })
-both {b = b} {c = c} e f = ap (λ x. record { part = x; unread = c }) e ∙ ap (λ x. record { part = b; unread = x }) f
+both {b = b} {c = c} e f = ap (λ x. record { part = x; unread = c }) e
+    ∙ ap (λ x. record { part = b; unread = x }) f
 
 part_moved : (b s : Bytes) (p e n : ℕ) → p ≤ e → e ≤ length b → n ≤ length s
     → take (e + n - p) (drop p (paste b e s n)) ≡ take (e - p) (drop p b) ++ take n s
@@ -39,7 +40,8 @@ pub joined_part : (b : Bytes) (p e u n : ℕ) → p ≤ e → e ≤ u → 5 + n 
     ++ take n (drop 5 (drop u b))
 joined_part b p e u n low mid within =
     let count : u + 5 + n - (u + 5) ≡ n = omega arith in
-    let enough : n ≤ length (drop (u + 5) b) = omega (arith, within, length-drop u b, length-drop (u + 5) b) in
+    let enough : n ≤ length (drop (u + 5) b) =
+    omega (arith, within, length-drop u b, length-drop (u + 5) b) in
     let high : e ≤ length b = omega (arith, mid, within, length-drop u b) in
     ap (λ k. take (e + n - p) (drop p (paste b e (drop (u + 5) b) k))) count
     ∙ part_moved b (drop (u + 5) b) p e n low high enough
@@ -66,7 +68,8 @@ joined_unread b e u n mid within =
 
 -- The fragment isn't moved if no message is open.
 pub stays_part : (b : Bytes) (p e u n : ℕ) → p ≡ e
-    → take (u + 5 + n - (u + 5)) (drop (u + 5) b) ≡ take (e - p) (drop p b) ++ take n (drop 5 (drop u b))
+    → take (u + 5 + n - (u + 5)) (drop (u + 5) b) ≡ take (e - p) (drop p b) ++ take n
+    (drop 5 (drop u b))
 stays_part b p e u n same =
     let count : u + 5 + n - (u + 5) ≡ n = omega arith in
     let none : e - p ≡ 0 = omega arith in
@@ -80,7 +83,8 @@ stays_unread b u n = let same : u + 5 + n ≡ u + (5 + n) =
 
 -- The buffered bytes, moved to the beginning.
 moved : (b : Bytes) (p k u m : ℕ) → p + k ≤ u → u + m ≡ length b
-    → take (k + m) (paste (paste b 0 (drop p b) k) k (drop u (paste b 0 (drop p b) k)) m) ≡ take k (drop p b)
+    → take (k + m) (paste (paste b 0 (drop p b) k) k (drop u (paste b 0 (drop p b) k)) m) ≡ take
+    k (drop p b)
     ++ drop u b
 moved b p k u m low all =
     let s = drop p b in
@@ -88,20 +92,23 @@ moved b p k u m low all =
     let one = paste b 0 s k in
     let same : length one ≡ length b = length-paste b 0 s k (omega (arith, low, all)) few in
     let at : k ≡ 0 + k = omega arith in
-    let first : take k one ≡ take k s = ap (λ i. take i one) at ∙ take-paste b 0 s k (omega arith) few in
+    let first : take k one ≡ take k s = ap (λ i. take i one) at
+    ∙ take-paste b 0 s k (omega arith) few in
     let far : u ≡ (0 + k) + (u - k) = omega (arith, low) in
     let others : drop u one ≡ drop u b =
     ap (λ i. drop i one) far ∙ sym (drop-drop (u - k) (0 + k) one)
     ∙ ap (drop (u - k)) (drop-paste b 0 s k (omega arith) few) ∙ drop-drop (u - k) (0 + k) b
     ∙ ap (λ i. drop i b) (sym far) in
     let rest : m ≡ length (drop u b) = omega (arith, all, length-drop u b) in
-    take-paste one k (drop u one) m (omega (arith, same, low, all)) (omega (arith, rest, ap length others))
+    take-paste one k (drop u one) m (omega (arith, same, low, all))
+    (omega (arith, rest, ap length others))
     ∙ ap (λ x. x ++ take m (drop u one)) first
     ∙ ap (λ x. take k s ++ take m x) others
     ∙ ap (λ i. take k s ++ take i (drop u b)) rest
     ∙ ap (λ x. take k s ++ x) (take-length (drop u b))
 
-pub part_taken : (b : Bytes) (p e n : ℕ) → p ≤ e → n ≤ length (take (e - p) (drop p b)) → e ≤ length b
+pub part_taken : (b : Bytes) (p e n : ℕ) → p ≤ e → n ≤ length (take (e - p) (drop p b))
+    → e ≤ length b
     → take (e - (p + n)) (drop (p + n) b) ≡ drop n (take (e - p) (drop p b))
 part_taken b p e n low few high =
     let size : length (take (e - p) (drop p b)) ≡ e - p =
@@ -112,14 +119,17 @@ part_taken b p e n low few high =
     ∙ ap (λ k. drop n (take k (drop p b))) (sym all)
 
 -- After the move the bytes are the same.
-pub moved_part : (b c : Bytes) (p k u : ℕ) → k ≤ length (drop p b) → c ≡ take k (drop p b) ++ drop u b
+pub moved_part : (b c : Bytes) (p k u : ℕ) → k ≤ length (drop p b)
+    → c ≡ take k (drop p b) ++ drop u b
     → take k (drop 0 c) ≡ take k (drop p b)
 moved_part b c p k u few is =
     ap (λ c. take k c) is
-    ∙ take-append-le k (take k (drop p b)) (drop u b) (omega (arith, length-take-le k (drop p b) few))
+    ∙ take-append-le k (take k (drop p b)) (drop u b)
+    (omega (arith, length-take-le k (drop p b) few))
     ∙ take-take k k (drop p b) (omega arith)
 
-pub moved_unread : (b c : Bytes) (p k u : ℕ) → k ≤ length (drop p b) → c ≡ take k (drop p b) ++ drop u b
+pub moved_unread : (b c : Bytes) (p k u : ℕ) → k ≤ length (drop p b)
+    → c ≡ take k (drop p b) ++ drop u b
     → drop k c ≡ drop u b
 moved_unread b c p k u few is =
     ap (drop k) is
@@ -127,7 +137,8 @@ moved_unread b c p k u few is =
     ∙ drop-append_seam (take k (drop p b)) (drop u b)
 
 pub room : (b c1 c2 c : Bytes) (p e u n : ℕ) → p ≤ e → e ≤ u → u ≤ length b → n ≡ length b
-    → c1 ≡ copy_within b p e 0 → c2 ≡ copy_within c1 u (length c1) (e - p) → c ≡ take (e - p + (n - u)) c2
+    → c1 ≡ copy_within b p e 0 → c2 ≡ copy_within c1 u (length c1) (e - p)
+    → c ≡ take (e - p + (n - u)) c2
     → c ≡ take (e - p) (drop p b) ++ drop u b
 room b c1 c2 c p e u n low mid high all first second third =
     let k = e - p in
@@ -156,7 +167,8 @@ pushed_part b s e k n high few =
     drop-drop k e (paste b e s k) ∙ drop-paste b e s k within few in
     take-add k n c ∙ ap (λ x. x ++ take n (drop k c)) first ∙ ap (λ x. take k s ++ take n x) behind
 
-module _ (b : Bytes) (p e u n : ℕ) (low : p ≤ e) (mid : e ≤ u) (within : 5 + n ≤ length (drop u b)) where
+module _ (b : Bytes) (p e u n : ℕ) (low : p ≤ e) (mid : e ≤ u)
+    (within : 5 + n ≤ length (drop u b)) where
   abbrev open_length : ℕ
   open_length = e - p
 

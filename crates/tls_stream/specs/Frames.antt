@@ -71,7 +71,8 @@ NeedsMore f b = (IsWhole f b → ⊥) × (IsTooLarge f b → ⊥)
 -- The first frame and the bytes after it, if it is whole and not too large.
 unfoldable pub front : Shape → Bytes → Option (Bytes × Bytes)
 front f b = cond (nat_le (size f b) (length b))
-    (cond (nat_le (body_length f b) f.limit) (Some (take (size f b) b, drop (size f b) b)) None) None
+    (cond (nat_le (body_length f b) f.limit) (Some (take (size f b) b, drop (size f b) b)) None)
+    None
 
 -- The frame alone.
 abbrev pub frame_of : Option (Bytes × Bytes) → Option Bytes
@@ -79,7 +80,8 @@ frame_of (Some x) = Some x.0
 frame_of None = None
 
 -- A frame taken off b, and more after it; otherwise no frames, and all of b is left.
-abbrev pub with_frame : Option (Bytes × Bytes) → (Bytes → List Bytes × Bytes) → Bytes → List Bytes × Bytes
+abbrev pub with_frame : Option (Bytes × Bytes) → (Bytes → List Bytes × Bytes) → Bytes
+    → List Bytes × Bytes
 with_frame None more b = ([], b)
 with_frame (Some x) more b = (x.0 ∷ (more x.1).0, (more x.1).1)
 
@@ -118,7 +120,8 @@ pub record IsSplit (f : Shape) (x : Bytes) (taken : List Bytes) (held : Bytes) :
 -- Two ways to cut the same bytes give the same frames.
 abbrev pub CuttingsTakeTheSame : Shape → Type 0
 CuttingsTakeTheSame f = (p q : List (Bor (List ℕ))) (taken taken' : List Bytes) (held held' : Bytes)
-    → joined p ≡ joined q → IsSplit f (joined p) taken held → IsSplit f (joined q) taken' held' → taken ≡ taken'
+    → joined p ≡ joined q → IsSplit f (joined p) taken held → IsSplit f (joined q) taken' held'
+    → taken ≡ taken'
 
 -- They also hold the same bytes, unless the next header's length is too large.
 abbrev pub CuttingsHoldTheSame : Shape → Type 0

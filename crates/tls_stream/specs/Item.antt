@@ -101,7 +101,8 @@ is_known kind = nat_le 20 kind && nat_le kind 24
 -- Why a record with this header is refused.
 abbrev pub refusal : Bool → ℕ → ℕ → Option ErrorKind
 refusal true kind n = cond (nat_le n max_encrypted_length) None (Some TooLarge)
-refusal false kind n = cond (is_known kind) (cond (nat_le n max_fragment_length) None (Some TooLarge)) (Some Switch)
+refusal false kind n =
+    cond (is_known kind) (cond (nat_le n max_fragment_length) None (Some TooLarge)) (Some Switch)
 
 -- Why the record that these bytes start with is refused.
 abbrev pub refused : Standing → Bytes → Option ErrorKind

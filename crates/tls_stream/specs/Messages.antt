@@ -14,5 +14,6 @@ abbrev pub messages_of : ℕ → ℕ → Shape
 messages_of limit kind = cond (kind == 21) (up_to alerts 0) (message_frame limit)
 
 abbrev pub event_of : ℕ → Bytes → Event
-event_of kind y = cond (kind == 21) (Alert (record { level = slice_index y 0; description = slice_index y 1 }))
+event_of kind y =
+    cond (kind == 21) (Alert (record { level = slice_index y 0; description = slice_index y 1 }))
     (Handshake y)

@@ -20,7 +20,11 @@ record_frame = up_to records max_fragment_length
 
 -- Handshake messages (RFC 5246, section 7.4): 1 byte of type and 3 of the body's length.
 abbrev pub messages : Kind
-messages = record { header = 4; body_in = λ h. (slice_index h 1 * 256 + slice_index h 2) * 256 + slice_index h 3 }
+messages = record {
+  header = 4;
+  body_in =
+      λ h. (slice_index h 1 * 256 + slice_index h 2) * 256 + slice_index h 3;
+}
 
 abbrev pub message_frame : ℕ → Shape
 message_frame limit = up_to messages limit

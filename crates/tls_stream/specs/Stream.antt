@@ -79,18 +79,23 @@ closed f (b ∷ bs) others = too_large_or f (b ∷ bs) (Failed fault.Interrupted
 
 -- The events of the fragments of a type joined so far, and of what follows them.
 abbrev pub events_of : ℕ → ℕ → Bytes → List Item → List Event
-events_of limit kind b [] = said limit kind b ++ too_large_or (messages_of limit kind) (open_part limit kind b) []
+events_of limit kind b [] =
+    said limit kind b ++ too_large_or (messages_of limit kind) (open_part limit kind b) []
 events_of limit kind b (Fragment k f ∷ is) =
     cond (k == kind) (events_of limit kind (b ++ f) is)
-    (said limit kind b ++ closed (messages_of limit kind) (open_part limit kind b) (events_of limit k f is))
+    (said limit kind b ++ closed (messages_of limit kind) (open_part limit kind b)
+    (events_of limit k f is))
 events_of limit kind b (Alone e ∷ is) =
-    said limit kind b ++ closed (messages_of limit kind) (open_part limit kind b) (e ∷ events_of limit kind [] is)
+    said limit kind b ++ closed (messages_of limit kind) (open_part limit kind b)
+    (e ∷ events_of limit kind [] is)
 events_of limit kind b (Broken k ∷ is) =
-    said limit kind b ++ too_large_or (messages_of limit kind) (open_part limit kind b) (Failed (fault.Refused k) ∷ [])
+    said limit kind b ++ too_large_or (messages_of limit kind) (open_part limit kind b)
+    (Failed (fault.Refused k) ∷ [])
 
 -- A fragment joins with a following one of its type.
 abbrev pub onto_fragment : ℕ → Bytes → List Item → List Item
-onto_fragment k f (Fragment j g ∷ is) = cond (j == k) (Fragment k (f ++ g) ∷ is) (Fragment k f ∷ Fragment j g ∷ is)
+onto_fragment k f (Fragment j g ∷ is) =
+    cond (j == k) (Fragment k (f ++ g) ∷ is) (Fragment k f ∷ Fragment j g ∷ is)
 onto_fragment k f is = Fragment k f ∷ is
 
 -- The fragments joined, as long as no other record comes between them.
@@ -159,7 +164,8 @@ alone_record d = alone_in d (front wide_record d.held.unread)
 
 abbrev pub first_record : Stream → Option (Bytes × Bytes) → Option (Event × Stream)
 first_record d None = None
-first_record d (Some x) = option_map (λ e. (e, behind_record d x)) (alone d.held.part (item_of (standing d) x.0))
+first_record d (Some x) =
+    option_map (λ e. (e, behind_record d x)) (alone d.held.part (item_of (standing d) x.0))
 
 abbrev pub first_message : Stream → Option (Bytes × Bytes) → Option (Event × Stream)
 first_message d (Some x) = Some (event_of d.kind x.0, behind_message d x)

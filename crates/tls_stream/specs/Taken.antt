@@ -27,7 +27,8 @@ handshake_in e = None
 
 -- The messages taken and those still to come are the same in all.
 abbrev pub TakesSame : List Bytes → Direction → List Bytes → Direction → Type 0
-TakesSame taken old taken' new = (s : Bytes) → with_those_of taken old s ≡ with_those_of taken' new s
+TakesSame taken old taken' new = (s : Bytes)
+    → with_those_of taken old s ≡ with_those_of taken' new s
 
 -- No event is left: more bytes are needed, or the direction is at fault, whatever is fed.
 abbrev pub IsOver : Direction → Bool → Type 0

@@ -101,7 +101,8 @@ impl Conversation {
     /// If it is the first message that chooses TLS 1.3, both sides are read as TLS 1.3 from there
     /// on.
     pub fn take_front_as(&mut self, side: Direction, event: Event) -> bool
-        ensures taken { IsEventOf event side (front_of (ear_of self.old side)) → IsTakenBy (front_of (ear_of self.old side)) self.old side result self.new }
+        ensures taken { IsEventOf event side (front_of (ear_of self.old side))
+            → IsTakenBy (front_of (ear_of self.old side)) self.old side result self.new }
         ensures ready { IsReady (ear_of self.old side) → IsReady (ear_of self.new side) }
     {
         let is_taken = match side {

@@ -22,9 +22,14 @@ impl Model for Held {
     ghost Value = { Bytes };
 
     ghost view = { λ h.
-        record { part = take (h.part_end - h.part) (drop h.part h.bytes.items); unread = drop h.unread h.bytes.items } };
+        record {
+          part = take (h.part_end - h.part) (drop h.part h.bytes.items);
+          unread =
+              drop h.unread h.bytes.items;
+        } };
 
-    ghost invariant = { λ h. (h.part ≤ h.part_end) × (h.part_end ≤ h.unread) × (h.unread ≤ length h.bytes.items) };
+    ghost invariant = { λ h. (h.part ≤ h.part_end) × (h.part_end ≤ h.unread)
+        × (h.unread ≤ length h.bytes.items) };
 }
 
 impl Held {
@@ -120,7 +125,9 @@ impl Held {
     /// Appends the piece. `AllocError` if there is no memory for it: then nothing changes.
     pub fn append(&mut self, piece: &[u8]) -> Result<(), AllocError>
         ensures { self.new
-            ≡ (if is_ok result then record { part = self.old.part; unread = self.old.unread ++ piece.now } else self.old) }
+            ≡ (if is_ok result then
+            record { part = self.old.part; unread = self.old.unread ++ piece.now } else
+            self.old) }
     {
         self.make_room();
         self.bytes.extend_from_slice(piece)

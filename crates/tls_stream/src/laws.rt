@@ -19,8 +19,10 @@ ghost use Rattle.tls_stream.specs.declared.direction.Direction.{Direction};
 /// frames and all bytes are left.
 #[tactic(auto, using(crate::proofs::FrameLemmas::first_frame, crate::proofs::FrameLemmas::no_frame))]
 pub fn frames_stand_one_by_one()
-    ensures first { (f : Shape) (b y r : Bytes) → 0 < f.header → front f b ≡ Some (y, r) → (frames f b ≡ y ∷ frames f r) × (left f b ≡ left f r) }
-    ensures none { (f : Shape) (b : Bytes) → 0 < f.header → front f b ≡ None → (frames f b ≡ []) × (left f b ≡ b) }
+    ensures first { (f : Shape) (b y r : Bytes) → 0 < f.header → front f b ≡ Some (y, r)
+        → (frames f b ≡ y ∷ frames f r) × (left f b ≡ left f r) }
+    ensures none { (f : Shape) (b : Bytes) → 0 < f.header → front f b ≡ None
+        → (frames f b ≡ []) × (left f b ≡ b) }
 {}
 
 /// The frames, joined, followed by what is left, are the bytes.
@@ -39,7 +41,8 @@ pub fn no_frame_is_left()
 /// followed by the second.
 #[tactic(auto, using(crate::proofs::FrameLemmas::more_frames, crate::proofs::FrameLemmas::more_left))]
 pub fn frames_with_further_bytes()
-    ensures more { (f : Shape) (b s : Bytes) → 0 < f.header → frames f (b ++ s) ≡ frames f b ++ frames f (left f b ++ s) }
+    ensures more { (f : Shape) (b s : Bytes) → 0 < f.header
+        → frames f (b ++ s) ≡ frames f b ++ frames f (left f b ++ s) }
     ensures rest { (f : Shape) (b s : Bytes) → 0 < f.header → left f (b ++ s) ≡ left f (left f b ++ s) }
 {}
 
@@ -48,7 +51,8 @@ pub fn frames_with_further_bytes()
 #[tactic(auto, using(crate::proofs::FrontLemmas::some_front, crate::proofs::FrontLemmas::front_stays, crate::proofs::FrontLemmas::large_longer))]
 pub fn what_stands_in_front()
     ensures there { (f : Shape) (b : Bytes) → IsSome (front f b) ↔ (IsWhole f b × (IsTooLarge f b → ⊥)) }
-    ensures stays { (f : Shape) (b s y r : Bytes) → front f b ≡ Some (y, r) → front f (b ++ s) ≡ Some (y, r ++ s) }
+    ensures stays { (f : Shape) (b s y r : Bytes) → front f b ≡ Some (y, r)
+        → front f (b ++ s) ≡ Some (y, r ++ s) }
     ensures too_large { (f : Shape) (b s : Bytes) → IsTooLarge f b → IsTooLarge f (b ++ s) }
 {}
 
@@ -74,7 +78,8 @@ pub fn records_are_what_is_read()
 /// the same rest.
 #[tactic(auto, using(crate::proofs::MessageLemmas::message_is_read))]
 pub fn messages_are_read_alone()
-    ensures { (limit : ℕ) (b y r : Bytes) → front (message_frame limit) b ≡ Some (y, r) → reading handshake b ≡ with_rest r (reading handshake y) }
+    ensures { (limit : ℕ) (b y r : Bytes) → front (message_frame limit) b ≡ Some (y, r)
+        → reading handshake b ≡ with_rest r (reading handshake y) }
 {}
 
 /// If a message isn't whole, [`tls_hs::parse_tls_message_handshake`] returns `Incomplete`.
@@ -95,7 +100,8 @@ pub fn the_event_in_front_is_the_first()
 #[tactic(auto, using(crate::proofs::DirectionLemmas::fed_twice, crate::proofs::DirectionLemmas::fed_joined))]
 pub fn pieces_count_as_they_are_joined()
     ensures two { (d : Direction) (s t : Bytes) → fed (fed d s) t ≡ fed d (s ++ t) }
-    ensures all { (d : Direction) (ps qs : List Bytes) → concat ps ≡ concat qs → fed_all d ps ≡ fed_all d qs }
+    ensures all { (d : Direction) (ps qs : List Bytes) → concat ps ≡ concat qs
+        → fed_all d ps ≡ fed_all d qs }
 {}
 
 /// Records have the same events if their message fragments, joined between the same other records,
@@ -104,6 +110,7 @@ pub fn pieces_count_as_they_are_joined()
 pub fn fragments_count_as_they_are_joined()
     ensures items { (limit kind : ℕ) (part : Bytes) (is js : List Item) → joined_items is ≡ joined_items js
         → events_of limit kind part is ≡ events_of limit kind part js }
-    ensures streams { (d : Direction) (x y : Bytes) → joined_items (items_with d x) ≡ joined_items (items_with d y)
+    ensures streams { (d : Direction) (x y : Bytes)
+        → joined_items (items_with d x) ≡ joined_items (items_with d y)
         → events (fed d x) ≡ events (fed d y) }
 {}

@@ -160,7 +160,8 @@ impl<F: Frame, const LIMIT: usize> Frames<F, LIMIT> {
         ensures too_large { (result ≡ Err feed_error.TooLarge) ↔ IsTooLarge (up_to F.kind LIMIT) self.old }
         ensures held { self.new ≡ (if is_ok result then self.old ++ piece.now else self.old) }
         ensures frames { let f = up_to F.kind LIMIT in
-            OnOk result (frames f self.new ≡ frames f self.old ++ frames f (left f self.old ++ piece.now)) }
+            OnOk result (frames f self.new ≡ frames f self.old ++ frames f
+            (left f self.old ++ piece.now)) }
     {
         if self.is_too_large() {
             return Err(FeedError::TooLarge);

@@ -15,7 +15,8 @@ fn take_frames<F: Frame, const LIMIT: usize>(
     taken: &mut Vec<Vec<u8>>,
 ) -> Result<(), OutOfMemory>
     ensures { let f = up_to F.kind LIMIT in
-        OnOk result ((elements taken.new.items ≡ elements taken.old.items ++ frames f stream.old) × (stream.new ≡ left f stream.old)) }
+        OnOk result ((elements taken.new.items ≡ elements taken.old.items ++ frames f stream.old)
+        × (stream.new ≡ left f stream.old)) }
 {
     while let Some(bytes) = stream.front_bytes() {
         let frame = Vec::from_slice(alloc, bytes)?;
@@ -36,7 +37,8 @@ pub fn split_frames<F: Frame, const LIMIT: usize>(
     alloc: Global,
     pieces: &[&[u8]],
 ) -> Result<(Vec<Vec<u8>>, Frames<F, LIMIT>), OutOfMemory>
-    ensures { IfOk result (λ r. IsSplit (up_to F.kind LIMIT) (joined pieces.now) (elements r.0.items) r.1) }
+    ensures { IfOk result
+        (λ r. IsSplit (up_to F.kind LIMIT) (joined pieces.now) (elements r.0.items) r.1) }
 {
     let mut stream = Frames::<F, LIMIT>::new(alloc);
     let mut taken = Vec::new(alloc);
@@ -68,7 +70,8 @@ pub fn join_messages<const LIMIT: usize>(
     alloc: Global,
     fragments: &[&[u8]],
 ) -> Result<(Vec<Vec<u8>>, Joiner<LIMIT>), OutOfMemory>
-    ensures { IfOk result (λ r. IsSplit (message_frame LIMIT) (joined fragments.now) (elements r.0.items) r.1) }
+    ensures { IfOk result
+        (λ r. IsSplit (message_frame LIMIT) (joined fragments.now) (elements r.0.items) r.1) }
 {
     split_frames::<Messages, LIMIT>(alloc, fragments)
 }

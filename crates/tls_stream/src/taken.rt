@@ -12,7 +12,8 @@ use std::alloc::Global;
 
 /// The next event's bytes, if it is a handshake message.
 fn front_message(direction: &Direction) -> Option<&[u8]>
-    ensures { option_map (λ b. b.now) result ≡ handshake_in (option_map (λ x. x.0) (first direction.now)) }
+    ensures { option_map (λ b. b.now) result ≡ handshake_in
+        (option_map (λ x. x.0) (first direction.now)) }
 {
     match direction.front() {
         Some(Event::Handshake(message)) => Some(message),
@@ -35,8 +36,10 @@ fn take_event(
 ) -> Result<(), OutOfMemory>
     requires { IsSome (first direction.old) }
     ensures same { OnOk result
-        (TakesSame (elements taken.old.items) direction.old (elements taken.new.items) direction.new) }
-    ensures fewer { OnOk result (length (events (fed direction.new [])) < length (events (fed direction.old []))) }
+        (TakesSame (elements taken.old.items) direction.old (elements taken.new.items)
+        direction.new) }
+    ensures fewer { OnOk result
+        (length (events (fed direction.new [])) < length (events (fed direction.old []))) }
 {
     if let Some(message) = front_message(direction) {
         let message = Vec::from_slice(alloc, message)?;
@@ -59,7 +62,8 @@ pub fn take_messages(
     direction: &mut Direction,
     taken: &mut Vec<Vec<u8>>,
 ) -> Result<bool, OutOfMemory>
-    ensures { IfOk result (AreTaken (elements taken.old.items) direction.old (elements taken.new.items) direction.new) }
+    ensures { IfOk result
+        (AreTaken (elements taken.old.items) direction.old (elements taken.new.items) direction.new) }
 {
     'events: loop {
         match direction.ready() {
@@ -82,7 +86,8 @@ pub fn join_pieces(
     limit: usize,
     pieces: &[&[u8]],
 ) -> Result<(Vec<Vec<u8>>, Direction), OutOfMemory>
-    ensures { IfOk result (λ r. elements r.0.items ≡ handshakes (events (fed (silent limit) (joined pieces.now)))) }
+    ensures { IfOk result
+        (λ r. elements r.0.items ≡ handshakes (events (fed (silent limit) (joined pieces.now)))) }
 {
     let mut direction = Direction::with_limit(alloc, limit);
     let mut taken = Vec::new(alloc);

@@ -83,7 +83,8 @@ impl<'a> StreamView<'a> {
 
     /// Whether the length of the open message is above the limit.
     fn is_too_large(&self) -> bool
-        ensures { (result ≡ true) ↔ IsTooLarge (messages_of self.now.limit self.now.kind) self.now.held.part }
+        ensures { (result ≡ true)
+            ↔ IsTooLarge (messages_of self.now.limit self.now.kind) self.now.held.part }
     {
         if self.kind == 21 {
             is_too_large::<Alerts>(0, self.part)
@@ -105,7 +106,8 @@ impl<'a> StreamView<'a> {
 
     /// The next record, with its header, if it is whole.
     fn record(&self) -> Option<&'a [u8]>
-        ensures { option_map (λ b. b.now) result ≡ frame_of (front wide_record self.now.held.unread) }
+        ensures { option_map (λ b. b.now) result ≡ frame_of
+            (front wide_record self.now.held.unread) }
     {
         frame_in_front::<Records>(MAX_ENCRYPTED_LEN as usize, self.unread)
     }
@@ -156,7 +158,8 @@ impl<'a> StreamView<'a> {
     /// The next step, if no message in the part is whole or too large.
     #[tactic(auto, using(crate::proofs::StreamLemmas::next_rules))]
     fn next_record(&self) -> Next
-        requires none { None ≡ frame_of (front (messages_of self.now.limit self.now.kind) self.now.held.part) }
+        requires none { None ≡ frame_of
+            (front (messages_of self.now.limit self.now.kind) self.now.held.part) }
         requires small { IsTooLarge (messages_of self.now.limit self.now.kind) self.now.held.part → ⊥ }
         ensures { IsNext self.now result }
     {
@@ -219,7 +222,8 @@ impl<'a> StreamView<'a> {
     // half.
     #[inline(always)]
     pub fn first(&self) -> Option<(Event<'a>, Source<'a>)>
-        ensures { option_map (λ x. (view_event x.0, view_source x.1)) result ≡ first_source self.now }
+        ensures { option_map (λ x. (view_event x.0, view_source x.1))
+            result ≡ first_source self.now }
     {
         if let Some(message) = self.message() {
             return Some((message_event(self.kind, message), Source::Message(message)));

@@ -27,7 +27,8 @@ named (Err e) = None
 abbrev pub curve_with : Option KeyExchange → Bytes → Option ℕ → Option ℕ
 curve_with (Some k) b known =
     if is_over_curves k
-    then (if k.has_identity then named (reading hinted_parameters b) else named (reading exchange.ec_parameters b))
+    then (if k.has_identity then
+    named (reading hinted_parameters b) else named (reading exchange.ec_parameters b))
     else known
 curve_with None b known = known
 

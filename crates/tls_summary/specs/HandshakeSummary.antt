@@ -118,7 +118,8 @@ of_ssl2 h = record {
 
 abbrev pub asked_in_ssl2 : Side → ssl2.ClientHello → HandshakeSummary → HandshakeSummary
 asked_in_ssl2 ToServer h f =
-    if has_asked f then f else record (asked ToServer (of_ssl2 h) f) { ssl2_cipher_specs = Some h.cipher_specs }
+    if has_asked f then
+    f else record (asked ToServer (of_ssl2 h) f) { ssl2_cipher_specs = Some h.cipher_specs }
 asked_in_ssl2 FromServer h f = f
 
 -- The server asks for another ClientHello with a HelloRetryRequest (RFC 8446, section 4.1.4): once,
@@ -126,7 +127,8 @@ asked_in_ssl2 FromServer h f = f
 abbrev pub retried : Side → HandshakeSummary → HandshakeSummary
 retried ToServer f = f
 retried FromServer f =
-    if is_some f.server || f.is_retried then f else record f { is_asked_again = true; is_retried = true }
+    if is_some f.server || f.is_retried then
+    f else record f { is_asked_again = true; is_retried = true }
 
 -- In DTLS it may ask with a HelloVerifyRequest (RFC 6347, section 4.2.1), more than once.
 abbrev pub verified : Side → HandshakeSummary → HandshakeSummary
@@ -179,9 +181,12 @@ exchanged b f = exchanged_by f.server b f
 
 -- The last Certificate of this side; the end-entity certificate comes first (RFC 5246, section
 -- 7.4.2).
-abbrev pub with_chain : Side → List CertificateSummary → Option Bytes → HandshakeSummary → HandshakeSummary
-with_chain ToServer chain own f = record f { client_certificates = Some chain; client_certificate = own }
-with_chain FromServer chain own f = record f { server_certificates = Some chain; server_certificate = own }
+abbrev pub with_chain : Side → List CertificateSummary → Option Bytes → HandshakeSummary
+    → HandshakeSummary
+with_chain ToServer chain own f =
+    record f { client_certificates = Some chain; client_certificate = own }
+with_chain FromServer chain own f =
+    record f { server_certificates = Some chain; server_certificate = own }
 
 abbrev pub certified : Side → Answer (List Bytes) → HandshakeSummary → HandshakeSummary
 certified s (Ok x) f = with_chain s (summaries_of_all x.0) (first_of x.0) f
@@ -205,7 +210,8 @@ of_client_hello s (Ok x) f = asked s x.0 f
 of_client_hello s (Err e) f = f
 
 -- The update by a ServerHello, in the form of its version.
-abbrev pub of_server_hello : Side → Option handshakes.Handshake → HandshakeSummary → HandshakeSummary
+abbrev pub of_server_hello : Side → Option handshakes.Handshake → HandshakeSummary
+    → HandshakeSummary
 of_server_hello s (Some (handshakes.ServerHello h)) f = chosen s h f
 of_server_hello s (Some (handshakes.ServerHelloV13Draft18 h)) f = chosen s (of_draft h) f
 of_server_hello s _ f = f
@@ -230,7 +236,8 @@ of_bytes s b f = of_message_if s (message_of b) f
 abbrev pub is_behind_first : Bytes → HandshakeSummary → Bool
 is_behind_first rest f = is_some f.client && not (length rest == 0)
 
-abbrev pub of_datagram_client_hello : Side → Answer datagram.ClientHello → HandshakeSummary → HandshakeSummary
+abbrev pub of_datagram_client_hello : Side → Answer datagram.ClientHello → HandshakeSummary
+    → HandshakeSummary
 of_datagram_client_hello s (Ok x) f = if is_behind_first x.1 f then f else asked s x.0.hello f
 of_datagram_client_hello s (Err e) f = f
 
@@ -255,5 +262,6 @@ of_alert n f = record f { last_alert = Some n }
 -- unless the server asks for another.
 abbrev pub KeepsHellos : Side → HandshakeSummary → HandshakeSummary → Type 0
 KeepsHellos ToServer f g =
-    (g.server ≡ f.server) × (has_asked f ≡ true → (g.client ≡ f.client) × (g.is_asked_again ≡ f.is_asked_again))
+    (g.server ≡ f.server)
+    × (has_asked f ≡ true → (g.client ≡ f.client) × (g.is_asked_again ≡ f.is_asked_again))
 KeepsHellos FromServer f g = (g.client ≡ f.client) × (is_some f.server ≡ true → g.server ≡ f.server)

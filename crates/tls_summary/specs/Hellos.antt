@@ -40,7 +40,9 @@ listed_names _ = None
 
 -- The names in server_name (RFC 6066, section 3).
 abbrev pub names_in : Bytes → List ServerName
-names_in b = listed (in_content content.server_names listed_names (content_of extension_number.server_name b))
+names_in b =
+    listed (in_content content.server_names listed_names
+    (content_of extension_number.server_name b))
 
 -- The first host name: its NameType is host_name, 0 (RFC 6066, section 3).
 abbrev pub host_among : List ServerName → Option Bytes
@@ -55,7 +57,8 @@ others_among (n ∷ ns) = if n.name_type == 0 then others_among ns else n ∷ ot
 -- The versions in supported_versions (RFC 8446, section 4.2.1).
 abbrev pub versions_in : Bytes → List ℕ
 versions_in b =
-    listed (in_content content.supported_versions listed_versions (content_of extension_number.supported_versions b))
+    listed (in_content content.supported_versions listed_versions
+    (content_of extension_number.supported_versions b))
 
 abbrev pub listed_modes : Extension → Option (List ℕ)
 listed_modes (ext.psk_key_exchange_modes modes) = Some modes
@@ -64,7 +67,8 @@ listed_modes _ = None
 -- The modes in psk_key_exchange_modes (RFC 8446, section 4.2.9).
 abbrev pub modes_in : Bytes → List ℕ
 modes_in b =
-    listed (in_content content.psk_key_exchange_modes listed_modes (content_of extension_number.psk_key_exchange_modes b))
+    listed (in_content content.psk_key_exchange_modes listed_modes
+    (content_of extension_number.psk_key_exchange_modes b))
 
 -- The protocols in application_layer_protocol_negotiation (RFC 7301, section 3.1).
 abbrev pub protocols_in : Bytes → List Bytes
@@ -86,7 +90,8 @@ share_group_in b = group_of (content_in extension_number.key_share b)
 
 -- The timestamps of a server's certificate (RFC 6962, section 3.3.1).
 abbrev pub timestamps_in : Bytes → List SignedCertificateTimestamp
-timestamps_in b = list_in timestamp_list (content_in extension_number.signed_certificate_timestamp b)
+timestamps_in b =
+    list_in timestamp_list (content_in extension_number.signed_certificate_timestamp b)
 
 abbrev pub has_bytes : Option Bytes → Bool
 has_bytes (Some (x ∷ xs)) = true

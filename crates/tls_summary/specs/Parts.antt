@@ -46,7 +46,8 @@ fault_by (Err (Lacks n)) = Some fault.Incomplete
 fault_by (Err (Broken k)) = Some (fault.Broken k)
 
 abbrev pub summary_of_certificate : Bytes → CertificateSummary
-summary_of_certificate b = record { length = length b; sha256 = sha256 b; fault = fault_by (reading certificate b) }
+summary_of_certificate b =
+    record { length = length b; sha256 = sha256 b; fault = fault_by (reading certificate b) }
 
 -- The length and the SHA-256 of each certificate, in order, and why it doesn't parse.
 abbrev pub summaries_of_all : List Bytes → List CertificateSummary

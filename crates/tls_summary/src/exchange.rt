@@ -40,7 +40,8 @@ pub(crate) fn curve_of(
     body: &[u8],
     known: Option<NamedGroup>,
 ) -> Option<NamedGroup>
-    ensures { option_map (λ g. g.0) result ≡ curve_by suite.0 body.now (option_map (λ g. g.0) known) }
+    ensures { option_map (λ g. g.0) result ≡ curve_by suite.0 body.now
+        (option_map (λ g. g.0) known) }
 {
     match KeyExchange::of(suite) {
         Some(exchange) if exchange.is_over_curves() => {

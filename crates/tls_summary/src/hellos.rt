@@ -45,7 +45,8 @@ pub(crate) fn is_filled(content: Option<&[u8]>) -> bool
 
 /// The names in the first server_name.
 pub(crate) fn names<'a>(ext: Option<&'a [u8]>) -> Items<'a, ServerName>
-    ensures { items_in server_name result.bytes.now ≡ names_in (held (option_map (λ x. x.now) ext.entry)) }
+    ensures { items_in server_name result.bytes.now ≡ names_in
+        (held (option_map (λ x. x.now) ext.entry)) }
 {
     let Ok(Some(content)) = first_content(extensions(ext), TlsExtensionType::ServerName) else {
         return none::<ServerName>();
@@ -58,7 +59,8 @@ pub(crate) fn names<'a>(ext: Option<&'a [u8]>) -> Items<'a, ServerName>
 
 /// The first of the names whose type is host_name.
 pub(crate) fn host_name<'a>(names: Items<'a, ServerName>) -> Option<&'a [u8]>
-    ensures { option_map (λ x. x.now) result ≡ host_among (items_in server_name names.entry.bytes.now) }
+    ensures { option_map (λ x. x.now) result ≡ host_among
+        (items_in server_name names.entry.bytes.now) }
 {
     for (kind, name) in names {
         if kind == SNIType::HostName {
@@ -73,7 +75,9 @@ pub(crate) fn other_names<'a>(
     alloc: Global,
     names: Items<'a, ServerName>,
 ) -> Result<Vec<(SNIType, &'a [u8])>, AllocError>
-    ensures { IfOk result (λ v. map view_server_name v.items ≡ others_among (items_in server_name names.entry.bytes.now)) }
+    ensures { IfOk result
+        (λ v. map view_server_name v.items ≡ others_among
+        (items_in server_name names.entry.bytes.now)) }
 {
     let mut others = Vec::new(alloc);
     for (kind, name) in names {
@@ -86,7 +90,8 @@ pub(crate) fn other_names<'a>(
 
 /// The versions in the first supported_versions.
 pub(crate) fn versions<'a>(ext: Option<&'a [u8]>) -> Items<'a, TlsVersion>
-    ensures { items_in (number 2) result.bytes.now ≡ versions_in (held (option_map (λ x. x.now) ext.entry)) }
+    ensures { items_in (number 2) result.bytes.now ≡ versions_in
+        (held (option_map (λ x. x.now) ext.entry)) }
 {
     let Ok(Some(content)) = first_content(extensions(ext), TlsExtensionType::SupportedVersions)
     else {
@@ -114,7 +119,8 @@ pub(crate) fn modes<'a>(ext: Option<&'a [u8]>) -> &'a [u8]
 
 /// The names in the first application_layer_protocol_negotiation.
 pub(crate) fn protocols<'a>(ext: Option<&'a [u8]>) -> Items<'a, Counted1>
-    ensures { items_in (counted 1) result.bytes.now ≡ protocols_in (held (option_map (λ x. x.now) ext.entry)) }
+    ensures { items_in (counted 1) result.bytes.now ≡ protocols_in
+        (held (option_map (λ x. x.now) ext.entry)) }
 {
     match application_protocols(ext) {
         Ok(Some(names)) => names,
@@ -124,7 +130,8 @@ pub(crate) fn protocols<'a>(ext: Option<&'a [u8]>) -> Items<'a, Counted1>
 
 /// The key shares in a client's first key_share.
 pub(crate) fn shares<'a>(ext: Option<&'a [u8]>) -> Items<'a, KeyShareEntry<'a>>
-    ensures { items_in key_share_entry result.bytes.now ≡ shares_in (held (option_map (λ x. x.now) ext.entry)) }
+    ensures { items_in key_share_entry result.bytes.now ≡ shares_in
+        (held (option_map (λ x. x.now) ext.entry)) }
 {
     let Some(content) = content(ext, TlsExtensionType::KeyShare) else {
         return none::<KeyShareEntry>();
@@ -147,7 +154,8 @@ pub(crate) fn group_of_share(share: Option<&[u8]>) -> Option<NamedGroup>
 
 /// The timestamps in a server's first signed_certificate_timestamp.
 pub(crate) fn timestamps<'a>(ext: Option<&'a [u8]>) -> Items<'a, SignedCertificateTimestamp<'a>>
-    ensures { items_in serialized_timestamp result.bytes.now ≡ timestamps_in (held (option_map (λ x. x.now) ext.entry)) }
+    ensures { items_in serialized_timestamp result.bytes.now ≡ timestamps_in
+        (held (option_map (λ x. x.now) ext.entry)) }
 {
     let Some(content) = content(ext, TlsExtensionType::SignedCertificateTimestamp) else {
         return none::<SignedCertificateTimestamp>();

@@ -10,6 +10,8 @@ ghost use Rattle.tls_summary.specs.HandshakeSummary.{HandshakeSummary as Known, 
 /// sides exchanged.
 pub fn hellos_stand()
     ensures messages { (side : Side) (b : Bytes) (f : Known) → KeepsHellos side f (of_bytes side b f) }
-    ensures ssl2_hellos { (side : Side) (h : Ssl2ClientHello) (f : Known) → KeepsHellos side f (asked_in_ssl2 side h f) }
-    ensures datagram_messages { (side : Side) (n : ℕ) (b : Bytes) (f : Known) → KeepsHellos side f (of_datagram_message side n b f) }
+    ensures ssl2_hellos { (side : Side) (h : Ssl2ClientHello) (f : Known)
+        → KeepsHellos side f (asked_in_ssl2 side h f) }
+    ensures datagram_messages { (side : Side) (n : ℕ) (b : Bytes) (f : Known)
+        → KeepsHellos side f (of_datagram_message side n b f) }
 {}

@@ -173,7 +173,8 @@ fn summaries_of<'a>(
     chain: Items<'a, RawCertificate<'a>>,
     known: Option<&mut KnownCertificates>,
 ) -> Result<Vec<CertificateSummary>, AllocError>
-    ensures { IfOk result (λ v. v.items ≡ summaries_of_all (items_in (counted 3) chain.entry.bytes.now)) }
+    ensures { IfOk result
+        (λ v. v.items ≡ summaries_of_all (items_in (counted 3) chain.entry.bytes.now)) }
 {
     let mut known = known;
     let mut summaries = Vec::new(alloc);
@@ -208,7 +209,8 @@ pub(crate) fn chain_of(
     known: Option<&mut KnownCertificates>,
 ) -> Result<Chain, AllocError>
     ensures summaries { IfOk result (λ c. c.summaries.items ≡ summaries_of_all (items_in (counted 3) list.now)) }
-    ensures own { IfOk result (λ c. option_map (λ x. x.items) c.own ≡ first_of (items_in (counted 3) list.now)) }
+    ensures own { IfOk result
+        (λ c. option_map (λ x. x.items) c.own ≡ first_of (items_in (counted 3) list.now)) }
 {
     let summaries = summaries_of(alloc, Items::new(list), known)?;
     let own = copied_if(alloc, first_certificate(list))?;

@@ -144,7 +144,9 @@ impl HandshakeSummary {
         side: Direction,
         hello: &ClientHelloView<'_>,
     ) -> Result<(), AllocError>
-        ensures { OnOk result (view_summary self.new ≡ asked side (view_client_hello_in_place hello.now) (view_summary self.old)) }
+        ensures { OnOk result
+            (view_summary self.new ≡ asked side (view_client_hello_in_place hello.now)
+            (view_summary self.old)) }
     {
         if side == Direction::FromServer || self.has_asked() {
             return Ok(());
@@ -166,7 +168,9 @@ impl HandshakeSummary {
         side: Direction,
         hello: &Ssl2ClientHello<'_>,
     ) -> Result<(), AllocError>
-        ensures { OnOk result (view_summary self.new ≡ asked_in_ssl2 side (view_ssl2_hello hello.now) (view_summary self.old)) }
+        ensures { OnOk result
+            (view_summary self.new ≡ asked_in_ssl2 side (view_ssl2_hello hello.now)
+            (view_summary self.old)) }
     {
         if side == Direction::FromServer || self.has_asked() {
             return Ok(());
@@ -215,7 +219,9 @@ impl HandshakeSummary {
         side: Direction,
         hello: &TlsServerHelloContents<'_>,
     ) -> Result<(), AllocError>
-        ensures { OnOk result (view_summary self.new ≡ chosen side (view_server_hello hello.now) (view_summary self.old)) }
+        ensures { OnOk result
+            (view_summary self.new ≡ chosen side (view_server_hello hello.now)
+            (view_summary self.old)) }
     {
         if hello.is_retry_request() {
             self.retry(side);
@@ -236,7 +242,9 @@ impl HandshakeSummary {
         side: Direction,
         hello: &Option<ReadServerHello<'_>>,
     ) -> Result<(), AllocError>
-        ensures { OnOk result (view_summary self.new ≡ of_server_hello side (option_map (λ h. view_handshake h.message) hello.now) (view_summary self.old)) }
+        ensures { OnOk result
+            (view_summary self.new ≡ of_server_hello side
+            (option_map (λ h. view_handshake h.message) hello.now) (view_summary self.old)) }
     {
         let Some(hello) = hello else {
             return Ok(());
@@ -262,7 +270,8 @@ impl HandshakeSummary {
 
     /// Stores a side's chain in place of an earlier one.
     fn keep_chain(&mut self, side: Direction, chain: Chain)
-        ensures { view_summary self.new ≡ with_chain side chain.summaries.items (option_map (λ v. v.items) chain.own) (view_summary self.old) }
+        ensures { view_summary self.new ≡ with_chain side chain.summaries.items
+            (option_map (λ v. v.items) chain.own) (view_summary self.old) }
     {
         let Chain { summaries, own } = chain;
         match side {
@@ -285,7 +294,9 @@ impl HandshakeSummary {
         body: &[u8],
         known: Option<&mut KnownCertificates>,
     ) -> Result<(), AllocError>
-        ensures { OnOk result (view_summary self.new ≡ certified side (reading certificate body.now) (view_summary self.old)) }
+        ensures { OnOk result
+            (view_summary self.new ≡ certified side (reading certificate body.now)
+            (view_summary self.old)) }
     {
         let Ok((_, list)) = certificates(body) else {
             return Ok(());
@@ -304,7 +315,8 @@ impl HandshakeSummary {
         body: &[u8],
         known: Option<&mut KnownCertificates>,
     ) -> Result<(), AllocError>
-        ensures { OnOk result (view_summary self.new ≡ of_other side msg_type.0 body.now (view_summary self.old)) }
+        ensures { OnOk result
+            (view_summary self.new ≡ of_other side msg_type.0 body.now (view_summary self.old)) }
     {
         match msg_type {
             TlsHandshakeType::NewSessionTicket => self.has_ticket = true,
@@ -329,7 +341,9 @@ impl HandshakeSummary {
         side: Direction,
         message: &HandshakeMessage<'_>,
     ) -> Result<(), AllocError>
-        ensures { OnOk result (view_summary self.new ≡ of_message side (view_heard message.now) (view_summary self.old)) }
+        ensures { OnOk result
+            (view_summary self.new ≡ of_message side (view_heard message.now)
+            (view_summary self.old)) }
     {
         self.note_with(alloc, side, message, None)
     }
@@ -345,7 +359,9 @@ impl HandshakeSummary {
         message: &HandshakeMessage<'_>,
         known: Option<&mut KnownCertificates>,
     ) -> Result<(), AllocError>
-        ensures { OnOk result (view_summary self.new ≡ of_message side (view_heard message.now) (view_summary self.old)) }
+        ensures { OnOk result
+            (view_summary self.new ≡ of_message side (view_heard message.now)
+            (view_summary self.old)) }
     {
         match message.msg_type {
             TlsHandshakeType::ClientHello => match ClientHelloView::parse(message.body) {
@@ -369,7 +385,8 @@ impl HandshakeSummary {
         side: Direction,
         message: &[u8],
     ) -> Result<(), AllocError>
-        ensures { OnOk result (view_summary self.new ≡ of_bytes side message.now (view_summary self.old)) }
+        ensures { OnOk result
+            (view_summary self.new ≡ of_bytes side message.now (view_summary self.old)) }
     {
         match HandshakeMessage::read(message) {
             Some(message) => self.note(alloc, side, &message),
@@ -384,7 +401,9 @@ impl HandshakeSummary {
         side: Direction,
         body: &[u8],
     ) -> Result<(), AllocError>
-        ensures { OnOk result (view_summary self.new ≡ of_datagram_client_hello side (reading datagram_client_hello body.now) (view_summary self.old)) }
+        ensures { OnOk result
+            (view_summary self.new ≡ of_datagram_client_hello side
+            (reading datagram_client_hello body.now) (view_summary self.old)) }
     {
         let Ok((rest, hello)) = DTLSClientHelloView::parse(body) else {
             return Ok(());
@@ -415,7 +434,9 @@ impl HandshakeSummary {
         side: Direction,
         message: &HandshakeMessage<'_>,
     ) -> Result<(), AllocError>
-        ensures { OnOk result (view_summary self.new ≡ of_datagrams side (view_heard message.now) (view_summary self.old)) }
+        ensures { OnOk result
+            (view_summary self.new ≡ of_datagrams side (view_heard message.now)
+            (view_summary self.old)) }
     {
         self.note_datagrams_with(alloc, side, message, None)
     }
@@ -431,7 +452,9 @@ impl HandshakeSummary {
         message: &HandshakeMessage<'_>,
         known: Option<&mut KnownCertificates>,
     ) -> Result<(), AllocError>
-        ensures { OnOk result (view_summary self.new ≡ of_datagrams side (view_heard message.now) (view_summary self.old)) }
+        ensures { OnOk result
+            (view_summary self.new ≡ of_datagrams side (view_heard message.now)
+            (view_summary self.old)) }
     {
         match message.msg_type {
             TlsHandshakeType::ClientHello => {
@@ -459,7 +482,9 @@ impl HandshakeSummary {
         msg_type: TlsHandshakeType,
         body: &[u8],
     ) -> Result<(), AllocError>
-        ensures { OnOk result (view_summary self.new ≡ of_datagram_message side msg_type.0 body.now (view_summary self.old)) }
+        ensures { OnOk result
+            (view_summary self.new ≡ of_datagram_message side msg_type.0 body.now
+            (view_summary self.old)) }
     {
         self.note_datagrams(alloc, side, &HandshakeMessage::of_datagrams(msg_type, body))
     }

@@ -58,7 +58,8 @@ fn lent(bytes: &Option<Vec<u8>>) -> Option<&[u8]>
 
 impl HandshakeSummary {
     fn client_ext(&self) -> Option<&[u8]>
-        ensures { held (option_map (λ x. x.now) result) ≡ told.client_extensions (view_summary self.now) }
+        ensures { held (option_map (λ x. x.now) result) ≡ told.client_extensions
+            (view_summary self.now) }
     {
         match &self.client {
             Some(hello) => lent(&hello.ext),
@@ -67,7 +68,8 @@ impl HandshakeSummary {
     }
 
     fn server_ext(&self) -> Option<&[u8]>
-        ensures { held (option_map (λ x. x.now) result) ≡ told.server_extensions (view_summary self.now) }
+        ensures { held (option_map (λ x. x.now) result) ≡ told.server_extensions
+            (view_summary self.now) }
     {
         match &self.server {
             Some(hello) => lent(&hello.ext),
@@ -115,7 +117,8 @@ impl HandshakeSummary {
     ///
     /// `AllocError` if there is no memory for them.
     pub fn other_server_names(&self, alloc: Global) -> Result<Vec<(SNIType, &[u8])>, AllocError>
-        ensures { IfOk result (λ v. map view_server_name v.items ≡ told.other_server_names (view_summary self.now)) }
+        ensures { IfOk result
+            (λ v. map view_server_name v.items ≡ told.other_server_names (view_summary self.now)) }
     {
         other_names(alloc, names(self.client_ext()))
     }
@@ -159,7 +162,8 @@ impl HandshakeSummary {
 
     /// The cipher suites that the client offers, in its order.
     pub fn client_ciphers(&self) -> Items<'_, TlsCipherSuiteID>
-        ensures { items_in (number 2) result.bytes.now ≡ told.client_ciphers (view_summary self.now) }
+        ensures { items_in (number 2) result.bytes.now ≡ told.client_ciphers
+            (view_summary self.now) }
     {
         match &self.client {
             Some(hello) => Items::new(hello.ciphers.as_slice()),
@@ -169,7 +173,8 @@ impl HandshakeSummary {
 
     /// The compression methods that the client offers, in its order.
     pub fn client_compressions(&self) -> Items<'_, TlsCompressionID>
-        ensures { items_in (number 1) result.bytes.now ≡ told.client_compressions (view_summary self.now) }
+        ensures { items_in (number 1) result.bytes.now ≡ told.client_compressions
+            (view_summary self.now) }
     {
         match &self.client {
             Some(hello) => Items::new(hello.compressions.as_slice()),
@@ -180,14 +185,16 @@ impl HandshakeSummary {
     /// The content of the ClientHello's first extension of this type, without its length; `None` if
     /// it has none.
     pub fn client_extension(&self, kind: TlsExtensionType) -> Option<&[u8]>
-        ensures { option_map (λ x. x.now) result ≡ told.client_extension kind.0 (view_summary self.now) }
+        ensures { option_map (λ x. x.now) result ≡ told.client_extension kind.0
+            (view_summary self.now) }
     {
         content(self.client_ext(), kind)
     }
 
     /// The types of the ClientHello's extensions, in order (RFC 8446, section 4.2).
     pub fn client_extension_types(&self) -> Items<'_, ExtensionType>
-        ensures { items_in extension_type result.bytes.now ≡ told.client_extension_types (view_summary self.now) }
+        ensures { items_in extension_type result.bytes.now ≡ told.client_extension_types
+            (view_summary self.now) }
     {
         extension_types(self.client_ext())
     }
@@ -195,14 +202,16 @@ impl HandshakeSummary {
     /// The versions that the client offers in supported_versions (RFC 8446, section 4.2.1), in its
     /// order.
     pub fn client_versions(&self) -> Items<'_, TlsVersion>
-        ensures { items_in (number 2) result.bytes.now ≡ told.client_versions (view_summary self.now) }
+        ensures { items_in (number 2) result.bytes.now ≡ told.client_versions
+            (view_summary self.now) }
     {
         versions(self.client_ext())
     }
 
     /// The groups in supported_groups (RFC 8446, section 4.2.7), in the client's order.
     pub fn client_groups(&self) -> Items<'_, NamedGroup>
-        ensures { items_in (number 2) result.bytes.now ≡ told.client_groups (view_summary self.now) }
+        ensures { items_in (number 2) result.bytes.now ≡ told.client_groups
+            (view_summary self.now) }
     {
         groups(self.client_ext())
     }
@@ -216,21 +225,24 @@ impl HandshakeSummary {
 
     /// The algorithms in signature_algorithms (RFC 8446, section 4.2.3), in the client's order.
     pub fn client_signature_algorithms(&self) -> Items<'_, u16>
-        ensures { items_in (number 2) result.bytes.now ≡ told.client_signature_algorithms (view_summary self.now) }
+        ensures { items_in (number 2) result.bytes.now ≡ told.client_signature_algorithms
+            (view_summary self.now) }
     {
         algorithms(self.client_ext())
     }
 
     /// The application protocols that the client offers (RFC 7301, section 3.1), in its order.
     pub fn client_protocols(&self) -> Items<'_, Counted1>
-        ensures { items_in (counted 1) result.bytes.now ≡ told.client_protocols (view_summary self.now) }
+        ensures { items_in (counted 1) result.bytes.now ≡ told.client_protocols
+            (view_summary self.now) }
     {
         protocols(self.client_ext())
     }
 
     /// The key shares that the client offers (RFC 8446, section 4.2.8), in its order.
     pub fn client_key_shares(&self) -> Items<'_, KeyShareEntry<'_>>
-        ensures { items_in key_share_entry result.bytes.now ≡ told.client_key_shares (view_summary self.now) }
+        ensures { items_in key_share_entry result.bytes.now ≡ told.client_key_shares
+            (view_summary self.now) }
     {
         shares(self.client_ext())
     }
@@ -319,7 +331,8 @@ impl HandshakeSummary {
     /// The content of the ServerHello's first extension of this type, without its length; `None` if
     /// it has none.
     pub fn server_extension(&self, kind: TlsExtensionType) -> Option<&[u8]>
-        ensures { option_map (λ x. x.now) result ≡ told.server_extension kind.0 (view_summary self.now) }
+        ensures { option_map (λ x. x.now) result ≡ told.server_extension kind.0
+            (view_summary self.now) }
     {
         content(self.server_ext(), kind)
     }
@@ -327,7 +340,8 @@ impl HandshakeSummary {
     /// The CipherSpecs of a ClientHello of SSL 2.0's form (RFC 5246, appendix E.2), in its order;
     /// `None` if it has another form.
     pub fn client_cipher_specs(&self) -> Option<Items<'_, CipherSpec>>
-        ensures { option_map (λ x. items_in (number 3) x.bytes.now) result ≡ (view_summary self.now).ssl2_cipher_specs }
+        ensures { option_map (λ x. items_in (number 3) x.bytes.now)
+            result ≡ (view_summary self.now).ssl2_cipher_specs }
     {
         match &self.ssl2_cipher_specs {
             Some(specs) => Some(Items::new(specs.as_slice())),
@@ -352,7 +366,8 @@ impl HandshakeSummary {
 
     /// The types of the ServerHello's extensions, in order.
     pub fn server_extension_types(&self) -> Items<'_, ExtensionType>
-        ensures { items_in extension_type result.bytes.now ≡ told.server_extension_types (view_summary self.now) }
+        ensures { items_in extension_type result.bytes.now ≡ told.server_extension_types
+            (view_summary self.now) }
     {
         extension_types(self.server_ext())
     }
@@ -366,7 +381,8 @@ impl HandshakeSummary {
 
     /// The timestamps for the server's certificate in the ServerHello (RFC 6962, section 3.3.1).
     pub fn server_timestamps(&self) -> Items<'_, SignedCertificateTimestamp<'_>>
-        ensures { items_in serialized_timestamp result.bytes.now ≡ told.server_timestamps (view_summary self.now) }
+        ensures { items_in serialized_timestamp result.bytes.now ≡ told.server_timestamps
+            (view_summary self.now) }
     {
         timestamps(self.server_ext())
     }

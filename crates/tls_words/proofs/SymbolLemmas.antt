@@ -28,7 +28,8 @@ use denote.Enum.Declared.{Declared}
 use denote.Enum.Bare.{Bare, sameb, same_true, same_false}
 
 -- Values of an enum without fields.
-abbrev pub decided : (D : Declared) → Bare D.parts → (a b : D.D) (t : Bool) → sameb D a b ≡ t → Dec (a ≡ b)
+abbrev pub decided : (D : Declared) → Bare D.parts → (a b : D.D) (t : Bool) → sameb D a b ≡ t
+    → Dec (a ≡ b)
 decided D bare a b true e = yes (same_true D bare a b e)
 decided D bare a b false e = no (same_false D a b e)
 
@@ -57,9 +58,11 @@ module _ {L : Type 0} (same : (a b : L) → Dec (a ≡ b)) where
   same_is_yes x l (yes e) h = refl
   same_is_yes x l (no n) h = absurd (n h)
 
-  at_place : (xs : List L) (l : L) (k : ℕ) → k < length xs → slice_index_or xs k l ≡ l → is_in xs l ≡ true
+  at_place : (xs : List L) (l : L) (k : ℕ) → k < length xs → slice_index_or xs k l ≡ l
+      → is_in xs l ≡ true
   at_place [] l k b e = absurd (omega (arith, b))
-  at_place (x ∷ xs) l zero b e = or_either (is_yes (same x l)) (is_in xs l) (inl (same_is_yes x l (same x l) e))
+  at_place (x ∷ xs) l zero b e =
+      or_either (is_yes (same x l)) (is_in xs l) (inl (same_is_yes x l (same x l) e))
   at_place (x ∷ xs) l (suc k) b e = or_either (is_yes (same x l)) (is_in xs l)
       (inr (at_place xs l k (omega (arith, b)) e))
 
@@ -67,7 +70,8 @@ module _ {L : Type 0} (same : (a b : L) → Dec (a ≡ b)) where
   contains_in xs l h = at_place xs l h.0 h.1 h.2
 
   -- A symbol in a list passes a test that all in the list pass.
-  pub passes_in : (f : L → Bool) (xs : List L) (l : L) → list_all f xs ≡ true → is_in xs l ≡ true → f l ≡ true
+  pub passes_in : (f : L → Bool) (xs : List L) (l : L) → list_all f xs ≡ true → is_in xs l ≡ true
+      → f l ≡ true
   passes_in f [] l t h = cc
   passes_in f (x ∷ xs) l t h =
       let k : (f x ≡ true) × (list_all f xs ≡ true) = both_and (f x) (list_all f xs) t in

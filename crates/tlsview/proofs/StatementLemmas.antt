@@ -48,7 +48,8 @@ decoded : (d : Option Direction) (digits : List ℕ) → IsSome (with_direction 
 decoded None digits h = cc h
 decoded (Some e) digits h = let found = go (decode_of digits) refl in (e, refl, found.0, found.1)
   where
-    go : (r : Result (List ℕ) FromHexError) → decode_of digits ≡ r → (bytes : List ℕ) × (decode_of digits ≡ Ok bytes)
+    go : (r : Result (List ℕ) FromHexError) → decode_of digits ≡ r
+        → (bytes : List ℕ) × (decode_of digits ≡ Ok bytes)
     go (Ok bytes) f = (bytes, f)
     go (Err g) f = cc (rw f at h)
 

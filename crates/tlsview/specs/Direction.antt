@@ -10,4 +10,5 @@ sign_of FromServer = 60
 
 -- the direction with this sign
 abbrev pub direction_of : ℕ → Option rust.Direction
-direction_of sign = if sign == 62 then Some ToServer else if sign == 60 then Some FromServer else None
+direction_of sign = if sign == 62 then Some ToServer else if sign == 60 then
+    Some FromServer else None

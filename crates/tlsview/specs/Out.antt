@@ -92,7 +92,8 @@ half_behind d h c rest = record {
 abbrev pub Part : Type 0 → Type 0
 Part A = List ℕ × Result A Fault
 
-abbrev pub content_part : Direction → Half → Bytes → Result Content Refusal → (Half → Part Half) → Part Half
+abbrev pub content_part : Direction → Half → Bytes → Result Content Refusal → (Half → Part Half)
+    → Part Half
 content_part d h rest (Err e) behind = ([], Err (Refused e))
 content_part d h rest (Ok c) behind = (
   content_text d c ++ (behind (half_behind d h c rest)).0,
@@ -126,8 +127,10 @@ abbrev pub side_behind : Half → Side
 side_behind h = record { stream = h.left; is_encrypted = h.is_encrypted }
 
 abbrev pub conversation_behind : Direction → Conversation → Half → Conversation
-conversation_behind ToServer c h = record { to_server = side_behind h; from_server = c.from_server; context = h.state }
-conversation_behind FromServer c h = record { to_server = c.to_server; from_server = side_behind h; context = h.state }
+conversation_behind ToServer c h =
+    record { to_server = side_behind h; from_server = c.from_server; context = h.state }
+conversation_behind FromServer c h =
+    record { to_server = c.to_server; from_server = side_behind h; context = h.state }
 
 abbrev pub result_behind : Direction → Conversation → Result Half Fault → Result Conversation Fault
 result_behind d c (Ok h) = Ok (conversation_behind d c h)
@@ -142,7 +145,8 @@ fed side bytes = record { stream = side.stream ++ bytes; is_encrypted = side.is_
 
 abbrev pub said_part : Conversation → Option Said → Part Conversation
 said_part c None = ([], Err BadLine)
-said_part c (Some said) = with_half said.0 c (half_part said.0 (half (fed (side_of said.0 c) said.1) c.context))
+said_part c (Some said) =
+    with_half said.0 c (half_part said.0 (half (fed (side_of said.0 c) said.1) c.context))
 
 -- an empty line is skipped
 abbrev pub line_part : Conversation → List ℕ → Part Conversation
@@ -174,12 +178,14 @@ end_part (Some n) state = (codes "end: " ++ fault_text (Refused (Lacks n)) ++ co
 end_part None state = (codes "state " ++ state_name state ++ codes "\n", 0)
 
 abbrev pub end_of : Conversation → List ℕ × ℕ
-end_of c = end_part (either_missing (missing c.to_server.stream) (missing c.from_server.stream)) c.context
+end_of c = end_part (either_missing (missing c.to_server.stream) (missing c.from_server.stream))
+    c.context
 
 -- the lines from line k on, each without one carriage return at its end
 abbrev pub out_from : ℕ → Conversation → List (List ℕ) → List ℕ × ℕ
 out_from k c [] = end_of c
-out_from k c (line ∷ lines) = followed_by k (line_part c (strip_last 13 line)) (λ c. out_from (k + 1) c lines)
+out_from k c (line ∷ lines) =
+    followed_by k (line_part c (strip_last 13 line)) (λ c. out_from (k + 1) c lines)
 
 -- nothing was read
 abbrev pub silence : Conversation

@@ -11,9 +11,11 @@ use Rattle.tlsview.specs.declared.direction.Direction.{Direction}
 
 -- if it parses, its messages are printed, and then what follows it
 abbrev pub PlaintextIsPrinted : Direction → Half → Type 0
-PlaintextIsPrinted d h = (p : Plaintext) (rest : Bytes) (behind : Half → Part Half) → h.is_encrypted ≡ false
+PlaintextIsPrinted d h = (p : Plaintext) (rest : Bytes) (behind : Half → Part Half)
+    → h.is_encrypted ≡ false
     → reading plaintext h.left ≡ Ok (p, rest)
-    → record_part d h (reading raw_record h.left) behind ≡ content_part d h rest (Ok (Messages p.messages)) behind
+    → record_part d h (reading raw_record h.left) behind ≡ content_part d h rest
+    (Ok (Messages p.messages)) behind
 
 -- if it breaks a rule, nothing is printed, and its refusal is the fault
 abbrev pub PlaintextIsRefused : Direction → Half → Type 0

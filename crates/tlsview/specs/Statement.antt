@@ -13,11 +13,13 @@ Said = Direction × List ℕ
 -- the bytes of the digits, in this direction
 abbrev pub with_direction : Option Direction → List ℕ → Option Said
 with_direction None digits = None
-with_direction (Some direction) digits = option_map (λ bytes. (direction, bytes)) (result_ok (decode_of digits))
+with_direction (Some direction) digits =
+    option_map (λ bytes. (direction, bytes)) (result_ok (decode_of digits))
 
 -- a sign, a space, and digits that `hex` decodes
 abbrev pub said_by : List ℕ → Option Said
-said_by (sign ∷ space ∷ digits) = if space == 32 then with_direction (direction_of sign) digits else None
+said_by (sign ∷ space ∷ digits) = if space == 32 then
+    with_direction (direction_of sign) digits else None
 said_by _ = None
 
 -- a sign, a space, and an even number of digits

@@ -37,7 +37,9 @@ impl Fault {
     /// The fault of a refusal, unless there was no memory.
     pub fn of_refusal(refusal: Err<Error<&[u8]>>) -> Result<Self, AllocError>
         requires { IsNotOutOfMemory refusal → IsRefusal refusal }
-        ensures ok { IfOk result (λ fault. IsNotOutOfMemory refusal.entry × (view_fault fault ≡ Refused (refusal_of refusal.entry))) }
+        ensures ok { IfOk result
+            (λ fault. IsNotOutOfMemory refusal.entry
+            × (view_fault fault ≡ Refused (refusal_of refusal.entry))) }
         ensures err { OnErr result (refusal.entry ≡ Err.OutOfMemory) }
     {
         match refusal {

@@ -20,7 +20,8 @@ pub fn statement_form()
 /// The next record is taken off what a direction has left, and then the rest is read likewise.
 pub fn record_by_record()
     ensures { (direction : Direction) (h : Half)
-        → half_part direction h ≡ record_part direction h (reading raw_record h.left) (half_part direction) }
+        → half_part direction h ≡ record_part direction h (reading raw_record h.left)
+        (half_part direction) }
 {}
 
 /// A record that isn't encrypted is parsed as `parse_tls_plaintext` does: its messages are printed,

@@ -28,7 +28,8 @@ pub fn run<R: Read, W: Write>(
     ensures same_reader { r.new.reader.ghost_name ≡ r.old.reader.ghost_name }
     ensures same_writer { w.new.writer.ghost_name ≡ w.old.writer.ghost_name }
     ensures told { IfOk result (λ exit.
-        WritesOut R.remaining W.contents r.old.reader.now r.new.reader.now w.old.writer.now w.new.writer.now (status_of exit)) }
+        WritesOut R.remaining W.contents r.old.reader.now r.new.reader.now w.old.writer.now
+        w.new.writer.now (status_of exit)) }
     ensures exit { IfOk result (λ exit. exit ≢ Exit.Failed) }
 
     // It fails if there is no memory, if the reader fails or uses all its calls, or if the writer
@@ -38,7 +39,8 @@ pub fn run<R: Read, W: Write>(
         ⊎ ((e ≡ Failure.Writing) × (w.new.has_failed ≡ true)))) }
     ensures unwritten { IfErr result (λ e. e ≢ Failure.Writing → w.new.writer.now ≡ w.old.writer.now) }
     ensures partly_written { IfErr result (λ e. e ≡ Failure.Writing
-        → WritesFront R.remaining W.contents r.old.reader.now r.new.reader.now w.old.writer.now w.new.writer.now) }
+        → WritesFront R.remaining W.contents r.old.reader.now r.new.reader.now w.old.writer.now
+        w.new.writer.now) }
 {
     let input = read_whole(alloc, r)?;
     let report = report_of(alloc, input.as_slice())?;
@@ -57,11 +59,13 @@ pub fn run<R: Read, W: Write>(
 /// The contract of [`run`] gives the fault of a failed run.
 pub fn view<R: Read, W: Write>(alloc: Global, r: &mut R, w: &mut W) -> u8
     // A run that doesn't fail has read all, and has written and returned what `out` gives.
-    ensures told { result ≢ status_of Exit.Failed → WritesOut R.remaining W.contents r.old r.new w.old w.new result }
+    ensures told { result ≢ status_of Exit.Failed
+        → WritesOut R.remaining W.contents r.old r.new w.old w.new result }
     ensures status { result ≤ status_of Exit.Failed }
     // A run that fails hasn't written; or it has read all, and written a proper prefix of what
     // `out` gives.
-    ensures failed { result ≡ status_of Exit.Failed → (w.new ≡ w.old) ⊎ WritesFront R.remaining W.contents r.old r.new w.old w.new }
+    ensures failed { result ≡ status_of Exit.Failed
+        → (w.new ≡ w.old) ⊎ WritesFront R.remaining W.contents r.old r.new w.old w.new }
 {
     let mut reader = Tally::new(r);
     let mut writer = Sink::new(w);

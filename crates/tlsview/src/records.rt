@@ -48,7 +48,9 @@ fn show_message(
     direction: Direction,
     message: &TlsMessage,
 ) -> Result<(), AllocError>
-    ensures { OnOk result (string_bytes text.new ≡ string_bytes text.old ++ message_line direction (view_message message.now)) }
+    ensures { OnOk result
+        (string_bytes text.new ≡ string_bytes text.old ++ message_line direction
+        (view_message message.now)) }
 {
     text.push_str(direction.mark())?;
     add_message_name(text, message)?;
@@ -62,7 +64,8 @@ fn show_messages(
     messages: &[TlsMessage],
 ) -> Result<(), AllocError>
     ensures { OnOk result (string_bytes text.new
-        ≡ string_bytes text.old ++ flat_map (message_line direction) (map view_message messages.now)) }
+        ≡ string_bytes text.old ++ flat_map (message_line direction)
+        (map view_message messages.now)) }
 {
     for message in messages {
         show_message(text, direction, message)?;
@@ -72,7 +75,8 @@ fn show_messages(
 
 /// Follows each message in order.
 fn follow_messages(context: &mut ParseContext, to_server: bool, messages: &[TlsMessage])
-    ensures { context.new ≡ run context.old (map (λ m. symbols.symbol_of m to_server) messages.now) }
+    ensures { context.new ≡ run context.old
+        (map (λ m. symbols.symbol_of m to_server) messages.now) }
 {
     for i in 0..messages.len() {
         let _ = context.update(&messages[i], to_server);
@@ -107,7 +111,9 @@ fn show_record(
     context: &mut ParseContext,
     raw: &TlsRawRecord,
 ) -> Result<Next, AllocError>
-    ensures { IfOk result (IsRecordShown direction (string_bytes text.old) context.old (string_bytes text.new) context.new
+    ensures { IfOk result
+        (IsRecordShown direction (string_bytes text.old) context.old (string_bytes text.new)
+        context.new
         is_encrypted (view_raw_record raw.now)) }
 {
     if is_encrypted {
@@ -133,7 +139,9 @@ fn show_next(
     side: &Side,
     context: &mut ParseContext,
 ) -> Result<Next, AllocError>
-    ensures { IfOk result (IsNextShown direction (string_bytes text.old) context.old (string_bytes text.new) context.new
+    ensures { IfOk result
+        (IsNextShown direction (string_bytes text.old) context.old (string_bytes text.new)
+        context.new
         side.now.is_encrypted side.now.stream) }
 {
     match side.stream.front() {
@@ -152,7 +160,9 @@ fn show_records(
     side: &mut Side,
     context: &mut ParseContext,
 ) -> Result<Option<Fault>, AllocError>
-    ensures { IfOk result (AreShown direction (string_bytes text.old) (half side.old context.old) (string_bytes text.new) (half side.new context.new)) }
+    ensures { IfOk result
+        (AreShown direction (string_bytes text.old) (half side.old context.old)
+        (string_bytes text.new) (half side.new context.new)) }
 {
     'records: loop {
         let next = show_next(alloc, text, direction, side, context)?;
@@ -177,7 +187,8 @@ pub fn show_bytes(
     context: &mut ParseContext,
     bytes: &[u8],
 ) -> Result<Option<Fault>, AllocError>
-    ensures { IfOk result (AreShown direction (string_bytes text.old) (half (fed side.old bytes.now) context.old)
+    ensures { IfOk result
+        (AreShown direction (string_bytes text.old) (half (fed side.old bytes.now) context.old)
         (string_bytes text.new) (half side.new context.new)) }
 {
     match side.stream.feed(bytes) {

@@ -31,7 +31,9 @@ fn show_line(
     bytes: &mut Vec<u8>,
     line: &[u8],
 ) -> Result<Option<Fault>, AllocError>
-    ensures { IfOk result (IsLineShown line.now (string_bytes text.old) conversation.old (string_bytes text.new) conversation.new) }
+    ensures { IfOk result
+        (IsLineShown line.now (string_bytes text.old) conversation.old (string_bytes text.new)
+        conversation.new) }
 {
     if line.is_empty() {
         return Ok(None);
@@ -75,7 +77,8 @@ fn missing_of(side: &Side) -> Option<usize>
 
 /// Prints the end of a run that had no fault before.
 fn show_end(text: &mut String, conversation: &Conversation) -> Result<Exit, AllocError>
-    ensures { IfOk result (IsEndShown (string_bytes text.old) (string_bytes text.new) conversation.now) }
+    ensures { IfOk result
+        (IsEndShown (string_bytes text.old) (string_bytes text.new) conversation.now) }
 {
     let missing = match missing_of(&conversation.to_server) {
         Some(missing) => Some(missing),

@@ -14,7 +14,8 @@ use Rattle.tunnels.specs.declared.tunnel.Tunnels.{Tunnels}
 
 -- A fragment of this EtherType.
 unfoldable pub fragment_of_type : ℕ → Layout Fragment
-fragment_of_type kind = choose (kind == IPV4) fragment_v4 (choose (kind == IPV6) fragment_v6 (refuse Switch))
+fragment_of_type kind =
+    choose (kind == IPV4) fragment_v4 (choose (kind == IPV6) fragment_v6 (refuse Switch))
 
 -- The fragment in a packet of this link type.
 unfoldable pub packet_fragment : ℕ → Layout Fragment
@@ -39,11 +40,13 @@ unfoldable pub found : ℕ → Answer Fragment → Answer Layer → Option Fragm
 found n (Ok x) read = Some x.0
 found zero (Err e) read = None
 found (suc n) (Err e) read =
-    behind (λ h. found n (reading (inner_fragment h.kind) h.inside) (reading (inner_layer h.kind) h.inside)) read
+    behind (λ h. found n (reading (inner_fragment h.kind) h.inside)
+    (reading (inner_layer h.kind) h.inside)) read
 
 -- The fragment in a packet of this link type, behind at most 8 tunnels.
 abbrev pub fragment_in_packet : ℕ → Bytes → Option Fragment
-fragment_in_packet link_type b = found 8 (reading (packet_fragment link_type) b) (reading (packet_layer link_type) b)
+fragment_in_packet link_type b =
+    found 8 (reading (packet_fragment link_type) b) (reading (packet_layer link_type) b)
 
 -- What a reassembled datagram holds, which came in these tunnels. At most 8 are followed in all.
 abbrev pub unwrapped_in : Tunnels → Datagram → Unwrapped
@@ -52,4 +55,5 @@ unwrapped_in t d = followed (8 - t.count) (listed t) (Ok (datagram_layer d, []))
 -- The fragment behind a tunnel in a reassembled datagram.
 abbrev pub fragment_in_datagram : Tunnels → Datagram → Option Fragment
 fragment_in_datagram t d = behind
-    (λ h. found (7 - t.count) (reading (inner_fragment h.kind) h.inside) (reading (inner_layer h.kind) h.inside)) (Ok (datagram_layer d, []))
+    (λ h. found (7 - t.count) (reading (inner_fragment h.kind) h.inside)
+    (reading (inner_layer h.kind) h.inside)) (Ok (datagram_layer d, []))

@@ -43,7 +43,8 @@ erspan is_numbered = choose is_numbered erspan2 (carrying (erspan_tunnel None) E
 
 -- The EtherType of a copy, by its frame type: 0 is an Ethernet frame, 2 an IP datagram.
 unfoldable pub copied : ℕ → Layout ℕ
-copied frame_type = choose (frame_type == 2) version_type (done (if frame_type == 0 then ETHERNET else 0))
+copied frame_type =
+    choose (frame_type == 2) version_type (done (if frame_type == 0 then ETHERNET else 0))
 
 -- Type III (section 4.3): version 2 and VLAN; class of service, encapsulation, truncated, session;
 -- time, group tag; frame type (5 bits, after the first). The last bit is set if 8 bytes more

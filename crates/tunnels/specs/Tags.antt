@@ -21,9 +21,11 @@ vlans_by f (Err e) = []
 -- The VLAN identifiers of the frames in at most this many tunnels, outermost first.
 unfoldable pub inner_vlans : ℕ → Answer Layer → List ℕ
 inner_vlans zero read = []
-inner_vlans (suc n) read = vlans_by (λ h. frame_vlans h ++ inner_vlans n (reading (inner_layer h.kind) h.inside)) read
+inner_vlans (suc n) read =
+    vlans_by (λ h. frame_vlans h ++ inner_vlans n (reading (inner_layer h.kind) h.inside)) read
 
 -- The VLAN identifiers of a packet of this link type, outermost first: those of its link's tags,
 -- and of the frames in its tunnels. The first 16 count.
 abbrev pub vlans_of : ℕ → Bytes → List ℕ
-vlans_of link_type b = take 16 (link_vlans link_type b ++ inner_vlans 8 (reading (packet_layer link_type) b))
+vlans_of link_type b =
+    take 16 (link_vlans link_type b ++ inner_vlans 8 (reading (packet_layer link_type) b))

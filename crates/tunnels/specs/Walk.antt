@@ -38,7 +38,8 @@ wrapped_or d (Err e) = Holds d
 
 abbrev pub content_layer : Datagram → Content → Layer
 content_layer d (Udp u) = wrapped_or d (reading (by_ports u.source u.destination) u.payload)
-content_layer d (OtherContent protocol payload) = wrapped_or d (reading (by_protocol protocol) payload)
+content_layer d (OtherContent protocol payload) =
+    wrapped_or d (reading (by_protocol protocol) payload)
 content_layer d (Tcp s) = Holds d
 content_layer d Fragment = Holds d
 
@@ -104,7 +105,8 @@ by_answer f found (Err e) = record { tunnels = found; inside = Unread }
 unfoldable pub followed : ℕ → List Tunnel → Answer Layer → Unwrapped
 followed zero found read = by_answer (λ h. record { tunnels = found; inside = Deeper }) found read
 followed (suc n) found read =
-    by_answer (λ h. followed n (found ++ h.tunnel ∷ []) (reading (inner_layer h.kind) h.inside)) found read
+    by_answer (λ h. followed n (found ++ h.tunnel ∷ []) (reading (inner_layer h.kind) h.inside))
+    found read
 
 -- A packet of this link type, through at most 8 tunnels.
 abbrev pub unwrapped : ℕ → Bytes → Unwrapped
@@ -114,4 +116,5 @@ unwrapped link_type b = followed 8 [] (reading (packet_layer link_type) b)
 -- returns the same datagram.
 abbrev pub IsReadAlone : ℕ → Bytes → Datagram → Type 0
 IsReadAlone link_type b d =
-    unwrapped link_type b ≡ record { tunnels = []; inside = Held d } → (r : Bytes) × (reading (packet link_type) b ≡ Ok (Some d, r))
+    unwrapped link_type b ≡ record { tunnels = []; inside = Held d }
+    → (r : Bytes) × (reading (packet link_type) b ≡ Ok (Some d, r))

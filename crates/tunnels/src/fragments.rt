@@ -55,7 +55,8 @@ fn find<'a>(
 ) -> Option<Fragment<'a>>
     requires is_fragment { IsAnswer fragment }
     requires is_answer { IsAnswer read }
-    ensures { found most (answer_of view_fragment fragment.entry) (answer_of view_layer read.entry) ≡ option_map view_fragment result }
+    ensures { found most (answer_of view_fragment fragment.entry) (answer_of view_layer read.entry)
+        ≡ option_map view_fragment result }
 {
     if let Ok((_, fragment)) = fragment {
         return Some(fragment);
@@ -89,7 +90,8 @@ pub fn innermost_fragment(i: &[u8], link_type: u16) -> Option<Fragment>
 /// Returns the fragment in a reassembled datagram, behind its tunnels. `tunnels` are those in which
 /// its fragments came.
 pub fn fragment_in<'a>(datagram: Datagram<'a>, tunnels: &Tunnels) -> Option<Fragment<'a>>
-    ensures { option_map view_fragment result ≡ fragment_in_datagram tunnels.now (view_datagram datagram.entry) }
+    ensures { option_map view_fragment result ≡ fragment_in_datagram tunnels.now
+        (view_datagram datagram.entry) }
 {
     match datagram_layer(datagram) {
         Layer::Wraps(header) => find(
@@ -104,7 +106,8 @@ pub fn fragment_in<'a>(datagram: Datagram<'a>, tunnels: &Tunnels) -> Option<Frag
 /// Returns the innermost datagram in a reassembled datagram, and all the tunnels around it.
 /// `tunnels` are those in which its fragments came.
 pub fn inside_of<'a>(datagram: Datagram<'a>, tunnels: &Tunnels) -> Unwrapped<'a>
-    ensures { tunnels.now.count ≤ 8 → view_unwrapped result ≡ unwrapped_in tunnels.now (view_datagram datagram.entry) }
+    ensures { tunnels.now.count ≤ 8
+        → view_unwrapped result ≡ unwrapped_in tunnels.now (view_datagram datagram.entry) }
 {
     let mut tunnels = *tunnels;
     if tunnels.count > MAX_TUNNELS {

@@ -17,7 +17,8 @@ use layouts::IResult;
 #[tactic(auto, using(crate::proofs::TagLemmas::none))]
 fn add_of_frame(header: &Header<'_>, tags: &mut VlanTags)
     requires { length (found_in tags.old) ≤ 16 }
-    ensures { found_in tags.new ≡ take 16 (found_in tags.old ++ frame_vlans (view_header header.now)) }
+    ensures { found_in tags.new ≡ take 16
+        (found_in tags.old ++ frame_vlans (view_header header.now)) }
 {
     if header.kind == ETHERNET {
         tags.add_of_link(header.inside, LINK_ETHERNET);
@@ -30,7 +31,8 @@ fn add_of_frame(header: &Header<'_>, tags: &mut VlanTags)
 fn add_inner(read: IResult<&[u8], Layer>, tags: &mut VlanTags, most: u8)
     requires is_answer { IsAnswer read }
     requires fits { length (found_in tags.old) ≤ 16 }
-    ensures { found_in tags.new ≡ take 16 (found_in tags.old ++ inner_vlans most (answer_of view_layer read.entry)) }
+    ensures { found_in tags.new ≡ take 16
+        (found_in tags.old ++ inner_vlans most (answer_of view_layer read.entry)) }
 {
     match read {
         Ok((_, Layer::Wraps(header))) if most > 0 => {

@@ -68,7 +68,8 @@ pub struct Unwrapped<'a> {
 #[inline(always)]
 fn wrapped_or<'a>(datagram: Datagram<'a>, header: IResult<&'a [u8], Header<'a>>) -> Layer<'a>
     requires { IsAnswer header }
-    ensures { view_layer result ≡ wrapped_or_by (view_datagram datagram.entry) (answer_of view_header header.entry) }
+    ensures { view_layer result ≡ wrapped_or_by (view_datagram datagram.entry)
+        (answer_of view_header header.entry) }
 {
     match header {
         Ok((_, header)) => Layer::Wraps(header),
@@ -148,7 +149,8 @@ pub(crate) fn follow<'a>(
 ) -> Inside<'a>
     requires is_answer { IsAnswer read }
     requires fits { tunnels.old.count + most ≤ 8 }
-    ensures { followed most (listed tunnels.old) (answer_of view_layer read.entry) ≡ record { tunnels = listed tunnels.new; inside = view_inside result } }
+    ensures { followed most (listed tunnels.old) (answer_of view_layer read.entry)
+        ≡ record { tunnels = listed tunnels.new; inside = view_inside result } }
 {
     match read {
         Err(_) => Inside::Unread,
@@ -191,7 +193,8 @@ pub fn innermost(i: &[u8], link_type: u16) -> Unwrapped
 #[inline(always)]
 fn inside_ipv4<'a>(i: &'a [u8], tunnels: &mut Tunnels) -> Inside<'a>
     requires { tunnels.old.count ≡ 0 }
-    ensures { followed 8 (listed tunnels.old) (reading (layer_of_type_layout 0x0800) i.now) ≡ record { tunnels = listed tunnels.new; inside = view_inside result } }
+    ensures { followed 8 (listed tunnels.old) (reading (layer_of_type_layout 0x0800) i.now)
+        ≡ record { tunnels = listed tunnels.new; inside = view_inside result } }
 {
     let Ok((i, datagram)) = parse_ipv4(i) else {
         return Inside::Unread;
@@ -210,7 +213,8 @@ fn inside_ipv4<'a>(i: &'a [u8], tunnels: &mut Tunnels) -> Inside<'a>
 /// empty.
 fn inside_other<'a>(i: &'a [u8], kind: u16, tunnels: &mut Tunnels) -> Inside<'a>
     requires { tunnels.old.count ≡ 0 }
-    ensures { followed 8 (listed tunnels.old) (reading (layer_of_type_layout kind) i.now) ≡ record { tunnels = listed tunnels.new; inside = view_inside result } }
+    ensures { followed 8 (listed tunnels.old) (reading (layer_of_type_layout kind) i.now)
+        ≡ record { tunnels = listed tunnels.new; inside = view_inside result } }
 {
     follow(layer_of_type(i, kind), tunnels, MAX_TUNNELS as u8)
 }
@@ -232,7 +236,9 @@ fn may_be_plain(i: &[u8]) -> bool {
 #[tactic(auto, using(crate::proofs::WalkLemmas::holds), unfolding(crate::specs::Walk::layer_of_type))]
 #[inline(always)]
 fn plain_ipv4(i: &[u8]) -> Option<Datagram>
-    ensures { IfSome result (λ datagram. followed 8 [] (reading (layer_of_type_layout 0x0800) i.now) ≡ record { tunnels = []; inside = Held (view_datagram datagram) }) }
+    ensures { IfSome result
+        (λ datagram. followed 8 [] (reading (layer_of_type_layout 0x0800) i.now)
+        ≡ record { tunnels = []; inside = Held (view_datagram datagram) }) }
 {
     // (once this is tested, the compiler drops the length test for each field)
     if !may_be_plain(i) {
@@ -253,7 +259,9 @@ fn plain_ipv4(i: &[u8]) -> Option<Datagram>
 #[tactic(auto, unfolding(crate::specs::Walk::packet_layer))]
 #[inline(always)]
 pub fn plain_segment<'a>(i: &'a [u8], link_type: u16, tunnels: &mut Tunnels) -> Option<Datagram<'a>>
-    ensures { IfSome result (λ datagram. unwrapped link_type i.now ≡ record { tunnels = listed tunnels.new; inside = Held (view_datagram datagram) }) }
+    ensures { IfSome result
+        (λ datagram. unwrapped link_type i.now
+        ≡ record { tunnels = listed tunnels.new; inside = Held (view_datagram datagram) }) }
 {
     tunnels.clear();
     if link_type != LINK_ETHERNET {
@@ -273,7 +281,8 @@ pub fn plain_segment<'a>(i: &'a [u8], link_type: u16, tunnels: &mut Tunnels) -> 
 #[tactic(auto, using(crate::proofs::WalkLemmas::refused), unfolding(crate::specs::Walk::packet_layer))]
 #[inline]
 pub fn innermost_into<'a>(i: &'a [u8], link_type: u16, tunnels: &mut Tunnels) -> Inside<'a>
-    ensures { unwrapped link_type i.now ≡ record { tunnels = listed tunnels.new; inside = view_inside result } }
+    ensures { unwrapped link_type
+        i.now ≡ record { tunnels = listed tunnels.new; inside = view_inside result } }
 {
     tunnels.clear();
     let Ok((i, kind)) = parse_link(i, link_type) else {

@@ -25,17 +25,20 @@ use Rattle.wispuddera_c.proofs.PlaceLemmas.{items_stand}
 stands : (b x : Bytes) (p : Place) → certificates.Stands b p x → Stands b p x
 stands b x p s = record { is = s.is; within = s.within }
 
-pub in_c_stands : (b x : Bytes) (c : CPlace) (p : Place) → place_of c ≡ p → certificates.Stands b p x
+pub in_c_stands : (b x : Bytes) (c : CPlace) (p : Place) → place_of c ≡ p
+    → certificates.Stands b p x
     → Stands b (place_of c) x
 in_c_stands b x c p same s = subst (λ q. Stands b q x) (sym same) (stands b x p s)
 
-pub may_stand : (b : Bytes) (p : Option Place) (x : Option Bytes) → certificates.MayStand b p x → MayStand b p x
+pub may_stand : (b : Bytes) (p : Option Place) (x : Option Bytes) → certificates.MayStand b p x
+    → MayStand b p x
 may_stand b (Some p) (Some x) s = stands b x p s
 may_stand b None None s = tt
 may_stand b (Some p) None s = absurd s
 may_stand b None (Some x) s = absurd s
 
-pub name_in_c : (b : Bytes) (n : List (List AttributeTypeAndValue)) (c : CPlace) (p : Place) → place_of c ≡ p
+pub name_in_c : (b : Bytes) (n : List (List AttributeTypeAndValue)) (c : CPlace) (p : Place)
+    → place_of c ≡ p
     → NameStands b p n → NameStands b (place_of c) n
 name_in_c b n c p same s = subst (λ q. NameStands b q n) (sym same) s
 

@@ -47,7 +47,8 @@ abbrev event_stop : Event → ℕ → FlowStop
 event_stop e n = record { event = e; place = n }
 
 -- By whether the event stops it.
-stops : (failed stopped : Bool) (x a b : FlowStop) (z : Option FlowStop) → is_some (cond failed (Some x) None) ≡ stopped
+stops : (failed stopped : Bool) (x a b : FlowStop) (z : Option FlowStop)
+    → is_some (cond failed (Some x) None) ≡ stopped
     → z ≡ None → cond failed (Some (cond stopped a b)) None ≡ cond failed (Some a) z
 stops true true x a b z is none = refl
 stops true false x a b z is none = absurd cc
@@ -62,12 +63,14 @@ module _ (q : State) (n : ℕ) (s : FlowStop) (e : Event) where
   abbrev from_flow : Bool → Followed
   from_flow t = follow_by t (flow_at q n s) e
 
-  by_waiting : (t stopped : Bool) → is_waiting (outcome_at q) ≡ t → is_some (from_state t).stop ≡ stopped
+  by_waiting : (t stopped : Bool) → is_waiting (outcome_at q) ≡ t
+      → is_some (from_state t).stop ≡ stopped
       → flow_at (from_state t).state (counted n) (cond stopped (event_stop e n) s) ≡ from_flow t
   by_waiting true stopped under_way is =
       let next : State = step q e.symbol in
       ap (λ o. record { state = next; events = counted n; stop = o })
-      (stops (is_failed (outcome_at next)) stopped (event_stop e 0) (event_stop e n) s (flow_at q n s).stop is
+      (stops (is_failed (outcome_at next)) stopped (event_stop e 0) (event_stop e n) s
+      (flow_at q n s).stop is
       (ap (λ t. cond t (Some s) None) (not_failed (outcome_at q) under_way)))
   by_waiting false stopped ended is =
       ap (λ b. flow_at q (counted n) (cond b (event_stop e n) s)) (sym is)

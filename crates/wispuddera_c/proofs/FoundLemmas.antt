@@ -9,7 +9,8 @@ use Rattle.wispuddera_c.specs.declared.place.Place.{Place}
 use Rattle.wispuddera_c.specs.Place.{StandsAt, ItemsStandAt}
 use Rattle.wispuddera_c.specs.Status.{IsAnswered}
 
-then_then : {X Y Z : Type 0} (a : Result X Refusal) (f : X → Result Y Refusal) (g : Y → Result Z Refusal)
+then_then : {X Y Z : Type 0} (a : Result X Refusal) (f : X → Result Y Refusal)
+    (g : Y → Result Z Refusal)
     → (a and_then λ x. f x and_then g) ≡ ((a and_then f) and_then g)
 then_then (Ok x) f g = refl
 then_then (Err e) f g = refl

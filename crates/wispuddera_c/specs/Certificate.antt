@@ -35,7 +35,8 @@ KeyTold = Result LentPublicKey (Failed (Error (Bor (List ℕ))))
 
 -- The numbers are those of this answer.
 abbrev pub TellsKey : KeyTold → ℕ → ℕ → Type 0
-TellsKey found kind bits = (a : Result PublicKey Refusal) → Tells view_public_key a found → IsKey a kind bits
+TellsKey found kind bits = (a : Result PublicKey Refusal) → Tells view_public_key a found
+    → IsKey a kind bits
 
 -- The struct shows the certificate v in b, and that r follows it.
 pub record ShowsX509 (b : Bytes) (c : X509) (v : Certificate) (r : Bytes) : Type 0 where
@@ -44,10 +45,13 @@ pub record ShowsX509 (b : Bytes) (c : X509) (v : Certificate) (r : Bytes) : Type
   pub signature_algorithm : StandsAt b c.signature_algorithm v.signature_algorithm.algorithm
   pub issuer : NameStands b (place_of c.issuer) v.tbs_certificate.names.issuer
   pub subject : NameStands b (place_of c.subject) v.tbs_certificate.names.subject
-  pub key_algorithm : StandsAt b c.key_algorithm v.tbs_certificate.names.subject_public_key_info.algorithm.algorithm
+  pub key_algorithm : StandsAt b c.key_algorithm
+      v.tbs_certificate.names.subject_public_key_info.algorithm.algorithm
   pub key_parameters : StandsAt b c.key_parameters
-      (held (option_map (λ e. e.content) v.tbs_certificate.names.subject_public_key_info.algorithm.parameters))
-  pub public_key : StandsAt b c.public_key v.tbs_certificate.names.subject_public_key_info.subject_public_key.bytes
+      (held (option_map (λ e. e.content)
+      v.tbs_certificate.names.subject_public_key_info.algorithm.parameters))
+  pub public_key : StandsAt b c.public_key
+      v.tbs_certificate.names.subject_public_key_info.subject_public_key.bytes
   pub extensions : ItemsStandAt extension b c.extensions v.tbs_certificate.others.extensions
   pub signature : StandsAt b c.signature v.signature_value.bytes
   pub not_before : c.not_before ≡ v.tbs_certificate.names.validity.not_before
@@ -57,7 +61,8 @@ pub record ShowsX509 (b : Bytes) (c : X509) (v : Certificate) (r : Bytes) : Type
   pub next : Follows b c.next r
 
 -- The struct shows the extension v in b, and that r follows it.
-pub record ShowsX509Extension (b : Bytes) (c : X509Extension) (v : Extension) (r : Bytes) : Type 0 where
+pub record ShowsX509Extension (b : Bytes) (c : X509Extension) (v : Extension)
+    (r : Bytes) : Type 0 where
   pub oid : StandsAt b c.oid v.extn_id
   pub value : StandsAt b c.value v.extn_value
   pub critical : c.critical ≡ v.critical

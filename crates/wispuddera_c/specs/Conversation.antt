@@ -73,24 +73,30 @@ AreEvents events c = flow_of c.course ≡ run follow silence events
 
 -- The side got another piece, which changed its buffer from b to b', for any buffer of the other
 -- side.
-pub record IsGiven (to_server : Bool) (b b' : Bytes) (c d : Conversation) (piece : Bytes) : Type 0 where
-  pub fed : (o : Bytes) → IsFedBy (said_in to_server b o c) (direction to_server) piece (said_in to_server b' o d)
+pub record IsGiven (to_server : Bool) (b b' : Bytes) (c d : Conversation)
+    (piece : Bytes) : Type 0 where
+  pub fed : (o : Bytes)
+      → IsFedBy (said_in to_server b o c) (direction to_server) piece (said_in to_server b' o d)
   pub within : IsWithin (length b') (side_at to_server d)
   pub other_side : side_at (not to_server) d ≡ side_at (not to_server) c
   pub session : d.has_session ≡ c.has_session
 
 -- The handshake's last event decides whether a session is resumed.
 abbrev pub session_behind : Conversation → Saying → Bool
-session_behind c v = if is_waiting (outcome_at (state_in c.course.flow)) then takes_session v else c.has_session
+session_behind c v = if is_waiting (outcome_at (state_in c.course.flow)) then
+    takes_session v else c.has_session
 
 -- The side says v first, which is returned, and d is the conversation after it.
-pub record IsBehindIt (to_server : Bool) (b b' : Bytes) (c d : Conversation) (out : Said) (v : Saying) : Type 0 where
+pub record IsBehindIt (to_server : Bool) (b b' : Bytes) (c d : Conversation) (out : Said)
+    (v : Saying) : Type 0 where
   pub told : Tells (direction to_server) b' out v
-  pub behind : (o : Bytes) → IsBehind (said_in to_server b o c) (direction to_server) v (said_in to_server b' o d)
+  pub behind : (o : Bytes)
+      → IsBehind (said_in to_server b o c) (direction to_server) v (said_in to_server b' o d)
   pub within : IsWithin (length b') (side_at to_server d)
   pub other_side : side_at (not to_server) d ≡ side_at (not to_server) c
   pub session : d.has_session ≡ session_behind c v
-  pub events : (es : List Event) → AreEvents es c → AreEvents (es ++ event_of (direction to_server) v ∷ []) d
+  pub events : (es : List Event) → AreEvents es c
+      → AreEvents (es ++ event_of (direction to_server) v ∷ []) d
 
 abbrev pub IsNext : Bool → Bytes → Bytes → Conversation → Conversation → Said → Type 0
 IsNext to_server b b' c d out = (v : Saying) × IsBehindIt to_server b b' c d out v
@@ -104,7 +110,8 @@ pub record SaysNoMore (c : Followed) (s : Direction) (d : Followed) : Type 0 whe
   pub flow : d.flow ≡ c.flow
 
 pub record IsWaiting (to_server : Bool) (b b' : Bytes) (c d : Conversation) : Type 0 where
-  pub waits : (o : Bytes) → SaysNoMore (said_in to_server b o c) (direction to_server) (said_in to_server b' o d)
+  pub waits : (o : Bytes)
+      → SaysNoMore (said_in to_server b o c) (direction to_server) (said_in to_server b' o d)
   pub within : IsWithin (length b') (side_at to_server d)
   pub other_side : side_at (not to_server) d ≡ side_at (not to_server) c
   pub session : d.has_session ≡ c.has_session

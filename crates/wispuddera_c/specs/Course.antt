@@ -21,7 +21,11 @@ abbrev pub alert_in : Stop → Option TlsAlertDescription
 alert_in s = if s.is_alert then Some (record { 0 = s.alert }) else None
 
 abbrev pub stop_of : Stop → FlowStop
-stop_of s = record { event = record { symbol = symbol_of s.event; alert = alert_in s }; place = s.events_before }
+stop_of s = record {
+  event = record { symbol = symbol_of s.event; alert = alert_in s };
+  place =
+      s.events_before;
+}
 
 -- What stopped it, if it is stopped.
 abbrev pub stop_in : State → Stop → Option FlowStop

@@ -12,12 +12,17 @@ use Rattle.wispuddera_c.specs.declared.outcome.Event.{Event}
 -- The states in the order of their numbers.
 abbrev pub states : List State
 states =
-    state.Start ∷ state.Hello ∷ state.Verify ∷ state.VerifiedHello ∷ state.ChangedHello ∷ state.EarlyHello ∷ state.Retry
-    ∷ state.EarlyRetry ∷ state.SecondHello ∷ state.EarlySecondHello ∷ state.ServerHello ∷ state.Certificate
+    state.Start ∷ state.Hello ∷ state.Verify ∷ state.VerifiedHello ∷ state.ChangedHello
+    ∷ state.EarlyHello ∷ state.Retry
+    ∷ state.EarlyRetry ∷ state.SecondHello ∷ state.EarlySecondHello ∷ state.ServerHello
+    ∷ state.Certificate
     ∷ state.CertificateStatus ∷ state.CertifiedKeys ∷ state.Keys ∷ state.Request ∷ state.RequestDone
-    ∷ state.ClientCertificate ∷ state.ClientKeys ∷ state.Done ∷ state.ClientDone ∷ state.ClientChange ∷ state.Ticket
-    ∷ state.ResumedTicket ∷ state.ServerChange ∷ state.Full ∷ state.Resumed ∷ state.Tls13 ∷ state.EarlyTls13
-    ∷ state.RetriedTls13 ∷ state.EarlyRetriedTls13 ∷ state.BrokenOff ∷ state.Unknown ∷ state.NoHandshake ∷ []
+    ∷ state.ClientCertificate ∷ state.ClientKeys ∷ state.Done ∷ state.ClientDone
+    ∷ state.ClientChange ∷ state.Ticket
+    ∷ state.ResumedTicket ∷ state.ServerChange ∷ state.Full ∷ state.Resumed ∷ state.Tls13
+    ∷ state.EarlyTls13
+    ∷ state.RetriedTls13 ∷ state.EarlyRetriedTls13 ∷ state.BrokenOff ∷ state.Unknown
+    ∷ state.NoHandshake ∷ []
 
 -- The state with this number; none past the last.
 abbrev pub state_at : ℕ → Option State

@@ -22,7 +22,8 @@ IsFound b (Ok None) status c = (status ≡ none) × (c.missing ≡ 0)
 IsFound b (Err e) status c = IsRefused e status c.missing
 
 -- The items of the answer are at the place in b; or there are none, or a refusal is returned.
-abbrev pub AreFound : {A : Type 0} → Layout A → Bytes → Result (Option (List A)) Refusal → ℕ → Found → Type 0
+abbrev pub AreFound : {A : Type 0} → Layout A → Bytes → Result (Option (List A)) Refusal → ℕ
+    → Found → Type 0
 AreFound l b (Ok (Some xs)) status c = (status ≡ 0) × (c.missing ≡ 0) × ItemsStandAt l b c.place xs
 AreFound l b (Ok None) status c = (status ≡ none) × (c.missing ≡ 0)
 AreFound l b (Err e) status c = IsRefused e status c.missing
@@ -33,10 +34,12 @@ PlaceFound = Result (Option Place) (Failed (Error (Bor (List ℕ))))
 
 -- If the call found bytes of b, the status and the struct show them.
 abbrev pub TellsPart : PlaceFound → ℕ → Found → Type 0
-TellsPart found status c = (b : Bytes) (a : Result (Option Bytes) Refusal) → Tells (option_map (bytes_at b)) a found
+TellsPart found status c = (b : Bytes) (a : Result (Option Bytes) Refusal)
+    → Tells (option_map (bytes_at b)) a found
     → IsWithin b found → IsFound b a status c
 
 -- If the call found a list of items in b, the status and the struct show it.
 abbrev pub TellsList : {A : Type 0} → Layout A → PlaceFound → ℕ → Found → Type 0
 TellsList {A} l found status c = (b : Bytes) (a : Result (Option (List A)) Refusal)
-    → Tells (option_map (λ p. items_in l (bytes_at b p))) a found → IsWithin b found → AreFound l b a status c
+    → Tells (option_map (λ p. items_in l (bytes_at b p))) a found → IsWithin b found
+    → AreFound l b a status c

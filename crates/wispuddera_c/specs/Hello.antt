@@ -11,7 +11,8 @@ use Rattle.wispuddera_c.specs.declared.server_hello.ServerHello.{ServerHello}
 use Rattle.wispuddera_c.specs.Place.{StandsAt, ItemsStandAt, Follows}
 
 -- The struct shows the ClientHello v in b, and that r follows it.
-pub record ShowsClientHello (b : Bytes) (c : ClientHello) (v : hello.ClientHello) (r : Bytes) : Type 0 where
+pub record ShowsClientHello (b : Bytes) (c : ClientHello) (v : hello.ClientHello)
+    (r : Bytes) : Type 0 where
   pub version : c.version ≡ v.client_version
   pub random : StandsAt b c.random v.random
   pub session_id : StandsAt b c.session_id (held v.session_id)
@@ -22,7 +23,8 @@ pub record ShowsClientHello (b : Bytes) (c : ClientHello) (v : hello.ClientHello
   pub next : Follows b c.next r
 
 -- The struct shows the ServerHello v in b, and that r follows it.
-pub record ShowsServerHello (b : Bytes) (c : ServerHello) (v : server.ServerHello) (r : Bytes) : Type 0 where
+pub record ShowsServerHello (b : Bytes) (c : ServerHello) (v : server.ServerHello)
+    (r : Bytes) : Type 0 where
   pub version : c.version ≡ v.server_version
   pub random : StandsAt b c.random v.random
   pub session_id : StandsAt b c.session_id (held v.session_id)

@@ -17,7 +17,8 @@ abbrev pub StandsAt : Bytes → CPlace → Bytes → Type 0
 StandsAt b p x = Stands b (place_of p) x
 
 -- The place lies within b, and these are the items of its bytes.
-pub record ItemsStandAt {A : Type 0} (l : Layout A) (b : Bytes) (p : CPlace) (xs : List A) : Type 0 where
+pub record ItemsStandAt {A : Type 0} (l : Layout A) (b : Bytes) (p : CPlace)
+    (xs : List A) : Type 0 where
   pub are : items_in l (bytes_at b (place_of p)) ≡ xs
   pub within : Lies b (place_of p)
 

@@ -44,7 +44,8 @@ fault_in v = 0
 abbrev pub IsSaidBy : Saying → Bytes → Type 0
 IsSaidBy (Handshake m) x = (4 ≤ length x) × (x ≡ m)
 IsSaidBy ChangeCipherSpec x = 5 ≤ length x
-IsSaidBy (Alert a) x = (length x ≡ 2) × (slice_index x 0 ≡ a.level) × (slice_index x 1 ≡ a.description)
+IsSaidBy (Alert a) x = (length x ≡ 2) × (slice_index x 0 ≡ a.level)
+    × (slice_index x 1 ≡ a.description)
 IsSaidBy (Heartbeat b) x = (5 ≤ length x) × (drop 5 x ≡ b)
 IsSaidBy (ApplicationData b) x = (5 ≤ length x) × (drop 5 x ≡ b)
 IsSaidBy (Encrypted r) x = (5 ≤ length x) × (x ≡ r)

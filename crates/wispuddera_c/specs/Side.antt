@@ -18,7 +18,8 @@ use Rattle.wispuddera_c.specs.declared.side.Side.{Side}
 
 -- The offsets lie within this many bytes, and the part comes before the unread bytes.
 abbrev pub IsWithin : ℕ → Side → Type 0
-IsWithin room s = (s.part ≤ s.part_end) × (s.part_end ≤ s.unread) × (s.unread ≤ s.end) × (s.end ≤ room)
+IsWithin room s = (s.part ≤ s.part_end) × (s.part_end ≤ s.unread) × (s.unread ≤ s.end)
+    × (s.end ≤ room)
 
 -- How many bytes are in use.
 abbrev pub count_held : Side → ℕ
@@ -73,7 +74,8 @@ StandInFront h (OfRecord y) = (5 ≤ length y) × (take (length y) h.unread ≡ 
 
 -- It says an event first, whatever follows, and then what the changed struct says.
 abbrev pub IsHeardAs : Direction → Known → Bytes → Side → Bytes → Side → Heard → Type 0
-IsHeardAs side k b s b' s' h = (v : Saying) × IsFirst (ear_of k b s) v (ear_of k b' s') × Shows side b' h v
+IsHeardAs side k b s b' s' h = (v : Saying) × IsFirst (ear_of k b s) v (ear_of k b' s')
+    × Shows side b' h v
 
 -- It says nothing for now, and later the same as before.
 pub record Waits (k : Known) (b : Bytes) (s : Side) (b' : Bytes) (s' : Side) : Type 0 where

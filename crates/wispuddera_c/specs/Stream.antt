@@ -24,7 +24,8 @@ LiesBehind buffer held = length buffer < held.offset + held.length
 -- The answer at the front of the bytes in the buffer, if these lie within it.
 abbrev pub IsTaken : {A : Type 0} → Layout A → (A → Bytes → Type 0) → Bytes → Place → ℕ → ℕ → Type 0
 IsTaken l Takes buffer held status missing =
-    Lies buffer (place_of held) → IsAnswered Takes (reading l (bytes_held buffer held)) status missing
+    Lies buffer (place_of held)
+    → IsAnswered Takes (reading l (bytes_held buffer held)) status missing
 
 -- The buffer has the bytes it had, and then as much of the piece as there is room for.
 pub record IsFed (old new : Bytes) (was is : Place) (piece : Bytes) (taken : ℕ) : Type 0 where
@@ -32,7 +33,8 @@ pub record IsFed (old new : Bytes) (was is : Place) (piece : Bytes) (taken : ℕ
   pub holds : StandsAt new is (bytes_held old was ++ take taken piece)
 
 -- The struct shows the record v in the buffer b, which then has r left.
-pub record TakesRecord (b : Bytes) (held : Place) (c : Record) (v : RawRecord) (r : Bytes) : Type 0 where
+pub record TakesRecord (b : Bytes) (held : Place) (c : Record) (v : RawRecord)
+    (r : Bytes) : Type 0 where
   pub content_type : c.content_type ≡ v.header.content_type
   pub version : c.version ≡ v.header.version
   pub length : c.length ≡ v.header.length

@@ -129,7 +129,8 @@ fn in_numbers(
 #[tactic(auto, using(layouts::proofs::OneAnswerLemmas::read_allowed, layouts::proofs::PlaceLemmas::ends_here, layouts::proofs::PlaceLemmas::ends_read))]
 #[unsafe(no_mangle)]
 pub extern "C" fn wispuddera_read_x509(bytes: &[u8], out: &mut X509) -> u32
-    ensures { IsAnswered (ShowsX509 bytes.now out.new) (reading certificate_layout bytes.now) result out.new.missing }
+    ensures { IsAnswered (ShowsX509 bytes.now out.new) (reading certificate_layout bytes.now) result
+        out.new.missing }
 {
     match certificate_with_places(bytes) {
         Ok((rest, (certificate, places))) => {
@@ -169,7 +170,8 @@ pub extern "C" fn wispuddera_read_x509_extension(
     offset: usize,
     out: &mut X509Extension,
 ) -> u32
-    ensures { IsAnsweredAt extension (ShowsX509Extension bytes.now out.new) bytes.now offset result out.new.missing }
+    ensures { IsAnsweredAt extension (ShowsX509Extension bytes.now out.new) bytes.now offset result
+        out.new.missing }
 {
     let Some(i) = bytes_from(bytes, offset) else {
         out.missing = 0;
@@ -215,7 +217,8 @@ fn tag_of(name: &GeneralName) -> u8
 #[tactic(auto, using(layouts::proofs::OneAnswerLemmas::read_allowed))]
 #[unsafe(no_mangle)]
 pub extern "C" fn wispuddera_find_x509_names(bytes: &[u8], out: &mut Found) -> u32
-    ensures { IsAnswered (λ v _. ItemsStandAt general_name bytes.now out.new.place v) (reading general_names bytes.now) result out.new.missing }
+    ensures { IsAnswered (λ v _. ItemsStandAt general_name bytes.now out.new.place v)
+        (reading general_names bytes.now) result out.new.missing }
 {
     match general_names_with_place(bytes) {
         Ok((_, (_, place))) => {
@@ -237,7 +240,8 @@ pub extern "C" fn wispuddera_find_x509_names(bytes: &[u8], out: &mut Found) -> u
 #[tactic(auto, using(layouts::proofs::OneAnswerLemmas::read_allowed, crate::proofs::StatusLemmas::refused, crate::proofs::StatusLemmas::behind))]
 #[unsafe(no_mangle)]
 pub extern "C" fn wispuddera_read_x509_name(bytes: &[u8], offset: usize, out: &mut Part) -> u32
-    ensures { IsAnsweredAt general_name (ShowsName bytes.now out.new) bytes.now offset result out.new.missing }
+    ensures { IsAnsweredAt general_name (ShowsName bytes.now out.new) bytes.now offset result
+        out.new.missing }
 {
     let Some(i) = bytes_from(bytes, offset) else {
         out.missing = 0;

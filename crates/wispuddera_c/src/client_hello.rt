@@ -37,7 +37,8 @@ pub struct ClientHello {
 #[tactic(auto, using(layouts::proofs::OneAnswerLemmas::read_allowed, layouts::proofs::PlaceLemmas::ends_here, layouts::proofs::PlaceLemmas::ends_read))]
 #[unsafe(no_mangle)]
 pub extern "C" fn wispuddera_read_client_hello(bytes: &[u8], out: &mut ClientHello) -> u32
-    ensures { IsAnswered (ShowsClientHello bytes.now out.new) (reading client_hello bytes.now) result out.new.missing }
+    ensures { IsAnswered (ShowsClientHello bytes.now out.new) (reading client_hello bytes.now)
+        result out.new.missing }
 {
     match ClientHelloView::parse_with_places(bytes) {
         Ok((rest, (hello, places))) => {

@@ -74,10 +74,12 @@ impl Conversation {
     fn follow(&mut self, event: FlowEvent, takes_session: bool)
         ensures sides { (self.new.client ≡ self.old.client) × (self.new.server ≡ self.old.server) }
         ensures limit { self.new.limit ≡ self.old.limit }
-        ensures tls13 { self.new.is_tls13 ≡ (self.old.is_tls13 || chooses event.symbol.kind event.symbol.direction) }
+        ensures tls13 { self.new.is_tls13
+            ≡ (self.old.is_tls13 || chooses event.symbol.kind event.symbol.direction) }
         ensures flow { flow_of self.new.course ≡ follow_by (flow_of self.old.course) event }
         ensures session { self.new.has_session
-            ≡ (if is_waiting (outcome_at (state_in self.old.course.flow)) then takes_session else self.old.has_session) }
+            ≡ (if is_waiting (outcome_at (state_in self.old.course.flow)) then
+            takes_session else self.old.has_session) }
     {
         self.is_tls13 |= chooses_tls13(event);
         if is_under_way(self.course.state().outcome()) {
@@ -142,13 +144,18 @@ pub extern "C" fn wispuddera_conversation_feed(
     to_server: bool,
     piece: &[u8],
 ) -> u32
-    ensures fed { result ≡ 0 → IsGiven to_server buffer.old buffer.new conversation.old conversation.new piece.now }
+    ensures fed { result ≡ 0
+        → IsGiven to_server buffer.old buffer.new conversation.old conversation.new piece.now }
     ensures other { result ≢ 0 → (buffer.new ≡ buffer.old) × (conversation.new ≡ conversation.old) }
     ensures fits { IsWithin (length buffer.old) (side_at to_server conversation.old)
-        → count_held (side_at to_server conversation.old) + length piece.now ≤ length buffer.old → result ≡ 0 }
-    ensures full { IsWithin (length buffer.old) (side_at to_server conversation.old) → (side_at to_server conversation.old).is_over ≡ false
-        → length buffer.old < count_held (side_at to_server conversation.old) + length piece.now → result ≡ no_room }
-    ensures behind { (IsWithin (length buffer.old) (side_at to_server conversation.old) → ⊥) → result ≡ outside }
+        → count_held (side_at to_server conversation.old) + length piece.now ≤ length buffer.old
+        → result ≡ 0 }
+    ensures full { IsWithin (length buffer.old) (side_at to_server conversation.old)
+        → (side_at to_server conversation.old).is_over ≡ false
+        → length buffer.old < count_held (side_at to_server conversation.old) + length piece.now
+        → result ≡ no_room }
+    ensures behind { (IsWithin (length buffer.old) (side_at to_server conversation.old) → ⊥)
+        → result ≡ outside }
 {
     let mut side = conversation.side(to_server);
     if !side.lies_within(buffer.len()) {
@@ -173,10 +180,13 @@ pub extern "C" fn wispuddera_conversation_next(
     to_server: bool,
     out: &mut Said,
 ) -> u32
-    ensures read { result ≡ 0 → IsNext to_server buffer.old buffer.new conversation.old conversation.new out.new }
-    ensures waits { result ≡ none → IsWaiting to_server buffer.old buffer.new conversation.old conversation.new }
+    ensures read { result ≡ 0
+        → IsNext to_server buffer.old buffer.new conversation.old conversation.new out.new }
+    ensures waits { result ≡ none
+        → IsWaiting to_server buffer.old buffer.new conversation.old conversation.new }
     ensures stays { result ≢ 0 → out.new ≡ out.old }
-    ensures inside { IsWithin (length buffer.old) (side_at to_server conversation.old) → result ≢ 0 → result ≡ none }
+    ensures inside { IsWithin (length buffer.old) (side_at to_server conversation.old) → result ≢ 0
+        → result ≡ none }
     ensures behind { (IsWithin (length buffer.old) (side_at to_server conversation.old) → ⊥)
         → (result ≡ outside) × (buffer.new ≡ buffer.old) × (conversation.new ≡ conversation.old) }
 {
@@ -211,7 +221,8 @@ pub extern "C" fn wispuddera_conversation_outcome(conversation: &Conversation) -
 /// Returns what ended a handshake without success.
 #[unsafe(no_mangle)]
 pub extern "C" fn wispuddera_conversation_stop(conversation: &Conversation, out: &mut Stop) -> u32
-    ensures told { (events : List FlowEvent) → AreEvents events conversation.now → IsStopTold events result out.new }
+    ensures told { (events : List FlowEvent) → AreEvents events conversation.now
+        → IsStopTold events result out.new }
     ensures stays { result ≢ 0 → out.new ≡ out.old }
 {
     if is_stopped(conversation.course.state().outcome()) {
@@ -257,7 +268,8 @@ pub extern "C" fn wispuddera_conversation_established(conversation: &Conversatio
 /// section 4.2.11).
 #[unsafe(no_mangle)]
 pub extern "C" fn wispuddera_conversation_resumed(conversation: &Conversation) -> bool
-    ensures { result ≡ is_resumed (outcome_at (state_in conversation.now.course.flow)) conversation.now.has_session }
+    ensures { result ≡ is_resumed (outcome_at (state_in conversation.now.course.flow))
+        conversation.now.has_session }
 {
     match conversation.course.state().outcome() {
         Outcome::Resumed => true,

@@ -105,7 +105,8 @@ impl Course {
 
     /// The stop after an event, depending on whether the event stopped it.
     fn stop_behind(&self, is_stopped: bool, event: FlowEvent) -> Stop
-        ensures { stop_in result ≡ (if is_stopped then record { event = event; place = self.now.events } else stop_in self.now.stop) }
+        ensures { stop_in result ≡ (if is_stopped then
+            record { event = event; place = self.now.events } else stop_in self.now.stop) }
     {
         if is_stopped {
             stop_at(event, self.events)

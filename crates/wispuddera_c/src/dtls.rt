@@ -93,7 +93,8 @@ pub extern "C" fn wispuddera_read_dtls_record(
     offset: usize,
     out: &mut DtlsRecord,
 ) -> u32
-    ensures { IsAnsweredAt raw_record (ShowsDtlsRecord bytes.now out.new) bytes.now offset result out.new.missing }
+    ensures { IsAnsweredAt raw_record (ShowsDtlsRecord bytes.now out.new) bytes.now offset result
+        out.new.missing }
 {
     let Some(i) = bytes_from(bytes, offset) else {
         out.missing = 0;
@@ -129,7 +130,8 @@ pub extern "C" fn wispuddera_read_dtls_message(
     offset: usize,
     out: &mut DtlsMessage,
 ) -> u32
-    ensures { IsAnsweredAt raw_handshake (ShowsDtlsMessage bytes.now out.new) bytes.now offset result out.new.missing }
+    ensures { IsAnsweredAt raw_handshake (ShowsDtlsMessage bytes.now out.new) bytes.now offset
+        result out.new.missing }
 {
     let Some(i) = bytes_from(bytes, offset) else {
         out.missing = 0;
@@ -162,7 +164,8 @@ pub extern "C" fn wispuddera_read_dtls_message(
 #[tactic(auto, using(layouts::proofs::OneAnswerLemmas::read_allowed, layouts::proofs::PlaceLemmas::ends_here, layouts::proofs::PlaceLemmas::ends_read))]
 #[unsafe(no_mangle)]
 pub extern "C" fn wispuddera_read_dtls_client_hello(bytes: &[u8], out: &mut DtlsClientHello) -> u32
-    ensures { IsAnswered (ShowsDtlsClientHello bytes.now out.new) (reading client_hello bytes.now) result out.new.missing }
+    ensures { IsAnswered (ShowsDtlsClientHello bytes.now out.new) (reading client_hello bytes.now)
+        result out.new.missing }
 {
     match dtls_client_hello_with_places(bytes) {
         Ok((rest, (hello, places))) => {

@@ -69,7 +69,8 @@ fn server_parts<'a>(hello: &TlsServerHelloContents<'a>) -> ServerHelloParts<'a>
 fn tell_ja4(hello: ClientHelloParts, transport: Transport, text: &mut [u8]) -> u32
     requires { 36 ≤ length text.old }
     ensures { (IsTooLong 32767 (view_client hello.entry) → ⊥)
-        → (result ≡ 0) × BeginsWith (ja4_of transport (view_client hello.entry)) 36 text.old text.new }
+        → (result ≡ 0) × BeginsWith (ja4_of transport (view_client hello.entry)) 36
+        text.old text.new }
 {
     match hello.ja4_characters(transport) {
         Some(characters) => {
@@ -83,7 +84,8 @@ fn tell_ja4(hello: ClientHelloParts, transport: Transport, text: &mut [u8]) -> u
 /// Writes JA3 of a ClientHello, from its body (RFC 5246, section 7.4.1.2).
 #[unsafe(no_mangle)]
 pub extern "C" fn wispuddera_ja3(bytes: &[u8], digits: &mut [u8], missing: &mut usize) -> u32
-    ensures { IsTold (λ h. ja3_of (client_of h)) 32 (reading client_hello bytes.now) digits.old digits.new result missing.new }
+    ensures { IsTold (λ h. ja3_of (client_of h)) 32 (reading client_hello bytes.now) digits.old
+        digits.new result missing.new }
 {
     *missing = 0;
     if digits.len() < DIGITS {
@@ -105,7 +107,8 @@ pub extern "C" fn wispuddera_ja3(bytes: &[u8], digits: &mut [u8], missing: &mut 
 /// Writes JA3 of a DTLS ClientHello, from its body (RFC 6347, section 4.2.1).
 #[unsafe(no_mangle)]
 pub extern "C" fn wispuddera_dtls_ja3(bytes: &[u8], digits: &mut [u8], missing: &mut usize) -> u32
-    ensures { IsTold (λ h. ja3_of (client_of h.hello)) 32 (reading dtls_client_hello bytes.now) digits.old digits.new result missing.new }
+    ensures { IsTold (λ h. ja3_of (client_of h.hello)) 32 (reading dtls_client_hello bytes.now)
+        digits.old digits.new result missing.new }
 {
     *missing = 0;
     if digits.len() < DIGITS {
@@ -127,7 +130,8 @@ pub extern "C" fn wispuddera_dtls_ja3(bytes: &[u8], digits: &mut [u8], missing: 
 /// Writes JA3S of a ServerHello, from its body (RFC 5246, section 7.4.1.3).
 #[unsafe(no_mangle)]
 pub extern "C" fn wispuddera_ja3s(bytes: &[u8], digits: &mut [u8], missing: &mut usize) -> u32
-    ensures { IsTold (λ h. ja3s_of (server_of h)) 32 (reading server_hello bytes.now) digits.old digits.new result missing.new }
+    ensures { IsTold (λ h. ja3s_of (server_of h)) 32 (reading server_hello bytes.now) digits.old
+        digits.new result missing.new }
 {
     *missing = 0;
     if digits.len() < DIGITS {
@@ -149,7 +153,8 @@ pub extern "C" fn wispuddera_ja3s(bytes: &[u8], digits: &mut [u8], missing: &mut
 /// Writes JA3S of a DTLS ServerHello of any version, from its body (RFC 6347, section 4.3.2).
 #[unsafe(no_mangle)]
 pub extern "C" fn wispuddera_dtls_ja3s(bytes: &[u8], digits: &mut [u8], missing: &mut usize) -> u32
-    ensures { IsTold (λ h. ja3s_of (server_of h)) 32 (reading server_hello_any bytes.now) digits.old digits.new result missing.new }
+    ensures { IsTold (λ h. ja3s_of (server_of h)) 32 (reading server_hello_any bytes.now) digits.old
+        digits.new result missing.new }
 {
     *missing = 0;
     if digits.len() < DIGITS {
@@ -170,7 +175,8 @@ pub extern "C" fn wispuddera_dtls_ja3s(bytes: &[u8], digits: &mut [u8], missing:
 
 /// Writes JA4 of a ClientHello over this transport, from its body.
 fn ja4_over(bytes: &[u8], transport: Transport, text: &mut [u8], missing: &mut usize) -> u32
-    ensures { IsTold (λ h. ja4_of transport (client_of h)) 36 (reading client_hello bytes.now) text.old text.new result missing.new }
+    ensures { IsTold (λ h. ja4_of transport (client_of h)) 36 (reading client_hello bytes.now)
+        text.old text.new result missing.new }
 {
     *missing = 0;
     if text.len() < CHARACTERS {
@@ -189,7 +195,8 @@ fn ja4_over(bytes: &[u8], transport: Transport, text: &mut [u8], missing: &mut u
 /// Writes JA4 of a ClientHello over TCP, from its body (RFC 5246, section 7.4.1.2).
 #[unsafe(no_mangle)]
 pub extern "C" fn wispuddera_ja4(bytes: &[u8], text: &mut [u8], missing: &mut usize) -> u32
-    ensures { IsTold (λ h. ja4_of Tcp (client_of h)) 36 (reading client_hello bytes.now) text.old text.new result missing.new }
+    ensures { IsTold (λ h. ja4_of Tcp (client_of h)) 36 (reading client_hello bytes.now) text.old
+        text.new result missing.new }
 {
     ja4_over(bytes, Transport::Tcp, text, missing)
 }
@@ -197,7 +204,8 @@ pub extern "C" fn wispuddera_ja4(bytes: &[u8], text: &mut [u8], missing: &mut us
 /// Writes JA4 of a ClientHello over QUIC (RFC 9001), from its body.
 #[unsafe(no_mangle)]
 pub extern "C" fn wispuddera_quic_ja4(bytes: &[u8], text: &mut [u8], missing: &mut usize) -> u32
-    ensures { IsTold (λ h. ja4_of Quic (client_of h)) 36 (reading client_hello bytes.now) text.old text.new result missing.new }
+    ensures { IsTold (λ h. ja4_of Quic (client_of h)) 36 (reading client_hello bytes.now) text.old
+        text.new result missing.new }
 {
     ja4_over(bytes, Transport::Quic, text, missing)
 }
@@ -205,7 +213,8 @@ pub extern "C" fn wispuddera_quic_ja4(bytes: &[u8], text: &mut [u8], missing: &m
 /// Writes JA4 of a DTLS ClientHello, from its body (RFC 6347, section 4.2.1).
 #[unsafe(no_mangle)]
 pub extern "C" fn wispuddera_dtls_ja4(bytes: &[u8], text: &mut [u8], missing: &mut usize) -> u32
-    ensures { IsTold (λ h. ja4_of Udp (client_of h.hello)) 36 (reading dtls_client_hello bytes.now) text.old text.new result missing.new }
+    ensures { IsTold (λ h. ja4_of Udp (client_of h.hello)) 36 (reading dtls_client_hello bytes.now)
+        text.old text.new result missing.new }
 {
     *missing = 0;
     if text.len() < CHARACTERS {

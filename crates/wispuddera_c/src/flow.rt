@@ -119,7 +119,8 @@ pub extern "C" fn wispuddera_flow_start(flow: &mut Flow)
 /// Follows one more event. An unknown number doesn't change.
 #[unsafe(no_mangle)]
 pub extern "C" fn wispuddera_flow_step(flow: &mut Flow, event: &Event)
-    ensures follows { (events : List Event) → IsBehind events flow.old → IsBehind (events ++ event.now ∷ []) flow.new }
+    ensures follows { (events : List Event) → IsBehind events flow.old
+        → IsBehind (events ++ event.now ∷ []) flow.new }
     ensures stays { state_at flow.old.state ≡ None → flow.new ≡ flow.old }
 {
     if let Some(state) = state_of(flow.state) {
@@ -135,7 +136,8 @@ pub extern "C" fn wispuddera_flow_step(flow: &mut Flow, event: &Event)
 /// number counts as no handshake.
 #[unsafe(no_mangle)]
 pub extern "C" fn wispuddera_flow_outcome(flow: &Flow) -> u32
-    ensures told { (events : List Event) → IsBehind events flow.now → (o : Outcome) × (result ≡ outcome_number o) × IsOutcome o (word_of events) }
+    ensures told { (events : List Event) → IsBehind events flow.now
+        → (o : Outcome) × (result ≡ outcome_number o) × IsOutcome o (word_of events) }
     ensures other { state_at flow.now.state ≡ None → result ≡ 5 }
 {
     match state_of(flow.state) {

@@ -107,7 +107,8 @@ pub extern "C" fn wispuddera_find_body(bytes: &[u8], kind: u8, out: &mut Found) 
 #[tactic(auto, using(layouts::proofs::OneAnswerLemmas::read_allowed, layouts::proofs::PlaceLemmas::ends_here))]
 #[unsafe(no_mangle)]
 pub extern "C" fn wispuddera_find_key_shares(bytes: &[u8], out: &mut Found) -> u32
-    ensures { IsAnswered (λ v _. ItemsStandAt key_share_entry bytes.now out.new.place v) (reading client_shares bytes.now) result out.new.missing }
+    ensures { IsAnswered (λ v _. ItemsStandAt key_share_entry bytes.now out.new.place v)
+        (reading client_shares bytes.now) result out.new.missing }
 {
     match frame_at::<Counted2>(bytes, bytes) {
         Ok((_, (_, place))) => {
@@ -130,7 +131,8 @@ pub extern "C" fn wispuddera_find_key_shares(bytes: &[u8], out: &mut Found) -> u
 #[tactic(auto, using(layouts::proofs::OneAnswerLemmas::read_allowed, layouts::proofs::PlaceLemmas::ends_here), unfolding(tls_hs::specs::Certificate::certificate))]
 #[unsafe(no_mangle)]
 pub extern "C" fn wispuddera_find_certificates(bytes: &[u8], out: &mut Found) -> u32
-    ensures { IsAnswered (λ v _. ItemsStandAt (counted 3) bytes.now out.new.place v) (reading certificate bytes.now) result out.new.missing }
+    ensures { IsAnswered (λ v _. ItemsStandAt (counted 3) bytes.now out.new.place v)
+        (reading certificate bytes.now) result out.new.missing }
 {
     match frame_at::<RawCertificate>(bytes, bytes) {
         Ok((_, (_, place))) => {

@@ -55,7 +55,8 @@ pub extern "C" fn wispuddera_number_at(bytes: &[u8], index: usize, out: &mut Num
 /// Finds the cipher suite at this index in the body of a ClientHello (RFC 5246, section 7.4.1.2).
 #[unsafe(no_mangle)]
 pub extern "C" fn wispuddera_cipher_suite_at(bytes: &[u8], index: usize, out: &mut Number) -> u32
-    ensures { IsNumberIn (offered (λ h. h.cipher_suites) (reading client_hello bytes.now)) index result out.new }
+    ensures { IsNumberIn (offered (λ h. h.cipher_suites) (reading client_hello bytes.now)) index
+        result out.new }
 {
     match ClientHelloView::parse(bytes) {
         Ok((_, hello)) => tell(Items::new(hello.ciphers.bytes()), index, out),
@@ -75,7 +76,9 @@ pub extern "C" fn wispuddera_dtls_cipher_suite_at(
     index: usize,
     out: &mut Number,
 ) -> u32
-    ensures { IsNumberIn (offered (λ h. h.hello.cipher_suites) (reading dtls_client_hello bytes.now)) index result out.new }
+    ensures { IsNumberIn
+        (offered (λ h. h.hello.cipher_suites) (reading dtls_client_hello bytes.now)) index
+        result out.new }
 {
     match DTLSClientHelloView::parse(bytes) {
         Ok((_, hello)) => tell(Items::new(hello.ciphers.bytes()), index, out),
@@ -91,7 +94,8 @@ pub extern "C" fn wispuddera_dtls_cipher_suite_at(
 /// 4.2.1).
 #[unsafe(no_mangle)]
 pub extern "C" fn wispuddera_version_at(bytes: &[u8], index: usize, out: &mut Number) -> u32
-    ensures { IsNumberIn (picked listed_versions (reading content.supported_versions bytes.now)) index result out.new }
+    ensures { IsNumberIn (picked listed_versions (reading content.supported_versions bytes.now))
+        index result out.new }
 {
     match supported_versions(bytes) {
         Ok((_, versions)) => tell(Items::new(versions.bytes()), index, out),
@@ -106,7 +110,8 @@ pub extern "C" fn wispuddera_version_at(bytes: &[u8], index: usize, out: &mut Nu
 /// Finds the group at this index in the content of a supported_groups (RFC 8446, section 4.2.7).
 #[unsafe(no_mangle)]
 pub extern "C" fn wispuddera_group_at(bytes: &[u8], index: usize, out: &mut Number) -> u32
-    ensures { IsNumberIn (picked listed_groups (reading content.supported_groups bytes.now)) index result out.new }
+    ensures { IsNumberIn (picked listed_groups (reading content.supported_groups bytes.now)) index
+        result out.new }
 {
     match supported_groups(bytes) {
         Ok((_, groups)) => tell(Items::new(groups.bytes()), index, out),
@@ -126,7 +131,8 @@ pub extern "C" fn wispuddera_signature_scheme_at(
     index: usize,
     out: &mut Number,
 ) -> u32
-    ensures { IsNumberIn (picked listed_schemes (reading content.signature_algorithms bytes.now)) index result out.new }
+    ensures { IsNumberIn (picked listed_schemes (reading content.signature_algorithms bytes.now))
+        index result out.new }
 {
     match signature_algorithms(bytes) {
         Ok((_, schemes)) => tell(Items::new(schemes.bytes()), index, out),

@@ -143,7 +143,8 @@ pub extern "C" fn wispuddera_event_of_dtls_message(kind: u8) -> u8
 /// The event kind of an alert in the clear (RFC 5246, section 7.2).
 #[unsafe(no_mangle)]
 pub extern "C" fn wispuddera_event_of_alert(level: u8, description: u8) -> u8
-    ensures { kind_of_number result ≡ kind_of_alert (record { level = level; description = description }) }
+    ensures { kind_of_number result ≡ kind_of_alert
+        (record { level = level; description = description }) }
 {
     let alert = TlsMessageAlert {
         severity: TlsAlertSeverity(level),

@@ -31,7 +31,8 @@ pub struct Part {
 #[tactic(auto, using(layouts::proofs::OneAnswerLemmas::read_allowed, crate::proofs::StatusLemmas::told, crate::proofs::StatusLemmas::refused, crate::proofs::StatusLemmas::behind))]
 #[unsafe(no_mangle)]
 pub extern "C" fn wispuddera_read_message(bytes: &[u8], offset: usize, out: &mut Part) -> u32
-    ensures { IsAnsweredAt raw_handshake (ShowsPart bytes.now out.new) bytes.now offset result out.new.missing }
+    ensures { IsAnsweredAt raw_handshake (ShowsPart bytes.now out.new) bytes.now offset result
+        out.new.missing }
 {
     let Some(i) = bytes_from(bytes, offset) else {
         out.missing = 0;
@@ -59,7 +60,8 @@ pub extern "C" fn wispuddera_read_message(bytes: &[u8], offset: usize, out: &mut
 #[tactic(auto, using(layouts::proofs::OneAnswerLemmas::read_allowed, crate::proofs::StatusLemmas::told, crate::proofs::StatusLemmas::refused, crate::proofs::StatusLemmas::behind))]
 #[unsafe(no_mangle)]
 pub extern "C" fn wispuddera_read_extension(bytes: &[u8], offset: usize, out: &mut Part) -> u32
-    ensures { IsAnsweredAt raw_extension (ShowsPart bytes.now out.new) bytes.now offset result out.new.missing }
+    ensures { IsAnsweredAt raw_extension (ShowsPart bytes.now out.new) bytes.now offset result
+        out.new.missing }
 {
     let Some(i) = bytes_from(bytes, offset) else {
         out.missing = 0;
@@ -88,7 +90,8 @@ pub extern "C" fn wispuddera_read_extension(bytes: &[u8], offset: usize, out: &m
 #[tactic(auto, using(layouts::proofs::OneAnswerLemmas::read_allowed, crate::proofs::StatusLemmas::told, crate::proofs::StatusLemmas::refused, crate::proofs::StatusLemmas::behind))]
 #[unsafe(no_mangle)]
 pub extern "C" fn wispuddera_read_key_share(bytes: &[u8], offset: usize, out: &mut Part) -> u32
-    ensures { IsAnsweredAt key_share_entry (ShowsPart bytes.now out.new) bytes.now offset result out.new.missing }
+    ensures { IsAnsweredAt key_share_entry (ShowsPart bytes.now out.new) bytes.now offset result
+        out.new.missing }
 {
     let Some(i) = bytes_from(bytes, offset) else {
         out.missing = 0;
@@ -116,7 +119,8 @@ pub extern "C" fn wispuddera_read_key_share(bytes: &[u8], offset: usize, out: &m
 #[tactic(auto, using(layouts::proofs::OneAnswerLemmas::read_allowed, crate::proofs::StatusLemmas::told, crate::proofs::StatusLemmas::refused, crate::proofs::StatusLemmas::behind))]
 #[unsafe(no_mangle)]
 pub extern "C" fn wispuddera_read_protocol(bytes: &[u8], offset: usize, out: &mut Part) -> u32
-    ensures { IsAnsweredAt (counted 1) (ShowsBytes bytes.now out.new) bytes.now offset result out.new.missing }
+    ensures { IsAnsweredAt (counted 1) (ShowsBytes bytes.now out.new) bytes.now offset result
+        out.new.missing }
 {
     let Some(i) = bytes_from(bytes, offset) else {
         out.missing = 0;
@@ -144,7 +148,8 @@ pub extern "C" fn wispuddera_read_protocol(bytes: &[u8], offset: usize, out: &mu
 #[tactic(auto, using(layouts::proofs::OneAnswerLemmas::read_allowed, crate::proofs::StatusLemmas::told, crate::proofs::StatusLemmas::refused, crate::proofs::StatusLemmas::behind))]
 #[unsafe(no_mangle)]
 pub extern "C" fn wispuddera_read_certificate(bytes: &[u8], offset: usize, out: &mut Part) -> u32
-    ensures { IsAnsweredAt (counted 3) (ShowsBytes bytes.now out.new) bytes.now offset result out.new.missing }
+    ensures { IsAnsweredAt (counted 3) (ShowsBytes bytes.now out.new) bytes.now offset result
+        out.new.missing }
 {
     let Some(i) = bytes_from(bytes, offset) else {
         out.missing = 0;

@@ -66,7 +66,8 @@ pub fn within(whole: &[u8], place: Within) -> Place
 #[tactic(auto, using(crate::proofs::PlaceLemmas::cut_some, crate::proofs::PlaceLemmas::cut_none))]
 #[inline(always)]
 pub fn held_within(whole: &[u8], place: Option<Within>) -> Place
-    ensures { (x : Option (Bor (List ℕ))) → MayStandAt whole.now place x → StandsAt whole.now result (held (option_map (λ y. y.now) x)) }
+    ensures { (x : Option (Bor (List ℕ))) → MayStandAt whole.now place x
+        → StandsAt whole.now result (held (option_map (λ y. y.now) x)) }
 {
     match place {
         Some(place) => within(whole, place),

@@ -30,7 +30,8 @@ pub struct Record {
 #[tactic(auto, using(layouts::proofs::OneAnswerLemmas::read_allowed, crate::proofs::StatusLemmas::told, crate::proofs::StatusLemmas::refused, crate::proofs::StatusLemmas::behind))]
 #[unsafe(no_mangle)]
 pub extern "C" fn wispuddera_read_record(bytes: &[u8], offset: usize, out: &mut Record) -> u32
-    ensures { IsAnsweredAt raw_record (ShowsRecord bytes.now out.new) bytes.now offset result out.new.missing }
+    ensures { IsAnsweredAt raw_record (ShowsRecord bytes.now out.new) bytes.now offset result
+        out.new.missing }
 {
     let Some(i) = bytes_from(bytes, offset) else {
         out.missing = 0;

@@ -144,7 +144,8 @@ fn takes_up(event: &Saying<'_>) -> bool
 
 /// What a conversation learns from an event whose bytes are at this place.
 pub fn heard_of(event: &Saying<'_>, content: Place, side: Direction) -> Heard
-    ensures { (b x : Bytes) → StandsAt b content x → IsSaidBy (view_event event.now) x → Shows side b result (view_event event.now) }
+    ensures { (b x : Bytes) → StandsAt b content x → IsSaidBy (view_event event.now) x
+        → Shows side b result (view_event event.now) }
 {
     let followed = event_said(event, side);
     Heard {

@@ -67,7 +67,8 @@ fn in_numbers(
 #[tactic(auto, using(layouts::proofs::OneAnswerLemmas::read_allowed, layouts::proofs::PlaceLemmas::ends_here, layouts::proofs::PlaceLemmas::ends_read))]
 #[unsafe(no_mangle)]
 pub extern "C" fn wispuddera_read_server_hello(bytes: &[u8], out: &mut ServerHello) -> u32
-    ensures { IsAnswered (ShowsServerHello bytes.now out.new) (reading server_hello bytes.now) result out.new.missing }
+    ensures { IsAnswered (ShowsServerHello bytes.now out.new) (reading server_hello bytes.now)
+        result out.new.missing }
 {
     match server_hello_with_places(bytes) {
         Ok((rest, (hello, places))) => {
@@ -87,7 +88,8 @@ pub extern "C" fn wispuddera_read_server_hello(bytes: &[u8], out: &mut ServerHel
 #[tactic(auto, using(layouts::proofs::OneAnswerLemmas::read_allowed, layouts::proofs::PlaceLemmas::ends_here, layouts::proofs::PlaceLemmas::ends_read))]
 #[unsafe(no_mangle)]
 pub extern "C" fn wispuddera_read_dtls_server_hello(bytes: &[u8], out: &mut ServerHello) -> u32
-    ensures { IsAnswered (ShowsServerHello bytes.now out.new) (reading server_hello_any bytes.now) result out.new.missing }
+    ensures { IsAnswered (ShowsServerHello bytes.now out.new) (reading server_hello_any bytes.now)
+        result out.new.missing }
 {
     match dtls_server_hello_with_places(bytes) {
         Ok((rest, (hello, places))) => {

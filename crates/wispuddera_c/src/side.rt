@@ -111,7 +111,8 @@ impl Side {
     pub fn append(&mut self, buffer: &mut [u8], piece: &[u8])
         requires within { IsWithin (length buffer.old) self.old }
         requires room { count_held self.old + length piece.now ≤ length buffer.old }
-        ensures fed { (k : Known) → stream_of k buffer.new self.new ≡ fed (stream_of k buffer.old self.old) piece.now }
+        ensures fed { (k : Known)
+            → stream_of k buffer.new self.new ≡ fed (stream_of k buffer.old self.old) piece.now }
         ensures within { IsWithin (length buffer.new) self.new }
         ensures over { self.new.is_over ≡ self.old.is_over }
     {
@@ -141,7 +142,8 @@ impl Side {
     fn join(&mut self, buffer: &mut [u8], kind: u8, n: usize)
         requires within { IsWithin (length buffer.old) self.old }
         requires whole { self.old.unread + 5 + n ≤ self.old.end }
-        ensures joined { (k : Known) → stream_of k buffer.new self.new ≡ joined_to (stream_of k buffer.old self.old) kind n }
+        ensures joined { (k : Known) → stream_of k buffer.new self.new ≡ joined_to
+            (stream_of k buffer.old self.old) kind n }
         ensures within { IsWithin (length buffer.new) self.new }
         ensures over { self.new.is_over ≡ self.old.is_over }
     {
@@ -156,7 +158,8 @@ impl Side {
     /// `Err` is the fault that is the next event and the last.
     fn settle(&mut self, buffer: &mut [u8], known: Known) -> Result<bool, Fault>
         requires { IsWithin (length buffer.old) self.old }
-        ensures same { SaysTheSame (stream_of known buffer.new self.new) (stream_of known buffer.old self.old) }
+        ensures same { SaysTheSame (stream_of known buffer.new self.new)
+            (stream_of known buffer.old self.old) }
         ensures next { IsReady (stream_of known buffer.new self.new) result }
         ensures within { IsWithin (length buffer.new) self.new }
         ensures over { self.new.is_over ≡ self.old.is_over }
@@ -175,7 +178,8 @@ impl Side {
     fn take_off(&mut self, buffer: &[u8], source: Source<'_>) -> Place
         requires within { IsWithin (length buffer.now) self.old }
         requires front { StandInFront (held_in buffer.now self.old) (view_source source) }
-        ensures taken { (k : Known) → stream_of k buffer.now self.new ≡ behind (stream_of k buffer.now self.old) (view_source source.entry) }
+        ensures taken { (k : Known) → stream_of k buffer.now self.new ≡ behind
+            (stream_of k buffer.now self.old) (view_source source.entry) }
         ensures stands { StandsAt buffer.now result (bytes_of (view_source source.entry)) }
         ensures within { IsWithin (length buffer.now) self.new }
         ensures over { self.new.is_over ≡ self.old.is_over }
@@ -204,7 +208,10 @@ impl Side {
     /// Returns the next event and removes it; `None` if there is none.
     fn take_first(&mut self, buffer: &[u8], known: Known, side: Direction) -> Option<Heard>
         requires { IsWithin (length buffer.now) self.old }
-        ensures some { IfSome result (λ h. (v : Saying) × (first (stream_of known buffer.now self.old) ≡ Some (v, stream_of known buffer.now self.new)) × Shows side buffer.now h v) }
+        ensures some { IfSome result
+            (λ h. (v : Saying)
+            × (first (stream_of known buffer.now self.old) ≡ Some
+            (v, stream_of known buffer.now self.new)) × Shows side buffer.now h v) }
         ensures none { IfNone result (first (stream_of known buffer.now self.old) ≡ None) }
         ensures within { IsWithin (length buffer.now) self.new }
         ensures over { self.new.is_over ≡ self.old.is_over }

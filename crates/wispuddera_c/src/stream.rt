@@ -27,9 +27,11 @@ pub extern "C" fn wispuddera_feed(
     taken: &mut usize,
 ) -> u32
     ensures room { length buffer.new ≡ length buffer.old }
-    ensures fed { Lies buffer.old (place_of held.old) → IsFed buffer.old buffer.new held.old held.new piece.now taken.new }
+    ensures fed { Lies buffer.old (place_of held.old)
+        → IsFed buffer.old buffer.new held.old held.new piece.now taken.new }
     ensures inside { Lies buffer.old (place_of held.old) → result ≡ 0 }
-    ensures behind { LiesBehind buffer.old held.old → (result ≡ outside) × (buffer.new ≡ buffer.old) × (held.new ≡ held.old) × (taken.new ≡ 0) }
+    ensures behind { LiesBehind buffer.old held.old → (result ≡ outside) × (buffer.new ≡ buffer.old)
+        × (held.new ≡ held.old) × (taken.new ≡ 0) }
 {
     *taken = 0;
     if held.offset > buffer.len() || held.length > buffer.len() - held.offset {
@@ -63,7 +65,8 @@ fn held_bytes(buffer: &[u8], held: Place) -> Option<&[u8]>
 #[tactic(auto, using(crate::proofs::StreamLemmas::rest_stands))]
 #[inline(always)]
 fn place_of_rest(buffer: &[u8], held: Place, bytes: &[u8], rest: &[u8]) -> Place
-    ensures { Stands buffer.now (place_of held) bytes.now → EndsWith bytes.now rest.now → StandsAt buffer.now result rest.now }
+    ensures { Stands buffer.now (place_of held) bytes.now → EndsWith bytes.now rest.now
+        → StandsAt buffer.now result rest.now }
 {
     let outer = Within {
         offset: held.offset,
@@ -80,7 +83,8 @@ fn place_of_rest(buffer: &[u8], held: Place, bytes: &[u8], rest: &[u8]) -> Place
 #[tactic(auto, using(layouts::proofs::OneAnswerLemmas::read_allowed, layouts::proofs::PlaceLemmas::ends_here, crate::proofs::StatusLemmas::answered))]
 #[unsafe(no_mangle)]
 pub extern "C" fn wispuddera_next_record(buffer: &[u8], held: &mut Place, out: &mut Record) -> u32
-    ensures read { IsTaken raw_record (TakesRecord buffer.now held.new out.new) buffer.now held.old result out.new.missing }
+    ensures read { IsTaken raw_record (TakesRecord buffer.now held.new out.new) buffer.now held.old result
+        out.new.missing }
     ensures stays { result ≢ 0 → held.new ≡ held.old }
     ensures behind { LiesBehind buffer.now held.old → (result ≡ outside) × (out.new.missing ≡ 0) }
 {
@@ -119,7 +123,8 @@ pub extern "C" fn wispuddera_next_record(buffer: &[u8], held: &mut Place, out: &
 #[tactic(auto, using(layouts::proofs::OneAnswerLemmas::read_allowed, layouts::proofs::PlaceLemmas::ends_here, crate::proofs::StatusLemmas::answered))]
 #[unsafe(no_mangle)]
 pub extern "C" fn wispuddera_next_message(buffer: &[u8], held: &mut Place, out: &mut Part) -> u32
-    ensures read { IsTaken raw_handshake (TakesPart buffer.now held.new out.new) buffer.now held.old result out.new.missing }
+    ensures read { IsTaken raw_handshake (TakesPart buffer.now held.new out.new) buffer.now held.old result
+        out.new.missing }
     ensures stays { result ≢ 0 → held.new ≡ held.old }
     ensures behind { LiesBehind buffer.now held.old → (result ≡ outside) × (out.new.missing ≡ 0) }
 {

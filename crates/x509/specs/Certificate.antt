@@ -27,7 +27,11 @@ pub record AlgorithmIdentifier : Type 0 where
 
 abbrev pub view_algorithm : LentAlgorithm → AlgorithmIdentifier
 view_algorithm a =
-    record { algorithm = a.algorithm.content.now; parameters = option_map view_element a.parameters }
+    record {
+      algorithm = a.algorithm.content.now;
+      parameters =
+          option_map view_element a.parameters;
+    }
 
 unfoldable pub algorithm_content : Layout AlgorithmIdentifier
 algorithm_content = do
@@ -128,7 +132,12 @@ pub record FirstFields : Type 0 where
 
 abbrev pub view_first_fields : LentFirst → FirstFields
 view_first_fields f =
-    record { version = f.version; serial_number = f.serial_number.now; signature = view_algorithm f.signature }
+    record {
+      version = f.version;
+      serial_number = f.serial_number.now;
+      signature =
+          view_algorithm f.signature;
+    }
 
 unfoldable pub first_fields : Layout FirstFields
 first_fields = do
@@ -158,7 +167,8 @@ name_fields = do
   validity ← validity
   subject ← name
   key ← subject_public_key_info
-  done (record { issuer = issuer; validity = validity; subject = subject; subject_public_key_info = key })
+  done (record
+      { issuer = issuer; validity = validity; subject = subject; subject_public_key_info = key })
 
 abbrev pub or_none : Option (List Extension) → List Extension
 or_none (Some xs) = xs
@@ -184,7 +194,12 @@ optional_fields = do
   issuer ← optional 0x81 bit_string
   subject ← optional 0x82 bit_string
   extensions ← optional 0xa3 extensions
-  done (record { issuer_unique_id = issuer; subject_unique_id = subject; extensions = or_none extensions })
+  done (record {
+    issuer_unique_id = issuer;
+    subject_unique_id = subject;
+    extensions =
+        or_none extensions;
+  })
 
 -- TBSCertificate: these fields in order.
 pub record TBSCertificate : Type 0 where

@@ -31,7 +31,8 @@ pub record AuthorityKeyIdentifier : Type 0 where
 abbrev pub view_key_identifier : LentKeyIdentifier → AuthorityKeyIdentifier
 view_key_identifier k = record {
   key_identifier = option_map (λ x. x.now) k.key_identifier;
-  authority_cert_issuer = option_map (λ x. items_in general_name x.bytes.now) k.authority_cert_issuer;
+  authority_cert_issuer =
+      option_map (λ x. items_in general_name x.bytes.now) k.authority_cert_issuer;
   authority_cert_serial_number = option_map (λ x. x.now) k.authority_cert_serial_number;
 }
 

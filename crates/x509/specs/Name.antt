@@ -12,7 +12,8 @@ pub record AttributeTypeAndValue : Type 0 where
   pub value : Element
 
 abbrev pub view_attribute : LentAttribute → AttributeTypeAndValue
-view_attribute a = record { attribute_type = a.attribute_type.content.now; value = view_element a.value }
+view_attribute a =
+    record { attribute_type = a.attribute_type.content.now; value = view_element a.value }
 
 -- AttributeType type; AttributeValue value.
 unfoldable pub attribute_content : Layout AttributeTypeAndValue

@@ -102,7 +102,8 @@ EDWARDS n = 0x2b ∷ 0x65 ∷ n ∷ []
 abbrev pub named_curve : Option Element → Result PublicKey Refusal
 named_curve None = Err (Broken Tag)
 named_curve (Some e) =
-    if e.tag == 6 then value_of (reading (mapped Ec object_identifier_content) e.content) else Err (Broken Tag)
+    if e.tag == 6 then value_of (reading (mapped Ec object_identifier_content) e.content) else
+    Err (Broken Tag)
 
 -- The key, by its algorithm.
 abbrev pub key_of : SubjectPublicKeyInfo → Result PublicKey Refusal

@@ -91,7 +91,8 @@ pub fn first_extension<'a>(
     extensions: Items<'a, Extensions>,
     extn_id: ObjectIdentifier,
 ) -> Option<Extension<'a>>
-    ensures { option_map view_extension result ≡ first_of extn_id.entry.content.now (items_in extension extensions.entry.bytes.now) }
+    ensures { option_map view_extension result ≡ first_of extn_id.entry.content.now
+        (items_in extension extensions.entry.bytes.now) }
 {
     for extension in extensions {
         if extension.extn_id.content == extn_id.content {

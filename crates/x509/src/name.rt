@@ -90,7 +90,8 @@ pub type Name<'a> = Items<'a, RelativeDistinguishedNames>;
 /// iterator, and [`Items::refusal`] returns it.
 #[tactic(auto, using(layouts::proofs::OneAnswerLemmas::read_allowed), unfolding(crate::specs::Name::name))]
 pub fn parse_name(i: &[u8]) -> IResult<&[u8], Name>
-    ensures { Gives (λ v. items_in relative_distinguished_name v.bytes.now) name_layout i.now result }
+    ensures { Gives (λ v. items_in relative_distinguished_name v.bytes.now) name_layout
+        i.now result }
 {
     tagged::<ItemsOf<RelativeDistinguishedNames>>(i, tag::SEQUENCE)
 }

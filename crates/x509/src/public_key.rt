@@ -141,7 +141,8 @@ pub enum PublicKey<'a> {
 
 /// The curve in an algorithm's parameters.
 fn named_curve<'a>(parameters: Option<Element<'a>>) -> Result<PublicKey<'a>, Err<Error<&'a [u8]>>>
-    ensures { Tells view_public_key (named_curve_of (option_map view_element parameters.entry)) result }
+    ensures { Tells view_public_key
+        (named_curve_of (option_map view_element parameters.entry)) result }
 {
     match parameters {
         Some(

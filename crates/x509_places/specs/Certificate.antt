@@ -14,7 +14,8 @@ use Rattle.x509_places.specs.declared.tbs.TBSPlaces.{TBSPlaces}
 use Rattle.x509_places.specs.declared.certificate.CertificatePlaces.{CertificatePlaces}
 
 -- The object identifier and the parameters' content are at their places.
-pub record AlgorithmStands (b : Bytes) (a : AlgorithmIdentifier) (p : AlgorithmPlaces) : Type 0 where
+pub record AlgorithmStands (b : Bytes) (a : AlgorithmIdentifier)
+    (p : AlgorithmPlaces) : Type 0 where
   pub algorithm : Stands b p.algorithm a.algorithm.content.now
   pub parameters : MayStand b p.parameters (option_map (λ e. e.content.now) a.parameters)
 

@@ -13,7 +13,12 @@ use Rattle.x509_places.specs.declared.tbs.OptionalFields.{OptionalFields as Read
 
 abbrev pub view_first : ReadFirst → FirstFields
 view_first f =
-    record { version = f.version; serial_number = f.serial_number.now; signature = view_algorithm f.signature }
+    record {
+      version = f.version;
+      serial_number = f.serial_number.now;
+      signature =
+          view_algorithm f.signature;
+    }
 
 abbrev pub view_names : ReadNames → NameFields
 view_names f = record {
@@ -26,7 +31,8 @@ view_names f = record {
 -- The names and the key are at their places.
 pub record NamesStand (b : Bytes) (f : ReadNames) : Type 0 where
   pub issuer : NameStands b f.issuer_place (items_in relative_distinguished_name f.issuer.bytes.now)
-  pub subject : NameStands b f.subject_place (items_in relative_distinguished_name f.subject.bytes.now)
+  pub subject : NameStands b f.subject_place
+      (items_in relative_distinguished_name f.subject.bytes.now)
   pub key : KeyStands b f.key f.key_places
 
 abbrev pub view_optional : ReadOptional → OptionalFields

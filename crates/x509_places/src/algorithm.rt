@@ -35,7 +35,8 @@ fn optional_element_at<'a>(
     i: &'a [u8],
 ) -> IResult<&'a [u8], (Option<Element<'a>>, Option<Place>)>
     ensures gives { Gives (λ x. option_map view_element x.0) optional_element i.now result }
-    ensures places { IsBefore whole.now behind i.now → IfOk result (λ x. MayStand whole.now x.1.1 (option_map (λ e. e.content.now) x.1.0)) }
+    ensures places { IsBefore whole.now behind i.now
+        → IfOk result (λ x. MayStand whole.now x.1.1 (option_map (λ e. e.content.now) x.1.0)) }
 {
     if i.is_empty() {
         return Ok((i, (None, None)));
@@ -88,7 +89,8 @@ pub(crate) fn algorithm_at<'a>(
     i: &'a [u8],
 ) -> IResult<&'a [u8], (AlgorithmIdentifier<'a>, AlgorithmPlaces)>
     ensures gives { Gives (λ x. view_algorithm x.0) algorithm_identifier i.now result }
-    ensures places { IsBefore whole.now behind i.now → IfOk result (λ x. AlgorithmStands whole.now x.1.0 x.1.1) }
+    ensures places { IsBefore whole.now behind i.now
+        → IfOk result (λ x. AlgorithmStands whole.now x.1.0 x.1.1) }
 {
     tagged_at::<AlgorithmContentAt>(whole, behind, i, tag::SEQUENCE)
 }

@@ -39,7 +39,8 @@ pub fn general_name_with_place<'a>(
     i: &'a [u8],
 ) -> IResult<&'a [u8], (GeneralName<'a>, Place)>
     ensures gives { Gives (λ x. view_general_name x.0) general_name i.now result }
-    ensures places { EndsWith whole.now i.now → IfOk result (λ x. Stands whole.now x.1.1 (name_content x.1.0)) }
+    ensures places { EndsWith whole.now i.now
+        → IfOk result (λ x. Stands whole.now x.1.1 (name_content x.1.0)) }
 {
     let (rest, x) = GeneralNames::read(i)?;
     let content = content_of(&x);

@@ -18,7 +18,9 @@ pub(crate) fn name_at<'a>(
     i: &'a [u8],
 ) -> IResult<&'a [u8], (Name<'a>, Place)>
     ensures gives { Gives (λ x. items_in relative_distinguished_name x.0.bytes.now) name i.now result }
-    ensures places { IsBefore whole.now behind i.now → IfOk result (λ x. NameStands whole.now x.1.1 (items_in relative_distinguished_name x.1.0.bytes.now)) }
+    ensures places { IsBefore whole.now behind i.now
+        → IfOk result
+        (λ x. NameStands whole.now x.1.1 (items_in relative_distinguished_name x.1.0.bytes.now)) }
 {
     let (rest, x) = parse_name(i)?;
     let element = taken(whole, behind, i, rest);

@@ -94,7 +94,8 @@ pub(crate) fn optional_at<'a, T: Part<'a>>(
     tag: u8,
 ) -> IResult<&'a [u8], Option<T::Read>>
     ensures gives { Gives (λ v. option_map T.view v) (optional tag T.layout) i.now result }
-    ensures places { IsBefore whole.now behind i.now → IfOk result (λ x. IfSome x.1 (λ y. T.stands whole.now y)) }
+    ensures places { IsBefore whole.now behind i.now
+        → IfOk result (λ x. IfSome x.1 (λ y. T.stands whole.now y)) }
 {
     if i.is_empty() {
         return Ok((i, None));

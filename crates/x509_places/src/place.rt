@@ -27,7 +27,8 @@ pub(crate) fn place_before(whole: &[u8], behind: usize, part: &[u8], rest: &[u8]
 /// How many bytes of `whole` follow a part, where `rest` and then `behind` bytes follow it.
 #[inline(always)]
 pub(crate) fn behind_part(whole: &[u8], behind: usize, rest: &[u8]) -> usize
-    ensures { (x : Bytes) → IsBefore whole.now behind (x ++ rest.now) → IsBefore whole.now result x }
+    ensures { (x : Bytes) → IsBefore whole.now behind (x ++ rest.now)
+        → IsBefore whole.now result x }
 {
     let end = whole.len().saturating_sub(behind);
     let after = end.saturating_sub(rest.len());
@@ -39,7 +40,8 @@ pub(crate) fn behind_part(whole: &[u8], behind: usize, rest: &[u8]) -> usize
 #[inline(always)]
 pub(crate) fn taken<'a>(whole: &[u8], behind: usize, i: &'a [u8], rest: &[u8]) -> (&'a [u8], Place)
     ensures is { result.0.now ≡ take (length i.now - length rest.now) i.now }
-    ensures stands { IsBefore whole.now behind i.now → EndsWith i.now rest.now → Stands whole.now result.1 result.0.now }
+    ensures stands { IsBefore whole.now behind i.now → EndsWith i.now rest.now
+        → Stands whole.now result.1 result.0.now }
 {
     let (front, _) = i.split_at(i.len().saturating_sub(rest.len()));
     (front, place_before(whole, behind, front, rest))

@@ -91,7 +91,8 @@ fn first_fields_at<'a>(
     i: &'a [u8],
 ) -> IResult<&'a [u8], FirstFields<'a>>
     ensures gives { Gives view_first first_fields i.now result }
-    ensures places { IsBefore whole.now behind i.now → IfOk result (λ x. Stands whole.now x.1.serial_place x.1.serial_number.now) }
+    ensures places { IsBefore whole.now behind i.now
+        → IfOk result (λ x. Stands whole.now x.1.serial_place x.1.serial_number.now) }
 {
     let (after_version, version) = optional::<Version>(i, 0xa0)?;
     let (after_serial, (serial_number, serial_place)) = tagged_at::<IntegerAt>(
@@ -210,8 +211,10 @@ struct OptionalFields<'a> {
 /// The extensions and their place; an empty list if there are none.
 #[tactic(auto, using(layouts::proofs::OneAnswerLemmas::read_allowed, layouts::proofs::ItemsLemmas::none_in))]
 fn held_or_none<'a>(list: Option<(Items<'a, Extensions>, Place)>) -> (Items<'a, Extensions>, Place)
-    ensures is { items_in extension result.0.bytes.now ≡ or_none (option_map (λ x. items_in extension x.0.bytes.now) list.entry) }
-    ensures places { (b : Bytes) → IfSome list.entry (λ x. Stands b x.1 x.0.bytes.now) → Stands b result.1 result.0.bytes.now }
+    ensures is { items_in extension result.0.bytes.now ≡ or_none
+        (option_map (λ x. items_in extension x.0.bytes.now) list.entry) }
+    ensures places { (b : Bytes) → IfSome list.entry (λ x. Stands b x.1 x.0.bytes.now)
+        → Stands b result.1 result.0.bytes.now }
 {
     match list {
         Some(list) => list,
@@ -233,7 +236,8 @@ fn optional_fields_at<'a>(
     i: &'a [u8],
 ) -> IResult<&'a [u8], OptionalFields<'a>>
     ensures gives { Gives view_optional optional_fields i.now result }
-    ensures places { IsBefore whole.now behind i.now → IfOk result (λ x. Stands whole.now x.1.extensions_place x.1.extensions.bytes.now) }
+    ensures places { IsBefore whole.now behind i.now
+        → IfOk result (λ x. Stands whole.now x.1.extensions_place x.1.extensions.bytes.now) }
 {
     let (after_issuer, issuer_unique_id) = optional::<BitString>(i, 0x81)?;
     let (after_subject, subject_unique_id) = optional::<BitString>(after_issuer, 0x82)?;

@@ -26,4 +26,5 @@ pub small_here : (n : ℕ) → n < 2 ^ 64 → Some n ≡ small n
 small_here n h = sym (ap (λ t. cond t (Some n) None) (lt-ltb n (2 ^ 64) h))
 
 pub not_small : (n m : ℕ) → (n < 2 ^ 64 → ⊥) → n ≤ m → None ≡ small m
-not_small n m h k = sym (ap (λ t. cond t (Some m) None) (le-ltb m (2 ^ 64) (omega (arith, lt_of_not-le h, k))))
+not_small n m h k =
+    sym (ap (λ t. cond t (Some m) None) (le-ltb m (2 ^ 64) (omega (arith, lt_of_not-le h, k))))

@@ -12,7 +12,8 @@ use Rattle.x509.specs.GeneralName.{GeneralName, Rfc822Name, DnsName, UniformReso
 abbrev pub ascii_byte : ℕ → Bytes
 ascii_byte b =
     if b == 92 then 92 ∷ 92 ∷ [] else
-    if nat_le 0x20 b && nat_lt b 0x7f then b ∷ [] else 92 ∷ 120 ∷ digit_char (b / 16) ∷ digit_char (b % 16) ∷ []
+    if nat_le 0x20 b && nat_lt b 0x7f then
+    b ∷ [] else 92 ∷ 120 ∷ digit_char (b / 16) ∷ digit_char (b % 16) ∷ []
 
 abbrev pub ascii_text : Bytes → Bytes
 ascii_text bytes = flat_map ascii_byte bytes
@@ -20,7 +21,8 @@ ascii_text bytes = flat_map ascii_byte bytes
 abbrev pub address_text : Bytes → Bytes
 address_text address =
     if length address == 4 then ipv4_text address else
-    if length address == 16 then ipv6_text (segments_of address) else codes "iPAddress:" ++ encode_upper address
+    if length address == 16 then
+    ipv6_text (segments_of address) else codes "iPAddress:" ++ encode_upper address
 
 -- The kind by its tag.
 abbrev pub kind_of : ℕ → Bytes

@@ -50,7 +50,8 @@ same_labels _ _ = false
 
 -- `*` matches any label if others follow it.
 abbrev pub stands_for : Bytes → Bool → Bytes → Bool
-stands_for first further label = if bytes_eq first (42 ∷ []) then further else same_label first label
+stands_for first further label = if bytes_eq first (42 ∷ []) then
+    further else same_label first label
 
 abbrev pub are_some : List Bytes → Bool
 are_some [] = false
@@ -58,7 +59,8 @@ are_some (label ∷ others) = true
 
 -- The labels of a dNSName match those of a host.
 abbrev pub covers : List Bytes → List Bytes → Bool
-covers (first ∷ others) (label ∷ behind) = stands_for first (are_some others) label && same_labels others behind
+covers (first ∷ others) (label ∷ behind) =
+    stands_for first (are_some others) label && same_labels others behind
 covers _ _ = false
 
 -- A trailing dot marks a fully qualified name.
@@ -92,4 +94,5 @@ alt_names extensions = names_in (first_of SUBJECT_ALT_NAME extensions)
 abbrev pub matches_host : Certificate → Bytes → Bool
 matches_host certificate host =
     let name : Bytes = without_root host in
-    is_host (labels name) && names_host (labels name) (alt_names certificate.tbs_certificate.others.extensions)
+    is_host (labels name)
+    && names_host (labels name) (alt_names certificate.tbs_certificate.others.extensions)

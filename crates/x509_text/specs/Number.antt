@@ -20,7 +20,8 @@ negated number = reverse (negated_from true (reverse number))
 
 -- The number without the leading 0 that keeps it from being negative.
 abbrev pub without_padding : Bytes → Bytes
-without_padding (first ∷ second ∷ others) = if first == 0 then second ∷ others else first ∷ second ∷ others
+without_padding (first ∷ second ∷ others) = if first == 0 then
+    second ∷ others else first ∷ second ∷ others
 without_padding number = number
 
 abbrev pub serial_number_text : Bytes → Bytes

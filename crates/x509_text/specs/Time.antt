@@ -41,5 +41,6 @@ IsAt seconds t = civil_nanos t ≡ seconds *ℤ pos 1_000_000_000
 
 -- The text of the time, or None if the calendar, which ends with the year 9999, doesn't have it.
 abbrev pub IsTextOf : ℤ → Option (String Global) → Type 0
-IsTextOf seconds (Some text) = (t : DateTime) × IsAt seconds t × (string_bytes text ≡ date_time_text t)
+IsTextOf seconds (Some text) =
+    (t : DateTime) × IsAt seconds t × (string_bytes text ≡ date_time_text t)
 IsTextOf seconds None = ¬ (IsCivilNanos (seconds *ℤ pos 1_000_000_000))

@@ -17,13 +17,15 @@ is_special b = b == 34 || (b == 43 || (b == 44 || (b == 59 || (b == 60 || (b == 
 abbrev pub byte_text : ℕ → Bytes
 byte_text b =
     if is_special b then 92 ∷ b ∷ [] else
-    if nat_le 0x20 b && nat_lt b 0x7f then b ∷ [] else 92 ∷ hex_digit (b / 16) ∷ hex_digit (b % 16) ∷ []
+    if nat_le 0x20 b && nat_lt b 0x7f then
+    b ∷ [] else 92 ∷ hex_digit (b / 16) ∷ hex_digit (b % 16) ∷ []
 
 -- A space is escaped at both ends, and `#` at the beginning. OpenSSL doesn't escape a `#` that is
 -- the whole value.
 abbrev pub placed_text : Bool → Bool → ℕ → Bytes
 placed_text first last b =
-    if b == 32 && (first || last) || b == 35 && (first && not last) then 92 ∷ b ∷ [] else byte_text b
+    if b == 32 && (first || last) || b == 35 && (first && not last) then
+    92 ∷ b ∷ [] else byte_text b
 
 -- A string in UTF-8, escaped; the Bool is whether its first byte is the first of the value.
 abbrev pub escaped : Bool → Bytes → Bytes
@@ -51,7 +53,8 @@ universal_character = do
 -- The characters in UTF-8, if the bytes consist of characters.
 abbrev pub utf8_of : Layout ℕ → Bytes → Option Bytes
 utf8_of character content =
-    if length (left_in character content) == 0 then Some (flat_map encode_utf8 (items_in character content)) else None
+    if length (left_in character content) == 0 then
+    Some (flat_map encode_utf8 (items_in character content)) else None
 
 -- NumericString, PrintableString, TeletexString, IA5String, VisibleString: each byte is the number
 -- of a character.

@@ -16,7 +16,8 @@ pub fn version_number(certificate: &Certificate) -> u16
 /// Equal names in different encodings don't count. Whether the subject's key signed the certificate
 /// isn't checked.
 pub fn is_self_issued(certificate: &Certificate) -> bool
-    ensures { result ≡ bytes_eq certificate.now.tbs_certificate.subject.bytes.now certificate.now.tbs_certificate.issuer.bytes.now }
+    ensures { result ≡ bytes_eq certificate.now.tbs_certificate.subject.bytes.now
+        certificate.now.tbs_certificate.issuer.bytes.now }
 {
     let tbs = certificate.tbs_certificate;
     tbs.subject.bytes() == tbs.issuer.bytes()

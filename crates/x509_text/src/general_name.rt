@@ -36,7 +36,8 @@ fn add_ascii(text: &mut String, bytes: &[u8]) -> Result<(), AllocError>
 
 /// Appends an IP address.
 fn add_address(alloc: Global, text: &mut String, address: &[u8]) -> Result<(), AllocError>
-    ensures { OnOk result (string_bytes text.new ≡ string_bytes text.old ++ address_text address.now) }
+    ensures { OnOk result
+        (string_bytes text.new ≡ string_bytes text.old ++ address_text address.now) }
 {
     match address {
         [a, b, c, d] => {
@@ -79,7 +80,8 @@ fn kind(tag: u8) -> &'static str
 /// hexadecimal. Other names print their kind, such as `otherName`, then `:` and the bytes of their
 /// content in hexadecimal. `AllocError` if there is no memory for the text.
 pub fn general_name_text(alloc: Global, name: GeneralName) -> Result<String, AllocError>
-    ensures { IfOk result (λ text. string_bytes text ≡ general_name_text_of (view_general_name name.entry)) }
+    ensures { IfOk result
+        (λ text. string_bytes text ≡ general_name_text_of (view_general_name name.entry)) }
 {
     let mut text = String::new(alloc);
     match name {

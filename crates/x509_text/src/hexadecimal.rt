@@ -75,7 +75,8 @@ fn element_bytes(alloc: Global, element: Element) -> Result<Vec<u8>, AllocError>
 
 /// Appends `#` and the bytes of an element in hexadecimal.
 pub(crate) fn add_dump(alloc: Global, text: &mut String, element: Element) -> Result<(), AllocError>
-    ensures { OnOk result (string_bytes text.new ≡ string_bytes text.old ++ dump_text (view_element element.entry)) }
+    ensures { OnOk result
+        (string_bytes text.new ≡ string_bytes text.old ++ dump_text (view_element element.entry)) }
 {
     let bytes = element_bytes(alloc, element)?;
     text.push('#')?;

@@ -140,7 +140,8 @@ fn without_root(host: &[u8]) -> &[u8]
 
 /// Whether one of the names is a dNSName that matches a host.
 fn any_covers(names: Items<GeneralNames>, host: &[u8]) -> bool
-    ensures { result ≡ names_host_by (labels host.now) (items_in general_name names.entry.bytes.now) }
+    ensures { result ≡ names_host_by (labels host.now)
+        (items_in general_name names.entry.bytes.now) }
 {
     for name in names {
         if let GeneralName::DnsName(pattern) = name {
@@ -161,7 +162,8 @@ fn no_names<'a>() -> Items<'a, GeneralNames>
 
 /// The names in the first subjectAltName; none if it is missing or doesn't parse.
 fn alt_names<'a>(extensions: Items<'a, Extensions>) -> Items<'a, GeneralNames>
-    ensures { items_in general_name result.bytes.now ≡ alt_names_of (items_in extension extensions.entry.bytes.now) }
+    ensures { items_in general_name result.bytes.now ≡ alt_names_of
+        (items_in extension extensions.entry.bytes.now) }
 {
     let Some(extension) = first_extension(extensions, oid::SUBJECT_ALT_NAME) else {
         return no_names();

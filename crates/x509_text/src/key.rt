@@ -75,7 +75,8 @@ pub fn key_length(info: SubjectPublicKeyInfo) -> Option<u32>
 /// The curve of a key on a named curve; [`object_name`](crate::object_name) and
 /// [`object_text`](crate::object_text) return its name.
 pub fn key_curve<'a>(info: SubjectPublicKeyInfo<'a>) -> Option<ObjectIdentifier<'a>>
-    ensures { option_map (λ o. o.content.now) result ≡ curve_of (key_of (view_key_info info.entry)) }
+    ensures { option_map (λ o. o.content.now) result ≡ curve_of
+        (key_of (view_key_info info.entry)) }
 {
     match info.public_key() {
         Ok(PublicKey::Ec(curve)) => Some(curve),

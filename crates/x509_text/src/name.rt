@@ -20,7 +20,8 @@ fn add_by_name(
     attribute: AttributeTypeAndValue,
 ) -> Result<(), AllocError>
     ensures { OnOk result (string_bytes text.new
-        ≡ string_bytes text.old ++ attribute_by (option_map (λ s. s.now) name.entry) (view_attribute attribute.entry)) }
+        ≡ string_bytes text.old ++ attribute_by (option_map (λ s. s.now) name.entry)
+        (view_attribute attribute.entry)) }
 {
     match name {
         Some(name) => {
@@ -43,7 +44,9 @@ fn add_attribute(
     text: &mut String,
     attribute: AttributeTypeAndValue,
 ) -> Result<(), AllocError>
-    ensures { OnOk result (string_bytes text.new ≡ string_bytes text.old ++ attribute_text (view_attribute attribute.entry)) }
+    ensures { OnOk result
+        (string_bytes text.new ≡ string_bytes text.old ++ attribute_text
+        (view_attribute attribute.entry)) }
 {
     let name = object_short_name(attribute.attribute_type);
     add_by_name(alloc, text, name, attribute)
@@ -54,7 +57,8 @@ fn attributes_of<'a>(
     alloc: Global,
     set: RelativeDistinguishedName<'a>,
 ) -> Result<Vec<AttributeTypeAndValue<'a>>, AllocError>
-    ensures { IfOk result (λ v. map view_attribute v.items ≡ items_in attribute_layout set.entry.bytes.now) }
+    ensures { IfOk result
+        (λ v. map view_attribute v.items ≡ items_in attribute_layout set.entry.bytes.now) }
 {
     let mut attributes = Vec::new(alloc);
     for attribute in set {
@@ -69,7 +73,9 @@ fn add_set(
     text: &mut String,
     set: RelativeDistinguishedName,
 ) -> Result<(), AllocError>
-    ensures { OnOk result (string_bytes text.new ≡ string_bytes text.old ++ set_text (items_in attribute_layout set.entry.bytes.now)) }
+    ensures { OnOk result
+        (string_bytes text.new ≡ string_bytes text.old ++ set_text
+        (items_in attribute_layout set.entry.bytes.now)) }
 {
     let mut attributes = attributes_of(alloc, set)?;
     let Some(last) = attributes.pop() else {
@@ -96,7 +102,9 @@ fn sets_of<'a>(
     alloc: Global,
     name: Name<'a>,
 ) -> Result<Vec<RelativeDistinguishedName<'a>>, AllocError>
-    ensures { IfOk result (λ v. map (λ s. items_in attribute_layout s.bytes.now) v.items ≡ with_attributes (items_in relative_distinguished_name name.entry.bytes.now)) }
+    ensures { IfOk result
+        (λ v. map (λ s. items_in attribute_layout s.bytes.now) v.items ≡ with_attributes
+        (items_in relative_distinguished_name name.entry.bytes.now)) }
 {
     let mut sets = Vec::new(alloc);
     for set in name {
@@ -123,7 +131,9 @@ fn sets_of<'a>(
 /// without a name to 79 characters. What follows a set or an attribute that doesn't parse is left
 /// out, since the iterator ends there. `AllocError` if there is no memory for the text.
 pub fn name_text(alloc: Global, name: Name) -> Result<String, AllocError>
-    ensures { IfOk result (λ text. string_bytes text ≡ name_text_of (items_in relative_distinguished_name name.entry.bytes.now)) }
+    ensures { IfOk result
+        (λ text. string_bytes text ≡ name_text_of
+        (items_in relative_distinguished_name name.entry.bytes.now)) }
 {
     let mut text = String::new(alloc);
     let mut sets = sets_of(alloc, name)?;

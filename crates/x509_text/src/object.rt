@@ -126,7 +126,8 @@ pub fn object_short_name(oid: ObjectIdentifier) -> Option<&'static str>
 
 /// Appends a number in decimal; nothing if it is too large.
 fn add_arc(text: &mut String, arc: ArcNumber) -> Result<(), AllocError>
-    ensures { OnOk result (string_bytes text.new ≡ string_bytes text.old ++ arc_text_of (view_arc arc)) }
+    ensures { OnOk result
+        (string_bytes text.new ≡ string_bytes text.old ++ arc_text_of (view_arc arc)) }
 {
     match arc {
         ArcNumber::Fits(n) => {
@@ -152,7 +153,9 @@ fn all_fit(oid: ObjectIdentifier) -> bool
 /// Appends the numbers of the arcs, separated by `.`.
 #[tactic(auto, using(crate::proofs::JoinLemmas::join_begun, crate::proofs::JoinLemmas::join_more))]
 fn add_arcs(text: &mut String, oid: ObjectIdentifier) -> Result<(), AllocError>
-    ensures { OnOk result (string_bytes text.new ≡ string_bytes text.old ++ numbers_text (arcs_of oid.entry.content.now)) }
+    ensures { OnOk result
+        (string_bytes text.new ≡ string_bytes text.old ++ numbers_text
+        (arcs_of oid.entry.content.now)) }
 {
     let mut arcs = oid.arcs();
     let Some(first) = arcs.next() else {
@@ -173,7 +176,8 @@ pub(crate) fn add_dotted(
     text: &mut String,
     oid: ObjectIdentifier,
 ) -> Result<(), AllocError>
-    ensures { OnOk result (string_bytes text.new ≡ string_bytes text.old ++ dotted_text oid.entry.content.now) }
+    ensures { OnOk result
+        (string_bytes text.new ≡ string_bytes text.old ++ dotted_text oid.entry.content.now) }
 {
     if all_fit(oid) {
         return add_arcs(text, oid);

@@ -33,7 +33,8 @@ fn add_four(text: &mut String, n: u16) -> Result<(), AllocError>
 /// Appends the last two digits of a number, and a sign after them.
 fn add_part(text: &mut String, n: u8, sign: char) -> Result<(), AllocError>
     requires { sign < 128 }
-    ensures { OnOk result (string_bytes text.new ≡ string_bytes text.old ++ two_digits n ++ sign ∷ []) }
+    ensures { OnOk result
+        (string_bytes text.new ≡ string_bytes text.old ++ two_digits n ++ sign ∷ []) }
 {
     add_two(text, u16::from(n))?;
     text.push(sign)
@@ -68,7 +69,8 @@ fn add_date(text: &mut String, date: Date) -> Result<(), AllocError>
 
 /// Appends a minute and its second, such as 00:00Z.
 fn add_minute(text: &mut String, minute: u8, second: u8) -> Result<(), AllocError>
-    ensures { OnOk result (string_bytes text.new ≡ string_bytes text.old ++ minute_text minute second) }
+    ensures { OnOk result
+        (string_bytes text.new ≡ string_bytes text.old ++ minute_text minute second) }
 {
     add_part(text, minute, ':')?;
     add_part(text, second, 'Z')

@@ -51,7 +51,8 @@ fn add_byte(text: &mut String, byte: u8) -> Result<(), AllocError>
 
 /// Appends a byte, given whether it is the first and whether it is the last.
 fn add_placed(text: &mut String, byte: u8, first: bool, last: bool) -> Result<(), AllocError>
-    ensures { OnOk result (string_bytes text.new ≡ string_bytes text.old ++ placed_text first last byte) }
+    ensures { OnOk result
+        (string_bytes text.new ≡ string_bytes text.old ++ placed_text first last byte) }
 {
     if byte == b' ' && (first || last) || byte == b'#' && first && !last {
         text.push('\\')?;
@@ -179,7 +180,8 @@ fn converted(alloc: Global, value: Element) -> Result<Option<String>, AllocError
 /// Appends a value: its string, escaped, or `#` and its element in hexadecimal if it isn't a
 /// string.
 pub(crate) fn add_value(alloc: Global, text: &mut String, value: Element) -> Result<(), AllocError>
-    ensures { OnOk result (string_bytes text.new ≡ string_bytes text.old ++ value_text (view_element value.entry)) }
+    ensures { OnOk result
+        (string_bytes text.new ≡ string_bytes text.old ++ value_text (view_element value.entry)) }
 {
     if value.tag == tag::UTF8_STRING {
         return add_escaped(text, value.content);

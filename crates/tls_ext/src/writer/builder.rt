@@ -14,10 +14,12 @@ use tls_base::{NamedGroup, SNIType, TlsExtensionType};
 /// Appends server names.
 fn append_names(out: &mut Vec<u8>, names: &[(SNIType, &[u8])])
     requires fits { length (names_text (map view_server_name names.now)) ≤ 65535 }
-    requires room { vec_len out.old + length (names_text (map view_server_name names.now)) ≤ vec_capacity out.old }
+    requires room { vec_len out.old + length (names_text (map view_server_name names.now)) ≤
+        vec_capacity out.old }
     ensures items { out.new.items ≡ out.old.items ++ names_text (map view_server_name names.now) }
     ensures range { All (λ n. n.name_type < 256 ^ 1) (map view_server_name names.now) }
-    ensures len { vec_len out.new ≡ vec_len out.old + length (names_text (map view_server_name names.now)) }
+    ensures len { vec_len out.new ≡ vec_len out.old + length
+        (names_text (map view_server_name names.now)) }
     ensures capacity { vec_capacity out.old ≤ vec_capacity out.new }
 {
     for (name_type, name) in names {

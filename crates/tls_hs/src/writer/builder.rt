@@ -78,7 +78,8 @@ fn append_each_method(out: &mut Vec<u8>, methods: &[TlsCompressionID])
 fn append_suites(out: &mut Vec<u8>, suites: &[TlsCipherSuiteID])
     requires fits { length suites.now ≤ 32767 }
     requires room { vec_len out.old + 2 + 2 * length suites.now ≤ vec_capacity out.old }
-    ensures items { out.new.items ≡ out.old.items ++ counted_text 2 (numbers_text 2 (map (λ x. x.0) suites.now)) }
+    ensures items { out.new.items ≡ out.old.items ++ counted_text 2
+        (numbers_text 2 (map (λ x. x.0) suites.now)) }
     ensures range { All (λ x. x < 256 ^ 2) (map (λ x. x.0) suites.now) }
     ensures len { vec_len out.new ≡ vec_len out.old + 2 + 2 * length suites.now }
     ensures capacity { vec_capacity out.old ≤ vec_capacity out.new }
@@ -91,7 +92,8 @@ fn append_suites(out: &mut Vec<u8>, suites: &[TlsCipherSuiteID])
 fn append_methods(out: &mut Vec<u8>, methods: &[TlsCompressionID])
     requires fits { length methods.now ≤ 255 }
     requires room { vec_len out.old + 1 + length methods.now ≤ vec_capacity out.old }
-    ensures items { out.new.items ≡ out.old.items ++ counted_text 1 (numbers_text 1 (map (λ x. x.0) methods.now)) }
+    ensures items { out.new.items ≡ out.old.items ++ counted_text 1
+        (numbers_text 1 (map (λ x. x.0) methods.now)) }
     ensures range { All (λ x. x < 256 ^ 1) (map (λ x. x.0) methods.now) }
     ensures len { vec_len out.new ≡ vec_len out.old + 1 + length methods.now }
     ensures capacity { vec_capacity out.old ≤ vec_capacity out.new }
@@ -104,10 +106,12 @@ fn append_methods(out: &mut Vec<u8>, methods: &[TlsCompressionID])
 #[tactic(auto, using(crate::proofs::LengthLemmas::client_hello_length))]
 fn append_client_hello(out: &mut Vec<u8>, h: &TlsClientHelloContents)
     requires fits { FitsClientHello (view_client_hello h.now) }
-    requires room { vec_len out.old + length (client_hello_text (view_client_hello h.now)) ≤ vec_capacity out.old }
+    requires room { vec_len out.old + length (client_hello_text (view_client_hello h.now)) ≤
+        vec_capacity out.old }
     ensures items { out.new.items ≡ out.old.items ++ client_hello_text (view_client_hello h.now) }
     ensures range { InRangeClientHello (view_client_hello h.now) }
-    ensures len { vec_len out.new ≡ vec_len out.old + length (client_hello_text (view_client_hello h.now)) }
+    ensures len { vec_len out.new ≡ vec_len out.old + length
+        (client_hello_text (view_client_hello h.now)) }
     ensures capacity { vec_capacity out.old ≤ vec_capacity out.new }
 {
     append2(out, h.version.0);
@@ -122,10 +126,12 @@ fn append_client_hello(out: &mut Vec<u8>, h: &TlsClientHelloContents)
 #[tactic(auto, using(crate::proofs::LengthLemmas::server_hello_length))]
 fn append_server_hello(out: &mut Vec<u8>, h: &TlsServerHelloContents)
     requires fits { FitsServerHello (view_server_hello h.now) }
-    requires room { vec_len out.old + length (server_hello_text (view_server_hello h.now)) ≤ vec_capacity out.old }
+    requires room { vec_len out.old + length (server_hello_text (view_server_hello h.now)) ≤
+        vec_capacity out.old }
     ensures items { out.new.items ≡ out.old.items ++ server_hello_text (view_server_hello h.now) }
     ensures range { InRangeServerHello (view_server_hello h.now) }
-    ensures len { vec_len out.new ≡ vec_len out.old + length (server_hello_text (view_server_hello h.now)) }
+    ensures len { vec_len out.new ≡ vec_len out.old + length
+        (server_hello_text (view_server_hello h.now)) }
     ensures capacity { vec_capacity out.old ≤ vec_capacity out.new }
 {
     append2(out, h.version.0);
@@ -140,10 +146,13 @@ fn append_server_hello(out: &mut Vec<u8>, h: &TlsServerHelloContents)
 #[tactic(auto, using(crate::proofs::LengthLemmas::server_hello_draft18_length))]
 fn append_server_hello_draft18(out: &mut Vec<u8>, h: &TlsServerHelloV13Draft18Contents)
     requires fits { FitsServerHelloDraft18 (view_server_hello_draft18 h.now) }
-    requires room { vec_len out.old + length (server_hello_draft18_text (view_server_hello_draft18 h.now)) ≤ vec_capacity out.old }
-    ensures items { out.new.items ≡ out.old.items ++ server_hello_draft18_text (view_server_hello_draft18 h.now) }
+    requires room { vec_len out.old + length (server_hello_draft18_text (view_server_hello_draft18 h.now)) ≤
+        vec_capacity out.old }
+    ensures items { out.new.items ≡ out.old.items ++ server_hello_draft18_text
+        (view_server_hello_draft18 h.now) }
     ensures range { InRangeServerHelloDraft18 (view_server_hello_draft18 h.now) }
-    ensures len { vec_len out.new ≡ vec_len out.old + length (server_hello_draft18_text (view_server_hello_draft18 h.now)) }
+    ensures len { vec_len out.new ≡ vec_len out.old + length
+        (server_hello_draft18_text (view_server_hello_draft18 h.now)) }
     ensures capacity { vec_capacity out.old ≤ vec_capacity out.new }
 {
     append2(out, h.version.0);
@@ -155,9 +164,12 @@ fn append_server_hello_draft18(out: &mut Vec<u8>, h: &TlsServerHelloV13Draft18Co
 /// Appends the body of a ClientKeyExchange.
 fn append_client_key_exchange(out: &mut Vec<u8>, k: &TlsClientKeyExchangeContents)
     requires fits { FitsClientKeyExchange (view_client_key_exchange k.now) }
-    requires room { vec_len out.old + length (client_key_exchange_text (view_client_key_exchange k.now)) ≤ vec_capacity out.old }
-    ensures items { out.new.items ≡ out.old.items ++ client_key_exchange_text (view_client_key_exchange k.now) }
-    ensures len { vec_len out.new ≡ vec_len out.old + length (client_key_exchange_text (view_client_key_exchange k.now)) }
+    requires room { vec_len out.old + length (client_key_exchange_text (view_client_key_exchange k.now)) ≤
+        vec_capacity out.old }
+    ensures items { out.new.items ≡ out.old.items ++ client_key_exchange_text
+        (view_client_key_exchange k.now) }
+    ensures len { vec_len out.new ≡ vec_len out.old + length
+        (client_key_exchange_text (view_client_key_exchange k.now)) }
     ensures capacity { vec_capacity out.old ≤ vec_capacity out.new }
 {
     match k {
@@ -188,7 +200,8 @@ impl Writable<'_, '_> {
         requires room { vec_len out.old + length (body_text (view_writable self.now)) ≤ vec_capacity out.old }
         ensures items { out.new.items ≡ out.old.items ++ body_text (view_writable self.now) }
         ensures range { InRangeHandshake (view_writable self.now) }
-        ensures len { vec_len out.new ≡ vec_len out.old + length (body_text (view_writable self.now)) }
+        ensures len { vec_len out.new ≡ vec_len out.old + length
+            (body_text (view_writable self.now)) }
         ensures capacity { vec_capacity out.old ≤ vec_capacity out.new }
     {
         match self {
@@ -223,7 +236,8 @@ pub fn append_handshake(out: &mut Vec<u8>, m: &TlsMessageHandshake)
     requires room { vec_len out.old + length (handshake_text (view_handshake m.now)) ≤ vec_capacity out.old }
     ensures items { out.new.items ≡ out.old.items ++ handshake_text (view_handshake m.now) }
     ensures range { InRangeHandshake (view_handshake m.now) }
-    ensures len { vec_len out.new ≡ vec_len out.old + length (handshake_text (view_handshake m.now)) }
+    ensures len { vec_len out.new ≡ vec_len out.old + length
+        (handshake_text (view_handshake m.now)) }
     ensures capacity { vec_capacity out.old ≤ vec_capacity out.new }
 {
     if let Some(message) = writable_of(m) {

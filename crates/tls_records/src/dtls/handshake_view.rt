@@ -131,7 +131,8 @@ impl<'a> DTLSRawHandshake<'a> {
     #[inline(always)]
     pub fn parse_body(self) -> IResult<&'a [u8], DTLSBodyView<'a>>
         ensures { Gives view_body_in_place
-            (body_layout self.entry.msg_type.0 self.entry.length (is_part (view_raw_handshake self.entry)))
+            (body_layout self.entry.msg_type.0 self.entry.length
+            (is_part (view_raw_handshake self.entry)))
             self.entry.body.now result }
     {
         body(

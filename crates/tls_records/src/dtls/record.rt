@@ -140,7 +140,8 @@ pub fn parse_dtls_record_with_header<'a>(
     i: &'a [u8],
     hdr: &DTLSRecordHeader,
 ) -> IResult<&'a [u8], Vec<DTLSMessage<'a>>>
-    ensures gives { GivesOrMemory (λ v. map view_message v.items) (record_content (view_header hdr.now)) i.now result }
+    ensures gives { GivesOrMemory (λ v. map view_message v.items) (record_content (view_header hdr.now))
+        i.now result }
     ensures never_incomplete { AsksNoMore result }
 {
     match hdr.content_type {

@@ -173,7 +173,8 @@ pub fn parse_dtls_record_with_header_in_place<'a>(
     i: &'a [u8],
     hdr: &DTLSRecordHeader,
 ) -> Result<DTLSMessages<'a>, Err<Error<&'a [u8]>>>
-    ensures { Tells (λ m. decode_while message_of (raw_messages m)) (value_of (reading (record_content (view_header hdr.now)) i.now)) result }
+    ensures { Tells (λ m. decode_while message_of (raw_messages m))
+        (value_of (reading (record_content (view_header hdr.now)) i.now)) result }
 {
     fragment_judged(i, hdr)?;
     Ok(DTLSMessages::new(hdr.content_type, i))

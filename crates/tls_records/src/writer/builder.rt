@@ -27,7 +27,8 @@ pub(crate) fn append_message(out: &mut Vec<u8>, m: &TlsMessage)
 /// Appends messages, one after another.
 pub(crate) fn append_messages(out: &mut Vec<u8>, messages: &[TlsMessage])
     requires fits { All FitsMessage (map view_message messages.now) }
-    requires room { vec_len out.old + length (fragment_text (map view_message messages.now)) ≤ vec_capacity out.old }
+    requires room { vec_len out.old + length (fragment_text (map view_message messages.now)) ≤
+        vec_capacity out.old }
     ensures items { out.new.items ≡ out.old.items ++ fragment_text (map view_message messages.now) }
     ensures range { All InRangeMessage (map view_message messages.now) }
 {

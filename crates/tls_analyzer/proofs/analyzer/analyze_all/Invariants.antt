@@ -6,4 +6,5 @@ use Rattle.tls_analyzer.specs.declared.analyzer.Analyzer.{Analyzer}
 use Rattle.tls_analyzer.proofs.analyzer.analyze_all.Given as goal
 
 abbrev pub invariant-loop-side : goal.invariant-loop-side
-invariant-loop-side l = (t : Analyzer) × IsNew t × AreHeardOn t (views (take l.side-index l.pieces)) l.analyzer
+invariant-loop-side l =
+    (t : Analyzer) × IsNew t × AreHeardOn t (views (take l.side-index l.pieces)) l.analyzer

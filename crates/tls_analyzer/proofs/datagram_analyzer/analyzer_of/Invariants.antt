@@ -6,5 +6,6 @@ use Rattle.tls_analyzer.proofs.datagram_analyzer.analyzer_of.Given as goal
 
 abbrev pub invariant-loop-side : goal.invariant-loop-side
 invariant-loop-side l =
-    (k : Analyzer) × IsKnown k l.analyzer × (heard_all k (views (drop l.side-index l.datagrams)) ≡ heard_all untold (views
+    (k : Analyzer) × IsKnown k l.analyzer
+    × (heard_all k (views (drop l.side-index l.datagrams)) ≡ heard_all untold (views
     l.datagrams))
