@@ -6,29 +6,20 @@
 #![tactic(auto)]
 
 mod arguments;
-mod failure;
-mod front;
-mod help;
 mod listener;
 mod memory;
-mod output;
 mod program;
-mod progress;
 
 ghost use Rattle.std.specs.Prelude.{Bool};
-ghost use Rattle.tlslog.specs.Output.{Tells};
-ghost use Rattle.tlslog.specs.Run.{HasWritten};
+ghost use Rattle.log_io.specs.Output.{Tells};
+ghost use Rattle.log_io.specs.Run.{HasWritten};
 
-use crate::arguments::{Refusal, checksums_of, matches, part_of, style_of};
-use crate::failure::{Exit, Failure};
-use crate::memory::memory_of;
-use crate::output::{LineError, Output};
-use crate::program::{
-    Asked, DASH, Files, STANDARD_OUTPUT, log_file, log_joined, log_standard_input, tell,
-};
+use crate::arguments::{Refusal, asked_of, choices};
+use crate::program::{Asked, log_file, log_joined, log_standard_input};
 use clap::ArgMatches;
-use clap::error::ErrorKind;
+use log_io::{DASH, Exit, Failure, Files, LineError, Output, STANDARD_OUTPUT, tell};
 use log_lines::Style;
+use log_options::{matches, tell_error};
 use std::alloc::Global;
 use std::io::{self, Write};
 use std::process::ExitCode;
@@ -168,64 +159,6 @@ fn refuse<R: Runtime + AllocGlobal>(rt: &R, refusal: Refusal<'_>) -> u8 {
     }
 }
 
-/// What to write in place of options that other programs have.
-static HINTS: [(&str, &str); 3] = [
-    ("-r", "a capture is named without -r: tlslog FILE"),
-    (
-        "-i",
-        "packets of an interface come from tcpdump: tcpdump -U -i INTERFACE -w - | tlslog -",
-    ),
-    ("-w", "lines are printed: tlslog FILE > LOG"),
-];
-
-/// Prints what to write in place of the options among these words that other programs have.
-fn print_hints<R: Runtime + AllocGlobal>(rt: &R, words: &[String]) -> io::Result<()> {
-    for (option, hint) in &HINTS {
-        if words.iter().any(|word| word.as_str().starts_with(*option)) {
-            eprintln!(rt; "\n  tip: {hint}")?;
-        }
-    }
-    Ok(())
-}
-
-/// Prints what is wrong with the command line.
-fn print_error<R: Runtime + AllocGlobal>(
-    rt: &R,
-    error: &clap::Error,
-    words: &[String],
-) -> io::Result<()> {
-    error.print(rt)?;
-    match error.kind() {
-        ErrorKind::UnknownArgument => print_hints(rt, words),
-        _ => Ok(()),
-    }
-}
-
-/// Tells what is wrong with the command line, or helps, and which status that is.
-fn tell_error<R: Runtime + AllocGlobal>(rt: &R, error: &clap::Error, words: &[String]) -> u8 {
-    let is_told = print_error(rt, error, words).is_ok();
-    match error.kind() {
-        ErrorKind::DisplayHelp | ErrorKind::DisplayVersion if is_told => 0,
-        ErrorKind::DisplayHelp | ErrorKind::DisplayVersion | ErrorKind::OutOfMemory => 3,
-        _ if is_told => 2,
-        _ => 3,
-    }
-}
-
-/// What the arguments ask for.
-fn asked_of<'a, R: Runtime + AllocGlobal>(
-    rt: &R,
-    matches: &ArgMatches<'a>,
-) -> Result<Asked, Refusal<'a>> {
-    Ok(Asked {
-        part: part_of(matches)?,
-        style: style_of(rt, matches)?,
-        checksums: checksums_of(matches),
-        is_by_network: matches.get_flag("by-network"),
-        memory: memory_of(matches)?,
-    })
-}
-
 /// The run that the arguments ask for.
 fn run_by<R: Runtime + AllocGlobal + RandomSource>(rt: &R, matches: &ArgMatches<'_>) -> u8 {
     match asked_of(rt, matches) {
@@ -244,7 +177,7 @@ fn run_by<R: Runtime + AllocGlobal + RandomSource>(rt: &R, matches: &ArgMatches<
 
 /// The whole run.
 fn run<R: Runtime + AllocGlobal + RandomSource>(rt: &R, words: &[String]) -> u8 {
-    match matches(rt.alloc(), words) {
+    match matches(rt.alloc(), words, choices()) {
         Ok(matches) => run_by(rt, &matches),
         Err(error) => tell_error(rt, &error, words),
     }

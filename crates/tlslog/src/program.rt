@@ -1,38 +1,30 @@
 //! The run over one capture.
 ghost use Rattle.std.specs.Prelude.{◌≡◌, Bool};
-ghost use Rattle.tlslog.specs.Output.{Tells};
-ghost use Rattle.tlslog.specs.Run.{EndsBy, Exits, ExitsBy, HasFailed, HasWritten, IsAsBefore, IsNotOfCapture, StaysSound};
+ghost use Rattle.log_io.specs.Output.{Tells};
+ghost use Rattle.log_io.specs.Run.{EndsBy, Exits, HasFailed, HasWritten, IsAsBefore, IsNotOfCapture, StaysSound};
 
-use crate::failure::{Exit, Failure};
 use crate::listener::{Kept, Listener, summary, take_certificates, take_messages};
-use crate::output::{LineError, Output};
-use crate::progress::{STANDARD_INPUT, Source, Watched};
 use connection_parts::Part;
 use connections::{Connection, Protocol};
 use log_connections::{Arrival, Checksums, Counts, Joined, Log, Pieces, add_one};
 use log_fields::summary::Summary;
+use log_io::{
+    Exit, Failure, LineError, Opener, Output, STANDARD_INPUT, STANDARD_INPUT_NAME, Source, Watched,
+    tell,
+};
 use log_lines::{Lines, Style};
 use log_messages::{Presented, Spoken};
 use packets::{Packet, PacketVisitor, visit_packets};
 use std::alloc::Global;
 use std::fs;
 use std::hash::RandomState;
-use std::io::{self, ErrorKind, Read, Write};
+use std::io::{Read, Write};
 use std::random::RandomSource;
 use std::rt::Runtime;
 use tunnels::MAX_TUNNELS;
 
-/// What failures to write are of.
-pub const STANDARD_OUTPUT: &str = "standard output";
-
-/// What failures to read are of, where no file is named.
-const STANDARD_INPUT_NAME: &str = "standard input";
-
 /// Under which name captures that are logged as one are told of.
 const JOINED_NAME: &str = "all captures";
-
-/// The name of standard input among the captures.
-pub const DASH: &str = "-";
 
 /// Prints the line of a connection.
 fn print_row<W: Write>(
@@ -486,28 +478,6 @@ fn print_left<W: Write>(
     Ok(())
 }
 
-/// Tells why a run ended early, behind so many packets, and which status that is. Where nobody reads on, nothing is told.
-pub fn tell<R: Runtime>(rt: &R, name: &str, failure: Failure, packets: u64) -> Exit
-    ensures { ExitsBy failure result }
-{
-    let (exit, name) = match failure {
-        Failure::Closed => return Exit::Closed,
-        Failure::Capture(_) => (Exit::Broken, name),
-        Failure::Writing(_) => (Exit::Failed, STANDARD_OUTPUT),
-        Failure::OutOfMemory | Failure::Opening(_) | Failure::Reading(_) | Failure::Endless => {
-            (Exit::Failed, name)
-        }
-    };
-    let told = match packets {
-        0 => eprintln!(rt; "{name}: {failure}"),
-        _ => eprintln!(rt; "{name}: {failure}, after {packets} packets"),
-    };
-    match told {
-        Ok(()) => exit,
-        Err(_) => Exit::Failed,
-    }
-}
-
 /// Logs all that the reader gives, and says how that ended.
 fn log_source<R: Runtime + AllocGlobal, I: Read + Source, W: Write>(
     rt: &R,
@@ -657,48 +627,6 @@ pub fn log_input<R: Runtime + AllocGlobal + RandomSource, I: Read + Source, W: W
     let exit = tell_counts(rt, name, &log.counts, exit);
     drop(log);
     (exit, out)
-}
-
-/// Who opens captures.
-pub trait Opener {
-    /// What a capture is read from.
-    type Opened: Read + Source + Drop;
-
-    /// The name of the capture of that number, from 0 on; `None` behind the last.
-    fn name(&self, number: usize) -> Option<&str>;
-
-    /// That capture.
-    fn open(&self, number: usize) -> io::Result<Self::Opened>;
-}
-
-/// Who opens files, of which the progress is told where someone looks.
-#[derive(Drop)]
-pub struct Files<'a, R> {
-    /// What opens them.
-    pub rt: &'a R,
-    /// Their paths; standard input is `-`.
-    pub paths: &'a [&'a str],
-}
-
-impl<'a, R: Runtime> Opener for Files<'a, R> {
-    type Opened = Watched<'a, R, R::File>;
-
-    fn name(&self, number: usize) -> Option<&str> {
-        match self.paths.get(number) {
-            Some(&DASH) => Some(STANDARD_INPUT_NAME),
-            Some(path) => Some(path),
-            None => None,
-        }
-    }
-
-    fn open(&self, number: usize) -> io::Result<Watched<'a, R, R::File>> {
-        let Some(path) = self.paths.get(number) else {
-            return Err(io::Error::from(ErrorKind::NotFound));
-        };
-        let place = if *path == DASH { STANDARD_INPUT } else { path };
-        let file = fs::open(self.rt, place)?;
-        Ok(Watched::new(self.rt, path, place, file))
-    }
 }
 
 /// Logs one more of the captures that are logged as one.

@@ -1,7 +1,7 @@
 //! How a run ends, and why it ends early.
 ghost use Rattle.std.specs.Prelude.{◌≡◌};
-ghost use Rattle.tlslog.specs.Exit.{worse};
-ghost use Rattle.tlslog.specs.Run.{IsSameCause};
+ghost use Rattle.log_io.specs.Exit.{worse};
+ghost use Rattle.log_io.specs.Run.{ExitsBy, IsSameCause};
 
 use crate::front::{Fault, Front};
 use crate::output::{LineError, Refusal};
@@ -9,6 +9,10 @@ use packets::{CaptureError, VisitError};
 use std::alloc::AllocError;
 use std::fmt::{self, Display, Formatter};
 use std::io::{self, ErrorKind};
+use std::rt::Runtime;
+
+/// The name of standard output in messages.
+pub const STANDARD_OUTPUT: &str = "standard output";
 
 /// How a run ends; each has its own exit status.
 #[derive(Clone, Copy)]
@@ -24,7 +28,7 @@ pub enum Exit {
 }
 
 impl From<Exit> for u8 {
-    ghost use Rattle.tlslog.specs.Exit.{status_of};
+    ghost use Rattle.log_io.specs.Exit.{status_of};
 
     ghost from_gives = { λ exit n. n ≡ status_of exit };
 
@@ -118,7 +122,7 @@ impl From<AllocError> for Failure {
 }
 
 impl From<LineError> for Failure {
-    ghost use Rattle.tlslog.specs.Run.{failure_of_line};
+    ghost use Rattle.log_io.specs.Run.{failure_of_line};
 
     ghost from_gives = { λ e f. f ≡ failure_of_line e };
 
@@ -132,7 +136,7 @@ impl From<LineError> for Failure {
 }
 
 impl From<VisitError<LineError>> for Failure {
-    ghost use Rattle.tlslog.specs.Run.{IsFailureOf};
+    ghost use Rattle.log_io.specs.Run.{IsFailureOf};
 
     ghost from_gives = { IsFailureOf };
 
@@ -146,5 +150,28 @@ impl From<VisitError<LineError>> for Failure {
             VisitError::Endless => Failure::Endless,
             VisitError::Visitor(e) => Failure::from(e),
         }
+    }
+}
+
+/// Prints why a run ended early, after so many packets, and returns how it exits. A closed output
+/// is no failure, and is not reported.
+pub fn tell<R: Runtime>(rt: &R, name: &str, failure: Failure, packets: u64) -> Exit
+    ensures { ExitsBy failure result }
+{
+    let (exit, name) = match failure {
+        Failure::Closed => return Exit::Closed,
+        Failure::Capture(_) => (Exit::Broken, name),
+        Failure::Writing(_) => (Exit::Failed, STANDARD_OUTPUT),
+        Failure::OutOfMemory | Failure::Opening(_) | Failure::Reading(_) | Failure::Endless => {
+            (Exit::Failed, name)
+        }
+    };
+    let told = match packets {
+        0 => eprintln!(rt; "{name}: {failure}"),
+        _ => eprintln!(rt; "{name}: {failure}, after {packets} packets"),
+    };
+    match told {
+        Ok(()) => exit,
+        Err(_) => Exit::Failed,
     }
 }

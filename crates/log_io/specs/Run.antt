@@ -6,12 +6,12 @@ use Rattle.packets.specs.Packets.{Whole, packets_of}
 use Rattle.packets.specs.declared.reader.CaptureError.TheVariants as capture
 use Rattle.packets.specs.declared.visit.VisitError.{VisitError}
 use Rattle.packets.specs.declared.visit.VisitError.TheVariants as visit
-use Rattle.tlslog.specs.declared.failure.Exit.{Exit}
-use Rattle.tlslog.specs.declared.failure.Exit.TheVariants as exit
-use Rattle.tlslog.specs.declared.failure.Failure.{Failure}
-use Rattle.tlslog.specs.declared.failure.Failure.TheVariants.{Capture, OutOfMemory, Reading, Endless, Closed, Writing}
-use Rattle.tlslog.specs.declared.output.LineError.{LineError}
-use Rattle.tlslog.specs.declared.output.LineError.TheVariants as line
+use Rattle.log_io.specs.declared.failure.Exit.{Exit}
+use Rattle.log_io.specs.declared.failure.Exit.TheVariants as exit
+use Rattle.log_io.specs.declared.failure.Failure.{Failure}
+use Rattle.log_io.specs.declared.failure.Failure.TheVariants.{Capture, OutOfMemory, Reading, Endless, Closed, Writing}
+use Rattle.log_io.specs.declared.output.LineError.{LineError}
+use Rattle.log_io.specs.declared.output.LineError.TheVariants as line
 
 -- The capture is at fault, and neither memory nor reading nor writing.
 abbrev pub IsOfCapture : Failure → Type 0

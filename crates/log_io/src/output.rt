@@ -1,7 +1,7 @@
 //! Where lines go.
 ghost use Rattle.std.specs.Prelude.{◌≡◌, ◌++◌, [], ◌∷◌, false, OnOk};
 ghost use Rattle.std.specs.Io.KnownBytes.{Appends};
-ghost use Rattle.tlslog.specs.Output.{IsOfWriting, Tells};
+ghost use Rattle.log_io.specs.Output.{IsOfWriting, Tells};
 
 use std::alloc::{AllocError, Global};
 use std::io::{self, ErrorKind, Write};
@@ -47,7 +47,7 @@ pub enum LineError {
 }
 
 impl From<AllocError> for LineError {
-    ghost use Rattle.tlslog.specs.declared.output.LineError.TheVariants.{OutOfMemory};
+    ghost use Rattle.log_io.specs.declared.output.LineError.TheVariants.{OutOfMemory};
 
     ghost from_gives = { λ _ e. e ≡ OutOfMemory };
 
