@@ -15,5 +15,5 @@ mod progress;
 pub use captures::{DASH, Files, Opener, STANDARD_INPUT_NAME};
 pub use failure::{Exit, Failure, Reason, STANDARD_OUTPUT, tell};
 pub use front::{Fault, Front};
-pub use output::{LineError, Output, Refusal};
+pub use output::{LineError, Output, WriteError};
 pub use progress::{STANDARD_INPUT, Source, Watched};

@@ -34,65 +34,65 @@ static OPTIONS: [(&str, Takes, &str); 12] = [
     (
         "messages",
         Takes::Nothing,
-        "Print a line for each message, as it comes, and not for each connection",
+        "Print a line per message, as it arrives, instead of per connection",
     ),
     (
         "certificates",
         Takes::Nothing,
-        "Print a line for each certificate, as it comes, and not for each connection",
+        "Print a line per certificate, as it arrives, instead of per connection",
     ),
-    ("format", Takes::Format("FORMAT"), "How lines are written"),
+    ("format", Takes::Format("FORMAT"), "Output format"),
     (
         "fields",
         Takes::Value("A,B,.."),
-        "The fields of a line, in this order; all where none are named",
+        "Print these fields, in this order; all by default",
     ),
     (
         "ciphers",
         Takes::Value("FILE"),
-        "More names of cipher suites: lines as ff01:OUR_SUITE; they win over the registry's",
+        "Name cipher suites by this file, with lines like ff01:OUR_SUITE, before IANA's registry",
     ),
     (
         "numbers",
         Takes::Nothing,
-        "Print cipher suites by their numbers, as 0xc02f, but for those that --ciphers names",
+        "Print cipher suites as numbers, like 0xc02f, unless --ciphers names them",
     ),
     (
         "csv-raw",
         Takes::Nothing,
-        "With --format csv: no ' in front of texts that a spreadsheet would take for formulas",
+        "With --format csv: omit the ' before text that a spreadsheet would run as a formula",
     ),
     (
         "checksums",
         Takes::Checksums("WHICH"),
-        "Whether packets with wrong checksums are dropped: not those of a sender whose first packets are all wrong; all; none",
+        "Which packets with wrong checksums to drop: all (check), none (ignore), or all but those of a sender whose first packets are all wrong (auto)",
     ),
     (
         "join",
         Takes::Nothing,
-        "Read all captures, in their order, as one that was cut into files",
+        "Read all captures, in this order, as one that was split into files",
     ),
     (
         "part",
         Takes::Value("K/N"),
-        "Only the connections of part K of N, by their addresses and ports",
+        "Log only part K of N of the connections, chosen by addresses and ports",
     ),
     (
         "by-network",
         Takes::Nothing,
-        "Keep connections apart whose VLAN tags or tunnels differ",
+        "Separate connections whose VLAN tags or tunnels differ",
     ),
     (
         "memory",
         Takes::ValueOr("SIZE", "1G"),
-        "How much memory is taken at most, as 512M or 2G, or none: beyond it the connection that was longest without a packet ends early",
+        "Memory limit, like 512M or 2G, or none; over it, the longest-idle connections are closed",
     ),
 ];
 
 /// The argument that names captures.
 fn captures<'a>(alloc: Global) -> Arg<'a> {
     Arg::new(alloc, "captures")
-        .help("Captures, as pcap or pcapng; standard input where none is named, or for -")
+        .help("Captures, pcap or pcapng; standard input if none is named, or for -")
         .num_args(0..)
         .action(ArgAction::Append)
 }
@@ -153,9 +153,7 @@ fn option<'a>(
 fn command<'a>(alloc: Global, choices: Choices<'a>) -> Result<Command<'a>, AllocError> {
     let mut command = Command::new(alloc, "tlslog")
         .version(VERSION)
-        .about(
-            "Prints a line for each connection of TLS or DTLS in a capture, or for each message or certificate",
-        )
+        .about("Logs the TLS and DTLS connections of packet captures, a line for each")
         .after_help(AFTER_OPTIONS)
         .arg(captures(alloc))?;
     for (name, takes, help) in &OPTIONS {

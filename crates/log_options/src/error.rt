@@ -7,11 +7,11 @@ use std::io;
 /// Why the value of an option is refused.
 #[derive(Drop)]
 pub enum OptionError<'a> {
-    /// The file with this path is no list of cipher suites.
+    /// The file with this path isn't a list of cipher suites.
     NoList(&'a str),
-    /// The text names no part of several.
+    /// The text names no part.
     NoPart(&'a str),
-    /// The text is no size of memory, or too small a one.
+    /// The text is no size, or one that is too small.
     NoSize(&'a str),
     /// The file with this path can't be read.
     Reading(&'a str, io::Error),
@@ -28,14 +28,14 @@ impl From<AllocError> for OptionError<'_> {
 impl Display for OptionError<'_> {
     fn fmt<W: fmt::Write>(&self, f: &mut Formatter<W>) -> fmt::Result {
         match self {
-            OptionError::NoList(path) => write!(f, "{path}: this is no list of cipher suites"),
+            OptionError::NoList(path) => write!(f, "{path}: not a list of cipher suites"),
             OptionError::NoPart(text) => write!(
                 f,
-                "--part {text}: write K/N, a number from 1 to N, and how many parts there are"
+                "--part {text}: expected K/N, like 1/4, with K from 1 to N"
             ),
             OptionError::NoSize(text) => write!(
                 f,
-                "--memory {text}: write a size of at least 64M, as 512M or 2G, or none"
+                "--memory {text}: expected at least 64M, like 512M or 2G, or none"
             ),
             OptionError::Reading(path, e) => write!(f, "{path}: cannot read: {}", Reason(e)),
             OptionError::OutOfMemory => f.write_str("out of memory"),

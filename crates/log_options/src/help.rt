@@ -1,6 +1,6 @@
-//! The text behind the options in `--help`.
+//! The end of `--help`.
 
-/// Examples, exit statuses, and where to read on.
+/// Examples, exit statuses, and further reading.
 pub const AFTER_OPTIONS: &str = "Examples:
   tlslog capture.pcap
   tcpdump -i eth0 -U -w - | tlslog -
@@ -8,9 +8,9 @@ pub const AFTER_OPTIONS: &str = "Examples:
   tlslog --messages capture.pcap | jq .
 
 Exit status:
-  0  all was read, or nobody reads the output any more
-  1  an input is no capture, or is truncated
+  0  everything was read, or the reader of the output closed it
+  1  an input is not a capture, or is truncated
   2  the arguments are wrong
-  3  memory ran out, or opening, reading or writing failed
+  3  memory ran out, or a file can't be opened, read or written
 
-More: man tlslog (docs/tlslog.1), and docs/TLSLOG.md with each field";
+More: man tlslog (docs/tlslog.1); docs/TLSLOG.md describes every field";

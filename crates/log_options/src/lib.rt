@@ -1,7 +1,7 @@
-//! The command line of `tlslog`: its options, their values, its help, and what is wrong with them.
+//! Parses the command line of `tlslog`, and prints its help and errors.
 //!
-//! [`matches`] parses the words. [`part_of`], [`memory_of`], [`suites_of`] and [`formulas_of`] read
-//! the value of an option, or refuse it by an [`OptionError`]. [`tell_error`] prints help and errors.
+//! [`matches`] parses the words. [`part_of`], [`memory_of`], [`suites_of`] and [`formulas_of`]
+//! return the values of options, or an [`OptionError`]. [`tell_error`] prints help and errors.
 #![tactic(auto)]
 
 mod arguments;

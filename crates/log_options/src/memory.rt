@@ -5,7 +5,7 @@ use clap::ArgMatches;
 /// The smallest limit: 64 MiB.
 const SMALLEST: usize = 67_108_864;
 
-/// The letters of units, in either case, each with how many bytes the unit has.
+/// The letters of units, in either case, and the bytes of each unit.
 static UNITS: [(char, char, usize); 4] = [
     ('k', 'K', 1 << 10),
     ('m', 'M', 1 << 20),
@@ -13,7 +13,7 @@ static UNITS: [(char, char, usize); 4] = [
     ('t', 'T', 1 << 40),
 ];
 
-/// Ten to the power of the number of digits behind a point, of which there are 6 at most.
+/// Returns ten to the power of the number of digits; `None` if there are more than 6 or none.
 fn parts_of(digits: &str) -> Option<usize> {
     match digits.len() {
         1 => Some(10),
@@ -26,7 +26,7 @@ fn parts_of(digits: &str) -> Option<usize> {
     }
 }
 
-/// The text in front of a letter at its end, in either case.
+/// Returns the text without a letter at its end, in either case.
 fn front_of(text: &str, small: char, large: char) -> Option<&str> {
     match text.strip_suffix(small) {
         Some(front) => Some(front),
@@ -34,7 +34,7 @@ fn front_of(text: &str, small: char, large: char) -> Option<&str> {
     }
 }
 
-/// The number that a text of digits alone has.
+/// Parses a text of digits only.
 fn number_in(digits: &str) -> Option<usize> {
     if digits.starts_with('+') {
         return None;
@@ -45,7 +45,7 @@ fn number_in(digits: &str) -> Option<usize> {
     }
 }
 
-/// How many bytes a number of units is, as `512` or `0.5`, rounded down.
+/// Returns how many bytes a number of units is, like `512` or `0.5`, rounded down.
 fn scaled(number: &str, unit: usize) -> Option<usize> {
     let Some((whole, rest)) = number.split_once('.') else {
         return number_in(number)?.checked_mul(unit);
@@ -55,7 +55,7 @@ fn scaled(number: &str, unit: usize) -> Option<usize> {
     whole.checked_mul(unit)?.checked_add(part)
 }
 
-/// The unit that a text ends in, and the number in front; bytes where it ends in none.
+/// Splits a text into its number and unit; without a unit the number counts bytes.
 fn number_and_unit(text: &str) -> (&str, usize) {
     for (small, large, size) in &UNITS {
         if let Some(number) = front_of(text, *small, *large) {
@@ -65,13 +65,13 @@ fn number_and_unit(text: &str) -> (&str, usize) {
     (text, 1)
 }
 
-/// How many bytes a text names, as `512M`, `512MB` or `0.5G`; with no letter it is a count of bytes.
+/// Parses a size in bytes, like `512M`, `512MB`, `0.5G` or a count of bytes.
 fn size_in(text: &str) -> Option<usize> {
     let (number, unit) = number_and_unit(front_of(text, 'b', 'B').unwrap_or(text));
     scaled(number, unit)
 }
 
-/// How many bytes of memory `--memory` allows; `None` if there is no limit.
+/// Returns the limit of memory by `--memory`, in bytes; `None` if there is none.
 pub fn memory_of<'a>(matches: &ArgMatches<'a>) -> Result<Option<usize>, OptionError<'a>> {
     let Some(text) = matches.get_str("memory") else {
         return Ok(None);

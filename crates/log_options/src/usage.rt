@@ -1,19 +1,22 @@
-//! What is printed where the command line is wrong, or asks for help.
+//! Prints help, the version, and what is wrong with the command line.
 use clap::error::ErrorKind;
 use std::io;
 use std::rt::Runtime;
 
-/// What to write in place of options that other programs have.
+/// Options of other programs, and what to write instead.
 static HINTS: [(&str, &str); 3] = [
-    ("-r", "a capture is named without -r: tlslog FILE"),
+    ("-r", "name the capture without -r: tlslog FILE"),
     (
         "-i",
-        "packets of an interface come from tcpdump: tcpdump -U -i INTERFACE -w - | tlslog -",
+        "to read an interface, use tcpdump: tcpdump -U -i INTERFACE -w - | tlslog -",
     ),
-    ("-w", "lines are printed: tlslog FILE > LOG"),
+    (
+        "-w",
+        "to write a file, redirect the output: tlslog FILE > LOG",
+    ),
 ];
 
-/// Prints what to write in place of the options among these words that other programs have.
+/// Prints what to write instead of these words that are options of other programs.
 fn print_hints<R: Runtime + AllocGlobal>(rt: &R, words: &[String]) -> io::Result<()> {
     for (option, hint) in &HINTS {
         if words.iter().any(|word| word.as_str().starts_with(*option)) {
@@ -23,7 +26,7 @@ fn print_hints<R: Runtime + AllocGlobal>(rt: &R, words: &[String]) -> io::Result
     Ok(())
 }
 
-/// Prints what is wrong with the command line.
+/// Prints the error, with hints if an option is unknown.
 fn print_error<R: Runtime + AllocGlobal>(
     rt: &R,
     error: &clap::Error,
@@ -36,13 +39,14 @@ fn print_error<R: Runtime + AllocGlobal>(
     }
 }
 
-/// Tells what is wrong with the command line, or helps, and which status that is.
+/// Prints the error, or the help or version that was asked for, and returns the exit status: 0
+/// for help and version, 2 for wrong arguments, 3 if memory ran out or nothing can be printed.
 pub fn tell_error<R: Runtime + AllocGlobal>(rt: &R, error: &clap::Error, words: &[String]) -> u8 {
-    let is_told = print_error(rt, error, words).is_ok();
+    let is_printed = print_error(rt, error, words).is_ok();
     match error.kind() {
-        ErrorKind::DisplayHelp | ErrorKind::DisplayVersion if is_told => 0,
+        ErrorKind::DisplayHelp | ErrorKind::DisplayVersion if is_printed => 0,
         ErrorKind::DisplayHelp | ErrorKind::DisplayVersion | ErrorKind::OutOfMemory => 3,
-        _ if is_told => 2,
+        _ if is_printed => 2,
         _ => 3,
     }
 }

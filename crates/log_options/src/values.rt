@@ -7,7 +7,7 @@ use log_formats::suites::{OtherSuites, Suites};
 use std::fs;
 use std::rt::Runtime;
 
-/// How cipher suites are written that no file names.
+/// Returns how cipher suites are written that no file names.
 fn other_suites(matches: &ArgMatches<'_>) -> OtherSuites {
     if matches.get_flag("numbers") {
         OtherSuites::Numbered
@@ -32,7 +32,7 @@ fn suites_in<'a, R: Runtime + AllocGlobal>(
     }
 }
 
-/// The names of cipher suites, by `--ciphers` and `--numbers`.
+/// Returns the names of cipher suites, by `--ciphers` and `--numbers`.
 pub fn suites_of<'a, R: Runtime + AllocGlobal>(
     rt: &R,
     matches: &ArgMatches<'a>,
@@ -44,7 +44,7 @@ pub fn suites_of<'a, R: Runtime + AllocGlobal>(
     }
 }
 
-/// How CSV writes texts that a spreadsheet would take for formulas, by `--csv-raw`.
+/// Returns how CSV writes text that a spreadsheet would run as a formula, by `--csv-raw`.
 pub fn formulas_of(matches: &ArgMatches<'_>) -> Formulas {
     if matches.get_flag("csv-raw") {
         Formulas::Raw
@@ -53,7 +53,7 @@ pub fn formulas_of(matches: &ArgMatches<'_>) -> Formulas {
     }
 }
 
-/// The part that a text names, as `2/4`.
+/// Parses a part like `2/4`.
 fn part_in(text: &str) -> Option<Part> {
     let (number, count) = text.split_once('/')?;
     match (number.parse::<u32>(), count.parse::<u32>()) {
@@ -62,7 +62,7 @@ fn part_in(text: &str) -> Option<Part> {
     }
 }
 
-/// The part of the connections that `--part` selects; `None` without the option.
+/// Returns the part of the connections to log, by `--part`; `None` if all are logged.
 pub fn part_of<'a>(matches: &ArgMatches<'a>) -> Result<Option<Part>, OptionError<'a>> {
     let Some(text) = matches.get_str("part") else {
         return Ok(None);

@@ -1,4 +1,4 @@
-//! What the arguments of the command line ask for.
+//! Turns the command line into what is asked for.
 use crate::memory::part_of_connections;
 use crate::program::Asked;
 use clap::ArgMatches;
@@ -13,7 +13,7 @@ use std::rt::Runtime;
 pub enum Refusal<'a> {
     /// The value of an option is wrong.
     Option(OptionError<'a>),
-    /// The options don't go together, or lines have no such field.
+    /// Options don't go together, or a field is unknown.
     Style(StyleError<'a>),
 }
 
@@ -89,12 +89,12 @@ static CHECKSUM_NAMES: &[&str] = checksums!(names_of);
 
 static CHECKSUMS: &[Checksums] = checksums!(variants_of);
 
-/// The name of a value of `--checksums`.
+/// Returns the name of a value of `--checksums`.
 fn checksums_name(checksums: Checksums) -> &'static str {
     checksums!(name_of checksums;)
 }
 
-/// The values that `--format` and `--checksums` may have.
+/// Returns the values that `--format` and `--checksums` may have.
 pub fn choices() -> Choices<'static> {
     Choices {
         formats: FORMAT_NAMES,
@@ -102,20 +102,20 @@ pub fn choices() -> Choices<'static> {
     }
 }
 
-/// Which checksums count, by `--checksums`.
+/// Returns which wrong checksums drop a packet, by `--checksums`.
 fn checksums_of(matches: &ArgMatches<'_>) -> Checksums {
     let name = matches.get_str("checksums").unwrap_or("auto");
     let found = CHECKSUMS.iter().find(|it| checksums_name(**it) == name);
     found.copied().unwrap_or(Checksums::Auto)
 }
 
-/// How lines are written, by `--format`.
+/// Returns the format of lines, by `--format`.
 fn format_of(matches: &ArgMatches<'_>) -> Format {
     let name = matches.get_str("format").unwrap_or(DEFAULT_FORMAT.name());
     Format::named(name).unwrap_or(DEFAULT_FORMAT)
 }
 
-/// What has a line, by `--messages` and `--certificates`.
+/// Returns what is logged, by `--messages` and `--certificates`.
 fn kind_of<'a>(matches: &ArgMatches<'a>) -> Result<LineKind, StyleError<'a>> {
     match (
         matches.get_flag("messages"),
@@ -128,7 +128,7 @@ fn kind_of<'a>(matches: &ArgMatches<'a>) -> Result<LineKind, StyleError<'a>> {
     }
 }
 
-/// How lines are written, and which.
+/// Returns which lines are written, and how.
 fn style_of<'a, R: Runtime + AllocGlobal>(
     rt: &R,
     matches: &ArgMatches<'a>,
@@ -140,7 +140,7 @@ fn style_of<'a, R: Runtime + AllocGlobal>(
     Ok(Style::new(rt.alloc(), format, formulas, kind, fields, suites)?)
 }
 
-/// What the arguments ask for.
+/// Reads all options that a run needs.
 pub fn asked_of<'a, R: Runtime + AllocGlobal>(
     rt: &R,
     matches: &ArgMatches<'a>,

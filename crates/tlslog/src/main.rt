@@ -1,8 +1,15 @@
-//! Prints a line for each connection of TLS or DTLS in a capture, at its end, or for each message, as it comes.
+//! Logs the TLS and DTLS connections of packet captures: a line for each when it ends, or a line
+//! for each message or certificate as it arrives.
 //!
-//! The capture is standard input, or files that are named. A line is an object of JSON, or a record of comma-separated values. The names are
-//! those of Zeek's logs. What was left out is told on standard error. The status is 0, also where nobody reads on what is printed, or 1 where
-//! an input is no capture or is broken off, 2 for wrong arguments, 3 where memory ran out, or opening, reading or writing failed.
+//! It reads the named files or standard input, prints JSON or another format, with Zeek's names for
+//! fields, and reports on standard error what it found and left out.
+//!
+//! | exit status | when |
+//! |---|---|
+//! | 0 | everything was read, or the reader of the output closed it |
+//! | 1 | an input is no capture, or is truncated |
+//! | 2 | the arguments are wrong |
+//! | 3 | memory ran out, or a file can't be opened, read or written |
 #![tactic(auto)]
 
 mod arguments;
@@ -27,7 +34,7 @@ use std::random::RandomSource;
 use std::rt::Runtime;
 use std::time::{SystemTime, UNIX_EPOCH};
 
-/// The seconds since 1970-01-01 00:00 UTC by the system's clock; 0 where it can't be read.
+/// Returns the seconds since 1970-01-01 00:00 UTC by the system's clock; 0 if it can't be read.
 fn now<R: Runtime>(rt: &R) -> i64 {
     let Ok(time) = SystemTime::now(rt) else {
         return 0;
@@ -38,7 +45,7 @@ fn now<R: Runtime>(rt: &R) -> i64 {
     }
 }
 
-/// Writes what stands in front of all lines, if there is something.
+/// Writes the format's header, if it has one.
 fn write_header<W: Write>(
     alloc: Global,
     style: &Style,
@@ -53,7 +60,7 @@ fn write_header<W: Write>(
     }
 }
 
-/// The same of what stands behind all.
+/// Writes the format's footer, if it has one.
 fn write_footer<W: Write>(
     alloc: Global,
     style: &Style,
@@ -68,7 +75,7 @@ fn write_footer<W: Write>(
     }
 }
 
-/// Logs the capture of that name.
+/// Logs the capture with that path; `-` is standard input.
 fn log_one<R: Runtime + AllocGlobal + RandomSource, W: Write>(
     rt: &R,
     asked: &Asked,
@@ -84,7 +91,8 @@ fn log_one<R: Runtime + AllocGlobal + RandomSource, W: Write>(
     }
 }
 
-/// Logs each capture that is named, or all as one, or standard input, as long as somebody reads on what is printed.
+/// Logs each named capture, or all as one by `--join`, or standard input if none is named. Stops
+/// when the output is closed.
 fn log_each<R: Runtime + AllocGlobal + RandomSource, W: Write>(
     rt: &R,
     asked: &Asked,
@@ -112,7 +120,7 @@ fn log_each<R: Runtime + AllocGlobal + RandomSource, W: Write>(
     (exit, out)
 }
 
-/// FiveTuple the log behind its last line, as long as lines can be written, and says how the whole run ended.
+/// Ends the log after its last line, unless a write failed, and returns how the run exits.
 fn end_log<R: Runtime + AllocGlobal, W: Write>(
     rt: &R,
     style: &Style,
@@ -134,7 +142,7 @@ fn end_log<R: Runtime + AllocGlobal, W: Write>(
     }
 }
 
-/// Logs all, between what stands in front of the lines and behind them.
+/// Logs all captures, between the format's header and footer.
 fn log_all<R: Runtime + AllocGlobal + RandomSource, W: Write>(
     rt: &R,
     asked: &Asked,
@@ -151,7 +159,7 @@ fn log_all<R: Runtime + AllocGlobal + RandomSource, W: Write>(
     end_log(rt, &asked.style, exit, out)
 }
 
-/// Tells why the arguments are refused, and which status that is.
+/// Prints why the arguments are refused, and returns the exit status.
 fn refuse<R: Runtime + AllocGlobal>(rt: &R, refusal: Refusal<'_>) -> u8 {
     match eprintln!(rt; "tlslog: {refusal}") {
         Ok(()) => refusal.status(),
@@ -159,7 +167,7 @@ fn refuse<R: Runtime + AllocGlobal>(rt: &R, refusal: Refusal<'_>) -> u8 {
     }
 }
 
-/// The run that the arguments ask for.
+/// Runs as the arguments ask, and returns the exit status.
 fn run_by<R: Runtime + AllocGlobal + RandomSource>(rt: &R, matches: &ArgMatches<'_>) -> u8 {
     match asked_of(rt, matches) {
         Ok(asked) => {
@@ -175,7 +183,7 @@ fn run_by<R: Runtime + AllocGlobal + RandomSource>(rt: &R, matches: &ArgMatches<
     }
 }
 
-/// The whole run.
+/// Parses the command line and runs by it. Returns the exit status.
 fn run<R: Runtime + AllocGlobal + RandomSource>(rt: &R, words: &[String]) -> u8 {
     match matches(rt.alloc(), words, choices()) {
         Ok(matches) => run_by(rt, &matches),

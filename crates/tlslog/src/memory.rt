@@ -1,11 +1,11 @@
-//! How much memory connections may take.
+//! The memory limit of connections.
 use crate::listener::Listener;
 use connections::{CONNECTION_COST, Connection, FiveTuple};
 use ip_fragments::HELD_LIMIT;
 use log_connections::HEARD_COST;
 use std::mem::size_of;
 
-/// What buffers of captures, lines and the program itself take at most, in bytes.
+/// The most that the buffers of captures, lines and the program itself take, in bytes.
 const REST: usize = 8_388_608;
 
 // A connection with its entry in the table takes no more than is accounted for: the entry has its
@@ -15,7 +15,7 @@ const _: () = prove!(
     size_of::<Connection<Listener>>() + size_of::<FiveTuple>() + 192 <= CONNECTION_COST + HEARD_COST
 );
 
-/// How many bytes of that limit connections may take. Fragments have a limit of their own.
+/// Returns how many bytes of the limit are left for connections. Fragments have their own limit.
 pub fn part_of_connections(limit: Option<usize>) -> usize {
     match limit {
         Some(size) => size.saturating_sub(HELD_LIMIT).saturating_sub(REST),
