@@ -138,4 +138,14 @@ impl<W: Write> Output<W> {
             }
         }
     }
+
+    /// Writes a line with a line break, unless memory ran out for the line.
+    pub fn write_made(&mut self, line: Result<Vec<u8>, AllocError>) -> Result<(), LineError>
+        ensures told { Tells self.old.has_failed self.new.has_failed result }
+    {
+        match line {
+            Ok(line) => self.write_line(line),
+            Err(_) => Err(LineError::OutOfMemory),
+        }
+    }
 }

@@ -18,16 +18,15 @@ mod memory;
 mod program;
 
 ghost use Rattle.std.specs.Prelude.{Bool};
-ghost use Rattle.log_io.specs.Output.{Tells};
 ghost use Rattle.log_io.specs.Run.{HasWritten};
 
-use crate::arguments::{Refusal, asked_of, choices};
+use crate::arguments::{asked_of, choices};
 use crate::program::{Asked, log_file, log_joined, log_standard_input};
 use clap::ArgMatches;
-use log_io::{DASH, Exit, Failure, Files, LineError, Output, STANDARD_OUTPUT, tell};
+use log_io::{DASH, Exit, Failure, Files, Output, STANDARD_OUTPUT, tell};
 use log_lines::Style;
 use log_options::{matches, tell_error};
-use std::alloc::Global;
+use log_writer::{Refusal, write_footer, write_header};
 use std::io::{self, Write};
 use std::process::ExitCode;
 use std::random::RandomSource;
@@ -42,36 +41,6 @@ fn now<R: Runtime>(rt: &R) -> i64 {
     match time.duration_since(UNIX_EPOCH) {
         Ok(since) => i64::try_from(since.as_secs()).unwrap_or(0),
         Err(_) => 0,
-    }
-}
-
-/// Writes the format's header, if it has one.
-fn write_header<W: Write>(
-    alloc: Global,
-    style: &Style,
-    opened: i64,
-    out: &mut Output<W>,
-) -> Result<(), LineError>
-    ensures { Tells out.old.has_failed out.new.has_failed result }
-{
-    match style.header(alloc, opened)? {
-        Some(header) => out.write_line(header),
-        None => Ok(()),
-    }
-}
-
-/// Writes the format's footer, if it has one.
-fn write_footer<W: Write>(
-    alloc: Global,
-    style: &Style,
-    closed: i64,
-    out: &mut Output<W>,
-) -> Result<(), LineError>
-    ensures { Tells out.old.has_failed out.new.has_failed result }
-{
-    match style.footer(alloc, closed)? {
-        Some(footer) => out.write_line(footer),
-        None => Ok(()),
     }
 }
 

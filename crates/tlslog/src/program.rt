@@ -7,15 +7,14 @@ use crate::listener::{Kept, Listener, summary, take_certificates, take_messages}
 use connection_parts::Part;
 use connections::{Connection, Protocol};
 use log_connections::{Arrival, Checksums, Counts, Joined, Log, Pieces, add_one};
-use log_fields::summary::Summary;
 use log_io::{
     Exit, Failure, LineError, Opener, Output, STANDARD_INPUT, STANDARD_INPUT_NAME, Source, Watched,
     tell,
 };
 use log_lines::{Lines, Style};
-use log_messages::{Presented, Spoken};
+use log_writer::{print_certificate, print_message, print_row};
 use packets::{Packet, PacketVisitor, visit_packets};
-use std::alloc::Global;
+use std::alloc::{AllocError, Global};
 use std::fs;
 use std::hash::RandomState;
 use std::io::{Read, Write};
@@ -25,20 +24,6 @@ use tunnels::MAX_TUNNELS;
 
 /// The name in messages of captures that are logged as one.
 const JOINED_NAME: &str = "all captures";
-
-/// Prints the line of a connection.
-fn print_row<W: Write>(
-    alloc: Global,
-    style: &Style,
-    places: &[usize],
-    summary: &Summary<'_>,
-    out: &mut Output<W>,
-) -> Result<(), LineError>
-    ensures { Tells out.old.has_failed out.new.has_failed result }
-{
-    let line = style.connection_line(alloc, places, summary, out.room())?;
-    out.write_line(line)
-}
 
 /// Counts a connection that is over. Prints its line if it speaks TLS or DTLS and connections are
 /// logged.
@@ -82,22 +67,6 @@ fn print_one<W: Write>(
     told
 }
 
-/// Prints the line of a message that was complete at this time.
-fn print_message<W: Write>(
-    alloc: Global,
-    style: &Style,
-    places: &[usize],
-    summary: &Summary<'_>,
-    time: u64,
-    spoken: Spoken,
-    out: &mut Output<W>,
-) -> Result<(), LineError>
-    ensures { Tells out.old.has_failed out.new.has_failed result }
-{
-    let line = style.message_line(alloc, places, summary, time, spoken)?;
-    out.write_line(line)
-}
-
 /// Prints and forgets the messages of a connection that were complete at this time.
 fn print_messages<W: Write>(
     alloc: Global,
@@ -115,22 +84,6 @@ fn print_messages<W: Write>(
         print_message(alloc, style, places, &summary, time, spoken, out)?;
     }
     Ok(())
-}
-
-/// Prints the line of a certificate that arrived at this time.
-fn print_certificate<W: Write>(
-    alloc: Global,
-    style: &Style,
-    places: &[usize],
-    summary: &Summary<'_>,
-    time: u64,
-    presented: &Presented,
-    out: &mut Output<W>,
-) -> Result<(), LineError>
-    ensures { Tells out.old.has_failed out.new.has_failed result }
-{
-    let line = style.certificate_line(alloc, places, summary, time, presented)?;
-    out.write_line(line)
 }
 
 /// Prints and forgets the certificates of a connection that arrived at this time.
@@ -573,7 +526,21 @@ pub struct Asked {
     pub memory: usize,
 }
 
-/// Returns an empty log by the options.
+/// Returns an empty log by the options, with these keys for the hashes of its tables.
+fn log_of(alloc: Global, asked: &Asked, keys: RandomState) -> Result<Log<Kept>, AllocError> {
+    let mut log = Log::new(alloc, keys, kept_for(&asked.style.lines))?;
+    log.set_checksums(asked.checksums);
+    log.set_memory(asked.memory);
+    if let Some(part) = asked.part {
+        log.set_part(part);
+    }
+    if asked.is_by_network {
+        log.tell_networks_apart(keys)?;
+    }
+    Ok(log)
+}
+
+/// Returns an empty log by the options, or reports why there is none.
 fn begin_log<R: Runtime + AllocGlobal + RandomSource>(
     rt: &R,
     asked: &Asked,
@@ -587,19 +554,10 @@ fn begin_log<R: Runtime + AllocGlobal + RandomSource>(
             return Err(tell(rt, "the system's random numbers", Failure::Reading(e), 0));
         }
     };
-    let mut log = match Log::new(rt.alloc(), keys, kept_for(&asked.style.lines)) {
-        Ok(log) => log,
-        Err(_) => return Err(tell(rt, name, Failure::OutOfMemory, 0)),
-    };
-    log.set_checksums(asked.checksums);
-    log.set_memory(asked.memory);
-    if let Some(part) = asked.part {
-        log.set_part(part);
+    match log_of(rt.alloc(), asked, keys) {
+        Ok(log) => Ok(log),
+        Err(_) => Err(tell(rt, name, Failure::OutOfMemory, 0)),
     }
-    if asked.is_by_network && log.tell_networks_apart(keys).is_err() {
-        return Err(tell(rt, name, Failure::OutOfMemory, 0));
-    }
-    Ok(log)
 }
 
 /// Logs the capture of a source, whose name appears in messages, and hands back the output.
