@@ -9,7 +9,7 @@ pub enum Format {
     Csv,
     /// Columns for eyes, behind a line of their names; of a connection alone.
     Text,
-    /// Values with tabs between them, as Zeek writes them, behind lines that name the fields and say what they are, and in front of one that tells the end.
+    /// Zeek's tab-separated values, between header lines with names and types, and a closing line.
     Zeek,
     /// An event of Suricata's eve.json, of a connection alone.
     Suricata,
