@@ -18,12 +18,13 @@ pub enum Format {
     Ecs,
 }
 
-/// Hands the table of formats to the macro `$then`. A row has the format's name, its variant, and
-/// whether it has fixed fields and lines for connections only. Lines are written in style.rt, where
-/// each match has an arm for each format.
+/// The formats, handed to the macro that is named, with what else is passed. A row has the name,
+/// its variant, and whether it has fields of its own and is for connections only. The lines
+/// themselves are written by style.rt, where each match has an arm for each format.
 macro_rules! formats {
-    ($then:ident) => {
+    ($then:ident $($given:tt)*) => {
         $then! {
+            $($given)*
             "json" Json false;
             "csv" Csv false;
             "text" Text true;
@@ -41,35 +42,52 @@ macro_rules! names_of {
     };
 }
 
-/// Expands to the rows of the table.
-macro_rules! rows_of {
+/// Expands to the formats in the table's order.
+macro_rules! variants_of {
     ($($name:literal $format:ident $has_own:literal;)*) => {
-        &[$(($name, Format::$format, $has_own)),*]
+        &[$(Format::$format),*]
+    };
+}
+
+/// The name of a format. A variant without a row doesn't compile.
+macro_rules! name_of {
+    ($of:tt; $($name:literal $format:ident $has_own:literal;)*) => {
+        match $of {
+            $(Format::$format => $name,)*
+        }
+    };
+}
+
+/// Whether a format has fields of its own.
+macro_rules! has_own {
+    ($of:tt; $($name:literal $format:ident $has_own:literal;)*) => {
+        match $of {
+            $(Format::$format => $has_own,)*
+        }
     };
 }
 
 /// The names of the formats, the default first.
 pub static FORMAT_NAMES: &[&str] = formats!(names_of);
 
-static TABLE: &[(&str, Format, bool)] = formats!(rows_of);
+/// The format of lines if none is named: the first of [`FORMAT_NAMES`].
+pub const DEFAULT_FORMAT: Format = Format::Json;
+
+static FORMATS: &[Format] = formats!(variants_of);
 
 impl Format {
     /// Returns the format of this name.
     pub fn named(name: &str) -> Option<Format> {
-        let found = TABLE.iter().find(|row| row.0 == name);
-        found.map(|row| row.1)
+        FORMATS.iter().find(|format| format.name() == name).copied()
     }
 
-    /// Returns the format's name.
+    /// The name of the format.
     pub fn name(self) -> &'static str {
-        match TABLE.iter().find(|row| row.1 == self) {
-            Some(row) => row.0,
-            None => "",
-        }
+        formats!(name_of self;)
     }
 
-    /// Returns whether it has fixed fields, and lines for connections only.
+    /// Whether it has fields of its own, and lines for connections only.
     pub fn has_own_fields(self) -> bool {
-        TABLE.iter().any(|row| row.1 == self && row.2)
+        formats!(has_own self;)
     }
 }

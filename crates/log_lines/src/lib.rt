@@ -14,5 +14,5 @@ mod presented;
 mod spoken;
 mod style;
 
-pub use format::{FORMAT_NAMES, Format};
+pub use format::{DEFAULT_FORMAT, FORMAT_NAMES, Format};
 pub use style::{LineKind, Lines, Style, StyleError};
