@@ -22,6 +22,8 @@ use Rattle.tls_base.specs.Names.{look_up}
 use Rattle.tls_base.specs.RegisteredSuites.{registered_suites}
 use Rattle.tls_json.specs.Views.{view}
 use Rattle.tls_json.specs.declared.json.Value.{Value}
+use Rattle.tls_json.specs.declared.suite.SuiteText.{SuiteText}
+use Rattle.tls_json.specs.declared.suite.SuiteText.TheVariants.{Name, Number}
 use Rattle.tls_json.specs.declared.table.Table.{Table}
 
 -- The same with each list emptied.
@@ -67,9 +69,10 @@ abbrev pub name_or_number : Option (List ℕ) → ℕ → List ℕ
 name_or_number None n = number_text n
 name_or_number (Some name) n = name
 
--- A cipher suite: the name that IANA's registry has for it, or else its number.
-unfoldable pub suite_text : ℕ → List ℕ
-suite_text n = name_or_number (look_up registered_suites n) n
+-- A cipher suite: the name that IANA's registry has for it, or else its number; or always its number.
+unfoldable pub suite_text : SuiteText → ℕ → List ℕ
+suite_text Name n = name_or_number (look_up registered_suites n) n
+suite_text Number n = number_text n
 
 -- The fields of each form of value.
 abbrev pub decimal : List ℕ → ℕ → List ℕ × Data
@@ -78,8 +81,8 @@ decimal name n = (name, number (unsigned n))
 abbrev pub hexadecimal : List ℕ → ℕ → List ℕ × Data
 hexadecimal name n = (name, string (number_text n))
 
-abbrev pub suite : List ℕ → ℕ → List ℕ × Data
-suite name n = (name, string (suite_text n))
+abbrev pub suite : List ℕ → SuiteText → ℕ → List ℕ × Data
+suite name text n = (name, string (suite_text text n))
 
 abbrev pub bytes : List ℕ → List ℕ → List ℕ × Data
 bytes name b = (name, string (encode_lower b))

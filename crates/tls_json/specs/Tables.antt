@@ -21,6 +21,7 @@ use Rattle.tls_hs.specs.declared.message.TlsMessageHeartbeat.{TlsMessageHeartbea
 use Rattle.tls_base.specs.declared.suite_exchange.KeyExchange.{KeyExchange}
 use Rattle.tls_base.specs.declared.suite_exchange.Public.{Public}
 use Rattle.tls_base.specs.declared.suite_exchange.Public.TheVariants.{Nothing, Rsa, Dh, Ecdh}
+use Rattle.tls_json.specs.declared.suite.SuiteText.{SuiteText}
 use Rattle.tls_json.specs.Outline.{
   Entries,
   object_of,
@@ -76,28 +77,28 @@ client_hello_fields hello cookie = object_of (
     ++ extensions_fields hello.ext)
 
 -- A ServerHello (RFC 5246, section 7.4.1.3).
-abbrev pub server_hello_fields : TlsServerHelloContents → Data
-server_hello_fields hello = object_of (
+abbrev pub server_hello_fields : SuiteText → TlsServerHelloContents → Data
+server_hello_fields text hello = object_of (
     hexadecimal (codes "server_version") hello.version.0
     ∷ bytes (codes "random") hello.random.now
     ∷ bytes (codes "session_id") (id_bytes hello.session_id)
-    ∷ suite (codes "cipher_suite") hello.cipher.0
+    ∷ suite (codes "cipher_suite") text hello.cipher.0
     ∷ decimal (codes "compression_method") hello.compression.0
     ∷ extensions_fields hello.ext)
 
 -- That of draft 18 of TLS 1.3 (draft-ietf-tls-tls13-18, section 4.1.3).
-abbrev pub draft_hello_fields : TlsServerHelloV13Draft18Contents → Data
-draft_hello_fields hello = object_of (
+abbrev pub draft_hello_fields : SuiteText → TlsServerHelloV13Draft18Contents → Data
+draft_hello_fields text hello = object_of (
     hexadecimal (codes "server_version") hello.version.0
     ∷ bytes (codes "random") hello.random.now
-    ∷ suite (codes "cipher_suite") hello.cipher.0
+    ∷ suite (codes "cipher_suite") text hello.cipher.0
     ∷ extensions_fields hello.ext)
 
 -- A HelloRetryRequest (draft-ietf-tls-tls13-19, section 4.1.4).
-abbrev pub retry_fields : TlsHelloRetryRequestContents → Data
-retry_fields request = object_of (
+abbrev pub retry_fields : SuiteText → TlsHelloRetryRequestContents → Data
+retry_fields text request = object_of (
     hexadecimal (codes "server_version") request.version.0
-    ∷ suite (codes "cipher_suite") request.cipher.0
+    ∷ suite (codes "cipher_suite") text request.cipher.0
     ∷ extensions_fields request.ext)
 
 -- A certificate chain in the bytes of its list, what its certificates say, and what it leaves of them (RFC 5246, section 7.4.2).

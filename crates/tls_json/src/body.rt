@@ -12,6 +12,7 @@ use crate::datagrams::whole_message;
 use crate::hello::{client_hello, hello_retry_request, server_hello, server_hello_of_draft};
 use crate::json::Value;
 use crate::key_exchange::{client_key_exchange, server_key_exchange, signature};
+use crate::suite::SuiteText;
 use crate::table::{Table, Values, single};
 use crate::text::{blob, blobs, codes, escaped, numbers};
 use layouts::{Items, counted2, number4};
@@ -170,14 +171,14 @@ fn key_update(alloc: Global, request_update: u8) -> Result<Value, AllocError>
 }
 
 /// A message without lists.
-fn other(alloc: Global, message: &TlsMessageHandshake<'_>) -> Answer {
+fn other(alloc: Global, suite_text: SuiteText, message: &TlsMessageHandshake<'_>) -> Answer {
     match message {
-        TlsMessageHandshake::ServerHello(hello) => Some(server_hello(alloc, hello)),
+        TlsMessageHandshake::ServerHello(hello) => Some(server_hello(alloc, suite_text, hello)),
         TlsMessageHandshake::ServerHelloV13Draft18(hello) => {
-            Some(server_hello_of_draft(alloc, hello))
+            Some(server_hello_of_draft(alloc, suite_text, hello))
         }
         TlsMessageHandshake::HelloRetryRequest(request) => {
-            Some(hello_retry_request(alloc, request))
+            Some(hello_retry_request(alloc, suite_text, request))
         }
         TlsMessageHandshake::CertificateStatus(contents) => Some(status(alloc, contents)),
         TlsMessageHandshake::NextProtocol(next) => Some(next_protocol(alloc, next)),
@@ -188,18 +189,19 @@ fn other(alloc: Global, message: &TlsMessageHandshake<'_>) -> Answer {
 }
 
 /// What was read of a message of TLS.
-fn body_of(alloc: Global, read: HandshakeView<'_>) -> Answer {
+fn body_of(alloc: Global, suite_text: SuiteText, read: HandshakeView<'_>) -> Answer {
     match read {
-        HandshakeView::ClientHello(hello) => Some(client_hello(alloc, &hello, None)),
+        HandshakeView::ClientHello(hello) => Some(client_hello(alloc, suite_text, &hello, None)),
         HandshakeView::Certificate(list) => Some(chain(alloc, list.bytes())),
         HandshakeView::CertificateRequest(wish) => whole_request(alloc, &wish),
-        HandshakeView::Other(message) => other(alloc, &message),
+        HandshakeView::Other(message) => other(alloc, suite_text, &message),
     }
 }
 
 /// A ClientHello of DTLS, which has a cookie.
 fn client_hello_of_datagrams(
     alloc: Global,
+    suite_text: SuiteText,
     hello: &DTLSClientHelloView<'_>,
 ) -> Result<Value, AllocError> {
     let as_of_tls = ClientHelloView {
@@ -210,13 +212,15 @@ fn client_hello_of_datagrams(
         comp: hello.comp,
         ext: hello.ext,
     };
-    client_hello(alloc, &as_of_tls, Some(hello.cookie))
+    client_hello(alloc, suite_text, &as_of_tls, Some(hello.cookie))
 }
 
 /// A body that is another in DTLS than in TLS.
-fn other_in_datagrams(alloc: Global, read: &DTLSBodyView<'_>) -> Answer {
+fn other_in_datagrams(alloc: Global, suite_text: SuiteText, read: &DTLSBodyView<'_>) -> Answer {
     match read {
-        DTLSBodyView::ClientHello(hello) => Some(client_hello_of_datagrams(alloc, hello)),
+        DTLSBodyView::ClientHello(hello) => Some(client_hello_of_datagrams(
+            alloc, suite_text, hello,
+        )),
         DTLSBodyView::Other(DTLSMessageHandshakeBody::HelloVerifyRequest(verify)) => Some(
             verify_request(alloc, verify.server_version, verify.cookie),
         ),
@@ -225,14 +229,14 @@ fn other_in_datagrams(alloc: Global, read: &DTLSBodyView<'_>) -> Answer {
 }
 
 /// What was read of a message whose body is another in DTLS than in TLS.
-fn body_in_datagrams(alloc: Global, read: DTLSBodyView<'_>) -> Answer {
-    other_in_datagrams(alloc, &read)
+fn body_in_datagrams(alloc: Global, suite_text: SuiteText, read: DTLSBodyView<'_>) -> Answer {
+    other_in_datagrams(alloc, suite_text, &read)
 }
 
 /// What a ServerHello says, where it was read.
-fn read_hello(alloc: Global, hello: &Option<ReadServerHello<'_>>) -> Answer {
+fn read_hello(alloc: Global, suite_text: SuiteText, hello: &Option<ReadServerHello<'_>>) -> Answer {
     match hello {
-        Some(read) => other(alloc, &read.message),
+        Some(read) => other(alloc, suite_text, &read.message),
         None => None,
     }
 }
@@ -297,18 +301,20 @@ impl<'a> Content<'a> {
     /// That of a message of TLS, by what the server chose in front of it.
     pub fn new(
         alloc: Global,
+        suite_text: SuiteText,
         chosen: Option<Chosen>,
         message: &HandshakeMessage<'a>,
     ) -> Content<'a> {
         if message.msg_type == TlsHandshakeType::ServerHello {
-            return Content::of_server_hello(alloc, message);
+            return Content::of_server_hello(alloc, suite_text, message);
         }
-        Content::of_other(alloc, chosen, message.msg_type, message.body)
+        Content::of_other(alloc, suite_text, chosen, message.msg_type, message.body)
     }
 
     /// That of a message that is no ServerHello.
     fn of_other(
         alloc: Global,
+        suite_text: SuiteText,
         chosen: Option<Chosen>,
         msg_type: TlsHandshakeType,
         body: &'a [u8],
@@ -321,21 +327,35 @@ impl<'a> Content<'a> {
                 Some(chosen) => Content::of_exchange(alloc, chosen, msg_type, body),
                 None => Content::of_bytes(alloc, body),
             },
-            _ => Content::of_itself(alloc, msg_type, body),
+            _ => Content::of_itself(alloc, suite_text, msg_type, body),
         }
     }
 
     /// That of a ServerHello, which was read.
-    fn of_server_hello(alloc: Global, message: &HandshakeMessage<'a>) -> Content<'a> {
-        let body = read_hello(alloc, &message.server_hello);
+    fn of_server_hello(
+        alloc: Global,
+        suite_text: SuiteText,
+        message: &HandshakeMessage<'a>,
+    ) -> Content<'a> {
+        let body = read_hello(alloc, suite_text, &message.server_hello);
         Content::of_body(alloc, body, rest_of_hello(message), message.body)
     }
 
     /// That of a message which needs no other to be read.
-    fn of_itself(alloc: Global, msg_type: TlsHandshakeType, body: &'a [u8]) -> Content<'a> {
+    fn of_itself(
+        alloc: Global,
+        suite_text: SuiteText,
+        msg_type: TlsHandshakeType,
+        body: &'a [u8],
+    ) -> Content<'a> {
         let message = RawHandshake { msg_type, body };
         match message.parse_body() {
-            Ok((rest, read)) => Content::of_body(alloc, body_of(alloc, read), rest, body),
+            Ok((rest, read)) => Content::of_body(
+                alloc,
+                body_of(alloc, suite_text, read),
+                rest,
+                body,
+            ),
             Err(_) => Content::of_bytes(alloc, body),
         }
     }
@@ -343,20 +363,22 @@ impl<'a> Content<'a> {
     /// That of a message of DTLS. But for the ClientHello and the HelloVerifyRequest the bodies are read as those of TLS (RFC 6347, section 4.2).
     pub fn of_datagrams(
         alloc: Global,
+        suite_text: SuiteText,
         chosen: Option<Chosen>,
         message: &HandshakeMessage<'a>,
     ) -> Content<'a> {
         match message.msg_type {
             TlsHandshakeType::ClientHello | TlsHandshakeType::HelloVerifyRequest => {
-                Content::of_datagrams_alone(alloc, message.msg_type, message.body)
+                Content::of_datagrams_alone(alloc, suite_text, message.msg_type, message.body)
             }
-            _ => Content::new(alloc, chosen, message),
+            _ => Content::new(alloc, suite_text, chosen, message),
         }
     }
 
     /// That of a message whose body is another in DTLS than in TLS.
     fn of_datagrams_alone(
         alloc: Global,
+        suite_text: SuiteText,
         msg_type: TlsHandshakeType,
         body: &'a [u8],
     ) -> Content<'a> {
@@ -364,7 +386,12 @@ impl<'a> Content<'a> {
             return Content::of_bytes(alloc, body);
         };
         match message.parse_body() {
-            Ok((rest, read)) => Content::of_body(alloc, body_in_datagrams(alloc, read), rest, body),
+            Ok((rest, read)) => Content::of_body(
+                alloc,
+                body_in_datagrams(alloc, suite_text, read),
+                rest,
+                body,
+            ),
             Err(_) => Content::of_bytes(alloc, body),
         }
     }

@@ -35,3 +35,4 @@ pub use change::ChangeCipherSpec;
 pub use chosen::Chosen;
 pub use heartbeat::HeartbeatMessage;
 pub use message::Message;
+pub use suite::SuiteText;

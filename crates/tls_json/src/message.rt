@@ -9,6 +9,7 @@ ghost use Rattle.tls_json.specs.Tables.{message_fields};
 use crate::body::Content;
 use crate::chosen::Chosen;
 use crate::json::Value;
+use crate::suite::SuiteText;
 use crate::table::Table;
 use serde::{Described, Serialize, Serializer};
 use std::alloc::{AllocError, Global};
@@ -61,10 +62,11 @@ impl Message {
     /// `AllocError` where memory runs out.
     pub fn of(
         alloc: Global,
+        suite_text: SuiteText,
         chosen: Option<Chosen>,
         message: &HandshakeMessage<'_>,
     ) -> Result<Message, AllocError> {
-        let content = Content::new(alloc, chosen, message);
+        let content = Content::new(alloc, suite_text, chosen, message);
         Message::with_content(alloc, message, None, content)
     }
 
@@ -73,11 +75,12 @@ impl Message {
     /// `AllocError` where memory runs out.
     pub fn new(
         alloc: Global,
+        suite_text: SuiteText,
         chosen: Option<Chosen>,
         message: &[u8],
     ) -> Result<Option<Message>, AllocError> {
         match HandshakeMessage::read(message) {
-            Some(message) => Ok(Some(Message::of(alloc, chosen, &message)?)),
+            Some(message) => Ok(Some(Message::of(alloc, suite_text, chosen, &message)?)),
             None => Ok(None),
         }
     }
@@ -87,11 +90,12 @@ impl Message {
     /// `AllocError` where memory runs out.
     pub fn of_datagram_message(
         alloc: Global,
+        suite_text: SuiteText,
         chosen: Option<Chosen>,
         message_seq: u16,
         message: &HandshakeMessage<'_>,
     ) -> Result<Message, AllocError> {
-        let content = Content::of_datagrams(alloc, chosen, message);
+        let content = Content::of_datagrams(alloc, suite_text, chosen, message);
         Message::with_content(alloc, message, Some(u64::from(message_seq)), content)
     }
 
@@ -100,13 +104,14 @@ impl Message {
     /// `AllocError` where memory runs out.
     pub fn of_datagrams(
         alloc: Global,
+        suite_text: SuiteText,
         chosen: Option<Chosen>,
         msg_type: TlsHandshakeType,
         message_seq: u16,
         body: &[u8],
     ) -> Result<Message, AllocError> {
         let message = HandshakeMessage::of_datagrams(msg_type, body);
-        Message::of_datagram_message(alloc, chosen, message_seq, &message)
+        Message::of_datagram_message(alloc, suite_text, chosen, message_seq, &message)
     }
 
     fn with_content(

@@ -2,7 +2,7 @@
 ghost use Rattle.std.specs.Prelude.{IfOk};
 ghost use Rattle.std.specs.Option.{option_map};
 ghost use Rattle.serde_json.specs.Data.{string, array, no_items};
-ghost use Rattle.tls_json.specs.Outline.{Shows, name_or_number, suite_text};
+ghost use Rattle.tls_json.specs.Outline.{Shows, name_or_number, suite_text as text_of_suite};
 
 use crate::json::Value;
 use crate::table::Values;
@@ -10,6 +10,15 @@ use crate::text::code_text;
 use layouts::Items;
 use std::alloc::{AllocError, Global};
 use tls_base::TlsCipherSuiteID;
+
+/// How a cipher suite is written.
+#[derive(Clone, Copy, Debug, PartialEq, Eq)]
+pub enum SuiteText {
+    /// By the name that IANA's registry has for it, as `TLS_AES_128_GCM_SHA256`. One that has none is written by its number.
+    Name,
+    /// By its number, as `0x1301`.
+    Number,
+}
 
 /// A name, or else the number, as `0x1234`.
 fn name_or_code(alloc: Global, name: Option<&'static str>, code: u16) -> Result<Value, AllocError>
@@ -21,21 +30,32 @@ fn name_or_code(alloc: Global, name: Option<&'static str>, code: u16) -> Result<
     }
 }
 
-/// A cipher suite by the name that IANA's registry has for it, as `TLS_AES_128_GCM_SHA256`, or else its number, as `0x1234`.
+/// A cipher suite, written that way.
 #[tactic(auto, unfolding(crate::specs::Outline::suite_text))]
-pub fn suite_value(alloc: Global, suite: TlsCipherSuiteID) -> Result<Value, AllocError>
-    ensures { IfOk result (Shows (string (suite_text suite.0))) }
+pub fn suite_value(
+    alloc: Global,
+    suite_text: SuiteText,
+    suite: TlsCipherSuiteID,
+) -> Result<Value, AllocError>
+    ensures { IfOk result (Shows (string (text_of_suite suite_text suite.0))) }
 {
-    name_or_code(alloc, suite.registered_name(), suite.0)
+    match suite_text {
+        SuiteText::Name => name_or_code(alloc, suite.registered_name(), suite.0),
+        SuiteText::Number => code_text(alloc, suite.0),
+    }
 }
 
-/// Cipher suites in their order, each by its name or else its number.
-pub fn suite_values(alloc: Global, list: Items<'_, TlsCipherSuiteID>) -> Result<Value, AllocError>
+/// Cipher suites in their order, each written that way.
+pub fn suite_values(
+    alloc: Global,
+    suite_text: SuiteText,
+    list: Items<'_, TlsCipherSuiteID>,
+) -> Result<Value, AllocError>
     ensures { IfOk result (Shows (array no_items)) }
 {
     let mut all = Values::new(alloc);
     for one in list {
-        all = all.add(suite_value(alloc, one));
+        all = all.add(suite_value(alloc, suite_text, one));
     }
     all.finish()
 }

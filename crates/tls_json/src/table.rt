@@ -4,7 +4,7 @@ ghost use Rattle.serde_json.specs.Data.{Data, array, no_items};
 ghost use Rattle.tls_json.specs.Outline.{Shows, Entries, object_of, decimal, hexadecimal, suite, bytes, some_decimal, some_hexadecimal, some_bytes, bytes_if, some_name, HasNames, HasEntries, IsNamed, HasFields, HasFieldNames};
 
 use crate::json::{Field, Value};
-use crate::suite::suite_value;
+use crate::suite::{SuiteText, suite_value};
 use crate::text::{blob, code_text};
 use std::alloc::{AllocError, Global};
 use tls_base::TlsCipherSuiteID;
@@ -90,11 +90,11 @@ impl Table {
         }
     }
 
-    /// With a cipher suite, by its name or else its number.
-    pub fn suite(self, name: &'static str, code: TlsCipherSuiteID) -> Table
-        ensures { (es : Entries) → HasFields es self → HasFields (es ++ suite name.now code.0 ∷ []) result }
+    /// With a cipher suite, written that way.
+    pub fn suite(self, name: &'static str, suite_text: SuiteText, code: TlsCipherSuiteID) -> Table
+        ensures { (es : Entries) → HasFields es self → HasFields (es ++ suite name.now suite_text code.0 ∷ []) result }
     {
-        let text = suite_value(self.alloc, code);
+        let text = suite_value(self.alloc, suite_text, code);
         self.add(name, text)
     }
 
