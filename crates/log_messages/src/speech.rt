@@ -4,7 +4,7 @@ use std::alloc::{AllocError, Global};
 use std::mem;
 use tls_base::{TlsHandshakeType, TlsMessageAlert, TlsRecordType};
 use tls_flow::{Direction, HandshakeMessage};
-use tls_json::{AlertMessage, ChangeCipherSpec, Chosen, HeartbeatMessage, Message};
+use tls_json::{AlertMessage, ChangeCipherSpec, Chosen, HeartbeatMessage, Message, SuiteText};
 use tls_stream::Said;
 
 /// What stands in a message, by its fields.
@@ -92,6 +92,7 @@ fn handshake_name(message: &[u8]) -> Option<&'static str> {
 /// A handshake message of TLS by its bytes, its header first, and as it was read, where it is whole; it may be a ServerHello that chooses.
 fn handshake_word(
     alloc: Global,
+    suite_text: SuiteText,
     chosen: &mut Option<Chosen>,
     bytes: &[u8],
     message: Option<&HandshakeMessage<'_>>,
@@ -107,13 +108,14 @@ fn handshake_word(
     if let Some(choice) = Chosen::of(message) {
         *chosen = Some(choice);
     }
-    let read = Message::of(alloc, *chosen, message)?;
+    let read = Message::of(alloc, suite_text, *chosen, message)?;
     Word::new(alloc, TlsRecordType::Handshake, name, Body::Handshake(read))
 }
 
 /// A handshake message of DTLS, and its number; it may be a ServerHello that chooses.
 fn handshake_word_of_datagrams(
     alloc: Global,
+    suite_text: SuiteText,
     chosen: &mut Option<Chosen>,
     message_seq: u16,
     message: &HandshakeMessage<'_>,
@@ -122,13 +124,14 @@ fn handshake_word_of_datagrams(
         *chosen = Some(choice);
     }
     let name = message.msg_type.registered_name();
-    let read = Message::of_datagram_message(alloc, *chosen, message_seq, message)?;
+    let read = Message::of_datagram_message(alloc, suite_text, *chosen, message_seq, message)?;
     Word::new(alloc, TlsRecordType::Handshake, name, Body::Handshake(read))
 }
 
 /// The messages that were heard and are kept.
 #[derive(Drop)]
 struct Kept {
+    suite_text: SuiteText,
     // That of the last ServerHello: key exchanges behind it are read by it.
     chosen: Option<Chosen>,
     client_count: u64,
@@ -179,7 +182,7 @@ impl Kept {
     ) -> Result<(), AllocError> {
         match event {
             tls_stream::Event::Handshake(bytes) => {
-                let word = handshake_word(alloc, &mut self.chosen, bytes, message);
+                let word = handshake_word(alloc, self.suite_text, &mut self.chosen, bytes, message);
                 self.keep(direction, word)
             }
             tls_stream::Event::ChangeCipherSpec => self.keep(direction, change_word(alloc)),
@@ -206,7 +209,13 @@ impl Kept {
                     return Ok(());
                 };
                 let number = whole.message_seq;
-                let word = handshake_word_of_datagrams(alloc, &mut self.chosen, number, message);
+                let word = handshake_word_of_datagrams(
+                    alloc,
+                    self.suite_text,
+                    &mut self.chosen,
+                    number,
+                    message,
+                );
                 self.keep(direction, word)
             }
             dtls_stream::Event::ChangeCipherSpec => self.keep(direction, change_word(alloc)),
@@ -225,11 +234,12 @@ pub struct Speech {
 }
 
 impl Speech {
-    /// That of a connection of which nothing came.
-    pub fn new(alloc: Global) -> Speech {
+    /// That of a connection of which nothing came, with cipher suites written that way.
+    pub fn new(alloc: Global, suite_text: SuiteText) -> Speech {
         Speech {
             alloc,
             kept: Kept {
+                suite_text,
                 chosen: None,
                 client_count: 0,
                 server_count: 0,
