@@ -24,26 +24,33 @@ const SERVER_HELLO: u8 = 2;
 /// What a connection takes besides what is known of it, in bytes, at most.
 pub const HEARD_COST: usize = 2048;
 
-/// What a keeper takes. The pieces that it keeps aren't counted: those that a packet makes whole are taken before the next is read.
+/// What a keeper takes besides what it keeps, in bytes, at most.
 pub const KEEPER_COST: usize = 512;
 
 /// What the buffers of a conversation take at most: on each side twice as much as a message in parts, a record, what was handed out and is still to be moved
 /// over, and what comes at once behind a gap.
 const MAX_BUFFERS: usize = 2_621_440;
 
-/// What is to be had of a connection one by one, as it comes.
+/// What a [`Keeper`] keeps of a connection.
 #[derive(Clone, Copy, Debug, PartialEq, Eq)]
 pub enum Pieces {
-    /// Its messages.
+    /// Its messages, in which cipher suites have names.
     Messages,
-    /// The certificates of its chains.
+    /// Its messages, in which cipher suites have numbers.
+    NumberedMessages,
+    /// The certificates of its chains, each until it is taken.
     Certificates,
+    /// Its chains, until it ends.
+    Chains,
 }
 
 /// Who keeps such pieces of a connection until they are taken: it hears each event that counts.
 pub trait Keeper: Drop + Witness {
     /// That of a connection of which nothing came.
     fn begin(alloc: Global, pieces: Pieces) -> Self;
+
+    /// How many bytes of memory it takes for what it keeps beyond a packet.
+    fn capacity(&self) -> usize;
 }
 
 /// What both sides of a connection said.
@@ -133,10 +140,9 @@ impl<K: Keeper> Listener for Heard<K> {
             Said::Stream(analyzer, _) => analyzer.capacity().saturating_add(buffers_of(self.heard)),
             Said::Datagrams(analyzer) => analyzer.capacity(),
         };
-        let keeper = if self.keeper.is_some() {
-            KEEPER_COST
-        } else {
-            0
+        let keeper = match &self.keeper {
+            Some(keeper) => keeper.capacity().saturating_add(KEEPER_COST),
+            None => 0,
         };
         let tunnels = if self.tunnels.is_some() {
             size_of::<Tunnels>()
@@ -260,6 +266,14 @@ impl<K: Keeper> Heard<K> {
     pub fn keeper(&mut self) -> Option<&mut K> {
         match &mut self.keeper {
             Some(keeper) => Some(&mut **keeper),
+            None => None,
+        }
+    }
+
+    /// What is kept of it, where something is.
+    pub fn kept(&self) -> Option<&K> {
+        match &self.keeper {
+            Some(keeper) => Some(&**keeper),
             None => None,
         }
     }
