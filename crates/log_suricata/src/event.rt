@@ -1,6 +1,8 @@
 //! Connections as Suricata's eve.json has them (docs.suricata.io, "EVE JSON Format", event type TLS).
+use base64::engine::general_purpose::STANDARD;
 use connection_ids::flow_id;
 use connections::{Protocol, Side};
+use layouts::Items;
 use log_fields::columns::Certified;
 use log_fields::connection::{cell_of, end_cell, microseconds};
 use log_fields::fields::{End, Field, Named, Offer, Print};
@@ -18,6 +20,7 @@ use log_formats::versions::suricata_version;
 use serde::{Described, Serialize, Serializer};
 use sha1::Sha1;
 use std::alloc::{AllocError, Global};
+use tls_hs::RawCertificate;
 use tls_summary::HandshakeSummary;
 
 /// The time zone of times: UTC.
@@ -40,6 +43,10 @@ enum Said {
     Same(Field),
     /// What the certificate of a side's own says.
     Own(Side, OwnField),
+    /// A side's own certificate.
+    Certificate(Side),
+    /// All certificates that a side sent.
+    Chain(Side),
     AlternativeNames,
     Version,
     Resumed,
@@ -47,6 +54,12 @@ enum Said {
     Ja3s,
     Chosen,
 }
+
+/// The name of a side's own certificate.
+const CERTIFICATE: &str = "certificate";
+
+/// The name of all certificates that a side sent.
+const CHAIN: &str = "chain";
 
 /// The fields of the object `tls` in front of the object `client`, in their order.
 static TLS: &[(&str, Said)] = &[
@@ -63,6 +76,8 @@ static TLS: &[(&str, Said)] = &[
     ("version", Said::Version),
     ("notbefore", Said::Own(Side::Responder, OwnField::NotBefore)),
     ("notafter", Said::Own(Side::Responder, OwnField::NotAfter)),
+    (CERTIFICATE, Said::Certificate(Side::Responder)),
+    (CHAIN, Said::Chain(Side::Responder)),
     ("ja3", Said::Ja3),
     ("ja3s", Said::Ja3s),
     ("ja4", Said::Same(Field::Print(Print::Ja4))),
@@ -88,6 +103,8 @@ static CLIENT: &[(&str, Said)] = &[
         Said::Own(Side::Originator, OwnField::NotBefore),
     ),
     ("notafter", Said::Own(Side::Originator, OwnField::NotAfter)),
+    (CERTIFICATE, Said::Certificate(Side::Originator)),
+    (CHAIN, Said::Chain(Side::Originator)),
 ];
 
 /// An event of eve.json: what any event has, and the object `tls`, which has the object `client` within, where the client sent a certificate.
@@ -251,6 +268,41 @@ fn date_cell<'a>(
     }
 }
 
+/// A certificate in base64 (RFC 4648, section 4); `None` if it wasn't sent, or memory is refused.
+fn certificate_cell<'a>(alloc: Global, bytes: Option<&[u8]>) -> Option<Cell<'a>> {
+    match STANDARD.encode(alloc, bytes?) {
+        Ok(text) => Some(Cell::Text(Text::Owned(text))),
+        Err(_) => None,
+    }
+}
+
+/// The certificates of a list, each after 3 bytes of length, in base64.
+fn chain_texts(alloc: Global, list: &[u8]) -> Result<Vec<String>, AllocError> {
+    let walk: Items<RawCertificate> = Items::new(list);
+    let mut all = Vec::new(alloc);
+    for certificate in walk {
+        all.push(STANDARD.encode(alloc, certificate.bytes)?)?;
+    }
+    Ok(all)
+}
+
+/// The certificates that a side sent, in base64, its own first; `None` if none are kept, or memory
+/// is refused.
+fn chain_cell<'a>(alloc: Global, list: &[u8]) -> Option<Cell<'a>> {
+    match chain_texts(alloc, list) {
+        Ok(texts) if !texts.is_empty() => Some(Cell::Texts(Texts::Owned(texts))),
+        _ => None,
+    }
+}
+
+/// The certificates that a side sent, each after 3 bytes of length.
+fn chain_bytes<'a>(summary: &Summary<'a>, side: Side) -> &'a [u8] {
+    match side {
+        Side::Originator => summary.client_chain,
+        Side::Responder => summary.server_chain,
+    }
+}
+
 /// What one field says of a side's certificate.
 fn own_cell<'a>(
     alloc: Global,
@@ -312,6 +364,10 @@ fn said_cell<'a>(
     match said {
         Said::Same(field) => cell_of(told, field),
         Said::Own(side, field) => own_cell(alloc, told, *side, *field),
+        Said::Certificate(side) => {
+            Ok(certificate_cell(alloc, own_bytes(summary.handshake, *side)))
+        }
+        Said::Chain(side) => Ok(chain_cell(alloc, chain_bytes(summary, *side))),
         Said::AlternativeNames => listed_cell(told, &NAMES),
         Said::Version => Ok(version_cell(summary.handshake)),
         Said::Resumed => Ok(some_mark(summary.is_resumed)),
@@ -388,15 +444,32 @@ fn client_row<'a>(alloc: Global, told: &mut Told<'a>) -> Result<Option<Row<'a>>,
     Ok(Some(tls_row(alloc, told, CLIENT)?))
 }
 
-/// The event of a connection, without a line break.
+/// Leaves the certificates out of a row.
+fn leave_out_certificates(row: &mut Row<'_>) {
+    for (name, cell) in &mut row.cells {
+        if *name == CERTIFICATE || *name == CHAIN {
+            *cell = None;
+        }
+    }
+}
+
+/// The event of a connection, without a line break. If memory is refused for the certificates in it,
+/// they are left out.
 pub fn line(told: Told<'_>) -> Result<Vec<u8>, AllocError> {
     let (alloc, summary) = (told.alloc, told.summary);
     let mut told = told;
-    let event = Event {
+    let mut event = Event {
         front: front_row(alloc, summary)?,
         tls: tls_row(alloc, &mut told, TLS)?,
         client: client_row(alloc, &mut told)?,
         protocols: tls_row(alloc, &mut told, PROTOCOLS)?,
     };
+    if let Ok(line) = json_bytes(alloc, &event, LINE_LEN) {
+        return Ok(line);
+    }
+    leave_out_certificates(&mut event.tls);
+    if let Some(client) = &mut event.client {
+        leave_out_certificates(client);
+    }
     json_bytes(alloc, &event, LINE_LEN)
 }
