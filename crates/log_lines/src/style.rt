@@ -72,8 +72,6 @@ pub enum StyleError<'a> {
     UnknownDetail(&'a str),
     /// Both messages and certificates are to have lines.
     TwoKinds,
-    /// Messages are to have lines, and cipher suites numbers.
-    NumbersOfMessages,
     /// A format with fields of its own is asked for, and some of the log's.
     FieldsOfFormat(Format),
     /// A format of connections alone is asked for, and that messages or certificates have lines.
@@ -122,9 +120,6 @@ impl Display for StyleError<'_> {
             }
             StyleError::TwoKinds => {
                 f.write_str("--messages and --certificates don't go together")
-            }
-            StyleError::NumbersOfMessages => {
-                f.write_str("--numbers doesn't go with --messages, which has names")
             }
             StyleError::FieldsOfFormat(format) => write!(
                 f,
@@ -243,9 +238,6 @@ impl Style {
         names: Option<&str>,
         suites: Suites,
     ) -> Result<Style, StyleError<'_>> {
-        if kind == LineKind::Messages && suites.are_numbered() {
-            return Err(StyleError::NumbersOfMessages);
-        }
         if format.has_own_fields() {
             if kind != LineKind::Connections {
                 return Err(StyleError::KindOfFormat(format));
@@ -262,6 +254,11 @@ impl Style {
             digests: RefCell::new(KnownDigests::new(alloc)),
             texts: RefCell::new(KnownTexts::new(alloc)),
         })
+    }
+
+    /// Whether the line of a connection has the certificates of its chains.
+    pub fn has_chains(&self) -> bool {
+        self.format == Format::Suricata
     }
 
     /// What stands in front of all lines, without its last line break, if there is something. The log begins at this time, in seconds since 1970-01-01 00:00 UTC.
