@@ -574,9 +574,11 @@ fn tell_counts<R: Runtime>(rt: &R, name: &str, counts: &Counts, exit: Exit) -> E
 }
 
 /// What is kept of connections until it is printed.
-fn kept_for(lines: &Lines) -> Option<Pieces> {
-    match lines {
+fn kept_for(style: &Style) -> Option<Pieces> {
+    match &style.lines {
+        Lines::Connections(_) if style.has_chains() => Some(Pieces::Chains),
         Lines::Connections(_) => None,
+        Lines::Messages(_) if style.suites.are_numbered() => Some(Pieces::NumberedMessages),
         Lines::Messages(_) => Some(Pieces::Messages),
         Lines::Certificates(_) => Some(Pieces::Certificates),
     }
@@ -611,7 +613,7 @@ fn begin_log<R: Runtime + AllocGlobal + RandomSource>(
             return Err(tell(rt, "the system's random numbers", Failure::Reading(e), 0));
         }
     };
-    let mut log = match Log::new(rt.alloc(), keys, kept_for(&asked.style.lines)) {
+    let mut log = match Log::new(rt.alloc(), keys, kept_for(&asked.style)) {
         Ok(log) => log,
         Err(_) => return Err(tell(rt, name, Failure::OutOfMemory, 0)),
     };
