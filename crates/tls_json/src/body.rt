@@ -1,4 +1,4 @@
-//! The bodies of handshake messages.
+//! Bodies of handshake messages.
 ghost use Rattle.std.specs.Prelude.{IfOk, IfSome, ◌≡◌, ◌++◌, codes};
 ghost use Rattle.serde_json.specs.Data.{array, no_items};
 ghost use Rattle.layouts.specs.Items.{left_in};
@@ -25,15 +25,15 @@ use tls_hs::{
 };
 use tls_records::{DTLSBodyView, DTLSClientHelloView, DTLSMessageHandshakeBody};
 
-/// A body by its fields; `None` where they are those of its bytes alone.
+/// A body by its fields; `None` if it is written as its bytes.
 type Answer = Option<Result<Value, AllocError>>;
 
-/// A body, and the bytes behind its last field.
+/// A body, and the bytes after its last field.
 #[derive(Drop)]
 pub struct Content<'a> {
-    /// Its fields, or its bytes.
+    /// The fields of the body, or its bytes if it can't be parsed.
     pub body: Result<Value, AllocError>,
-    /// None where the body isn't read.
+    /// Empty if the body can't be parsed.
     pub rest: &'a [u8],
 }
 
@@ -48,7 +48,7 @@ fn certificates<'a>(alloc: Global, list: &'a [u8]) -> Result<Value, AllocError>
     all.finish()
 }
 
-/// What each certificate says.
+/// Lists what each certificate of a chain says.
 fn said_by_certificates<'a>(alloc: Global, list: &'a [u8]) -> Result<Value, AllocError>
     ensures { IfOk result (Shows (array no_items)) }
 {
@@ -60,7 +60,7 @@ fn said_by_certificates<'a>(alloc: Global, list: &'a [u8]) -> Result<Value, Allo
     all.finish()
 }
 
-/// What a list of certificates leaves behind the last that is whole.
+/// Returns the bytes after the last whole certificate of a list.
 fn rest_of_chain<'a>(list: &'a [u8]) -> &'a [u8]
     ensures { result.now ≡ left_in (counted 3) list.now }
 {
@@ -68,7 +68,8 @@ fn rest_of_chain<'a>(list: &'a [u8]) -> &'a [u8]
     walk.rest()
 }
 
-/// A certificate chain (RFC 5246, section 7.4.2), what its certificates say, and the bytes that it leaves of its list.
+/// Writes a certificate chain (RFC 5246, section 7.4.2): the certificates' bytes, what they say,
+/// and what follows the last whole one.
 fn chain(alloc: Global, list: &[u8]) -> Result<Value, AllocError>
     ensures { IfOk result (Shows (chain_fields list.now)) }
 {
@@ -79,7 +80,7 @@ fn chain(alloc: Global, list: &[u8]) -> Result<Value, AllocError>
         .finish()
 }
 
-/// With signature algorithms, where there are some.
+/// Adds the signature algorithms, if the request has them.
 fn with_algorithms(alloc: Global, table: Table, algorithms: Option<Items<'_, u16>>) -> Table
     ensures { (es : Entries) → HasFields es table
         → HasFields (es ++ list_if (codes "supported_signature_algorithms") algorithms.entry) result }
@@ -93,7 +94,8 @@ fn with_algorithms(alloc: Global, table: Table, algorithms: Option<Items<'_, u16
     }
 }
 
-/// A server's wish for a certificate (RFC 5246, section 7.4.4), and the bytes that the authorities leave of their list.
+/// Writes a CertificateRequest (RFC 5246, section 7.4.4), and what follows the last whole
+/// authority.
 fn request(alloc: Global, request: &CertificateRequestView<'_>) -> Result<Value, AllocError>
     ensures { IfOk result (Shows (request_fields request.now)) }
 {
@@ -104,7 +106,8 @@ fn request(alloc: Global, request: &CertificateRequestView<'_>) -> Result<Value,
         .finish()
 }
 
-/// `None` where half a signature algorithm is left, for which there is no field.
+/// Writes a CertificateRequest; `None` if its algorithms end in half of one, for which there is no
+/// field.
 fn whole_request(alloc: Global, wish: &CertificateRequestView<'_>) -> Answer
     ensures { IfSome result (λ r. IfOk r (Shows (request_fields wish.now))) }
 {
@@ -114,7 +117,7 @@ fn whole_request(alloc: Global, wish: &CertificateRequestView<'_>) -> Answer
     }
 }
 
-/// A ticket (RFC 5077, section 3.3).
+/// Writes a NewSessionTicket (RFC 5077, section 3.3).
 fn ticket(alloc: Global, lifetime_hint: u32, ticket: &[u8]) -> Result<Value, AllocError>
     ensures { IfOk result (Shows (ticket_fields lifetime_hint ticket.now)) }
 {
@@ -124,7 +127,7 @@ fn ticket(alloc: Global, lifetime_hint: u32, ticket: &[u8]) -> Result<Value, All
         .finish()
 }
 
-/// The status of a certificate (RFC 6066, section 8).
+/// Writes a CertificateStatus (RFC 6066, section 8).
 fn status(alloc: Global, status: &TlsCertificateStatusContents<'_>) -> Result<Value, AllocError>
     ensures { IfOk result (Shows (status_fields status.now)) }
 {
@@ -134,7 +137,7 @@ fn status(alloc: Global, status: &TlsCertificateStatusContents<'_>) -> Result<Va
         .finish()
 }
 
-/// The protocol that a client chose (draft-agl-tls-nextprotoneg-04, section 3).
+/// Writes a NextProtocol (draft-agl-tls-nextprotoneg-04, section 3).
 fn next_protocol(alloc: Global, next: &TlsNextProtocolContent<'_>) -> Result<Value, AllocError>
     ensures { IfOk result (HasNames next_protocol_names) }
 {
@@ -144,7 +147,7 @@ fn next_protocol(alloc: Global, next: &TlsNextProtocolContent<'_>) -> Result<Val
         .finish()
 }
 
-/// A server's wish for another ClientHello with a cookie (RFC 6347, section 4.2.1).
+/// Writes a HelloVerifyRequest (RFC 6347, section 4.2.1).
 fn verify_request(alloc: Global, version: TlsVersion, cookie: &[u8]) -> Result<Value, AllocError>
     ensures { IfOk result (Shows (verify_request_fields version.0 cookie.now)) }
 {
@@ -154,14 +157,14 @@ fn verify_request(alloc: Global, version: TlsVersion, cookie: &[u8]) -> Result<V
         .finish()
 }
 
-/// The end of a handshake (RFC 5246, section 7.4.9).
+/// Writes a Finished (RFC 5246, section 7.4.9).
 fn finished(alloc: Global, verify_data: &[u8]) -> Result<Value, AllocError>
     ensures { IfOk result (Shows (finished_fields verify_data.now)) }
 {
     single(alloc, "verify_data", blob(alloc, verify_data))
 }
 
-/// New keys are in use (RFC 8446, section 4.6.3).
+/// Writes a KeyUpdate (RFC 8446, section 4.6.3).
 fn key_update(alloc: Global, request_update: u8) -> Result<Value, AllocError>
     ensures { IfOk result (Shows (key_update_fields request_update)) }
 {
@@ -170,7 +173,7 @@ fn key_update(alloc: Global, request_update: u8) -> Result<Value, AllocError>
         .finish()
 }
 
-/// A message without lists.
+/// Writes the body of a message without lists, if it has fields.
 fn other(alloc: Global, suite_text: SuiteText, message: &TlsMessageHandshake<'_>) -> Answer {
     match message {
         TlsMessageHandshake::ServerHello(hello) => Some(server_hello(alloc, suite_text, hello)),
@@ -188,7 +191,7 @@ fn other(alloc: Global, suite_text: SuiteText, message: &TlsMessageHandshake<'_>
     }
 }
 
-/// What was read of a message of TLS.
+/// Writes the parsed body of a message of TLS.
 fn body_of(alloc: Global, suite_text: SuiteText, read: HandshakeView<'_>) -> Answer {
     match read {
         HandshakeView::ClientHello(hello) => Some(client_hello(alloc, suite_text, &hello, None)),
@@ -198,7 +201,7 @@ fn body_of(alloc: Global, suite_text: SuiteText, read: HandshakeView<'_>) -> Ans
     }
 }
 
-/// A ClientHello of DTLS, which has a cookie.
+/// Writes a ClientHello of DTLS, which has a cookie.
 fn client_hello_of_datagrams(
     alloc: Global,
     suite_text: SuiteText,
@@ -215,7 +218,7 @@ fn client_hello_of_datagrams(
     client_hello(alloc, suite_text, &as_of_tls, Some(hello.cookie))
 }
 
-/// A body that is another in DTLS than in TLS.
+/// Writes a body that differs between DTLS and TLS.
 fn other_in_datagrams(alloc: Global, suite_text: SuiteText, read: &DTLSBodyView<'_>) -> Answer {
     match read {
         DTLSBodyView::ClientHello(hello) => Some(client_hello_of_datagrams(
@@ -228,12 +231,12 @@ fn other_in_datagrams(alloc: Global, suite_text: SuiteText, read: &DTLSBodyView<
     }
 }
 
-/// What was read of a message whose body is another in DTLS than in TLS.
+/// Writes the parsed body of a message whose body differs between DTLS and TLS.
 fn body_in_datagrams(alloc: Global, suite_text: SuiteText, read: DTLSBodyView<'_>) -> Answer {
     other_in_datagrams(alloc, suite_text, &read)
 }
 
-/// What a ServerHello says, where it was read.
+/// Writes a ServerHello; `None` if it can't be parsed.
 fn read_hello(alloc: Global, suite_text: SuiteText, hello: &Option<ReadServerHello<'_>>) -> Answer {
     match hello {
         Some(read) => other(alloc, suite_text, &read.message),
@@ -241,7 +244,7 @@ fn read_hello(alloc: Global, suite_text: SuiteText, hello: &Option<ReadServerHel
     }
 }
 
-/// The bytes that it leaves behind it.
+/// Returns the bytes after a ServerHello's last field.
 fn rest_of_hello<'a>(message: &HandshakeMessage<'a>) -> &'a [u8] {
     match &message.server_hello {
         Some(read) => read.rest,
@@ -250,7 +253,7 @@ fn rest_of_hello<'a>(message: &HandshakeMessage<'a>) -> &'a [u8] {
 }
 
 impl<'a> Content<'a> {
-    /// A body and the bytes behind it, or the bytes of one that isn't read.
+    /// Returns a body and the bytes after it, or the bytes of a body that can't be parsed.
     fn of_body(alloc: Global, body: Answer, rest: &'a [u8], bytes: &[u8]) -> Content<'a> {
         match body {
             Some(body) => Content { body, rest },
@@ -258,7 +261,7 @@ impl<'a> Content<'a> {
         }
     }
 
-    /// A body that isn't read.
+    /// Returns a body that can't be parsed, as its bytes.
     fn of_bytes(alloc: Global, bytes: &[u8]) -> Content<'a> {
         Content {
             body: blob(alloc, bytes),
@@ -266,7 +269,8 @@ impl<'a> Content<'a> {
         }
     }
 
-    /// A ticket. The library leaves its length in front of it, so it is read here.
+    /// Parses a NewSessionTicket. `tls_hs` leaves the ticket's length in front of it, so it is
+    /// parsed here.
     fn of_ticket(alloc: Global, bytes: &'a [u8]) -> Content<'a> {
         let Ok((i, lifetime_hint)) = number4(bytes) else {
             return Content::of_bytes(alloc, bytes);
@@ -280,7 +284,7 @@ impl<'a> Content<'a> {
         }
     }
 
-    /// That of a message whose fields depend on what the server chose.
+    /// Parses a message whose fields depend on what the server chose.
     fn of_exchange(
         alloc: Global,
         chosen: Chosen,
@@ -298,7 +302,7 @@ impl<'a> Content<'a> {
         }
     }
 
-    /// That of a message of TLS, by what the server chose in front of it.
+    /// Parses the body of a message of TLS, by what the server chose before.
     pub fn new(
         alloc: Global,
         suite_text: SuiteText,
@@ -311,7 +315,7 @@ impl<'a> Content<'a> {
         Content::of_other(alloc, suite_text, chosen, message.msg_type, message.body)
     }
 
-    /// That of a message that is no ServerHello.
+    /// Parses the body of a message other than a ServerHello.
     fn of_other(
         alloc: Global,
         suite_text: SuiteText,
@@ -331,7 +335,7 @@ impl<'a> Content<'a> {
         }
     }
 
-    /// That of a ServerHello, which was read.
+    /// Returns the body of a ServerHello, which was parsed already.
     fn of_server_hello(
         alloc: Global,
         suite_text: SuiteText,
@@ -341,7 +345,7 @@ impl<'a> Content<'a> {
         Content::of_body(alloc, body, rest_of_hello(message), message.body)
     }
 
-    /// That of a message which needs no other to be read.
+    /// Parses the body of a message that doesn't depend on others.
     fn of_itself(
         alloc: Global,
         suite_text: SuiteText,
@@ -360,7 +364,8 @@ impl<'a> Content<'a> {
         }
     }
 
-    /// That of a message of DTLS. But for the ClientHello and the HelloVerifyRequest the bodies are read as those of TLS (RFC 6347, section 4.2).
+    /// Parses the body of a message of DTLS. Only ClientHello and HelloVerifyRequest differ from
+    /// TLS (RFC 6347, section 4.2).
     pub fn of_datagrams(
         alloc: Global,
         suite_text: SuiteText,
@@ -375,7 +380,7 @@ impl<'a> Content<'a> {
         }
     }
 
-    /// That of a message whose body is another in DTLS than in TLS.
+    /// Parses a body that differs between DTLS and TLS.
     fn of_datagrams_alone(
         alloc: Global,
         suite_text: SuiteText,

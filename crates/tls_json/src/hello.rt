@@ -1,4 +1,4 @@
-//! What a client offers, and what a server answers.
+//! ClientHello and ServerHello.
 ghost use Rattle.std.specs.Prelude.{IfOk, ◌≡◌};
 ghost use Rattle.tls_json.specs.Outline.{Shows};
 ghost use Rattle.tls_json.specs.Tables.{id_bytes, client_hello_fields, server_hello_fields, draft_hello_fields, retry_fields};
@@ -15,7 +15,7 @@ use tls_hs::{
     TlsServerHelloV13Draft18Contents,
 };
 
-/// A session's id; an empty one where there is none.
+/// Returns a session's id, empty if there is none.
 fn id<'a>(session_id: Option<&'a [u8]>) -> &'a [u8]
     ensures { result.now ≡ id_bytes session_id.entry }
 {
@@ -25,7 +25,8 @@ fn id<'a>(session_id: Option<&'a [u8]>) -> &'a [u8]
     }
 }
 
-/// A ClientHello (RFC 5246, section 7.4.1.2); of DTLS it has a cookie (RFC 6347, section 4.2.1).
+/// Writes a ClientHello (RFC 5246, section 7.4.1.2). One of DTLS has a cookie (RFC 6347, section
+/// 4.2.1).
 pub fn client_hello(
     alloc: Global,
     suite_text: SuiteText,
@@ -47,7 +48,7 @@ pub fn client_hello(
     with_extensions(alloc, table, Sender::Client, hello.ext).finish()
 }
 
-/// A ServerHello of SSL 3.0 to TLS 1.3, and of DTLS (RFC 5246, section 7.4.1.3).
+/// Writes a ServerHello of SSL 3.0 to TLS 1.3, and of DTLS (RFC 5246, section 7.4.1.3).
 pub fn server_hello(
     alloc: Global,
     suite_text: SuiteText,
@@ -64,7 +65,7 @@ pub fn server_hello(
     with_extensions(alloc, table, Sender::Server, hello.ext).finish()
 }
 
-/// That of draft 18 of TLS 1.3, which has no id and no compression.
+/// Writes a ServerHello of draft 18 of TLS 1.3, which has no session id and no compression method.
 pub fn server_hello_of_draft(
     alloc: Global,
     suite_text: SuiteText,
@@ -79,7 +80,7 @@ pub fn server_hello_of_draft(
     with_extensions(alloc, table, Sender::Server, hello.ext).finish()
 }
 
-/// A server's wish for another ClientHello in drafts of TLS 1.3 (draft-ietf-tls-tls13-19, section 4.1.4).
+/// Writes a HelloRetryRequest of drafts of TLS 1.3 (draft-ietf-tls-tls13-19, section 4.1.4).
 pub fn hello_retry_request(
     alloc: Global,
     suite_text: SuiteText,

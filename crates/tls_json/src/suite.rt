@@ -1,4 +1,4 @@
-//! How cipher suites are written.
+//! Cipher suites as texts.
 ghost use Rattle.std.specs.Prelude.{IfOk};
 ghost use Rattle.std.specs.Option.{option_map};
 ghost use Rattle.serde_json.specs.Data.{string, array, no_items};
@@ -14,13 +14,14 @@ use tls_base::TlsCipherSuiteID;
 /// How a cipher suite is written.
 #[derive(Clone, Copy, Debug, PartialEq, Eq)]
 pub enum SuiteText {
-    /// By the name that IANA's registry has for it, as `TLS_AES_128_GCM_SHA256`. One that has none is written by its number.
+    /// By its name in IANA's registry, as `TLS_AES_128_GCM_SHA256`, or by its number if it has
+    /// none.
     Name,
     /// By its number, as `0x1301`.
     Number,
 }
 
-/// A name, or else the number, as `0x1234`.
+/// Writes a name, or the number, as `0x1234`, if there is none.
 fn name_or_code(alloc: Global, name: Option<&'static str>, code: u16) -> Result<Value, AllocError>
     ensures { IfOk result (Shows (string (name_or_number (option_map (λ t. t.now) name.entry) code))) }
 {
@@ -30,7 +31,7 @@ fn name_or_code(alloc: Global, name: Option<&'static str>, code: u16) -> Result<
     }
 }
 
-/// A cipher suite, written that way.
+/// Writes a cipher suite as `suite_text` says.
 #[tactic(auto, unfolding(crate::specs::Outline::suite_text))]
 pub fn suite_value(
     alloc: Global,
@@ -45,7 +46,7 @@ pub fn suite_value(
     }
 }
 
-/// Cipher suites in their order, each written that way.
+/// Lists cipher suites in order, each as `suite_text` says.
 pub fn suite_values(
     alloc: Global,
     suite_text: SuiteText,
