@@ -13,7 +13,7 @@ pub struct CertificateLists {
 }
 
 impl CertificateLists {
-    /// No list of either side.
+    /// Returns one that keeps no list yet.
     pub fn new(alloc: Global) -> CertificateLists {
         CertificateLists {
             alloc,
