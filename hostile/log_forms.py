@@ -56,6 +56,18 @@ def with_suites(lines: list[Line], text: Callable[[str], str]) -> list[Line]:
     return [{field: fields.get(field, lambda v: v)(value) for field, value in line.items()} for line in lines]
 
 
+def with_numbers(message: Line) -> Line:
+    """A message's line with the number of each suite of its hello, which is a name of tshark's, or a number already."""
+    body = message.get("message", {}).get("body")
+    if not isinstance(body, dict):
+        return message
+    if "cipher_suites" in body:
+        body["cipher_suites"] = list(map(suite_names.numbered, body["cipher_suites"]))
+    if "cipher_suite" in body:
+        body["cipher_suite"] = suite_names.numbered(body["cipher_suite"])
+    return message
+
+
 def own_name(suite: str) -> str:
     """The name that the list has for a suite, or else what it is called without one."""
     names = dict(line.split(":")[:2] for line in SUITES.splitlines() if line and line[0] != "#")
@@ -95,7 +107,7 @@ def fields(ask: Ask, files: list[Path], lines: list[Line]) -> int:
 
 
 def suites(ask: Ask, files: list[Path], lines: list[Line], room: Path) -> None:
-    """A list of suites, with numbers and with names for the others, numbers alone, and what is no list."""
+    """A list of suites, with numbers and with names for the others, numbers alone, also of messages, which no list names, and what is no list."""
     good, bad = room / "suites", room / "no-suites"
     good.write_text(SUITES)
     bad.write_text("TLS_AES_128_GCM_SHA256\n")
@@ -105,9 +117,16 @@ def suites(ask: Ask, files: list[Path], lines: list[Line], room: Path) -> None:
     ):
         status, text, _ = ask([*words, *files])
         want(status == 0 and [json.loads(row) for row in text.splitlines()] == with_suites(lines, other), *words, status, text[-300:])
+    _, named, _ = ask(["--messages", *files])
+    numbered = [with_numbers(json.loads(row)) for row in named.splitlines()]
+    for words, wanted_messages in (
+        (["--numbers"], numbered), (["--numbers", "--ciphers", good], numbered), (["--ciphers", good], list(map(json.loads, named.splitlines()))),
+    ):
+        status, text, _ = ask(["--messages", *words, *files])
+        want(status == 0 and [json.loads(row) for row in text.splitlines()] == wanted_messages, "--messages", *words, status, text[-300:])
     for words, wanted in [
         (["--ciphers", bad], 2), (["--ciphers", room / "none"], 3), (["--fields", "no_such_field"], 2), (["--fields", "ts,ts"], 2),
-        (["--fields", ""], 2), (["--messages", "--fields", "version"], 2), (["--messages", "--numbers"], 2), (["--format", "xml"], 2), (["--format"], 2),
+        (["--fields", ""], 2), (["--messages", "--fields", "version"], 2), (["--format", "xml"], 2), (["--format"], 2),
     ]:
         status, text, told = ask([*words, *files])
         want((status, text) == (wanted, "") and told, *words, "status", status, text, told)

@@ -2,11 +2,13 @@
 
 from __future__ import annotations
 
+import base64
 import hashlib
 import json
 import re
 import subprocess
-from collections.abc import Iterable
+from collections import Counter
+from collections.abc import Iterable, Iterator
 from dataclasses import replace
 from datetime import datetime, timezone
 from pathlib import Path
@@ -15,6 +17,7 @@ from typing import Any
 from hostile import ecs_format, identifiers, packets, text_format, zeek_log
 from hostile.shapes import Ask, Line
 
+TOP = Path(__file__).resolve().parent.parent
 PATHS = {(): "ssl", ("--messages",): "tls_messages", ("--certificates",): "x509"}
 # The fields of Zeek 6's logs, as it writes them with its local.zeek.
 OF_ZEEK = {
@@ -170,14 +173,14 @@ def colons(digits: str) -> str:
     return ":".join(digits[at : at + 2] for at in range(0, len(digits), 2))
 
 
-def own_certificates(messages: Iterable[Line]) -> dict[str, str]:
-    """The SHA-1 of each certificate of a message, by its SHA-256."""
+def sent_certificates(messages: Iterable[Line]) -> dict[str, bytes]:
+    """The bytes of each certificate of a message, by its SHA-256."""
     found = {}
     for message in messages:
         if message.get("name") == "certificate" and isinstance(message["message"].get("body"), dict):
             for digits in message["message"]["body"]["certificate_list"]:
                 one = bytes.fromhex(digits)
-                found[hashlib.sha256(one).hexdigest()] = hashlib.sha1(one).hexdigest()
+                found[hashlib.sha256(one).hexdigest()] = one
     return found
 
 
@@ -208,25 +211,29 @@ def serial_of(digits: str | None) -> str | None:
     return digits and colons("00" + digits if int(digits[0], 16) >= 8 else digits)
 
 
-def event_of(line: Line, prints: dict[str, str], certificates: dict[str, Line]) -> Line:
+def event_of(line: Line, sent: dict[str, bytes], certificates: dict[str, Line]) -> Line:
     """The event that is wanted of a connection. A client's certificate is told by its line, by the SHA-256."""
+    print_of = lambda chain: chain and colons(hashlib.sha1(sent[chain[0]]).hexdigest())  # noqa: E731
+    texts = lambda chain: [base64.b64encode(sent[one]).decode() for one in chain or ()] or None  # noqa: E731
+    first = lambda texts: texts and texts[0]  # noqa: E731
     time = datetime.fromtimestamp(round(line["ts"] * 1_000_000) // 1_000_000, timezone.utc)
     chain, of_client = line.get("cert_chain_fps"), line.get("client_cert_chain_fps")
     pair = lambda name: {"hash": line[name], "string": line[f"{name}_string"]} if name in line else None  # noqa: E731
     some = lambda given: {name: value for name, value in given.items() if value is not None}  # noqa: E731
     own = certificates[of_client[0]] if of_client else {}
     client = own and some({
-        "subject": forward(line.get("client_subject")), "issuerdn": forward(line.get("client_issuer")), "fingerprint": of_client and colons(prints[of_client[0]]),
+        "subject": forward(line.get("client_subject")), "issuerdn": forward(line.get("client_issuer")), "fingerprint": print_of(of_client),
         "serial": serial_of(own.get("certificate.serial")), "notbefore": day(own.get("certificate.not_valid_before")),
-        "notafter": day(own.get("certificate.not_valid_after")),
+        "notafter": day(own.get("certificate.not_valid_after")), "certificate": first(texts(of_client)), "chain": texts(of_client),
     })
     tls = {
         "subject": forward(line.get("subject")), "issuerdn": forward(line.get("issuer")),
         "subjectaltname": [*line.get("san_dns", []), *line.get("san_ip", [])] or None, "session_resumed": line["resumed"] or None,
         "serial": serial_of(line.get("serial")),
-        "fingerprint": chain and colons(prints[chain[0]]), "sni": line.get("server_name"),
+        "fingerprint": print_of(chain), "sni": line.get("server_name"),
         "version": VERSIONS.get(line.get("version"), line.get("version")),
-        "notbefore": date(line.get("not_before")), "notafter": date(line.get("not_after")), "ja3": pair("ja3"), "ja3s": pair("ja3s"),
+        "notbefore": date(line.get("not_before")), "notafter": date(line.get("not_after")),
+        "certificate": first(texts(chain)), "chain": texts(chain), "ja3": pair("ja3"), "ja3s": pair("ja3s"),
         "ja4": line.get("ja4"), "client": client or None, "client_alpns": line.get("orig_alpn"), "server_alpns": [line["next_protocol"]] if "next_protocol" in line else None,
     }
     return {
@@ -236,17 +243,35 @@ def event_of(line: Line, prints: dict[str, str], certificates: dict[str, Line]) 
     }
 
 
+def chains_of(file: Path, event: Line) -> Iterator[str]:
+    """The chains of an event, as `captures/chains` has them."""
+    for side, said in (("client", event["tls"].get("client", {})), ("server", event["tls"])):
+        if "chain" in said:
+            want(said["certificate"] == said["chain"][0], "suricata:", file, "the first of the chain isn't the certificate")
+            yield " ".join([file.stem, str(event["src_port"]), side, *said["chain"]])
+
+
+def chains(ask: Ask, files: list[Path]) -> None:
+    """The certificates of the events are those that tshark has, which `captures/chains` says."""
+    wanted = Counter((TOP / "captures" / "chains").read_text().splitlines())
+    found = Counter(
+        chain for file in files for row in rows(ask, "--format", "suricata", file).splitlines() for chain in chains_of(file, json.loads(row))
+    )
+    want(found == wanted, "chains that tshark hasn't:", found - wanted, "chains that it has:", wanted - found)
+
+
 def suricata(ask: Ask, files: list[Path]) -> int:
-    """Each event says what the line of JSON says; SHA-1 is by hashlib, of the certificates whose SHA-256 the line has."""
+    """Each event says what the line of JSON says; SHA-1 and base64 are Python's, of the certificates whose SHA-256 the line has."""
     lines = [json.loads(line) for line in rows(ask, *files).splitlines()]
-    prints = own_certificates(json.loads(line) for line in rows(ask, "--messages", *files).splitlines())
+    sent = sent_certificates(json.loads(line) for line in rows(ask, "--messages", *files).splitlines())
     events = [json.loads(line) for line in rows(ask, "--format", "suricata", *files).splitlines()]
     want(len(events) == len(lines), len(events), "events of", len(lines), "connections")
     certificates = {one["fingerprint"]: one for one in map(json.loads, rows(ask, "--certificates", *files).splitlines())}
     for event, line in zip(events, lines):
-        wanted = event_of(line, prints, certificates)
+        wanted = event_of(line, sent, certificates)
         want(event == wanted and list(event) == list(wanted) and list(event["tls"]) == list(wanted["tls"]), "suricata:", event, "wanted is", wanted)
     for words, told in [(["--fields", "ts"], "--fields doesn't go with"), (["--messages"], "neither --messages"), (["--certificates"], "nor --certificates")]:
         status, text, error = ask(["--format", "suricata", *words, *files])
         want((status, text) == (2, "") and told in error, "suricata", *words, status, error)
+    chains(ask, files)
     return len(events)

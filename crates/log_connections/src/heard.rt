@@ -24,8 +24,7 @@ const SERVER_HELLO: u8 = 2;
 /// An upper bound for a connection's memory besides its handshake summary, in bytes.
 pub const HEARD_COST: usize = 2048;
 
-/// An upper bound for a keeper's memory, in bytes. The pieces aren't counted, since they are taken
-/// before the next packet is read.
+/// An upper bound for a keeper's memory besides what it keeps, in bytes.
 pub const KEEPER_COST: usize = 512;
 
 /// An upper bound for the buffers of a conversation, in bytes. On each side this is twice the sum
@@ -33,19 +32,26 @@ pub const KEEPER_COST: usize = 512;
 /// arrives at once behind a gap.
 const MAX_BUFFERS: usize = 2_621_440;
 
-/// What can be taken of a connection piece by piece, as it arrives.
+/// What a [`Keeper`] keeps of a connection.
 #[derive(Clone, Copy, Debug, PartialEq, Eq)]
 pub enum Pieces {
-    /// Its messages.
+    /// Its messages, in which cipher suites have names.
     Messages,
-    /// The certificates of its chains.
+    /// Its messages, in which cipher suites have numbers.
+    NumberedMessages,
+    /// The certificates of its chains, each until it is taken.
     Certificates,
+    /// Its chains, until it ends.
+    Chains,
 }
 
 /// Keeps the pieces of a connection until they are taken. It gets each event that counts.
 pub trait Keeper: Drop + Witness {
     /// Returns the keeper for a new connection.
     fn begin(alloc: Global, pieces: Pieces) -> Self;
+
+    /// Returns the bytes of memory that it takes for what it keeps beyond a packet.
+    fn capacity(&self) -> usize;
 }
 
 /// The analysis of both sides' bytes, by transport.
@@ -138,10 +144,9 @@ impl<K: Keeper> Listener for Heard<K> {
             Said::Stream(analyzer, _) => analyzer.capacity().saturating_add(buffers_of(self.heard)),
             Said::Datagrams(analyzer) => analyzer.capacity(),
         };
-        let keeper = if self.keeper.is_some() {
-            KEEPER_COST
-        } else {
-            0
+        let keeper = match &self.keeper {
+            Some(keeper) => keeper.capacity().saturating_add(KEEPER_COST),
+            None => 0,
         };
         let tunnels = if self.tunnels.is_some() {
             size_of::<Tunnels>()
@@ -267,6 +272,14 @@ impl<K: Keeper> Heard<K> {
     pub fn keeper(&mut self) -> Option<&mut K> {
         match &mut self.keeper {
             Some(keeper) => Some(&mut **keeper),
+            None => None,
+        }
+    }
+
+    /// Returns the keeper, if there is one.
+    pub fn kept(&self) -> Option<&K> {
+        match &self.keeper {
+            Some(keeper) => Some(&**keeper),
             None => None,
         }
     }

@@ -45,6 +45,11 @@ pub struct Summary<'a> {
     pub responder: Party<'a>,
     /// The handshake of both sides.
     pub handshake: &'a HandshakeSummary,
+    /// The certificates that the client sent, in DER, each after 3 bytes of length. Empty if it sent
+    /// none, or they aren't kept.
+    pub client_chain: &'a [u8],
+    /// The certificates that the server sent, in the same form.
+    pub server_chain: &'a [u8],
     /// A letter for each event, as in Zeek's ssl_history.
     pub history: &'a [u8],
     /// The state of the handshake.

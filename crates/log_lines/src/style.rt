@@ -72,8 +72,6 @@ pub enum StyleError<'a> {
     UnknownDetail(&'a str),
     /// Both messages and certificates should get lines.
     TwoKinds,
-    /// Messages should get lines, and cipher suites should be numbers.
-    NumbersOfMessages,
     /// Fields were chosen for a format with fixed fields.
     FieldsOfFormat(Format),
     /// Messages or certificates should get lines in a format for connections only.
@@ -122,9 +120,6 @@ impl Display for StyleError<'_> {
             }
             StyleError::TwoKinds => {
                 f.write_str("--messages and --certificates don't go together")
-            }
-            StyleError::NumbersOfMessages => {
-                f.write_str("--numbers doesn't go with --messages, which has names")
             }
             StyleError::FieldsOfFormat(format) => write!(
                 f,
@@ -245,9 +240,6 @@ impl Style {
         names: Option<&str>,
         suites: Suites,
     ) -> Result<Style, StyleError<'_>> {
-        if kind == LineKind::Messages && suites.are_numbered() {
-            return Err(StyleError::NumbersOfMessages);
-        }
         if format.has_own_fields() {
             if kind != LineKind::Connections {
                 return Err(StyleError::KindOfFormat(format));
@@ -264,6 +256,11 @@ impl Style {
             digests: RefCell::new(KnownDigests::new(alloc)),
             texts: RefCell::new(KnownTexts::new(alloc)),
         })
+    }
+
+    /// Returns whether the line of a connection has the certificates of its chains.
+    pub fn has_chains(&self) -> bool {
+        self.format == Format::Suricata
     }
 
     /// Returns what comes before all lines, without its last line break, if there is something.

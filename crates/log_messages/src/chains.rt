@@ -1,22 +1,22 @@
-//! The certificates that both sides send in the clear, one after the other.
+//! The unencrypted certificates of both sides, each kept until its line is written.
 use std::alloc::{AllocError, Global};
 use std::mem;
 use tls_base::TlsHandshakeType;
 use tls_flow::{Direction, HandshakeMessage};
 use tls_hs::certificates;
 
-/// A certificate, and where it stands.
+/// A certificate, its sender and its place.
 #[derive(Drop)]
 pub struct Presented {
-    /// The direction that it goes in.
+    /// The direction in which it was sent.
     pub direction: Direction,
-    /// How many certificates stand in front of it in its chain: its sender's own has 0.
+    /// The number of certificates before it in its chain: 0 for its sender's own.
     pub place: u64,
-    /// Its bytes, in DER.
+    /// Its DER.
     pub bytes: Vec<u8>,
 }
 
-/// The certificates that were heard and are kept.
+/// Certificates that are kept until they are taken.
 #[derive(Drop)]
 pub struct Chains {
     alloc: Global,
@@ -24,7 +24,7 @@ pub struct Chains {
 }
 
 impl Chains {
-    /// Those of a connection of which nothing came.
+    /// Returns one that keeps nothing yet.
     pub fn new(alloc: Global) -> Chains {
         Chains {
             alloc,
@@ -33,6 +33,8 @@ impl Chains {
     }
 
     /// Keeps the certificates of a message, if it is a Certificate (RFC 5246, section 7.4.2).
+    ///
+    /// `AllocError` if memory runs out; certificates before that are kept.
     pub fn hear(
         &mut self,
         direction: Direction,
@@ -61,7 +63,7 @@ impl Chains {
         Ok(())
     }
 
-    /// Takes out the certificates that are kept.
+    /// Removes the certificates that are kept, and returns them.
     pub fn take(&mut self) -> Vec<Presented> {
         mem::replace(&mut self.kept, Vec::new(self.alloc))
     }

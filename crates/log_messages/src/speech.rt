@@ -1,13 +1,13 @@
-//! The messages that both sides say in the clear, one after the other.
+//! The unencrypted messages of both sides, each kept until its line is written.
 use serde::Serialize;
 use std::alloc::{AllocError, Global};
 use std::mem;
 use tls_base::{TlsHandshakeType, TlsMessageAlert, TlsRecordType};
 use tls_flow::{Direction, HandshakeMessage};
-use tls_json::{AlertMessage, ChangeCipherSpec, Chosen, HeartbeatMessage, Message};
+use tls_json::{AlertMessage, ChangeCipherSpec, Chosen, HeartbeatMessage, Message, SuiteText};
 use tls_stream::Said;
 
-/// What stands in a message, by its fields.
+/// The fields of a message.
 #[derive(Drop, Serialize)]
 #[serde(untagged)]
 pub enum Body {
@@ -21,23 +21,23 @@ pub enum Body {
     Heartbeat(HeartbeatMessage),
 }
 
-/// A message.
+/// A message with its type and name.
 #[derive(Drop)]
 pub struct Word {
-    /// The type of its record (RFC 8446, section 5.1).
+    /// The content type of its record (RFC 8446, section 5.1).
     pub content_type: TlsRecordType,
-    /// Its name, where it has one.
+    /// Its name, if it is registered.
     pub name: Option<&'static str>,
-    /// Its fields; `None` where it has no whole header.
+    /// Its fields; `None` if its header isn't whole.
     pub body: Option<Box<Body>>,
 }
 
-/// A message, and where it stands.
+/// A message, its sender and its place.
 #[derive(Drop)]
 pub struct Spoken {
-    /// The direction that it goes in.
+    /// The direction in which it was sent.
     pub direction: Direction,
-    /// How many messages of its side stand in front of it.
+    /// The number of messages that its sender sent before it.
     pub place: u64,
     /// The message.
     pub word: Word,
@@ -57,13 +57,13 @@ impl Word {
         })
     }
 
-    /// A message that has the name of its record's type.
+    /// Returns a message that is named after its record's type.
     fn alone(alloc: Global, content_type: TlsRecordType, body: Body) -> Result<Word, AllocError> {
         Word::new(alloc, content_type, content_type.registered_name(), body)
     }
 }
 
-/// A ChangeCipherSpec (RFC 5246, section 7.1).
+/// Returns a ChangeCipherSpec (RFC 5246, section 7.1).
 fn change_word(alloc: Global) -> Result<Word, AllocError> {
     Word::alone(
         alloc,
@@ -77,21 +77,23 @@ fn alert_word(alloc: Global, alert: &TlsMessageAlert) -> Result<Word, AllocError
     Word::alone(alloc, TlsRecordType::Alert, Body::Alert(alert))
 }
 
-/// A heartbeat (RFC 6520, section 4), by the fragment of its record.
+/// Returns a heartbeat (RFC 6520, section 4), by the fragment of its record.
 fn heartbeat_word(alloc: Global, fragment: &[u8]) -> Result<Word, AllocError> {
     let heartbeat = HeartbeatMessage::new(alloc, fragment)?;
     Word::alone(alloc, TlsRecordType::Heartbeat, Body::Heartbeat(heartbeat))
 }
 
-/// The name of a handshake message of TLS, its header first.
+/// Returns the name of a handshake message of TLS, given with its header.
 fn handshake_name(message: &[u8]) -> Option<&'static str> {
     let kind = message.first()?;
     TlsHandshakeType(*kind).registered_name()
 }
 
-/// A handshake message of TLS by its bytes, its header first, and as it was read, where it is whole; it may be a ServerHello that chooses.
+/// Returns a handshake message of TLS, given with its header and, if it is whole, parsed. If it is
+/// a ServerHello, `chosen` becomes what it chose.
 fn handshake_word(
     alloc: Global,
+    suite_text: SuiteText,
     chosen: &mut Option<Chosen>,
     bytes: &[u8],
     message: Option<&HandshakeMessage<'_>>,
@@ -107,13 +109,15 @@ fn handshake_word(
     if let Some(choice) = Chosen::of(message) {
         *chosen = Some(choice);
     }
-    let read = Message::of(alloc, *chosen, message)?;
+    let read = Message::of(alloc, suite_text, *chosen, message)?;
     Word::new(alloc, TlsRecordType::Handshake, name, Body::Handshake(read))
 }
 
-/// A handshake message of DTLS, and its number; it may be a ServerHello that chooses.
+/// Returns a handshake message of DTLS with its number. If it is a ServerHello, `chosen` becomes
+/// what it chose.
 fn handshake_word_of_datagrams(
     alloc: Global,
+    suite_text: SuiteText,
     chosen: &mut Option<Chosen>,
     message_seq: u16,
     message: &HandshakeMessage<'_>,
@@ -122,14 +126,15 @@ fn handshake_word_of_datagrams(
         *chosen = Some(choice);
     }
     let name = message.msg_type.registered_name();
-    let read = Message::of_datagram_message(alloc, *chosen, message_seq, message)?;
+    let read = Message::of_datagram_message(alloc, suite_text, *chosen, message_seq, message)?;
     Word::new(alloc, TlsRecordType::Handshake, name, Body::Handshake(read))
 }
 
-/// The messages that were heard and are kept.
+/// Messages that are kept until they are taken, and what further ones depend on.
 #[derive(Drop)]
 struct Kept {
-    // That of the last ServerHello: key exchanges behind it are read by it.
+    suite_text: SuiteText,
+    // What the last ServerHello chose: key exchanges after it are parsed by it.
     chosen: Option<Chosen>,
     client_count: u64,
     server_count: u64,
@@ -137,7 +142,7 @@ struct Kept {
 }
 
 impl Kept {
-    /// The place of a side's next message.
+    /// Returns the place of the next message in that direction, and counts it.
     fn next_place(&mut self, direction: Direction) -> u64 {
         match direction {
             Direction::ToServer => {
@@ -153,7 +158,7 @@ impl Kept {
         }
     }
 
-    /// Keeps a side's next message.
+    /// Keeps the next message in that direction.
     fn keep(
         &mut self,
         direction: Direction,
@@ -169,7 +174,7 @@ impl Kept {
         Ok(())
     }
 
-    /// Keeps what a side of TLS says, where that is a message in the clear.
+    /// Keeps an event of TLS, if it is an unencrypted message.
     fn hear_event(
         &mut self,
         alloc: Global,
@@ -179,7 +184,7 @@ impl Kept {
     ) -> Result<(), AllocError> {
         match event {
             tls_stream::Event::Handshake(bytes) => {
-                let word = handshake_word(alloc, &mut self.chosen, bytes, message);
+                let word = handshake_word(alloc, self.suite_text, &mut self.chosen, bytes, message);
                 self.keep(direction, word)
             }
             tls_stream::Event::ChangeCipherSpec => self.keep(direction, change_word(alloc)),
@@ -192,7 +197,7 @@ impl Kept {
         }
     }
 
-    /// The same of what a side of DTLS says.
+    /// Keeps an event of DTLS, if it is an unencrypted message.
     fn hear_datagrams_event(
         &mut self,
         alloc: Global,
@@ -206,7 +211,13 @@ impl Kept {
                     return Ok(());
                 };
                 let number = whole.message_seq;
-                let word = handshake_word_of_datagrams(alloc, &mut self.chosen, number, message);
+                let word = handshake_word_of_datagrams(
+                    alloc,
+                    self.suite_text,
+                    &mut self.chosen,
+                    number,
+                    message,
+                );
                 self.keep(direction, word)
             }
             dtls_stream::Event::ChangeCipherSpec => self.keep(direction, change_word(alloc)),
@@ -217,7 +228,7 @@ impl Kept {
     }
 }
 
-/// The messages of both sides, as they come.
+/// The messages of both sides in the order in which they came.
 #[derive(Drop)]
 pub struct Speech {
     alloc: Global,
@@ -225,11 +236,12 @@ pub struct Speech {
 }
 
 impl Speech {
-    /// That of a connection of which nothing came.
-    pub fn new(alloc: Global) -> Speech {
+    /// Returns one that keeps nothing yet. Cipher suites are written as `suite_text` says.
+    pub fn new(alloc: Global, suite_text: SuiteText) -> Speech {
         Speech {
             alloc,
             kept: Kept {
+                suite_text,
                 chosen: None,
                 client_count: 0,
                 server_count: 0,
@@ -238,7 +250,8 @@ impl Speech {
         }
     }
 
-    /// Keeps what a side of TLS says, where that is a message in the clear; `message` is the handshake message that it is.
+    /// Keeps an event of TLS, if it is an unencrypted message. `message` is the event's handshake
+    /// message, parsed.
     pub fn hear_said(
         &mut self,
         direction: Direction,
@@ -251,7 +264,8 @@ impl Speech {
         }
     }
 
-    /// The same of what a side of DTLS says.
+    /// Keeps an event of DTLS, if it is an unencrypted message. `message` is the event's handshake
+    /// message, parsed.
     pub fn hear_event(
         &mut self,
         direction: Direction,
@@ -262,7 +276,7 @@ impl Speech {
             .hear_datagrams_event(self.alloc, direction, event, message)
     }
 
-    /// Takes out the messages that are kept.
+    /// Removes the messages that are kept, and returns them.
     pub fn take(&mut self) -> Vec<Spoken> {
         mem::replace(&mut self.kept.spoken, Vec::new(self.alloc))
     }

@@ -1,6 +1,9 @@
-//! Connections as Suricata's eve.json has them (docs.suricata.io, "EVE JSON Format", event type TLS).
+//! Events of type `tls` of Suricata's eve.json (docs.suricata.io, "EVE JSON Format", event type
+//! TLS).
+use base64::engine::general_purpose::STANDARD;
 use connection_ids::flow_id;
 use connections::{Protocol, Side};
+use layouts::Items;
 use log_fields::columns::Certified;
 use log_fields::connection::{cell_of, end_cell, microseconds};
 use log_fields::fields::{End, Field, Named, Offer, Print};
@@ -18,12 +21,13 @@ use log_formats::versions::suricata_version;
 use serde::{Described, Serialize, Serializer};
 use sha1::Sha1;
 use std::alloc::{AllocError, Global};
+use tls_hs::RawCertificate;
 use tls_summary::HandshakeSummary;
 
-/// The time zone of times: UTC.
+/// The time zone of timestamps: UTC.
 const ZONE: &str = "+0000";
 
-/// What the certificate of a side's own says.
+/// A field of a side's own certificate.
 #[derive(Clone, Copy)]
 enum OwnField {
     Subject,
@@ -36,10 +40,14 @@ enum OwnField {
 
 /// A field of the object `tls`.
 enum Said {
-    /// The same as one of the log's own fields.
+    /// The value of one of the log's fields.
     Same(Field),
-    /// What the certificate of a side's own says.
+    /// A field of a side's own certificate.
     Own(Side, OwnField),
+    /// A side's own certificate, whole.
+    Certificate(Side),
+    /// All certificates that a side sent.
+    Chain(Side),
     AlternativeNames,
     Version,
     Resumed,
@@ -48,7 +56,13 @@ enum Said {
     Chosen,
 }
 
-/// The fields of the object `tls` in front of the object `client`, in their order.
+/// The name of the field that has a side's own certificate.
+const CERTIFICATE: &str = "certificate";
+
+/// The name of the field that has all certificates of a side.
+const CHAIN: &str = "chain";
+
+/// The fields of the object `tls` before the object `client`, in order.
 static TLS: &[(&str, Said)] = &[
     ("subject", Said::Own(Side::Responder, OwnField::Subject)),
     ("issuerdn", Said::Own(Side::Responder, OwnField::Issuer)),
@@ -63,18 +77,20 @@ static TLS: &[(&str, Said)] = &[
     ("version", Said::Version),
     ("notbefore", Said::Own(Side::Responder, OwnField::NotBefore)),
     ("notafter", Said::Own(Side::Responder, OwnField::NotAfter)),
+    (CERTIFICATE, Said::Certificate(Side::Responder)),
+    (CHAIN, Said::Chain(Side::Responder)),
     ("ja3", Said::Ja3),
     ("ja3s", Said::Ja3s),
     ("ja4", Said::Same(Field::Print(Print::Ja4))),
 ];
 
-/// Those behind it.
+/// The fields of the object `tls` after the object `client`, in order.
 static PROTOCOLS: &[(&str, Said)] = &[
     ("client_alpns", Said::Same(Field::Offer(Offer::Protocols))),
     ("server_alpns", Said::Chosen),
 ];
 
-/// The fields of the object `client`, in their order: what the client's certificate says.
+/// The fields of the object `client`, in order: those of the client's certificates.
 static CLIENT: &[(&str, Said)] = &[
     ("subject", Said::Own(Side::Originator, OwnField::Subject)),
     ("issuerdn", Said::Own(Side::Originator, OwnField::Issuer)),
@@ -88,9 +104,12 @@ static CLIENT: &[(&str, Said)] = &[
         Said::Own(Side::Originator, OwnField::NotBefore),
     ),
     ("notafter", Said::Own(Side::Originator, OwnField::NotAfter)),
+    (CERTIFICATE, Said::Certificate(Side::Originator)),
+    (CHAIN, Said::Chain(Side::Originator)),
 ];
 
-/// An event of eve.json: what any event has, and the object `tls`, which has the object `client` within, where the client sent a certificate.
+/// An event: the fields that any event has, and the object `tls`. That contains the object
+/// `client`, if the client sent a certificate.
 #[derive(Drop)]
 struct Event<'a> {
     front: Row<'static>,
@@ -124,7 +143,7 @@ fn version_cell<'a>(handshake: &HandshakeSummary) -> Option<Cell<'a>> {
     Some(Cell::Text(text))
 }
 
-/// Hexadecimal digits with `:` between each two.
+/// Puts `:` between each two hexadecimal digits.
 fn with_colons(alloc: Global, digits: &str) -> Result<String, AllocError> {
     let mut text = String::new(alloc);
     for (place, digit) in digits.as_bytes().iter().enumerate() {
@@ -136,7 +155,7 @@ fn with_colons(alloc: Global, digits: &str) -> Result<String, AllocError> {
     Ok(text)
 }
 
-/// The places of the signs between the attributes of a name: of each `,` and `+` that isn't escaped.
+/// Returns the places of the separators in a name: of each `,` and `+` that isn't escaped.
 fn places_of_signs(alloc: Global, text: &[u8]) -> Result<Vec<usize>, AllocError> {
     let mut places = Vec::new(alloc);
     let mut is_escaped = false;
@@ -149,7 +168,7 @@ fn places_of_signs(alloc: Global, text: &[u8]) -> Result<Vec<usize>, AllocError>
     Ok(places)
 }
 
-/// Adds ASCII.
+/// Appends ASCII, if there is any.
 fn add_ascii(text: &mut String, bytes: Option<&[u8]>) -> Result<(), AllocError> {
     for byte in bytes.unwrap_or(&[]) {
         text.push(char::from(*byte))?;
@@ -157,7 +176,7 @@ fn add_ascii(text: &mut String, bytes: Option<&[u8]>) -> Result<(), AllocError> 
     Ok(())
 }
 
-/// A name from its first set of attributes to the last, as Suricata has it, by the text that RFC 4514 has from the last on.
+/// Reverses a name: RFC 4514 writes the last set of attributes first, Suricata the first.
 fn forward_name(alloc: Global, text: &[u8]) -> Result<String, AllocError> {
     let mut forward = String::new(alloc);
     let places = places_of_signs(alloc, text)?;
@@ -176,7 +195,7 @@ fn forward_name(alloc: Global, text: &[u8]) -> Result<String, AllocError> {
     Ok(forward)
 }
 
-/// The field of a side's certificate.
+/// Returns the log's field for a side's certificate.
 fn field_of(side: Side, field: Certified) -> Field {
     match side {
         Side::Originator => Field::ClientCertificate(field),
@@ -184,7 +203,7 @@ fn field_of(side: Side, field: Certified) -> Field {
     }
 }
 
-/// The bytes of a side's own certificate.
+/// Returns the DER of a side's own certificate, if it sent one.
 fn own_bytes<'a>(handshake: &'a HandshakeSummary, side: Side) -> Option<&'a [u8]> {
     match side {
         Side::Originator => handshake.client_certificate.as_deref(),
@@ -192,7 +211,7 @@ fn own_bytes<'a>(handshake: &'a HandshakeSummary, side: Side) -> Option<&'a [u8]
     }
 }
 
-/// A name of a side's certificate.
+/// Writes a name of a side's certificate.
 fn name_cell_of<'a>(
     alloc: Global,
     told: &mut Told<'_>,
@@ -205,13 +224,13 @@ fn name_cell_of<'a>(
     }
 }
 
-/// The DNS names and then the addresses in the server's subjectAltName.
+/// The fields that make up `subjectaltname`: the server's DNS names, then its addresses.
 static NAMES: [Field; 2] = [
     Field::ServerCertificate(Certified::DnsNames),
     Field::ServerCertificate(Certified::Addresses),
 ];
 
-/// The bytes of its serial number.
+/// Writes the bytes of a certificate's serial number.
 fn serial_cell<'a>(alloc: Global, own: &mut Own<'_>) -> Result<Option<Cell<'a>>, AllocError> {
     match own.certificate() {
         Some(certificate) => {
@@ -222,7 +241,7 @@ fn serial_cell<'a>(alloc: Global, own: &mut Own<'_>) -> Result<Option<Cell<'a>>,
     }
 }
 
-/// The SHA-1 of a certificate.
+/// Writes the SHA-1 of a certificate.
 fn fingerprint_cell<'a>(
     alloc: Global,
     bytes: Option<&[u8]>,
@@ -236,7 +255,7 @@ fn fingerprint_cell<'a>(
     }
 }
 
-/// A time of a side's certificate, without its time zone, which is UTC.
+/// Writes a time of a side's certificate, without its time zone, which is UTC.
 fn date_cell<'a>(
     told: &mut Told<'_>,
     side: Side,
@@ -251,7 +270,42 @@ fn date_cell<'a>(
     }
 }
 
-/// What one field says of a side's certificate.
+/// Writes a certificate in base64 (RFC 4648, section 4); `None` if none was sent, or memory is
+/// refused.
+fn certificate_cell<'a>(alloc: Global, bytes: Option<&[u8]>) -> Option<Cell<'a>> {
+    match STANDARD.encode(alloc, bytes?) {
+        Ok(text) => Some(Cell::Text(Text::Owned(text))),
+        Err(_) => None,
+    }
+}
+
+/// Returns each certificate of a list in base64. In the list each follows its length of 3 bytes.
+fn chain_texts(alloc: Global, list: &[u8]) -> Result<Vec<String>, AllocError> {
+    let walk: Items<RawCertificate> = Items::new(list);
+    let mut all = Vec::new(alloc);
+    for certificate in walk {
+        all.push(STANDARD.encode(alloc, certificate.bytes)?)?;
+    }
+    Ok(all)
+}
+
+/// Writes a chain in base64; `None` if none is kept, or memory is refused.
+fn chain_cell<'a>(alloc: Global, list: &[u8]) -> Option<Cell<'a>> {
+    match chain_texts(alloc, list) {
+        Ok(texts) if !texts.is_empty() => Some(Cell::Texts(Texts::Owned(texts))),
+        _ => None,
+    }
+}
+
+/// Returns the certificates that a side sent, each after its length of 3 bytes.
+fn chain_bytes<'a>(summary: &Summary<'a>, side: Side) -> &'a [u8] {
+    match side {
+        Side::Originator => summary.client_chain,
+        Side::Responder => summary.server_chain,
+    }
+}
+
+/// Writes a field of a side's own certificate.
 fn own_cell<'a>(
     alloc: Global,
     told: &mut Told<'_>,
@@ -271,7 +325,7 @@ fn own_cell<'a>(
     }
 }
 
-/// A fingerprint beside its text.
+/// Writes a fingerprint and the text that it is the digest of.
 fn print_cell<'a>(
     alloc: Global,
     told: &mut Told<'_>,
@@ -289,7 +343,7 @@ fn print_cell<'a>(
     }
 }
 
-/// The protocol that the server chose, as a list.
+/// Writes the protocol that the server chose, as a list of one.
 fn chosen_cell<'a>(
     alloc: Global,
     handshake: &HandshakeSummary,
@@ -302,7 +356,7 @@ fn chosen_cell<'a>(
     Ok(Some(Cell::Texts(Texts::Owned(all))))
 }
 
-/// What one field of the object `tls` says.
+/// Writes a field of the object `tls`.
 fn said_cell<'a>(
     alloc: Global,
     told: &mut Told<'a>,
@@ -312,6 +366,10 @@ fn said_cell<'a>(
     match said {
         Said::Same(field) => cell_of(told, field),
         Said::Own(side, field) => own_cell(alloc, told, *side, *field),
+        Said::Certificate(side) => {
+            Ok(certificate_cell(alloc, own_bytes(summary.handshake, *side)))
+        }
+        Said::Chain(side) => Ok(chain_cell(alloc, chain_bytes(summary, *side))),
         Said::AlternativeNames => listed_cell(told, &NAMES),
         Said::Version => Ok(version_cell(summary.handshake)),
         Said::Resumed => Ok(some_mark(summary.is_resumed)),
@@ -328,7 +386,7 @@ fn proto_name(protocol: Protocol) -> &'static str {
     }
 }
 
-/// The number by which Suricata's events of one connection are found.
+/// Returns `flow_id`, which joins the events of a connection.
 fn flow_number(summary: &Summary<'_>) -> u64 {
     flow_id(
         summary.protocol,
@@ -338,7 +396,7 @@ fn flow_number(summary: &Summary<'_>) -> u64 {
     )
 }
 
-/// What any event has.
+/// Writes the fields that any event has.
 fn front_row(alloc: Global, summary: &Summary<'_>) -> Result<Row<'static>, AllocError> {
     let time = summary.first_time;
     let moment = Moment {
@@ -359,7 +417,7 @@ fn front_row(alloc: Global, summary: &Summary<'_>) -> Result<Row<'static>, Alloc
     Ok(Row { cells })
 }
 
-/// The ends of a connection.
+/// The fields of a connection's addresses and ports.
 static FRONT: &[(&str, End)] = &[
     ("src_ip", End::Originator),
     ("src_port", End::OriginatorPort),
@@ -367,7 +425,7 @@ static FRONT: &[(&str, End)] = &[
     ("dest_port", End::ResponderPort),
 ];
 
-/// These fields of the object `tls`, or of one within it.
+/// Writes these fields of the object `tls` or `client`.
 fn tls_row<'a>(
     alloc: Global,
     told: &mut Told<'a>,
@@ -380,7 +438,7 @@ fn tls_row<'a>(
     Ok(Row { cells })
 }
 
-/// The object `client`, where the client sent a certificate.
+/// Writes the object `client`, if the client sent a certificate.
 fn client_row<'a>(alloc: Global, told: &mut Told<'a>) -> Result<Option<Row<'a>>, AllocError> {
     if own_bytes(told.handshake, Side::Originator).is_none() {
         return Ok(None);
@@ -388,15 +446,32 @@ fn client_row<'a>(alloc: Global, told: &mut Told<'a>) -> Result<Option<Row<'a>>,
     Ok(Some(tls_row(alloc, told, CLIENT)?))
 }
 
-/// The event of a connection, without a line break.
+/// Removes whole certificates from a row.
+fn leave_out_certificates(row: &mut Row<'_>) {
+    for (name, cell) in &mut row.cells {
+        if *name == CERTIFICATE || *name == CHAIN {
+            *cell = None;
+        }
+    }
+}
+
+/// Returns the event of a connection, without a line break. If memory is refused for the
+/// certificates in it, they are left out.
 pub fn line(told: Told<'_>) -> Result<Vec<u8>, AllocError> {
     let (alloc, summary) = (told.alloc, told.summary);
     let mut told = told;
-    let event = Event {
+    let mut event = Event {
         front: front_row(alloc, summary)?,
         tls: tls_row(alloc, &mut told, TLS)?,
         client: client_row(alloc, &mut told)?,
         protocols: tls_row(alloc, &mut told, PROTOCOLS)?,
     };
+    if let Ok(line) = json_bytes(alloc, &event, LINE_LEN) {
+        return Ok(line);
+    }
+    leave_out_certificates(&mut event.tls);
+    if let Some(client) = &mut event.client {
+        leave_out_certificates(client);
+    }
     json_bytes(alloc, &event, LINE_LEN)
 }

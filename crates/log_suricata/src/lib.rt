@@ -1,4 +1,4 @@
-//! Connections as Suricata's eve.json has them: [`line`].
+//! `--format suricata`: [`line`] writes a connection as an event of Suricata's eve.json.
 #![tactic(auto)]
 
 mod event;

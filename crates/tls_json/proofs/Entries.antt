@@ -37,7 +37,7 @@ names_members (e ∷ es) = ap (λ ns. e.0 ∷ ns) (names_members es)
 pub names_object : (v : Vec (Bor (List ℕ) × Value) Global) → names (outline (view (Object v))) ≡ entry_names (entries v.items)
 names_object v = ap (λ d. names d) (outline_object v) ∙ names_members (entries v.items)
 
--- What a value shows, where it is there.
+-- What a value shows, if there is one.
 abbrev pub data_of : Made → Data
 data_of (Ok v) = outline (view v)
 data_of (Err e) = null

@@ -1,4 +1,4 @@
--- The names of the fields of extensions, in their order.
+-- The names of the fields of extensions, in order.
 use Rattle.std.specs.Prelude.{ℕ, List, [], ◌∷◌, codes}
 use Rattle.serde_json.specs.Data.{Data}
 use Rattle.tls_ext.specs.declared.extension.OidFilter.{OidFilter}
@@ -91,7 +91,8 @@ filter_fields filter = object_of (
     ∷ bytes (codes "certificate_extension_values") filter.cert_ext_val.now
     ∷ [])
 
--- a share, a client's, a server's, and that of a server that asks for another group (RFC 8446, section 4.2.8)
+-- a share, a client's shares, a server's, and the group of a HelloRetryRequest (RFC 8446, section
+-- 4.2.8)
 abbrev pub share_fields : ℕ → List ℕ → Data
 share_fields group key_exchange = object_of (hexadecimal (codes "group") group ∷ bytes (codes "key_exchange") key_exchange ∷ [])
 
@@ -108,7 +109,7 @@ selected_group = codes "selected_group" ∷ []
 abbrev pub connection_id : List (List ℕ)
 connection_id = codes "cid" ∷ []
 
--- a client's, as it stands in the hello that isn't encrypted (RFC 9849, sections 4 and 5)
+-- a client's outer one (RFC 9849, sections 4 and 5)
 abbrev pub suite_fields : ℕ → ℕ → Data
 suite_fields kdf_id aead_id = object_of (hexadecimal (codes "kdf_id") kdf_id ∷ hexadecimal (codes "aead_id") aead_id ∷ [])
 

@@ -1,4 +1,4 @@
--- What the clauses say of a value: all of it but what stands in lists.
+-- Outlines of values: all of a value except what is in its lists. Clauses are about these.
 use Rattle.std.specs.Prelude.{◌≡◌, ◌++◌, ◌/◌, ◌%◌, ℕ, List, [], ◌∷◌, map, codes, Option, Some, None, Result, IfOk, Vec, ⊤}
 use Rattle.std.specs.Borrow.{Bor}
 use Rattle.std.specs.declared.alloc.AllocError.{AllocError}
@@ -22,9 +22,11 @@ use Rattle.tls_base.specs.Names.{look_up}
 use Rattle.tls_base.specs.RegisteredSuites.{registered_suites}
 use Rattle.tls_json.specs.Views.{view}
 use Rattle.tls_json.specs.declared.json.Value.{Value}
+use Rattle.tls_json.specs.declared.suite.SuiteText.{SuiteText}
+use Rattle.tls_json.specs.declared.suite.SuiteText.TheVariants.{Name, Number}
 use Rattle.tls_json.specs.declared.table.Table.{Table}
 
--- The same with each list emptied.
+-- The data with each list emptied.
 abbrev mutual
   pub outline : Data → Data
   outline null = null
@@ -41,7 +43,7 @@ abbrev mutual
 abbrev pub Shows : Data → Value → Type 0
 Shows d v = outline (view v) ≡ d
 
--- Names of fields, each with what it stands for.
+-- Names of fields, each with its data.
 abbrev pub Entries : Type 0
 Entries = List (List ℕ × Data)
 
@@ -62,14 +64,15 @@ object_of es = object (members es)
 abbrev pub number_text : ℕ → List ℕ
 number_text n = codes "0x" ++ encode_lower (n / 256 ∷ n % 256 ∷ [])
 
--- A name, or else the number.
+-- A name, or the number if there is none.
 abbrev pub name_or_number : Option (List ℕ) → ℕ → List ℕ
 name_or_number None n = number_text n
 name_or_number (Some name) n = name
 
--- A cipher suite: the name that IANA's registry has for it, or else its number.
-unfoldable pub suite_text : ℕ → List ℕ
-suite_text n = name_or_number (look_up registered_suites n) n
+-- A cipher suite: its name in IANA's registry, or else its number; or always its number.
+unfoldable pub suite_text : SuiteText → ℕ → List ℕ
+suite_text Name n = name_or_number (look_up registered_suites n) n
+suite_text Number n = number_text n
 
 -- The fields of each form of value.
 abbrev pub decimal : List ℕ → ℕ → List ℕ × Data
@@ -78,8 +81,8 @@ decimal name n = (name, number (unsigned n))
 abbrev pub hexadecimal : List ℕ → ℕ → List ℕ × Data
 hexadecimal name n = (name, string (number_text n))
 
-abbrev pub suite : List ℕ → ℕ → List ℕ × Data
-suite name n = (name, string (suite_text n))
+abbrev pub suite : List ℕ → SuiteText → ℕ → List ℕ × Data
+suite name text n = (name, string (suite_text text n))
 
 abbrev pub bytes : List ℕ → List ℕ → List ℕ × Data
 bytes name b = (name, string (encode_lower b))
@@ -127,11 +130,11 @@ HasNames ns v = names (outline (view v)) ≡ ns
 abbrev pub Made : Type 0
 Made = Result Value AllocError
 
--- Where there was memory for it, the fields have these names.
+-- If memory sufficed, the fields have these names.
 abbrev pub ReadsAs : List (List ℕ) → Made → Type 0
 ReadsAs ns r = IfOk r (HasNames ns)
 
--- What a table holds, where there was memory for it.
+-- A table has these fields, if memory sufficed.
 abbrev pub HasEntries : Entries → Vec (Bor (List ℕ) × Value) Global → Type 0
 HasEntries es fields = entries fields.items ≡ es
 
@@ -144,7 +147,7 @@ HasFields es t = IfOk t.fields (HasEntries es)
 abbrev pub HasFieldNames : List (List ℕ) → Table → Type 0
 HasFieldNames ns t = IfOk t.fields (IsNamed ns)
 
--- Where all of it is there, p holds of what was read, or of the table with more fields.
+-- If it can be parsed, p holds of the value, or of the table with more fields.
 abbrev pub IfRead : (Value → Type 0) → Option (Bor (List ℕ) × Made) → Type 0
 IfRead p None = ⊤
 IfRead p (Some x) = IfOk x.1 p

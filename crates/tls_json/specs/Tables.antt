@@ -1,4 +1,4 @@
--- The fields of messages by the names of the RFCs, in their order.
+-- The fields of messages in order, by the names of the RFCs.
 use Rattle.std.specs.Prelude.{◌++◌, ℕ, Bool, true, false, List, [], ◌∷◌, codes, Option, Some, None}
 use Rattle.std.specs.Borrow.{Bor}
 use Rattle.serde_json.specs.Data.{Data}
@@ -21,6 +21,7 @@ use Rattle.tls_hs.specs.declared.message.TlsMessageHeartbeat.{TlsMessageHeartbea
 use Rattle.tls_base.specs.declared.suite_exchange.KeyExchange.{KeyExchange}
 use Rattle.tls_base.specs.declared.suite_exchange.Public.{Public}
 use Rattle.tls_base.specs.declared.suite_exchange.Public.TheVariants.{Nothing, Rsa, Dh, Ecdh}
+use Rattle.tls_json.specs.declared.suite.SuiteText.{SuiteText}
 use Rattle.tls_json.specs.Outline.{
   Entries,
   object_of,
@@ -36,7 +37,8 @@ use Rattle.tls_json.specs.Outline.{
   some_name,
 }
 
--- A handshake message (RFC 5246, section 7.4; of DTLS RFC 6347, section 4.2.2): n bytes of a body, and what stands in it.
+-- A handshake message (RFC 5246, section 7.4; of DTLS RFC 6347, section 4.2.2) whose body has n
+-- bytes.
 abbrev pub message_fields : ℕ → Option (Bor (List ℕ)) → ℕ → Option ℕ → Data → List ℕ → Data
 message_fields msg_type name n message_seq body rest = object_of (
     decimal (codes "msg_type") msg_type
@@ -46,7 +48,7 @@ message_fields msg_type name n message_seq body rest = object_of (
     ++ (codes "body", body) ∷ []
     ++ some_bytes (codes "rest") rest)
 
--- Extension extensions<0..2^16-1> (RFC 8446, section 4.2), and what they leave of their block.
+-- Extension extensions<0..2^16-1> (RFC 8446, section 4.2), and what follows the last whole one.
 abbrev pub extensions_fields : Option (Bor (List ℕ)) → Entries
 extensions_fields None = []
 extensions_fields (Some block) = list (codes "extensions") ∷ some_bytes (codes "rest") (left_in raw_extension block.now)
@@ -59,12 +61,12 @@ extension_fields extension_type name extension_data = object_of (
     ++ (codes "extension_data", extension_data)
     ∷ [])
 
--- An empty one where there is none.
+-- A session's id, empty if there is none.
 abbrev pub id_bytes : Option (Bor (List ℕ)) → List ℕ
 id_bytes None = []
 id_bytes (Some id) = id.now
 
--- A ClientHello (RFC 5246, section 7.4.1.2); of DTLS with a cookie (RFC 6347, section 4.2.1).
+-- A ClientHello (RFC 5246, section 7.4.1.2). One of DTLS has a cookie (RFC 6347, section 4.2.1).
 abbrev pub client_hello_fields : ClientHelloView → Option (Bor (List ℕ)) → Data
 client_hello_fields hello cookie = object_of (
     hexadecimal (codes "client_version") hello.version.0
@@ -76,43 +78,44 @@ client_hello_fields hello cookie = object_of (
     ++ extensions_fields hello.ext)
 
 -- A ServerHello (RFC 5246, section 7.4.1.3).
-abbrev pub server_hello_fields : TlsServerHelloContents → Data
-server_hello_fields hello = object_of (
+abbrev pub server_hello_fields : SuiteText → TlsServerHelloContents → Data
+server_hello_fields text hello = object_of (
     hexadecimal (codes "server_version") hello.version.0
     ∷ bytes (codes "random") hello.random.now
     ∷ bytes (codes "session_id") (id_bytes hello.session_id)
-    ∷ suite (codes "cipher_suite") hello.cipher.0
+    ∷ suite (codes "cipher_suite") text hello.cipher.0
     ∷ decimal (codes "compression_method") hello.compression.0
     ∷ extensions_fields hello.ext)
 
--- That of draft 18 of TLS 1.3 (draft-ietf-tls-tls13-18, section 4.1.3).
-abbrev pub draft_hello_fields : TlsServerHelloV13Draft18Contents → Data
-draft_hello_fields hello = object_of (
+-- A ServerHello of draft 18 of TLS 1.3 (draft-ietf-tls-tls13-18, section 4.1.3).
+abbrev pub draft_hello_fields : SuiteText → TlsServerHelloV13Draft18Contents → Data
+draft_hello_fields text hello = object_of (
     hexadecimal (codes "server_version") hello.version.0
     ∷ bytes (codes "random") hello.random.now
-    ∷ suite (codes "cipher_suite") hello.cipher.0
+    ∷ suite (codes "cipher_suite") text hello.cipher.0
     ∷ extensions_fields hello.ext)
 
 -- A HelloRetryRequest (draft-ietf-tls-tls13-19, section 4.1.4).
-abbrev pub retry_fields : TlsHelloRetryRequestContents → Data
-retry_fields request = object_of (
+abbrev pub retry_fields : SuiteText → TlsHelloRetryRequestContents → Data
+retry_fields text request = object_of (
     hexadecimal (codes "server_version") request.version.0
-    ∷ suite (codes "cipher_suite") request.cipher.0
+    ∷ suite (codes "cipher_suite") text request.cipher.0
     ∷ extensions_fields request.ext)
 
--- A certificate chain in the bytes of its list, what its certificates say, and what it leaves of them (RFC 5246, section 7.4.2).
+-- A certificate chain (RFC 5246, section 7.4.2) in the bytes b of its list: the certificates, what
+-- they say, and what follows the last whole one.
 abbrev pub chain_fields : List ℕ → Data
 chain_fields b = object_of (
     list (codes "certificate_list")
     ∷ list (codes "certificates")
     ∷ some_bytes (codes "rest") (left_in (counted 3) b))
 
--- A list, where there is one.
+-- A list, if there is one.
 abbrev pub list_if : {A : Type 0} → List ℕ → Option A → Entries
 list_if name None = []
 list_if name (Some x) = list name ∷ []
 
--- A CertificateRequest (RFC 5246, section 7.4.4), and what its authorities leave of their list.
+-- A CertificateRequest (RFC 5246, section 7.4.4), and what follows the last whole authority.
 abbrev pub request_fields : CertificateRequestView → Data
 request_fields request = object_of (
     list (codes "certificate_types")
@@ -179,7 +182,7 @@ curve_content_fields curve_type (content.NamedGroup group) = named_curve_fields 
 abbrev pub curve_fields : ECParameters → Data
 curve_fields parameters = curve_content_fields parameters.curve_type.0 parameters.params_content
 
--- A server's public values of Diffie-Hellman (RFC 5246, section 7.4.3).
+-- A server's public values of finite-field Diffie-Hellman (RFC 5246, section 7.4.3).
 abbrev pub dh_fields : ServerDHParams → Data
 dh_fields values = object_of (
     bytes (codes "dh_p") values.dh_p.now
@@ -187,7 +190,7 @@ dh_fields values = object_of (
     ∷ bytes (codes "dh_Ys") values.dh_ys.now
     ∷ [])
 
--- The same over elliptic curves (RFC 8422, section 5.4).
+-- A server's public values of elliptic-curve Diffie-Hellman (RFC 8422, section 5.4).
 abbrev pub ecdh_fields : ServerECDHParams → Data
 ecdh_fields values = object_of (
     (codes "curve_params", curve_fields values.curve_params)
@@ -222,7 +225,7 @@ heartbeat_fields message padding = object_of (
     ∷ bytes (codes "padding") padding
     ∷ [])
 
--- A name, where it is so.
+-- A name, if the condition holds.
 abbrev pub names_if : Bool → List ℕ → List (List ℕ)
 names_if false name = []
 names_if true name = name ∷ []
@@ -234,7 +237,8 @@ params_names Rsa = []
 params_names Dh = codes "params" ∷ []
 params_names Ecdh = codes "params" ∷ []
 
--- A server's key exchange (RFC 5246, section 7.4.3; RFC 8422, section 5.4; RFC 4279, sections 2 to 4; RFC 5489, section 2).
+-- A ServerKeyExchange (RFC 5246, section 7.4.3; RFC 8422, section 5.4; RFC 4279, sections 2 to 4;
+-- RFC 5489, section 2).
 abbrev pub server_key_exchange_names : KeyExchange → List (List ℕ)
 server_key_exchange_names exchange =
     names_if exchange.has_identity (codes "psk_identity_hint")
@@ -248,7 +252,8 @@ client_value_names Rsa = codes "pre_master_secret" ∷ []
 client_value_names Dh = codes "dh_Yc" ∷ []
 client_value_names Ecdh = codes "ecdh_Yc" ∷ []
 
--- A client's key exchange (RFC 5246, section 7.4.7; RFC 8422, section 5.7; RFC 4279, sections 2 to 4; RFC 5489, section 2).
+-- A ClientKeyExchange (RFC 5246, section 7.4.7; RFC 8422, section 5.7; RFC 4279, sections 2 to 4;
+-- RFC 5489, section 2).
 abbrev pub client_key_exchange_names : KeyExchange → List (List ℕ)
 client_key_exchange_names exchange =
     names_if exchange.has_identity (codes "psk_identity") ++ client_value_names exchange.public

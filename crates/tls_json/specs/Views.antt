@@ -13,7 +13,7 @@ abbrev pub members_of : List (Bor (List ℕ) × Data) → Members
 members_of [] = no_members
 members_of (m ∷ ms) = member m.0.now m.1 (members_of ms)
 
--- one level, with each value inside already seen as its data
+-- one level, in which each inner value is data already
 abbrev pub view_step : Value-F Data → Data
 view_step (Value-F.Number n) = number (unsigned n)
 view_step (Value-F.Mark b) = boolean b

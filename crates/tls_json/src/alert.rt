@@ -1,4 +1,4 @@
-//! Alerts.
+//! Alerts as JSON.
 ghost use Rattle.std.specs.Prelude.{OnOk, ◌≡◌, codes};
 ghost use Rattle.serde_json.specs.Events.{SendsValue, SendsMembers, members_len};
 ghost use Rattle.tls_json.specs.Outline.{members, some_name};
@@ -7,7 +7,8 @@ ghost use Rattle.tls_json.specs.Tables.{alert_entries, alert_fields};
 use serde::{Described, Serialize, Serializer};
 use tls_base::{TlsAlertDescription, TlsAlertSeverity};
 
-/// An alert (RFC 8446, section 6): its level, its description, and the name of that where it has one.
+/// An alert (RFC 8446, section 6): its level, its description, and the name of the description if
+/// it is registered.
 #[derive(Drop)]
 pub struct AlertMessage {
     level: u8,
@@ -19,7 +20,7 @@ impl Described for AlertMessage {
     ghost writes = { λ a. SendsValue (alert_fields a.level a.description a.name) };
 }
 
-/// How many fields it has.
+/// Counts the fields of an alert with this name.
 fn count(name: Option<&'static str>) -> usize
     ensures { result ≡ members_len (members (alert_entries 0 0 name.entry)) }
 {
@@ -29,7 +30,7 @@ fn count(name: Option<&'static str>) -> usize
     }
 }
 
-/// Writes the name, where there is one, and ends the object.
+/// Writes the name, if there is one, and ends the object.
 fn end<S: Serializer>(name: Option<&'static str>, out: &mut S) -> Result<(), S::Error>
     ensures { OnOk result (SendsMembers (members (some_name (codes "name") name.entry)) (S.written out.old) (S.written out.new)) }
 {
@@ -55,7 +56,7 @@ impl Serialize for AlertMessage {
 }
 
 impl AlertMessage {
-    /// That of a level and a description.
+    /// Makes an alert of its level and description.
     pub fn new(level: TlsAlertSeverity, description: TlsAlertDescription) -> AlertMessage {
         AlertMessage {
             level: level.0,

@@ -1,4 +1,4 @@
-//! The bodies of handshake messages.
+//! Bodies of handshake messages.
 ghost use Rattle.std.specs.Prelude.{IfOk, IfSome, ◌≡◌, ◌++◌, codes};
 ghost use Rattle.serde_json.specs.Data.{array, no_items};
 ghost use Rattle.layouts.specs.Items.{left_in};
@@ -12,6 +12,7 @@ use crate::datagrams::whole_message;
 use crate::hello::{client_hello, hello_retry_request, server_hello, server_hello_of_draft};
 use crate::json::Value;
 use crate::key_exchange::{client_key_exchange, server_key_exchange, signature};
+use crate::suite::SuiteText;
 use crate::table::{Table, Values, single};
 use crate::text::{blob, blobs, codes, escaped, numbers};
 use layouts::{Items, counted2, number4};
@@ -24,15 +25,15 @@ use tls_hs::{
 };
 use tls_records::{DTLSBodyView, DTLSClientHelloView, DTLSMessageHandshakeBody};
 
-/// A body by its fields; `None` where they are those of its bytes alone.
+/// A body by its fields; `None` if it is written as its bytes.
 type Answer = Option<Result<Value, AllocError>>;
 
-/// A body, and the bytes behind its last field.
+/// A body, and the bytes after its last field.
 #[derive(Drop)]
 pub struct Content<'a> {
-    /// Its fields, or its bytes.
+    /// The fields of the body, or its bytes if it can't be parsed.
     pub body: Result<Value, AllocError>,
-    /// None where the body isn't read.
+    /// Empty if the body can't be parsed.
     pub rest: &'a [u8],
 }
 
@@ -47,7 +48,7 @@ fn certificates<'a>(alloc: Global, list: &'a [u8]) -> Result<Value, AllocError>
     all.finish()
 }
 
-/// What each certificate says.
+/// Lists what each certificate of a chain says.
 fn said_by_certificates<'a>(alloc: Global, list: &'a [u8]) -> Result<Value, AllocError>
     ensures { IfOk result (Shows (array no_items)) }
 {
@@ -59,7 +60,7 @@ fn said_by_certificates<'a>(alloc: Global, list: &'a [u8]) -> Result<Value, Allo
     all.finish()
 }
 
-/// What a list of certificates leaves behind the last that is whole.
+/// Returns the bytes after the last whole certificate of a list.
 fn rest_of_chain<'a>(list: &'a [u8]) -> &'a [u8]
     ensures { result.now ≡ left_in (counted 3) list.now }
 {
@@ -67,7 +68,8 @@ fn rest_of_chain<'a>(list: &'a [u8]) -> &'a [u8]
     walk.rest()
 }
 
-/// A certificate chain (RFC 5246, section 7.4.2), what its certificates say, and the bytes that it leaves of its list.
+/// Writes a certificate chain (RFC 5246, section 7.4.2): the certificates' bytes, what they say,
+/// and what follows the last whole one.
 fn chain(alloc: Global, list: &[u8]) -> Result<Value, AllocError>
     ensures { IfOk result (Shows (chain_fields list.now)) }
 {
@@ -78,7 +80,7 @@ fn chain(alloc: Global, list: &[u8]) -> Result<Value, AllocError>
         .finish()
 }
 
-/// With signature algorithms, where there are some.
+/// Adds the signature algorithms, if the request has them.
 fn with_algorithms(alloc: Global, table: Table, algorithms: Option<Items<'_, u16>>) -> Table
     ensures { (es : Entries) → HasFields es table
         → HasFields (es ++ list_if (codes "supported_signature_algorithms") algorithms.entry) result }
@@ -92,7 +94,8 @@ fn with_algorithms(alloc: Global, table: Table, algorithms: Option<Items<'_, u16
     }
 }
 
-/// A server's wish for a certificate (RFC 5246, section 7.4.4), and the bytes that the authorities leave of their list.
+/// Writes a CertificateRequest (RFC 5246, section 7.4.4), and what follows the last whole
+/// authority.
 fn request(alloc: Global, request: &CertificateRequestView<'_>) -> Result<Value, AllocError>
     ensures { IfOk result (Shows (request_fields request.now)) }
 {
@@ -103,7 +106,8 @@ fn request(alloc: Global, request: &CertificateRequestView<'_>) -> Result<Value,
         .finish()
 }
 
-/// `None` where half a signature algorithm is left, for which there is no field.
+/// Writes a CertificateRequest; `None` if its algorithms end in half of one, for which there is no
+/// field.
 fn whole_request(alloc: Global, wish: &CertificateRequestView<'_>) -> Answer
     ensures { IfSome result (λ r. IfOk r (Shows (request_fields wish.now))) }
 {
@@ -113,7 +117,7 @@ fn whole_request(alloc: Global, wish: &CertificateRequestView<'_>) -> Answer
     }
 }
 
-/// A ticket (RFC 5077, section 3.3).
+/// Writes a NewSessionTicket (RFC 5077, section 3.3).
 fn ticket(alloc: Global, lifetime_hint: u32, ticket: &[u8]) -> Result<Value, AllocError>
     ensures { IfOk result (Shows (ticket_fields lifetime_hint ticket.now)) }
 {
@@ -123,7 +127,7 @@ fn ticket(alloc: Global, lifetime_hint: u32, ticket: &[u8]) -> Result<Value, All
         .finish()
 }
 
-/// The status of a certificate (RFC 6066, section 8).
+/// Writes a CertificateStatus (RFC 6066, section 8).
 fn status(alloc: Global, status: &TlsCertificateStatusContents<'_>) -> Result<Value, AllocError>
     ensures { IfOk result (Shows (status_fields status.now)) }
 {
@@ -133,7 +137,7 @@ fn status(alloc: Global, status: &TlsCertificateStatusContents<'_>) -> Result<Va
         .finish()
 }
 
-/// The protocol that a client chose (draft-agl-tls-nextprotoneg-04, section 3).
+/// Writes a NextProtocol (draft-agl-tls-nextprotoneg-04, section 3).
 fn next_protocol(alloc: Global, next: &TlsNextProtocolContent<'_>) -> Result<Value, AllocError>
     ensures { IfOk result (HasNames next_protocol_names) }
 {
@@ -143,7 +147,7 @@ fn next_protocol(alloc: Global, next: &TlsNextProtocolContent<'_>) -> Result<Val
         .finish()
 }
 
-/// A server's wish for another ClientHello with a cookie (RFC 6347, section 4.2.1).
+/// Writes a HelloVerifyRequest (RFC 6347, section 4.2.1).
 fn verify_request(alloc: Global, version: TlsVersion, cookie: &[u8]) -> Result<Value, AllocError>
     ensures { IfOk result (Shows (verify_request_fields version.0 cookie.now)) }
 {
@@ -153,14 +157,14 @@ fn verify_request(alloc: Global, version: TlsVersion, cookie: &[u8]) -> Result<V
         .finish()
 }
 
-/// The end of a handshake (RFC 5246, section 7.4.9).
+/// Writes a Finished (RFC 5246, section 7.4.9).
 fn finished(alloc: Global, verify_data: &[u8]) -> Result<Value, AllocError>
     ensures { IfOk result (Shows (finished_fields verify_data.now)) }
 {
     single(alloc, "verify_data", blob(alloc, verify_data))
 }
 
-/// New keys are in use (RFC 8446, section 4.6.3).
+/// Writes a KeyUpdate (RFC 8446, section 4.6.3).
 fn key_update(alloc: Global, request_update: u8) -> Result<Value, AllocError>
     ensures { IfOk result (Shows (key_update_fields request_update)) }
 {
@@ -169,15 +173,15 @@ fn key_update(alloc: Global, request_update: u8) -> Result<Value, AllocError>
         .finish()
 }
 
-/// A message without lists.
-fn other(alloc: Global, message: &TlsMessageHandshake<'_>) -> Answer {
+/// Writes the body of a message without lists, if it has fields.
+fn other(alloc: Global, suite_text: SuiteText, message: &TlsMessageHandshake<'_>) -> Answer {
     match message {
-        TlsMessageHandshake::ServerHello(hello) => Some(server_hello(alloc, hello)),
+        TlsMessageHandshake::ServerHello(hello) => Some(server_hello(alloc, suite_text, hello)),
         TlsMessageHandshake::ServerHelloV13Draft18(hello) => {
-            Some(server_hello_of_draft(alloc, hello))
+            Some(server_hello_of_draft(alloc, suite_text, hello))
         }
         TlsMessageHandshake::HelloRetryRequest(request) => {
-            Some(hello_retry_request(alloc, request))
+            Some(hello_retry_request(alloc, suite_text, request))
         }
         TlsMessageHandshake::CertificateStatus(contents) => Some(status(alloc, contents)),
         TlsMessageHandshake::NextProtocol(next) => Some(next_protocol(alloc, next)),
@@ -187,19 +191,20 @@ fn other(alloc: Global, message: &TlsMessageHandshake<'_>) -> Answer {
     }
 }
 
-/// What was read of a message of TLS.
-fn body_of(alloc: Global, read: HandshakeView<'_>) -> Answer {
+/// Writes the parsed body of a message of TLS.
+fn body_of(alloc: Global, suite_text: SuiteText, read: HandshakeView<'_>) -> Answer {
     match read {
-        HandshakeView::ClientHello(hello) => Some(client_hello(alloc, &hello, None)),
+        HandshakeView::ClientHello(hello) => Some(client_hello(alloc, suite_text, &hello, None)),
         HandshakeView::Certificate(list) => Some(chain(alloc, list.bytes())),
         HandshakeView::CertificateRequest(wish) => whole_request(alloc, &wish),
-        HandshakeView::Other(message) => other(alloc, &message),
+        HandshakeView::Other(message) => other(alloc, suite_text, &message),
     }
 }
 
-/// A ClientHello of DTLS, which has a cookie.
+/// Writes a ClientHello of DTLS, which has a cookie.
 fn client_hello_of_datagrams(
     alloc: Global,
+    suite_text: SuiteText,
     hello: &DTLSClientHelloView<'_>,
 ) -> Result<Value, AllocError> {
     let as_of_tls = ClientHelloView {
@@ -210,13 +215,15 @@ fn client_hello_of_datagrams(
         comp: hello.comp,
         ext: hello.ext,
     };
-    client_hello(alloc, &as_of_tls, Some(hello.cookie))
+    client_hello(alloc, suite_text, &as_of_tls, Some(hello.cookie))
 }
 
-/// A body that is another in DTLS than in TLS.
-fn other_in_datagrams(alloc: Global, read: &DTLSBodyView<'_>) -> Answer {
+/// Writes a body that differs between DTLS and TLS.
+fn other_in_datagrams(alloc: Global, suite_text: SuiteText, read: &DTLSBodyView<'_>) -> Answer {
     match read {
-        DTLSBodyView::ClientHello(hello) => Some(client_hello_of_datagrams(alloc, hello)),
+        DTLSBodyView::ClientHello(hello) => Some(client_hello_of_datagrams(
+            alloc, suite_text, hello,
+        )),
         DTLSBodyView::Other(DTLSMessageHandshakeBody::HelloVerifyRequest(verify)) => Some(
             verify_request(alloc, verify.server_version, verify.cookie),
         ),
@@ -224,20 +231,20 @@ fn other_in_datagrams(alloc: Global, read: &DTLSBodyView<'_>) -> Answer {
     }
 }
 
-/// What was read of a message whose body is another in DTLS than in TLS.
-fn body_in_datagrams(alloc: Global, read: DTLSBodyView<'_>) -> Answer {
-    other_in_datagrams(alloc, &read)
+/// Writes the parsed body of a message whose body differs between DTLS and TLS.
+fn body_in_datagrams(alloc: Global, suite_text: SuiteText, read: DTLSBodyView<'_>) -> Answer {
+    other_in_datagrams(alloc, suite_text, &read)
 }
 
-/// What a ServerHello says, where it was read.
-fn read_hello(alloc: Global, hello: &Option<ReadServerHello<'_>>) -> Answer {
+/// Writes a ServerHello; `None` if it can't be parsed.
+fn read_hello(alloc: Global, suite_text: SuiteText, hello: &Option<ReadServerHello<'_>>) -> Answer {
     match hello {
-        Some(read) => other(alloc, &read.message),
+        Some(read) => other(alloc, suite_text, &read.message),
         None => None,
     }
 }
 
-/// The bytes that it leaves behind it.
+/// Returns the bytes after a ServerHello's last field.
 fn rest_of_hello<'a>(message: &HandshakeMessage<'a>) -> &'a [u8] {
     match &message.server_hello {
         Some(read) => read.rest,
@@ -246,7 +253,7 @@ fn rest_of_hello<'a>(message: &HandshakeMessage<'a>) -> &'a [u8] {
 }
 
 impl<'a> Content<'a> {
-    /// A body and the bytes behind it, or the bytes of one that isn't read.
+    /// Returns a body and the bytes after it, or the bytes of a body that can't be parsed.
     fn of_body(alloc: Global, body: Answer, rest: &'a [u8], bytes: &[u8]) -> Content<'a> {
         match body {
             Some(body) => Content { body, rest },
@@ -254,7 +261,7 @@ impl<'a> Content<'a> {
         }
     }
 
-    /// A body that isn't read.
+    /// Returns a body that can't be parsed, as its bytes.
     fn of_bytes(alloc: Global, bytes: &[u8]) -> Content<'a> {
         Content {
             body: blob(alloc, bytes),
@@ -262,7 +269,8 @@ impl<'a> Content<'a> {
         }
     }
 
-    /// A ticket. The library leaves its length in front of it, so it is read here.
+    /// Parses a NewSessionTicket. `tls_hs` leaves the ticket's length in front of it, so it is
+    /// parsed here.
     fn of_ticket(alloc: Global, bytes: &'a [u8]) -> Content<'a> {
         let Ok((i, lifetime_hint)) = number4(bytes) else {
             return Content::of_bytes(alloc, bytes);
@@ -276,7 +284,7 @@ impl<'a> Content<'a> {
         }
     }
 
-    /// That of a message whose fields depend on what the server chose.
+    /// Parses a message whose fields depend on what the server chose.
     fn of_exchange(
         alloc: Global,
         chosen: Chosen,
@@ -294,21 +302,23 @@ impl<'a> Content<'a> {
         }
     }
 
-    /// That of a message of TLS, by what the server chose in front of it.
+    /// Parses the body of a message of TLS, by what the server chose before.
     pub fn new(
         alloc: Global,
+        suite_text: SuiteText,
         chosen: Option<Chosen>,
         message: &HandshakeMessage<'a>,
     ) -> Content<'a> {
         if message.msg_type == TlsHandshakeType::ServerHello {
-            return Content::of_server_hello(alloc, message);
+            return Content::of_server_hello(alloc, suite_text, message);
         }
-        Content::of_other(alloc, chosen, message.msg_type, message.body)
+        Content::of_other(alloc, suite_text, chosen, message.msg_type, message.body)
     }
 
-    /// That of a message that is no ServerHello.
+    /// Parses the body of a message other than a ServerHello.
     fn of_other(
         alloc: Global,
+        suite_text: SuiteText,
         chosen: Option<Chosen>,
         msg_type: TlsHandshakeType,
         body: &'a [u8],
@@ -321,42 +331,59 @@ impl<'a> Content<'a> {
                 Some(chosen) => Content::of_exchange(alloc, chosen, msg_type, body),
                 None => Content::of_bytes(alloc, body),
             },
-            _ => Content::of_itself(alloc, msg_type, body),
+            _ => Content::of_itself(alloc, suite_text, msg_type, body),
         }
     }
 
-    /// That of a ServerHello, which was read.
-    fn of_server_hello(alloc: Global, message: &HandshakeMessage<'a>) -> Content<'a> {
-        let body = read_hello(alloc, &message.server_hello);
+    /// Returns the body of a ServerHello, which was parsed already.
+    fn of_server_hello(
+        alloc: Global,
+        suite_text: SuiteText,
+        message: &HandshakeMessage<'a>,
+    ) -> Content<'a> {
+        let body = read_hello(alloc, suite_text, &message.server_hello);
         Content::of_body(alloc, body, rest_of_hello(message), message.body)
     }
 
-    /// That of a message which needs no other to be read.
-    fn of_itself(alloc: Global, msg_type: TlsHandshakeType, body: &'a [u8]) -> Content<'a> {
+    /// Parses the body of a message that doesn't depend on others.
+    fn of_itself(
+        alloc: Global,
+        suite_text: SuiteText,
+        msg_type: TlsHandshakeType,
+        body: &'a [u8],
+    ) -> Content<'a> {
         let message = RawHandshake { msg_type, body };
         match message.parse_body() {
-            Ok((rest, read)) => Content::of_body(alloc, body_of(alloc, read), rest, body),
+            Ok((rest, read)) => Content::of_body(
+                alloc,
+                body_of(alloc, suite_text, read),
+                rest,
+                body,
+            ),
             Err(_) => Content::of_bytes(alloc, body),
         }
     }
 
-    /// That of a message of DTLS. But for the ClientHello and the HelloVerifyRequest the bodies are read as those of TLS (RFC 6347, section 4.2).
+    /// Parses the body of a message of DTLS. Only ClientHello and HelloVerifyRequest differ from
+    /// TLS (RFC 6347, section 4.2).
     pub fn of_datagrams(
         alloc: Global,
+        suite_text: SuiteText,
         chosen: Option<Chosen>,
         message: &HandshakeMessage<'a>,
     ) -> Content<'a> {
         match message.msg_type {
             TlsHandshakeType::ClientHello | TlsHandshakeType::HelloVerifyRequest => {
-                Content::of_datagrams_alone(alloc, message.msg_type, message.body)
+                Content::of_datagrams_alone(alloc, suite_text, message.msg_type, message.body)
             }
-            _ => Content::new(alloc, chosen, message),
+            _ => Content::new(alloc, suite_text, chosen, message),
         }
     }
 
-    /// That of a message whose body is another in DTLS than in TLS.
+    /// Parses a body that differs between DTLS and TLS.
     fn of_datagrams_alone(
         alloc: Global,
+        suite_text: SuiteText,
         msg_type: TlsHandshakeType,
         body: &'a [u8],
     ) -> Content<'a> {
@@ -364,7 +391,12 @@ impl<'a> Content<'a> {
             return Content::of_bytes(alloc, body);
         };
         match message.parse_body() {
-            Ok((rest, read)) => Content::of_body(alloc, body_in_datagrams(alloc, read), rest, body),
+            Ok((rest, read)) => Content::of_body(
+                alloc,
+                body_in_datagrams(alloc, suite_text, read),
+                rest,
+                body,
+            ),
             Err(_) => Content::of_bytes(alloc, body),
         }
     }

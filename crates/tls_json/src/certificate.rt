@@ -1,4 +1,4 @@
-//! Certificates, by the names of RFC 5280. Nothing is verified.
+//! Certificates by the names of RFC 5280. Nothing is verified.
 ghost use Rattle.std.specs.Prelude.{IfOk};
 ghost use Rattle.tls_json.specs.Outline.{HasNames};
 ghost use Rattle.tls_json.specs.Certificates.{certificate_names, extension_names, validity_names};
@@ -19,7 +19,7 @@ use x509_text::{
     object_text, purpose_id, serial_number_text, time_text, version_number,
 };
 
-/// A value by its fields; `None` where not all of it is read.
+/// A value by its fields; `None` if it can't be parsed to its end.
 type Answer = Option<Result<Value, AllocError>>;
 
 fn text(made: Result<String, AllocError>) -> Result<Value, AllocError> {
@@ -30,7 +30,7 @@ fn object(alloc: Global, id: ObjectIdentifier<'_>) -> Result<Value, AllocError> 
     text(object_text(alloc, id))
 }
 
-/// The name of an extension or of a purpose as RFC 5280 has it, or its numbers with dots.
+/// Returns RFC 5280's name of an extension or purpose, or else its dotted numbers.
 fn named(alloc: Global, id: ObjectIdentifier<'_>) -> Result<Value, AllocError> {
     match object_short_name(id) {
         Some(name) => Ok(Value::Name(name)),
@@ -38,7 +38,8 @@ fn named(alloc: Global, id: ObjectIdentifier<'_>) -> Result<Value, AllocError> {
     }
 }
 
-/// A time, as 2026-11-25T12:00:00Z; in seconds since 1970 where the calendar doesn't have it.
+/// Writes a time, as 2026-11-25T12:00:00Z, or as seconds since 1970 if the calendar doesn't have
+/// it.
 fn time(alloc: Global, seconds: i64) -> Result<Value, AllocError> {
     match time_text(alloc, seconds)? {
         Some(time) => Ok(Value::Text(time)),
@@ -46,7 +47,7 @@ fn time(alloc: Global, seconds: i64) -> Result<Value, AllocError> {
     }
 }
 
-/// A Validity (section 4.1.2.5).
+/// Writes a Validity (section 4.1.2.5).
 fn validity(alloc: Global, validity: Validity) -> Result<Value, AllocError>
     ensures { IfOk result (HasNames validity_names) }
 {
@@ -56,7 +57,8 @@ fn validity(alloc: Global, validity: Validity) -> Result<Value, AllocError>
         .finish()
 }
 
-/// A SubjectPublicKeyInfo (section 4.1.2.7): its algorithm, and where they are known its curve and how many bits it has.
+/// Writes a SubjectPublicKeyInfo (section 4.1.2.7): its algorithm, and its curve and bits if they
+/// are known.
 fn public_key(alloc: Global, info: SubjectPublicKeyInfo<'_>) -> Result<Value, AllocError> {
     let algorithm = object(alloc, info.algorithm.algorithm);
     let mut table = Table::new(alloc).add("algorithm", algorithm);
@@ -69,7 +71,7 @@ fn public_key(alloc: Global, info: SubjectPublicKeyInfo<'_>) -> Result<Value, Al
     table.finish()
 }
 
-/// GeneralNames (section 4.2.1.6), each as text.
+/// Writes GeneralNames (section 4.2.1.6), each as text.
 fn general_names(alloc: Global, value: &[u8]) -> Answer {
     let Ok(([], names)) = parse_general_names(value) else {
         return None;
@@ -84,7 +86,7 @@ fn general_names(alloc: Global, value: &[u8]) -> Answer {
     Some(all.finish())
 }
 
-/// BasicConstraints (section 4.2.1.9).
+/// Writes BasicConstraints (section 4.2.1.9).
 fn basic_constraints(alloc: Global, value: &[u8]) -> Answer {
     let Ok(([], constraints)) = parse_basic_constraints(value) else {
         return None;
@@ -96,7 +98,7 @@ fn basic_constraints(alloc: Global, value: &[u8]) -> Answer {
     Some(table.finish())
 }
 
-/// The bits of a KeyUsage that are set (section 4.2.1.3), by their names.
+/// Lists the names of the bits that a KeyUsage sets (section 4.2.1.3).
 fn key_usage(alloc: Global, value: &[u8]) -> Answer {
     let Ok(([], usage)) = parse_key_usage(value) else {
         return None;
@@ -110,7 +112,7 @@ fn key_usage(alloc: Global, value: &[u8]) -> Answer {
     Some(all.finish())
 }
 
-/// The purposes of an ExtKeyUsageSyntax (section 4.2.1.12), by their names.
+/// Lists the names of an ExtKeyUsageSyntax's purposes (section 4.2.1.12).
 fn purposes(alloc: Global, value: &[u8]) -> Answer {
     let Ok(([], list)) = parse_extended_key_usage(value) else {
         return None;
@@ -125,7 +127,7 @@ fn purposes(alloc: Global, value: &[u8]) -> Answer {
     Some(all.finish())
 }
 
-/// What the value of an extension says, by its type.
+/// Parses the value of an extension by its type.
 fn read_value(alloc: Global, id: ObjectIdentifier<'_>, value: &[u8]) -> Answer {
     let id = id.content;
     if id == oid::SUBJECT_ALT_NAME.content || id == oid::ISSUER_ALT_NAME.content {
@@ -141,7 +143,7 @@ fn read_value(alloc: Global, id: ObjectIdentifier<'_>, value: &[u8]) -> Answer {
     }
 }
 
-/// An Extension (section 4.1). A value that isn't read is its bytes.
+/// Writes an Extension (section 4.1). A value that can't be parsed is its bytes.
 fn extension(alloc: Global, extension: Extension<'_>) -> Result<Value, AllocError>
     ensures { IfOk result (HasNames extension_names) }
 {
@@ -164,7 +166,7 @@ fn extensions<'a>(alloc: Global, list: Items<'a, Extensions>) -> Result<Value, A
     all.finish()
 }
 
-/// What a certificate says (section 4.1).
+/// Writes the fields of a certificate (section 4.1).
 fn fields(alloc: Global, certificate: &Certificate<'_>) -> Result<Value, AllocError>
     ensures { IfOk result (HasNames certificate_names) }
 {
@@ -188,7 +190,7 @@ fn fields(alloc: Global, certificate: &Certificate<'_>) -> Result<Value, AllocEr
         .finish()
 }
 
-/// A certificate by its fields; its bytes where it isn't read, or bytes stand behind it.
+/// Writes a certificate by its fields, or as its bytes if it can't be parsed to their end.
 pub fn certificate(alloc: Global, bytes: &[u8]) -> Result<Value, AllocError> {
     match parse_certificate(bytes) {
         Ok(([], certificate)) => fields(alloc, &certificate),

@@ -1,4 +1,4 @@
-//! Changes of a cipher.
+//! ChangeCipherSpec as JSON.
 ghost use Rattle.serde_json.specs.Events.{SendsValue};
 ghost use Rattle.tls_json.specs.Tables.{change_fields};
 
@@ -24,6 +24,6 @@ impl Serialize for ChangeCipherSpec {
 }
 
 impl ChangeCipherSpec {
-    /// The one that there is: `change_cipher_spec(1)`.
+    /// The only value that RFC 5246 defines: `change_cipher_spec(1)`.
     pub const ONLY: ChangeCipherSpec = ChangeCipherSpec { kind: 1 };
 }

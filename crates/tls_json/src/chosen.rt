@@ -1,9 +1,10 @@
-//! What a server chose: it says which fields the key exchanges and signatures behind its ServerHello have.
+//! What a server chose. The fields of the key exchanges and signatures after its ServerHello depend
+//! on it.
 use tls_base::{TlsCipherSuiteID, TlsHandshakeType, TlsVersion};
 use tls_flow::HandshakeMessage;
 use tls_hs::TlsMessageHandshake;
 
-/// The version and the suite of a ServerHello.
+/// The version and the cipher suite of a ServerHello.
 #[derive(Clone, Copy)]
 pub struct Chosen {
     pub(crate) version: TlsVersion,
@@ -11,7 +12,7 @@ pub struct Chosen {
 }
 
 impl Chosen {
-    /// By a message; `None` where it is no ServerHello, or can't be read.
+    /// Returns what a message chose; `None` if it isn't a ServerHello, or can't be parsed.
     pub fn of(message: &HandshakeMessage<'_>) -> Option<Chosen> {
         let Some(read) = &message.server_hello else {
             return None;
@@ -25,13 +26,15 @@ impl Chosen {
         }
     }
 
-    /// By a whole message of TLS, its header of 4 bytes first (RFC 5246, section 7.4.1.3); `None` where it is no ServerHello, or can't be read.
+    /// Returns what a whole message of TLS chose, given with its header of 4 bytes (RFC 5246,
+    /// section 7.4.1.3); `None` if it isn't a ServerHello, or can't be parsed.
     pub fn new(message: &[u8]) -> Option<Chosen> {
         let message = HandshakeMessage::read(message)?;
         Chosen::of(&message)
     }
 
-    /// By a whole message of DTLS, by its type and its body; `None` where it is no ServerHello, or can't be read.
+    /// Returns what a whole message of DTLS chose, given by type and body; `None` if it isn't a
+    /// ServerHello, or can't be parsed.
     pub fn of_datagrams(msg_type: TlsHandshakeType, body: &[u8]) -> Option<Chosen> {
         Chosen::of(&HandshakeMessage::of_datagrams(msg_type, body))
     }

@@ -1,4 +1,4 @@
-//! How the content of an extension is read, by its type.
+//! Contents of extensions by type.
 ghost use Rattle.std.specs.Prelude.{IfOk, IfSome, ◌∷◌, []};
 ghost use Rattle.tls_json.specs.Outline.{Shows, HasNames, ReadsAs};
 ghost use Rattle.tls_json.specs.Extensions.{filter_fields, share_fields};
@@ -18,25 +18,25 @@ use tls_ext::{
 };
 use tls_summary::{DELEGATED_CREDENTIAL, ENCRYPTED_CLIENT_HELLO};
 
-/// The compress_certificate of RFC 8879, section 7.1, which the library has no name for.
+/// compress_certificate (RFC 8879, section 7.1), for which `tls_base` has no constant.
 const COMPRESS_CERTIFICATE: TlsExtensionType = TlsExtensionType(27);
 
-/// The connection_id of RFC 9146, section 10.1, which the library has no name for.
+/// connection_id (RFC 9146, section 10.1), for which `tls_base` has no constant.
 const CONNECTION_ID: TlsExtensionType = TlsExtensionType(54);
 
 /// Who sent an extension.
 #[derive(Clone, Copy)]
 pub enum Sender {
-    /// It stands in a ClientHello.
+    /// A client, in its ClientHello.
     Client,
-    /// It stands in what a server answers.
+    /// A server, in its answer.
     Server,
 }
 
-/// A content by its fields; `None` where not all of it is read.
+/// A content by its fields; `None` if it can't be parsed to its end.
 pub type Answer = Option<Result<Value, AllocError>>;
 
-/// A list of which all is read, up to the end of its extension.
+/// Returns a list if it can be parsed whole and ends with its extension.
 fn whole<'a, T: InPlace<'a>>(answer: IResult<&'a [u8], Items<'a, T>>) -> Option<Items<'a, T>> {
     match answer {
         Ok(([], list)) if list.rest().is_empty() => Some(list),
@@ -44,7 +44,7 @@ fn whole<'a, T: InPlace<'a>>(answer: IResult<&'a [u8], Items<'a, T>>) -> Option<
     }
 }
 
-/// Bytes up to the end of their extension.
+/// Returns bytes if they end with their extension.
 fn whole_bytes<'a>(answer: IResult<&'a [u8], &'a [u8]>) -> Option<&'a [u8]> {
     match answer {
         Ok(([], bytes)) => Some(bytes),
@@ -52,7 +52,7 @@ fn whole_bytes<'a>(answer: IResult<&'a [u8], &'a [u8]>) -> Option<&'a [u8]> {
     }
 }
 
-/// A list that stands in bytes up to the end of its extension, and of which all is read.
+/// Returns the list in these bytes if it can be parsed whole and ends with its extension.
 fn whole_list<'a, T: InPlace<'a>>(answer: IResult<&'a [u8], &'a [u8]>) -> Option<Items<'a, T>> {
     match whole_bytes(answer) {
         Some(bytes) => whole(Ok((&[], Items::new(bytes)))),
@@ -60,7 +60,7 @@ fn whole_list<'a, T: InPlace<'a>>(answer: IResult<&'a [u8], &'a [u8]>) -> Option
     }
 }
 
-/// A name of a server (RFC 6066, section 3).
+/// Writes a ServerName (RFC 6066, section 3).
 fn server_name(alloc: Global, name_type: u8, host_name: &[u8]) -> Result<Value, AllocError>
     ensures { IfOk result (HasNames names_of.server_name) }
 {
@@ -70,7 +70,7 @@ fn server_name(alloc: Global, name_type: u8, host_name: &[u8]) -> Result<Value, 
         .finish()
 }
 
-/// server_name (RFC 6066, section 3).
+/// Parses server_name (RFC 6066, section 3).
 fn server_name_list(alloc: Global, content: &[u8]) -> Answer
     ensures { IfSome result (ReadsAs names_of.server_name_list) }
 {
@@ -82,7 +82,7 @@ fn server_name_list(alloc: Global, content: &[u8]) -> Answer
     Some(single(alloc, "server_name_list", names.finish()))
 }
 
-/// A client's status_request (RFC 6066, section 8).
+/// Parses a client's status_request (RFC 6066, section 8).
 fn status_request(alloc: Global, content: &[u8]) -> Answer
     ensures { IfSome result (ReadsAs names_of.status_request) }
 {
@@ -97,7 +97,7 @@ fn status_request(alloc: Global, content: &[u8]) -> Answer
     )
 }
 
-/// supported_groups (RFC 8446, section 4.2.7).
+/// Parses supported_groups (RFC 8446, section 4.2.7).
 fn named_group_list(alloc: Global, content: &[u8]) -> Answer
     ensures { IfSome result (ReadsAs names_of.supported_groups) }
 {
@@ -105,7 +105,7 @@ fn named_group_list(alloc: Global, content: &[u8]) -> Answer
     Some(single(alloc, "named_group_list", numbers(alloc, list.bytes())))
 }
 
-/// ec_point_formats (RFC 8422, section 5.1.2).
+/// Parses ec_point_formats (RFC 8422, section 5.1.2).
 fn point_format_list(alloc: Global, content: &[u8]) -> Answer
     ensures { IfSome result (ReadsAs names_of.ec_point_formats) }
 {
@@ -113,7 +113,7 @@ fn point_format_list(alloc: Global, content: &[u8]) -> Answer
     Some(single(alloc, "ec_point_format_list", codes(alloc, formats)))
 }
 
-/// signature_algorithms and signature_algorithms_cert (RFC 8446, section 4.2.3).
+/// Parses signature_algorithms or signature_algorithms_cert (RFC 8446, section 4.2.3).
 fn schemes(alloc: Global, content: &[u8]) -> Answer
     ensures { IfSome result (ReadsAs names_of.signature_algorithms) }
 {
@@ -125,7 +125,7 @@ fn schemes(alloc: Global, content: &[u8]) -> Answer
     ))
 }
 
-/// application_layer_protocol_negotiation (RFC 7301, section 3.1).
+/// Parses application_layer_protocol_negotiation (RFC 7301, section 3.1).
 fn protocol_name_list(alloc: Global, content: &[u8]) -> Answer
     ensures { IfSome result (ReadsAs names_of.protocol_names) }
 {
@@ -137,7 +137,7 @@ fn protocol_name_list(alloc: Global, content: &[u8]) -> Answer
     Some(single(alloc, "protocol_name_list", names.finish()))
 }
 
-/// signed_certificate_timestamp (RFC 6962, section 3.3).
+/// Parses signed_certificate_timestamp (RFC 6962, section 3.3).
 fn timestamps(alloc: Global, content: &[u8]) -> Answer
     ensures { IfSome result (ReadsAs names_of.timestamps) }
 {
@@ -145,7 +145,7 @@ fn timestamps(alloc: Global, content: &[u8]) -> Answer
     Some(single(alloc, "sct_list", blobs(alloc, list)))
 }
 
-/// certificate_authorities (RFC 8446, section 4.2.4).
+/// Parses certificate_authorities (RFC 8446, section 4.2.4).
 fn authorities(alloc: Global, content: &[u8]) -> Answer
     ensures { IfSome result (ReadsAs names_of.certificate_authorities) }
 {
@@ -153,7 +153,7 @@ fn authorities(alloc: Global, content: &[u8]) -> Answer
     Some(single(alloc, "authorities", blobs(alloc, list)))
 }
 
-/// A client's supported_versions (RFC 8446, section 4.2.1).
+/// Parses a client's supported_versions (RFC 8446, section 4.2.1).
 fn offered_versions(alloc: Global, content: &[u8]) -> Answer
     ensures { IfSome result (ReadsAs names_of.offered_versions) }
 {
@@ -161,7 +161,7 @@ fn offered_versions(alloc: Global, content: &[u8]) -> Answer
     Some(single(alloc, "versions", numbers(alloc, list.bytes())))
 }
 
-/// A content that is a number of 2 bytes which stands for a thing.
+/// Parses a content that is one number of 2 bytes, which is written as `0x0304`.
 fn single_code(alloc: Global, name: &'static str, content: &[u8]) -> Answer
     ensures { IfSome result (ReadsAs (name.now ∷ [])) }
 {
@@ -172,7 +172,7 @@ fn single_code(alloc: Global, name: &'static str, content: &[u8]) -> Answer
     Some(single(alloc, name, code_text(alloc, code)))
 }
 
-/// cookie (RFC 8446, section 4.2.2).
+/// Parses cookie (RFC 8446, section 4.2.2).
 fn cookie(alloc: Global, content: &[u8]) -> Answer
     ensures { IfSome result (ReadsAs names_of.cookie) }
 {
@@ -180,7 +180,7 @@ fn cookie(alloc: Global, content: &[u8]) -> Answer
     Some(single(alloc, "cookie", blob(alloc, cookie)))
 }
 
-/// psk_key_exchange_modes (RFC 8446, section 4.2.9).
+/// Parses psk_key_exchange_modes (RFC 8446, section 4.2.9).
 fn key_exchange_modes(alloc: Global, content: &[u8]) -> Answer
     ensures { IfSome result (ReadsAs names_of.psk_key_exchange_modes) }
 {
@@ -188,7 +188,7 @@ fn key_exchange_modes(alloc: Global, content: &[u8]) -> Answer
     Some(single(alloc, "ke_modes", codes(alloc, modes)))
 }
 
-/// A filter on certificates (RFC 8446, section 4.2.5).
+/// Writes an OIDFilter (RFC 8446, section 4.2.5).
 fn filter_of(alloc: Global, filter: &OidFilter<'_>) -> Result<Value, AllocError>
     ensures { IfOk result (Shows (filter_fields filter.now)) }
 {
@@ -198,7 +198,7 @@ fn filter_of(alloc: Global, filter: &OidFilter<'_>) -> Result<Value, AllocError>
         .finish()
 }
 
-/// oid_filters (RFC 8446, section 4.2.5).
+/// Parses oid_filters (RFC 8446, section 4.2.5).
 fn filters(alloc: Global, content: &[u8]) -> Answer
     ensures { IfSome result (ReadsAs names_of.oid_filters) }
 {
@@ -210,7 +210,7 @@ fn filters(alloc: Global, content: &[u8]) -> Answer
     Some(single(alloc, "filters", all.finish()))
 }
 
-/// A key share (RFC 8446, section 4.2.8).
+/// Writes a KeyShareEntry (RFC 8446, section 4.2.8).
 fn share_of(alloc: Global, group: NamedGroup, key_exchange: &[u8]) -> Result<Value, AllocError>
     ensures { IfOk result (Shows (share_fields group.0 key_exchange.now)) }
 {
@@ -220,7 +220,7 @@ fn share_of(alloc: Global, group: NamedGroup, key_exchange: &[u8]) -> Result<Val
         .finish()
 }
 
-/// A client's key_share (RFC 8446, section 4.2.8).
+/// Parses a client's key_share (RFC 8446, section 4.2.8).
 fn client_shares(alloc: Global, content: &[u8]) -> Answer
     ensures { IfSome result (ReadsAs names_of.client_shares) }
 {
@@ -232,7 +232,7 @@ fn client_shares(alloc: Global, content: &[u8]) -> Answer
     Some(single(alloc, "client_shares", all.finish()))
 }
 
-/// A server's key share.
+/// Parses a server's key share (RFC 8446, section 4.2.8).
 fn server_share(alloc: Global, content: &[u8]) -> Answer
     ensures { IfSome result (ReadsAs names_of.server_share) }
 {
@@ -245,7 +245,8 @@ fn server_share(alloc: Global, content: &[u8]) -> Answer
     }
 }
 
-/// A server's key_share; where it asks for another it is a group alone.
+/// Parses a server's key_share. In a HelloRetryRequest it is only a group (RFC 8446, section
+/// 4.2.8).
 fn server_key_share(alloc: Global, content: &[u8]) -> Answer {
     match content {
         [_, _] => single_code(alloc, "selected_group", content),
@@ -253,7 +254,7 @@ fn server_key_share(alloc: Global, content: &[u8]) -> Answer {
     }
 }
 
-/// renegotiation_info (RFC 5746, section 3.2).
+/// Parses renegotiation_info (RFC 5746, section 3.2).
 fn renegotiation(alloc: Global, content: &[u8]) -> Answer
     ensures { IfSome result (ReadsAs names_of.renegotiation_info) }
 {
@@ -261,7 +262,7 @@ fn renegotiation(alloc: Global, content: &[u8]) -> Answer
     Some(single(alloc, "renegotiated_connection", blob(alloc, bytes)))
 }
 
-/// encrypted_server_name (draft-ietf-tls-esni-02, section 5).
+/// Parses encrypted_server_name (draft-ietf-tls-esni-02, section 5).
 fn encrypted_server_name(alloc: Global, content: &[u8]) -> Answer
     ensures { IfSome result (ReadsAs names_of.encrypted_server_name) }
 {
@@ -288,14 +289,14 @@ fn encrypted_server_name(alloc: Global, content: &[u8]) -> Answer
     )
 }
 
-/// heartbeat (RFC 6520, section 2).
+/// Writes heartbeat (RFC 6520, section 2).
 fn heartbeat_mode(alloc: Global, mode: u8) -> Result<Value, AllocError>
     ensures { IfOk result (HasNames names_of.heartbeat) }
 {
     single(alloc, "mode", Ok(Value::Number(u64::from(mode))))
 }
 
-/// early_data of a ticket (RFC 8446, section 4.2.10).
+/// Writes early_data of a NewSessionTicket (RFC 8446, section 4.2.10).
 fn early_data(alloc: Global, max_size: u32) -> Result<Value, AllocError>
     ensures { IfOk result (HasNames names_of.early_data) }
 {
@@ -306,7 +307,8 @@ fn early_data(alloc: Global, max_size: u32) -> Result<Value, AllocError>
     )
 }
 
-/// A content that is one number: max_fragment_length (RFC 6066, section 4) and record_size_limit (RFC 8449, section 4) have no field.
+/// Parses a content that is one number. max_fragment_length (RFC 6066, section 4) and
+/// record_size_limit (RFC 8449, section 4) are numbers without a field.
 fn of_number(alloc: Global, kind: TlsExtensionType, content: &[u8]) -> Answer {
     match (kind, content) {
         (TlsExtensionType::MaxFragmentLength, [code]) => {
@@ -325,7 +327,7 @@ fn of_number(alloc: Global, kind: TlsExtensionType, content: &[u8]) -> Answer {
     }
 }
 
-/// A content whose form depends on its sender.
+/// Parses a content whose form depends on its sender.
 fn of_sender(alloc: Global, sender: Sender, kind: TlsExtensionType, content: &[u8]) -> Answer {
     match (kind, sender) {
         (TlsExtensionType::SupportedVersions, Sender::Client) => offered_versions(alloc, content),
@@ -370,7 +372,8 @@ fn read(alloc: Global, sender: Sender, kind: TlsExtensionType, content: &[u8]) -
     }
 }
 
-/// What stands in an extension of that type: its bytes where it has no fields, or not all of them are read.
+/// Writes the content of an extension by its type: its fields, or its bytes if it has none or can't
+/// be parsed to its end.
 pub fn content_of(
     alloc: Global,
     sender: Sender,

@@ -1,8 +1,8 @@
-//! Messages of DTLS that were put together.
+//! Reassembled messages of DTLS.
 use tls_base::TlsHandshakeType;
 use tls_records::DTLSRawHandshake;
 
-/// A whole message, as one fragment; `None` where its length is no number of 4 bytes.
+/// Returns a whole message as one fragment; `None` if its length doesn't fit 4 bytes.
 pub fn whole_message<'a>(
     msg_type: TlsHandshakeType,
     body: &'a [u8],

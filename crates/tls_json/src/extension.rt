@@ -1,4 +1,4 @@
-//! Extensions.
+//! Extensions of hellos.
 ghost use Rattle.std.specs.Prelude.{IfOk, ◌≡◌, ◌++◌};
 ghost use Rattle.serde_json.specs.Data.{Data, array, no_items};
 ghost use Rattle.layouts.specs.Items.{left_in};
@@ -14,7 +14,8 @@ use std::alloc::{AllocError, Global};
 use tls_base::TlsExtensionType;
 use tls_ext::RawExtension;
 
-/// An extension (RFC 8446, section 4.2): its type, the name of that where it has one, and its content.
+/// Writes an extension (RFC 8446, section 4.2): its type, the type's name if it is registered, and
+/// its content.
 fn fields(
     alloc: Global,
     extension_type: TlsExtensionType,
@@ -30,7 +31,7 @@ fn fields(
         .finish()
 }
 
-/// The extensions of a block, in their order.
+/// Lists the extensions of a block in order.
 fn list<'a>(alloc: Global, sender: Sender, block: &'a [u8]) -> Result<Value, AllocError>
     ensures { IfOk result (Shows (array no_items)) }
 {
@@ -44,7 +45,7 @@ fn list<'a>(alloc: Global, sender: Sender, block: &'a [u8]) -> Result<Value, All
     all.finish()
 }
 
-/// What a block of extensions leaves behind the last that is whole.
+/// Returns the bytes after the last whole extension of a block.
 fn rest<'a>(block: &'a [u8]) -> &'a [u8]
     ensures { result.now ≡ left_in raw_extension block.now }
 {
@@ -52,8 +53,8 @@ fn rest<'a>(block: &'a [u8]) -> &'a [u8]
     walk.rest()
 }
 
-/// With the extensions of a hello's `ext`, which is its block of extensions, as it stands behind its length, where it has one; and the
-/// bytes of the block behind the last that is whole.
+/// Adds a hello's extensions, if it has a block of them, and the bytes after the last whole one.
+/// `ext` is the block without its length.
 pub fn with_extensions(alloc: Global, table: Table, sender: Sender, ext: Option<&[u8]>) -> Table
     ensures { (es : Entries) → HasFields es table → HasFields (es ++ extensions_fields ext.entry) result }
 {

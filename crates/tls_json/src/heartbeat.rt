@@ -1,4 +1,4 @@
-//! Heartbeats.
+//! Heartbeats as JSON.
 ghost use Rattle.std.specs.Prelude.{IfOk};
 ghost use Rattle.serde_json.specs.Events.{SendsValue};
 ghost use Rattle.tls_json.specs.Views.{view};
@@ -12,7 +12,8 @@ use serde::{Described, Serialize, Serializer};
 use std::alloc::{AllocError, Global};
 use tls_hs::TlsMessageHeartbeat;
 
-/// A heartbeat (RFC 6520, section 4) by its fields, or its bytes, in hexadecimal, where its payload isn't whole.
+/// A heartbeat (RFC 6520, section 4) by its fields, or its bytes in hexadecimal if its payload
+/// isn't whole.
 #[derive(Drop)]
 pub struct HeartbeatMessage {
     value: Value,
@@ -44,9 +45,9 @@ fn fields(
 }
 
 impl HeartbeatMessage {
-    /// That of the fragment of a record.
+    /// Parses the fragment of a record as a heartbeat.
     ///
-    /// `AllocError` where memory runs out.
+    /// `AllocError` if memory runs out.
     pub fn new(alloc: Global, fragment: &[u8]) -> Result<HeartbeatMessage, AllocError> {
         if let Ok(length) = u16::try_from(fragment.len())
             && let Ok((padding, message)) = tls_hs::heartbeat(fragment, length)

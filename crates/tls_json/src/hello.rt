@@ -1,4 +1,4 @@
-//! What a client offers, and what a server answers.
+//! ClientHello and ServerHello.
 ghost use Rattle.std.specs.Prelude.{IfOk, ◌≡◌};
 ghost use Rattle.tls_json.specs.Outline.{Shows};
 ghost use Rattle.tls_json.specs.Tables.{id_bytes, client_hello_fields, server_hello_fields, draft_hello_fields, retry_fields};
@@ -6,7 +6,7 @@ ghost use Rattle.tls_json.specs.Tables.{id_bytes, client_hello_fields, server_he
 use crate::content::Sender;
 use crate::extension::with_extensions;
 use crate::json::Value;
-use crate::suite::suite_values;
+use crate::suite::{SuiteText, suite_values};
 use crate::table::Table;
 use crate::text::codes;
 use std::alloc::{AllocError, Global};
@@ -15,7 +15,7 @@ use tls_hs::{
     TlsServerHelloV13Draft18Contents,
 };
 
-/// A session's id; an empty one where there is none.
+/// Returns a session's id, empty if there is none.
 fn id<'a>(session_id: Option<&'a [u8]>) -> &'a [u8]
     ensures { result.now ≡ id_bytes session_id.entry }
 {
@@ -25,9 +25,11 @@ fn id<'a>(session_id: Option<&'a [u8]>) -> &'a [u8]
     }
 }
 
-/// A ClientHello (RFC 5246, section 7.4.1.2); of DTLS it has a cookie (RFC 6347, section 4.2.1).
+/// Writes a ClientHello (RFC 5246, section 7.4.1.2). One of DTLS has a cookie (RFC 6347, section
+/// 4.2.1).
 pub fn client_hello(
     alloc: Global,
+    suite_text: SuiteText,
     hello: &ClientHelloView<'_>,
     cookie: Option<&[u8]>,
 ) -> Result<Value, AllocError>
@@ -38,47 +40,56 @@ pub fn client_hello(
         .bytes("random", hello.random)
         .bytes("session_id", id(hello.session_id))
         .bytes_if("cookie", cookie)
-        .add("cipher_suites", suite_values(alloc, hello.ciphers))
+        .add(
+            "cipher_suites",
+            suite_values(alloc, suite_text, hello.ciphers),
+        )
         .add("compression_methods", codes(alloc, hello.comp.bytes()));
     with_extensions(alloc, table, Sender::Client, hello.ext).finish()
 }
 
-/// A ServerHello of SSL 3.0 to TLS 1.3, and of DTLS (RFC 5246, section 7.4.1.3).
-pub fn server_hello(alloc: Global, hello: &TlsServerHelloContents<'_>) -> Result<Value, AllocError>
-    ensures { IfOk result (Shows (server_hello_fields hello.now)) }
+/// Writes a ServerHello of SSL 3.0 to TLS 1.3, and of DTLS (RFC 5246, section 7.4.1.3).
+pub fn server_hello(
+    alloc: Global,
+    suite_text: SuiteText,
+    hello: &TlsServerHelloContents<'_>,
+) -> Result<Value, AllocError>
+    ensures { IfOk result (Shows (server_hello_fields suite_text hello.now)) }
 {
     let table = Table::new(alloc)
         .hexadecimal("server_version", hello.version.0)
         .bytes("random", hello.random)
         .bytes("session_id", id(hello.session_id))
-        .suite("cipher_suite", hello.cipher)
+        .suite("cipher_suite", suite_text, hello.cipher)
         .decimal("compression_method", u64::from(hello.compression.0));
     with_extensions(alloc, table, Sender::Server, hello.ext).finish()
 }
 
-/// That of draft 18 of TLS 1.3, which has no id and no compression.
+/// Writes a ServerHello of draft 18 of TLS 1.3, which has no session id and no compression method.
 pub fn server_hello_of_draft(
     alloc: Global,
+    suite_text: SuiteText,
     hello: &TlsServerHelloV13Draft18Contents<'_>,
 ) -> Result<Value, AllocError>
-    ensures { IfOk result (Shows (draft_hello_fields hello.now)) }
+    ensures { IfOk result (Shows (draft_hello_fields suite_text hello.now)) }
 {
     let table = Table::new(alloc)
         .hexadecimal("server_version", hello.version.0)
         .bytes("random", hello.random)
-        .suite("cipher_suite", hello.cipher);
+        .suite("cipher_suite", suite_text, hello.cipher);
     with_extensions(alloc, table, Sender::Server, hello.ext).finish()
 }
 
-/// A server's wish for another ClientHello in drafts of TLS 1.3 (draft-ietf-tls-tls13-19, section 4.1.4).
+/// Writes a HelloRetryRequest of drafts of TLS 1.3 (draft-ietf-tls-tls13-19, section 4.1.4).
 pub fn hello_retry_request(
     alloc: Global,
+    suite_text: SuiteText,
     request: &TlsHelloRetryRequestContents<'_>,
 ) -> Result<Value, AllocError>
-    ensures { IfOk result (Shows (retry_fields request.now)) }
+    ensures { IfOk result (Shows (retry_fields suite_text request.now)) }
 {
     let table = Table::new(alloc)
         .hexadecimal("server_version", request.version.0)
-        .suite("cipher_suite", request.cipher);
+        .suite("cipher_suite", suite_text, request.cipher);
     with_extensions(alloc, table, Sender::Server, request.ext).finish()
 }

@@ -1,4 +1,4 @@
-//! Values of JSON, and how they are printed.
+//! Values of JSON, and their printer.
 ghost use Rattle.std.specs.Prelude.{OnOk};
 ghost use Rattle.serde_json.specs.Data.{array, object};
 ghost use Rattle.serde_json.specs.Events.{SendsValue};
@@ -9,20 +9,20 @@ use serde::{Described, Serialize, Serializer};
 /// A field of an object: its name and its value.
 pub type Field = (&'static str, Value);
 
-/// A value.
+/// A value of JSON.
 #[derive(Drop)]
 pub enum Value {
     /// A number, in decimal.
     Number(u64),
-    /// Whether it is so.
+    /// True or false.
     Mark(bool),
-    /// A name of ours.
+    /// A fixed name.
     Name(&'static str),
-    /// A text.
+    /// A text that was made.
     Text(String),
-    /// Values, in their order.
+    /// Values in order.
     List(Vec<Value>),
-    /// Fields, in their order.
+    /// Fields in order.
     Object(Vec<Field>),
 }
 
@@ -61,7 +61,7 @@ fn print_items<S: Serializer>(items: &Vec<Value>, out: &mut S) -> Result<(), S::
     out.end_seq()
 }
 
-/// Each field once, in its order: its name, and then its value.
+/// Prints each field once and in order, its name before its value.
 #[cycle(print)]
 fn print_fields<S: Serializer>(fields: &Vec<Field>, out: &mut S) -> Result<(), S::Error>
     ensures { OnOk result (SendsValue (object (members_view fields.now.items)) (S.written out.old) (S.written out.new)) }

@@ -1,4 +1,4 @@
-//! Key exchanges and signatures, whose fields depend on what the server chose.
+//! Key exchanges and signatures. Their fields depend on what the server chose.
 ghost use Rattle.std.specs.Prelude.{IfOk, ◌++◌, List, ℕ, codes};
 ghost use Rattle.tls_json.specs.Outline.{Shows, HasNames, HasFieldNames, IfRead, IfMore};
 ghost use Rattle.tls_json.specs.Tables.{coefficients_fields, explicit_prime_fields, named_curve_fields, curve_fields, dh_fields, ecdh_fields, signature_fields, names_if, params_names, server_key_exchange_names, client_value_names, client_key_exchange_names};
@@ -15,13 +15,14 @@ use tls_base::{
     parse_digitally_signed_old, parse_ecdh_params,
 };
 
-/// What was read, behind what is left; `None` where not all of it is there.
+/// The bytes that are left, and the value; `None` if it can't be parsed.
 type Read<'a> = Option<(&'a [u8], Result<Value, AllocError>)>;
 
-/// A table with more fields, behind what is left; `None` where not all of them are there.
+/// The bytes that are left, and the table with more fields; `None` if they can't be parsed.
 type More<'a> = Option<(&'a [u8], Table)>;
 
-/// With the identity of a key that both sides know, or a server's hint at it, where the suite has one. It is text (RFC 4279, section 5.1).
+/// Adds a PSK identity, or a server's hint, if the suite has one. It is text (RFC 4279, section
+/// 5.1).
 fn with_identity<'a>(
     alloc: Global,
     table: Table,
@@ -41,14 +42,14 @@ fn with_identity<'a>(
     Some((i, table.add(name, escaped(alloc, identity))))
 }
 
-/// The coefficients of a curve (RFC 4492, section 5.4).
+/// Writes the coefficients of a curve (RFC 4492, section 5.4).
 fn coefficients(alloc: Global, a: &[u8], b: &[u8]) -> Result<Value, AllocError>
     ensures { IfOk result (Shows (coefficients_fields a.now b.now)) }
 {
     Table::new(alloc).bytes("a", a).bytes("b", b).finish()
 }
 
-/// A curve by its parameters (RFC 4492, section 5.4).
+/// Writes a curve by its parameters (RFC 4492, section 5.4).
 fn explicit_prime(
     alloc: Global,
     curve_type: u8,
@@ -69,7 +70,7 @@ fn explicit_prime(
         .finish()
 }
 
-/// A curve by its number (RFC 8422, section 5.4).
+/// Writes a curve by its number (RFC 8422, section 5.4).
 fn named_curve(alloc: Global, curve_type: u8, namedcurve: u16) -> Result<Value, AllocError>
     ensures { IfOk result (Shows (named_curve_fields curve_type namedcurve)) }
 {
@@ -89,7 +90,7 @@ fn curve_of(alloc: Global, parameters: &ECParameters<'_>) -> Result<Value, Alloc
     }
 }
 
-/// A server's public values of Diffie-Hellman (RFC 5246, section 7.4.3).
+/// Writes a server's parameters of finite-field Diffie-Hellman (RFC 5246, section 7.4.3).
 fn dh_params(alloc: Global, values: &ServerDHParams<'_>) -> Result<Value, AllocError>
     ensures { IfOk result (Shows (dh_fields values.now)) }
 {
@@ -100,7 +101,7 @@ fn dh_params(alloc: Global, values: &ServerDHParams<'_>) -> Result<Value, AllocE
         .finish()
 }
 
-/// The same over elliptic curves (RFC 8422, section 5.4).
+/// Writes a server's parameters of elliptic-curve Diffie-Hellman (RFC 8422, section 5.4).
 fn ecdh_params(alloc: Global, values: &ServerECDHParams<'_>) -> Result<Value, AllocError>
     ensures { IfOk result (Shows (ecdh_fields values.now)) }
 {
@@ -110,7 +111,7 @@ fn ecdh_params(alloc: Global, values: &ServerECDHParams<'_>) -> Result<Value, Al
         .finish()
 }
 
-/// With a server's public values, where the suite has some.
+/// Adds a server's Diffie-Hellman parameters, if the suite has some.
 fn with_public_values<'a>(alloc: Global, table: Table, public: Public, i: &'a [u8]) -> More<'a>
     ensures { (ns : List (List ℕ)) → HasFieldNames ns table
         → IfMore (HasFieldNames (ns ++ params_names public)) result }
@@ -132,7 +133,7 @@ fn with_public_values<'a>(alloc: Global, table: Table, public: Public, i: &'a [u
     }
 }
 
-/// A signature (RFC 5246, section 4.7), which names its algorithm from TLS 1.2 on.
+/// Writes a signature (RFC 5246, section 4.7), which names its algorithm from TLS 1.2 on.
 fn signature_of(
     alloc: Global,
     algorithm: Option<u16>,
@@ -146,7 +147,8 @@ fn signature_of(
         .finish()
 }
 
-/// A signature of that version; `None` also of versions other than SSL 3.0, TLS 1.0 to 1.2, and DTLS 1.0 and 1.2.
+/// Parses a signature of that version; `None` for versions other than SSL 3.0, TLS 1.0 to 1.2, and
+/// DTLS 1.0 and 1.2.
 pub fn signature<'a>(alloc: Global, version: TlsVersion, i: &'a [u8]) -> Read<'a> {
     let answer = match version {
         TlsVersion::Ssl30 | TlsVersion::Tls10 | TlsVersion::Tls11 | TlsVersion::DTls10 => {
@@ -165,7 +167,7 @@ pub fn signature<'a>(alloc: Global, version: TlsVersion, i: &'a [u8]) -> Read<'a
     Some((i, signature_of(alloc, algorithm, signed.bytes)))
 }
 
-/// With the signature of a server's public values, where the suite has one.
+/// Adds the signature of a server's parameters, if the suite has one.
 fn with_signature<'a>(
     alloc: Global,
     table: Table,
@@ -183,7 +185,7 @@ fn with_signature<'a>(
     Some((i, table.add("signed_params", signed_params)))
 }
 
-/// A server's key exchange by its fields.
+/// Parses a ServerKeyExchange by the fields of this exchange.
 fn server_fields<'a>(
     alloc: Global,
     exchange: KeyExchange,
@@ -199,8 +201,9 @@ fn server_fields<'a>(
     Some((i, table.finish()))
 }
 
-/// A server's key exchange (RFC 5246, section 7.4.3; RFC 8422, section 5.4; RFC 4279, sections 2 to 4; RFC 5489, section 2). By RSA alone
-/// a server has none, but for suites of export, whose values aren't read.
+/// Parses a ServerKeyExchange (RFC 5246, section 7.4.3; RFC 8422, section 5.4; RFC 4279, sections 2
+/// to 4; RFC 5489, section 2). With RSA alone only export suites have one, whose values aren't
+/// parsed.
 pub fn server_key_exchange<'a>(alloc: Global, chosen: Chosen, body: &'a [u8]) -> Read<'a> {
     let exchange = KeyExchange::of(chosen.cipher)?;
     if matches!(exchange.public, Public::Rsa) && !exchange.has_identity {
@@ -209,8 +212,8 @@ pub fn server_key_exchange<'a>(alloc: Global, chosen: Chosen, body: &'a [u8]) ->
     server_fields(alloc, exchange, chosen.version, body)
 }
 
-/// A client's public value or encrypted secret, where the suite has one. In SSL 3.0 the secret has no length (RFC 6101, section 5.6.7.1), and
-/// isn't divided.
+/// Parses a client's public value or encrypted secret, if the suite has one. In SSL 3.0 the secret
+/// has no length (RFC 6101, section 5.6.7.1), and isn't parsed.
 fn client_value<'a>(
     version: TlsVersion,
     public: Public,
@@ -228,7 +231,7 @@ fn client_value<'a>(
     }
 }
 
-/// With a client's public value or secret, by the name that it has.
+/// Adds a client's public value or encrypted secret under its name.
 fn with_client_value(alloc: Global, table: Table, public: Public, content: &[u8]) -> Table
     ensures { (ns : List (List ℕ)) → HasFieldNames ns table → HasFieldNames (ns ++ client_value_names public) result }
 {
@@ -240,7 +243,7 @@ fn with_client_value(alloc: Global, table: Table, public: Public, content: &[u8]
     }
 }
 
-/// A client's key exchange by its fields.
+/// Parses a ClientKeyExchange by the fields of this exchange.
 fn client_fields<'a>(
     alloc: Global,
     exchange: KeyExchange,
@@ -258,8 +261,9 @@ fn client_fields<'a>(
     ))
 }
 
-/// A client's key exchange (RFC 5246, section 7.4.7; RFC 8422, section 5.7; RFC 4279, sections 2 to 4; RFC 5489, section 2). A client whose
-/// public value is that of its certificate has an empty one (RFC 5246, section 7.4.7.2), which isn't read.
+/// Parses a ClientKeyExchange (RFC 5246, section 7.4.7; RFC 8422, section 5.7; RFC 4279, sections 2
+/// to 4; RFC 5489, section 2). It is empty if the public value is in the client's certificate (RFC
+/// 5246, section 7.4.7.2), and then isn't parsed.
 pub fn client_key_exchange<'a>(alloc: Global, chosen: Chosen, body: &'a [u8]) -> Read<'a> {
     let exchange = KeyExchange::of(chosen.cipher)?;
     client_fields(alloc, exchange, chosen.version, body)

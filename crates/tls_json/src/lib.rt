@@ -1,15 +1,25 @@
-//! Messages of TLS and DTLS for people and programs that read JSON: each field by the name that its RFC gives it.
+//! Messages of TLS and DTLS as JSON, each field by the name that its RFC gives it.
 //!
-//! [`Message`] is a handshake message, [`AlertMessage`] an alert, [`ChangeCipherSpec`] and [`HeartbeatMessage`] are those. All are
-//! written by `serde`: a cipher suite is its name in IANA's registry; other numbers that stand for a thing, and suites without a name, are hexadecimal, as `0xc02f`; counts and codes of one byte are decimal, bytes are
-//! hexadecimal without `0x`, and names that a peer sent are text in which whatever is no printable ASCII is escaped, as `\xff`.
+//! [`Message`] is a handshake message, [`AlertMessage`] an alert; [`ChangeCipherSpec`] and
+//! [`HeartbeatMessage`] are the other two. `serde` writes them:
 //!
-//! A message is a table of its fields, which one printer writes; which fields a message has stands in `specs/Tables.antt`.
+//! - a cipher suite by its name in IANA's registry or by its number, as [`SuiteText`] says;
+//! - other numbers of 2 bytes that stand for something, such as versions and groups, in
+//!   hexadecimal, as `0xc02f`;
+//! - counts and codes of one byte in decimal;
+//! - bytes in hexadecimal without `0x`;
+//! - names that a peer sent as text, in which a byte that isn't printable ASCII is escaped, as
+//!   `\xff`.
 //!
-//! Key exchanges and signatures are read by what the server chose: [`Chosen`] is that of a ServerHello.
+//! A message is a table of fields, which one printer writes. `specs/Tables.antt` defines the fields
+//! of each message.
 //!
-//! Nothing is left out. A body, or the content of an extension, that isn't read is a text: its bytes in hexadecimal. Bytes behind the
-//! last field of a body stand in `rest` beside the body, and those that the last list of a body leaves of its own in `rest` inside.
+//! Key exchanges and signatures depend on what the server chose: [`Chosen`] has that of a
+//! ServerHello.
+//!
+//! Nothing is left out. A body or an extension that can't be parsed is its bytes in hexadecimal.
+//! Bytes after the last field of a body are in `rest` beside the body. Bytes that the last list of
+//! a body leaves are in `rest` inside it.
 #![tactic(auto)]
 
 mod alert;
@@ -35,3 +45,4 @@ pub use change::ChangeCipherSpec;
 pub use chosen::Chosen;
 pub use heartbeat::HeartbeatMessage;
 pub use message::Message;
+pub use suite::SuiteText;

@@ -1,4 +1,4 @@
-//! Handshake messages.
+//! Handshake messages as JSON.
 ghost use Rattle.std.specs.Prelude.{IfOk};
 ghost use Rattle.serde_json.specs.Data.{Data};
 ghost use Rattle.serde_json.specs.Events.{SendsValue};
@@ -9,14 +9,15 @@ ghost use Rattle.tls_json.specs.Tables.{message_fields};
 use crate::body::Content;
 use crate::chosen::Chosen;
 use crate::json::Value;
+use crate::suite::SuiteText;
 use crate::table::Table;
 use serde::{Described, Serialize, Serializer};
 use std::alloc::{AllocError, Global};
 use tls_base::TlsHandshakeType;
 use tls_flow::HandshakeMessage;
 
-/// A handshake message (RFC 5246, section 7.4; of DTLS RFC 6347, section 4.2.2): its type, the name of that where it has one, the
-/// bytes of its body, in DTLS its number, and what stands in the body.
+/// A handshake message (RFC 5246, section 7.4; of DTLS RFC 6347, section 4.2.2): its type, the
+/// type's name if it is registered, the length of its body, in DTLS its number, and the body.
 #[derive(Drop)]
 pub struct Message {
     value: Value,
@@ -32,7 +33,7 @@ impl Serialize for Message {
     }
 }
 
-/// The fields of a message; of its body the length, and what stands in it.
+/// Writes the fields of a message.
 fn fields(
     alloc: Global,
     msg_type: TlsHandshakeType,
@@ -55,58 +56,66 @@ fn fields(
 }
 
 impl Message {
-    /// A message of TLS (RFC 8446, section 4). `chosen` is that of the last ServerHello in front of it: with none, a key exchange and a
-    /// CertificateVerify are their bytes.
+    /// Returns a parsed message of TLS (RFC 8446, section 4), with cipher suites as `suite_text`
+    /// says. `chosen` is that of the last ServerHello before it: without it, key exchanges and
+    /// CertificateVerify are written as bytes.
     ///
-    /// `AllocError` where memory runs out.
+    /// `AllocError` if memory runs out.
     pub fn of(
         alloc: Global,
+        suite_text: SuiteText,
         chosen: Option<Chosen>,
         message: &HandshakeMessage<'_>,
     ) -> Result<Message, AllocError> {
-        let content = Content::new(alloc, chosen, message);
+        let content = Content::new(alloc, suite_text, chosen, message);
         Message::with_content(alloc, message, None, content)
     }
 
-    /// The same by its bytes, its header of 4 bytes first; `None` where it isn't whole.
+    /// Parses a message of TLS, given with its header of 4 bytes; `None` if it isn't whole.
+    /// `suite_text` and `chosen` are as in [`Message::of`].
     ///
-    /// `AllocError` where memory runs out.
+    /// `AllocError` if memory runs out.
     pub fn new(
         alloc: Global,
+        suite_text: SuiteText,
         chosen: Option<Chosen>,
         message: &[u8],
     ) -> Result<Option<Message>, AllocError> {
         match HandshakeMessage::read(message) {
-            Some(message) => Ok(Some(Message::of(alloc, chosen, &message)?)),
+            Some(message) => Ok(Some(Message::of(alloc, suite_text, chosen, &message)?)),
             None => Ok(None),
         }
     }
 
-    /// A message of DTLS, which was put together from its fragments, and its number; `chosen` as for TLS.
+    /// Returns a parsed message of DTLS, which was reassembled, with its number. `suite_text` and
+    /// `chosen` are as in [`Message::of`].
     ///
-    /// `AllocError` where memory runs out.
+    /// `AllocError` if memory runs out.
     pub fn of_datagram_message(
         alloc: Global,
+        suite_text: SuiteText,
         chosen: Option<Chosen>,
         message_seq: u16,
         message: &HandshakeMessage<'_>,
     ) -> Result<Message, AllocError> {
-        let content = Content::of_datagrams(alloc, chosen, message);
+        let content = Content::of_datagrams(alloc, suite_text, chosen, message);
         Message::with_content(alloc, message, Some(u64::from(message_seq)), content)
     }
 
-    /// The same by its type, its number and its body.
+    /// Parses a reassembled message of DTLS, given by type, number and body. `suite_text` and
+    /// `chosen` are as in [`Message::of`].
     ///
-    /// `AllocError` where memory runs out.
+    /// `AllocError` if memory runs out.
     pub fn of_datagrams(
         alloc: Global,
+        suite_text: SuiteText,
         chosen: Option<Chosen>,
         msg_type: TlsHandshakeType,
         message_seq: u16,
         body: &[u8],
     ) -> Result<Message, AllocError> {
         let message = HandshakeMessage::of_datagrams(msg_type, body);
-        Message::of_datagram_message(alloc, chosen, message_seq, &message)
+        Message::of_datagram_message(alloc, suite_text, chosen, message_seq, &message)
     }
 
     fn with_content(

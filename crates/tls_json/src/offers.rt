@@ -1,4 +1,4 @@
-//! Contents of extensions that the library hands over undivided, or has no name for.
+//! Contents of extensions that `tls_ext` leaves undivided, or has no name for.
 ghost use Rattle.std.specs.Prelude.{IfOk, IfSome};
 ghost use Rattle.tls_json.specs.Outline.{Shows, ReadsAs};
 ghost use Rattle.tls_json.specs.Extensions.{identity_fields, suite_fields, encrypted_hello_fields};
@@ -11,10 +11,10 @@ use crate::text::{blob, numbers};
 use layouts::{Counted1, Items, counted1, counted2, number4};
 use std::alloc::{AllocError, Global};
 
-/// The form of an encrypted_client_hello that isn't itself encrypted (RFC 9849, section 5).
+/// The type of an outer encrypted_client_hello (RFC 9849, section 5).
 const OUTER: u8 = 0;
 
-/// A key that a client knows before (RFC 8446, section 4.2.11).
+/// Writes a PskIdentity (RFC 8446, section 4.2.11).
 fn identity_of(alloc: Global, identity: &[u8], age: u32) -> Result<Value, AllocError>
     ensures { IfOk result (Shows (identity_fields identity.now age)) }
 {
@@ -24,7 +24,8 @@ fn identity_of(alloc: Global, identity: &[u8], age: u32) -> Result<Value, AllocE
         .finish()
 }
 
-/// The identities in the bytes of their list (RFC 8446, section 4.2.11); `None` where not all of it is read.
+/// Parses a list of PskIdentity (RFC 8446, section 4.2.11); `None` if it can't be parsed to its
+/// end.
 fn identities(alloc: Global, list: &[u8]) -> Answer {
     let mut all = Values::new(alloc);
     let mut left = list;
@@ -44,7 +45,7 @@ fn identities(alloc: Global, list: &[u8]) -> Answer {
     Some(all.finish())
 }
 
-/// What shows that a client knows them (RFC 8446, section 4.2.11).
+/// Lists the binders of a client's pre_shared_key (RFC 8446, section 4.2.11).
 fn binders(alloc: Global, list: Items<'_, Counted1>) -> Result<Value, AllocError> {
     let mut all = Values::new(alloc);
     for binder in list {
@@ -53,7 +54,7 @@ fn binders(alloc: Global, list: Items<'_, Counted1>) -> Result<Value, AllocError
     all.finish()
 }
 
-/// The keys that a client knows before, and what shows that it does (RFC 8446, section 4.2.11).
+/// Parses a client's pre_shared_key: identities and binders (RFC 8446, section 4.2.11).
 pub fn known_keys(alloc: Global, content: &[u8]) -> Answer
     ensures { IfSome result (ReadsAs names_of.offered_psks) }
 {
@@ -76,7 +77,7 @@ pub fn known_keys(alloc: Global, content: &[u8]) -> Answer
     )
 }
 
-/// Which of them a server takes up (RFC 8446, section 4.2.11).
+/// Parses a server's pre_shared_key: the identity that it selected (RFC 8446, section 4.2.11).
 pub fn selected_key(alloc: Global, content: &[u8]) -> Answer
     ensures { IfSome result (ReadsAs names_of.selected_identity) }
 {
@@ -91,7 +92,7 @@ pub fn selected_key(alloc: Global, content: &[u8]) -> Answer
     ))
 }
 
-/// The algorithms by which a certificate may be compressed (RFC 8879, section 3).
+/// Parses compress_certificate (RFC 8879, section 3).
 pub fn compressions(alloc: Global, content: &[u8]) -> Answer
     ensures { IfSome result (ReadsAs names_of.compress_certificate) }
 {
@@ -109,7 +110,7 @@ pub fn compressions(alloc: Global, content: &[u8]) -> Answer
     Some(single(alloc, "algorithms", algorithms.finish()))
 }
 
-/// How media behind the handshake may be protected (RFC 5764, section 4.1.1).
+/// Parses use_srtp (RFC 5764, section 4.1.1).
 pub fn srtp_profiles(alloc: Global, content: &[u8]) -> Answer
     ensures { IfSome result (ReadsAs names_of.use_srtp) }
 {
@@ -130,7 +131,7 @@ pub fn srtp_profiles(alloc: Global, content: &[u8]) -> Answer
     )
 }
 
-/// The id that a side wants in the records that it gets (RFC 9146, section 3).
+/// Parses connection_id (RFC 9146, section 3).
 pub fn connection_id(alloc: Global, content: &[u8]) -> Answer
     ensures { IfSome result (ReadsAs names_of.connection_id) }
 {
@@ -140,7 +141,7 @@ pub fn connection_id(alloc: Global, content: &[u8]) -> Answer
     Some(single(alloc, "cid", blob(alloc, cid)))
 }
 
-/// How a hello is encrypted (RFC 9849, section 4).
+/// Writes an HpkeSymmetricCipherSuite (RFC 9849, section 4).
 fn suite_of(alloc: Global, kdf_id: u16, aead_id: u16) -> Result<Value, AllocError>
     ensures { IfOk result (Shows (suite_fields kdf_id aead_id)) }
 {
@@ -150,7 +151,7 @@ fn suite_of(alloc: Global, kdf_id: u16, aead_id: u16) -> Result<Value, AllocErro
         .finish()
 }
 
-/// The parts of an encrypted_client_hello behind its type.
+/// The fields of an outer encrypted_client_hello after its type.
 #[derive(Drop)]
 struct Outer<'a> {
     kdf_id: u16,
@@ -160,7 +161,7 @@ struct Outer<'a> {
     payload: &'a [u8],
 }
 
-/// A client's encrypted_client_hello, as it stands in the hello that isn't encrypted (RFC 9849, section 5).
+/// Writes an outer encrypted_client_hello (RFC 9849, section 5).
 fn outer_fields(alloc: Global, parts: &Outer<'_>) -> Result<Value, AllocError>
     ensures { IfOk result (Shows (encrypted_hello_fields parts.now)) }
 {
@@ -173,7 +174,7 @@ fn outer_fields(alloc: Global, parts: &Outer<'_>) -> Result<Value, AllocError>
         .finish()
 }
 
-/// An encrypted hello in the one that isn't (RFC 9849, section 5).
+/// Parses an outer encrypted_client_hello (RFC 9849, section 5).
 pub fn encrypted_hello(alloc: Global, content: &[u8]) -> Answer
     ensures { IfSome result (ReadsAs names_of.encrypted_client_hello) }
 {

@@ -1,22 +1,22 @@
-//! Tables of fields, and lists, as they are put together.
+//! Builders of objects and lists.
 ghost use Rattle.std.specs.Prelude.{IfOk, ◌++◌, ◌∷◌, [], List, ℕ};
 ghost use Rattle.serde_json.specs.Data.{Data, array, no_items};
 ghost use Rattle.tls_json.specs.Outline.{Shows, Entries, object_of, decimal, hexadecimal, suite, bytes, some_decimal, some_hexadecimal, some_bytes, bytes_if, some_name, HasNames, HasEntries, IsNamed, HasFields, HasFieldNames};
 
 use crate::json::{Field, Value};
-use crate::suite::suite_value;
+use crate::suite::{SuiteText, suite_value};
 use crate::text::{blob, code_text};
 use std::alloc::{AllocError, Global};
 use tls_base::TlsCipherSuiteID;
 
-/// The fields of an object, in their order; or that memory ran out, which stays so up to the end.
+/// The fields of an object in order, or the first failure to allocate, which `finish` returns.
 #[derive(Drop)]
 pub struct Table {
     alloc: Global,
     fields: Result<Vec<Field>, AllocError>,
 }
 
-/// The fields, and one more.
+/// Appends a field.
 fn with_field(
     fields: Result<Vec<Field>, AllocError>,
     name: &'static str,
@@ -32,7 +32,7 @@ fn with_field(
 }
 
 impl Table {
-    /// One without fields.
+    /// Returns a table without fields.
     pub fn new(alloc: Global) -> Table
         ensures fields { HasFields [] result }
         ensures names { HasFieldNames [] result }
@@ -43,7 +43,7 @@ impl Table {
         }
     }
 
-    /// With a field more.
+    /// Appends a field.
     pub fn add(self, name: &'static str, value: Result<Value, AllocError>) -> Table
         ensures fields { (es : Entries) → (d : Data) → HasFields es self → IfOk value (Shows d)
             → HasFields (es ++ (name.now, d) ∷ []) result }
@@ -55,14 +55,14 @@ impl Table {
         }
     }
 
-    /// With a number, in decimal.
+    /// Appends a number, in decimal.
     pub fn decimal(self, name: &'static str, count: u64) -> Table
         ensures { (es : Entries) → HasFields es self → HasFields (es ++ decimal name.now count ∷ []) result }
     {
         self.add(name, Ok(Value::Number(count)))
     }
 
-    /// With a number, where there is one.
+    /// Appends a number in decimal, if there is one.
     pub fn some_decimal(self, name: &'static str, count: Option<u64>) -> Table
         ensures { (es : Entries) → HasFields es self → HasFields (es ++ some_decimal name.now count) result }
     {
@@ -72,7 +72,7 @@ impl Table {
         }
     }
 
-    /// With a number of 2 bytes that stands for a thing, as `0xc02f`.
+    /// Appends a number of 2 bytes in hexadecimal, as `0xc02f`.
     pub fn hexadecimal(self, name: &'static str, code: u16) -> Table
         ensures { (es : Entries) → HasFields es self → HasFields (es ++ hexadecimal name.now code ∷ []) result }
     {
@@ -80,7 +80,7 @@ impl Table {
         self.add(name, text)
     }
 
-    /// With such a number, where there is one.
+    /// Appends a number of 2 bytes in hexadecimal, if there is one.
     pub fn some_hexadecimal(self, name: &'static str, code: Option<u16>) -> Table
         ensures { (es : Entries) → HasFields es self → HasFields (es ++ some_hexadecimal name.now code) result }
     {
@@ -90,15 +90,15 @@ impl Table {
         }
     }
 
-    /// With a cipher suite, by its name or else its number.
-    pub fn suite(self, name: &'static str, code: TlsCipherSuiteID) -> Table
-        ensures { (es : Entries) → HasFields es self → HasFields (es ++ suite name.now code.0 ∷ []) result }
+    /// Appends a cipher suite as `suite_text` says.
+    pub fn suite(self, name: &'static str, suite_text: SuiteText, code: TlsCipherSuiteID) -> Table
+        ensures { (es : Entries) → HasFields es self → HasFields (es ++ suite name.now suite_text code.0 ∷ []) result }
     {
-        let text = suite_value(self.alloc, code);
+        let text = suite_value(self.alloc, suite_text, code);
         self.add(name, text)
     }
 
-    /// With bytes, in hexadecimal.
+    /// Appends bytes, in hexadecimal.
     pub fn bytes(self, name: &'static str, content: &[u8]) -> Table
         ensures { (es : Entries) → HasFields es self → HasFields (es ++ bytes name.now content.now ∷ []) result }
     {
@@ -106,7 +106,7 @@ impl Table {
         self.add(name, text)
     }
 
-    /// With bytes, where there are some.
+    /// Appends bytes in hexadecimal, unless they are empty.
     pub fn some_bytes(self, name: &'static str, content: &[u8]) -> Table
         ensures { (es : Entries) → HasFields es self → HasFields (es ++ some_bytes name.now content.now) result }
     {
@@ -116,7 +116,7 @@ impl Table {
         }
     }
 
-    /// With bytes that may be missing.
+    /// Appends bytes in hexadecimal, if there are any; they may be empty.
     pub fn bytes_if(self, name: &'static str, content: Option<&[u8]>) -> Table
         ensures { (es : Entries) → HasFields es self → HasFields (es ++ bytes_if name.now content.entry) result }
     {
@@ -126,7 +126,7 @@ impl Table {
         }
     }
 
-    /// With a name of ours, where there is one.
+    /// Appends a fixed name, if there is one.
     pub fn some_name(self, name: &'static str, text: Option<&'static str>) -> Table
         ensures { (es : Entries) → HasFields es self → HasFields (es ++ some_name name.now text.entry) result }
     {
@@ -136,7 +136,7 @@ impl Table {
         }
     }
 
-    /// The object of these fields.
+    /// Returns the object of these fields.
     pub fn finish(self) -> Result<Value, AllocError>
         ensures fields { (es : Entries) → HasFields es self → IfOk result (Shows (object_of es)) }
         ensures names { (ns : List (List ℕ)) → HasFieldNames ns self → IfOk result (HasNames ns) }
@@ -145,7 +145,7 @@ impl Table {
     }
 }
 
-/// The object of one field.
+/// Returns the object of one field.
 pub fn single(
     alloc: Global,
     name: &'static str,
@@ -157,7 +157,7 @@ pub fn single(
     Table::new(alloc).add(name, value).finish()
 }
 
-/// Values, in their order; or that memory ran out.
+/// The values of a list in order, or the first failure to allocate.
 #[derive(Drop)]
 pub struct Values {
     values: Result<Vec<Value>, AllocError>,
@@ -173,21 +173,21 @@ fn with_value(
 }
 
 impl Values {
-    /// One without values.
+    /// Returns a list without values.
     pub fn new(alloc: Global) -> Values {
         Values {
             values: Ok(Vec::new(alloc)),
         }
     }
 
-    /// With a value more.
+    /// Appends a value.
     pub fn add(self, value: Result<Value, AllocError>) -> Values {
         Values {
             values: with_value(self.values, value),
         }
     }
 
-    /// The list of these values.
+    /// Returns the list of these values.
     pub fn finish(self) -> Result<Value, AllocError>
         ensures { IfOk result (Shows (array no_items)) }
     {

@@ -1,4 +1,4 @@
-//! How numbers and bytes are written.
+//! Numbers and bytes as texts.
 ghost use Rattle.std.specs.Prelude.{IfOk};
 ghost use Rattle.hex.specs.Hex.{encode_lower};
 ghost use Rattle.serde_json.specs.Data.{string, array, no_items};
@@ -9,14 +9,14 @@ use crate::table::Values;
 use layouts::{Counted2, Items};
 use std::alloc::{AllocError, Global};
 
-/// Bytes, in hexadecimal.
+/// Writes bytes in hexadecimal.
 pub fn blob(alloc: Global, bytes: &[u8]) -> Result<Value, AllocError>
     ensures { IfOk result (Shows (string (encode_lower bytes.now))) }
 {
     Ok(Value::Text(hex::encode(alloc, bytes)?))
 }
 
-/// A number of 2 bytes that stands for a thing, as `0xc02f`.
+/// Writes a number of 2 bytes in hexadecimal, as `0xc02f`.
 pub fn code_text(alloc: Global, code: u16) -> Result<Value, AllocError>
     ensures { IfOk result (Shows (string (number_text code))) }
 {
@@ -25,7 +25,7 @@ pub fn code_text(alloc: Global, code: u16) -> Result<Value, AllocError>
     Ok(Value::Text(text))
 }
 
-/// Blobs in their order, each in hexadecimal.
+/// Lists byte strings in order, each in hexadecimal.
 pub fn blobs(alloc: Global, list: Items<'_, Counted2>) -> Result<Value, AllocError>
     ensures { IfOk result (Shows (array no_items)) }
 {
@@ -36,7 +36,7 @@ pub fn blobs(alloc: Global, list: Items<'_, Counted2>) -> Result<Value, AllocErr
     all.finish()
 }
 
-/// The numbers of 2 bytes in `bytes`, in their order, as `0xc02f`.
+/// Lists the numbers of 2 bytes in `bytes` in order, each as `0xc02f`.
 pub fn numbers(alloc: Global, bytes: &[u8]) -> Result<Value, AllocError>
     ensures { IfOk result (Shows (array no_items)) }
 {
@@ -48,7 +48,7 @@ pub fn numbers(alloc: Global, bytes: &[u8]) -> Result<Value, AllocError>
     all.finish()
 }
 
-/// Codes of one byte, in their order.
+/// Lists codes of one byte in order, in decimal.
 pub fn codes(alloc: Global, bytes: &[u8]) -> Result<Value, AllocError>
     ensures { IfOk result (Shows (array no_items)) }
 {
@@ -59,7 +59,7 @@ pub fn codes(alloc: Global, bytes: &[u8]) -> Result<Value, AllocError>
     all.finish()
 }
 
-/// A name that a peer sent; whatever is no printable ASCII is escaped.
+/// Writes a name that a peer sent, in which bytes that aren't printable ASCII are escaped.
 pub fn escaped(alloc: Global, bytes: &[u8]) -> Result<Value, AllocError> {
     Ok(Value::Text(format!(in alloc; "{}", bytes.escape_ascii())?))
 }

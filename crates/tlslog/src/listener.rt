@@ -2,7 +2,7 @@
 use connections::{Connection, Side};
 use log_connections::{Heard, Keeper, Pieces};
 use log_fields::summary::{Party, Summary};
-use log_messages::{Chains, Presented, Speech, Spoken};
+use log_messages::{CertificateLists, Chains, Presented, Speech, Spoken, SuiteText};
 use std::alloc::{AllocError, Global};
 use tls_analyzer::Witness;
 use tls_flow::{Direction, HandshakeMessage};
@@ -15,13 +15,25 @@ pub enum Kept {
     Messages(Speech),
     /// Its certificates.
     Certificates(Chains),
+    /// The chains of both sides, for its line.
+    Chains(CertificateLists),
 }
 
 impl Keeper for Kept {
     fn begin(alloc: Global, pieces: Pieces) -> Kept {
         match pieces {
-            Pieces::Messages => Kept::Messages(Speech::new(alloc)),
+            Pieces::Messages => Kept::Messages(Speech::new(alloc, SuiteText::Name)),
+            Pieces::NumberedMessages => Kept::Messages(Speech::new(alloc, SuiteText::Number)),
             Pieces::Certificates => Kept::Certificates(Chains::new(alloc)),
+            Pieces::Chains => Kept::Chains(CertificateLists::new(alloc)),
+        }
+    }
+
+    fn capacity(&self) -> usize {
+        match self {
+            // (these are taken before the next packet)
+            Kept::Messages(_) | Kept::Certificates(_) => 0,
+            Kept::Chains(lists) => lists.capacity(),
         }
     }
 }
@@ -36,6 +48,10 @@ impl Witness for Kept {
         match self {
             Kept::Messages(speech) => speech.hear_said(side, said, message),
             Kept::Certificates(chains) => chains.hear(side, message),
+            Kept::Chains(lists) => {
+                lists.hear(side, message);
+                Ok(())
+            }
         }
     }
 
@@ -48,6 +64,10 @@ impl Witness for Kept {
         match self {
             Kept::Messages(speech) => speech.hear_event(side, event, message),
             Kept::Certificates(chains) => chains.hear(side, message),
+            Kept::Chains(lists) => {
+                lists.hear(side, message);
+                Ok(())
+            }
         }
     }
 }
@@ -59,7 +79,7 @@ pub type Listener = Heard<Kept>;
 pub fn take_messages(alloc: Global, listener: &mut Listener) -> Vec<Spoken> {
     match listener.keeper() {
         Some(Kept::Messages(speech)) => speech.take(),
-        Some(Kept::Certificates(_)) | None => Vec::new(alloc),
+        Some(Kept::Certificates(_) | Kept::Chains(_)) | None => Vec::new(alloc),
     }
 }
 
@@ -67,7 +87,7 @@ pub fn take_messages(alloc: Global, listener: &mut Listener) -> Vec<Spoken> {
 pub fn take_certificates(alloc: Global, listener: &mut Listener) -> Vec<Presented> {
     match listener.keeper() {
         Some(Kept::Certificates(chains)) => chains.take(),
-        Some(Kept::Messages(_)) | None => Vec::new(alloc),
+        Some(Kept::Messages(_) | Kept::Chains(_)) | None => Vec::new(alloc),
     }
 }
 
@@ -87,6 +107,14 @@ fn party(connection: &Connection<Listener>, side: Side) -> Party<'_> {
     }
 }
 
+/// Returns the certificates that the sender of this direction sent, if chains are kept.
+fn chain(listener: &Listener, direction: Direction) -> &[u8] {
+    match listener.kept() {
+        Some(Kept::Chains(lists)) => lists.of(direction),
+        Some(Kept::Messages(_) | Kept::Certificates(_)) | None => &[],
+    }
+}
+
 /// Returns the summary of a connection that its lines are made of.
 pub fn summary(connection: &Connection<Listener>) -> Summary<'_> {
     let heard = &connection.listener;
@@ -97,6 +125,8 @@ pub fn summary(connection: &Connection<Listener>) -> Summary<'_> {
         originator: party(connection, Side::Originator),
         responder: party(connection, Side::Responder),
         handshake: heard.handshake(),
+        client_chain: chain(heard, Direction::ToServer),
+        server_chain: chain(heard, Direction::FromServer),
         history: heard.history(),
         outcome: heard.outcome(),
         stop: heard.stop(),

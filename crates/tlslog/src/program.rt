@@ -503,9 +503,11 @@ fn tell_counts<R: Runtime>(rt: &R, name: &str, counts: &Counts, exit: Exit) -> E
 }
 
 /// Returns what is kept of connections until it is printed.
-fn kept_for(lines: &Lines) -> Option<Pieces> {
-    match lines {
+fn kept_for(style: &Style) -> Option<Pieces> {
+    match &style.lines {
+        Lines::Connections(_) if style.has_chains() => Some(Pieces::Chains),
         Lines::Connections(_) => None,
+        Lines::Messages(_) if style.suites.are_numbered() => Some(Pieces::NumberedMessages),
         Lines::Messages(_) => Some(Pieces::Messages),
         Lines::Certificates(_) => Some(Pieces::Certificates),
     }
@@ -528,7 +530,7 @@ pub struct Asked {
 
 /// Returns an empty log by the options, with these keys for the hashes of its tables.
 fn log_of(alloc: Global, asked: &Asked, keys: RandomState) -> Result<Log<Kept>, AllocError> {
-    let mut log = Log::new(alloc, keys, kept_for(&asked.style.lines))?;
+    let mut log = Log::new(alloc, keys, kept_for(&asked.style))?;
     log.set_checksums(asked.checksums);
     log.set_memory(asked.memory);
     if let Some(part) = asked.part {
