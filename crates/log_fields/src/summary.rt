@@ -45,8 +45,8 @@ pub struct Summary<'a> {
     pub responder: Party<'a>,
     /// The handshake of both sides.
     pub handshake: &'a HandshakeSummary,
-    /// The certificates that the client sent, in DER, each after 3 bytes of length. Empty if it sent
-    /// none, or they aren't kept.
+    /// The certificates that the client sent, in DER, each after 3 bytes of length. Empty if it
+    /// sent none, or they aren't kept.
     pub client_chain: &'a [u8],
     /// The certificates that the server sent, in the same form.
     pub server_chain: &'a [u8],

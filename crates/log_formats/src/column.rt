@@ -25,7 +25,8 @@ pub enum Type {
     Method,
     /// the names of methods, as that of one, with `,` between them
     Methods,
-    /// `uncompressed`, `ansiX962_compressed_prime`, `ansiX962_compressed_char2`, or `unknown-` and the number, with `,` between them
+    /// `uncompressed`, `ansiX962_compressed_prime`, `ansiX962_compressed_char2`, or `unknown-` and
+    /// the number, with `,` between them
     PointFormats,
     /// `psk_ke`, `psk_dhe_ke`, or `unknown-` and the number, with `,` between them
     Modes,

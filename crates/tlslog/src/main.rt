@@ -96,7 +96,8 @@ fn end_log<R: Runtime + AllocGlobal, W: Write>(
     exit: Exit,
     out: Output<W>,
 ) -> (Exit, Output<W>)
-    ensures { (was : Bool) → HasWritten was exit out.has_failed → HasWritten was result.0 result.1.has_failed }
+    ensures { (was : Bool) → HasWritten was exit out.has_failed
+        → HasWritten was result.0 result.1.has_failed }
 {
     let mut out = out;
     if matches!(exit, Exit::Closed) || out.has_failed() {

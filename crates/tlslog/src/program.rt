@@ -619,7 +619,8 @@ fn log_last<R: Runtime + AllocGlobal, W: Write>(
     exit: Exit,
     logger: &mut Logger<'_, W>,
 ) -> Exit
-    ensures { (was : Bool) → HasWritten was exit logger.old.out.has_failed → HasWritten was result logger.new.out.has_failed }
+    ensures { (was : Bool) → HasWritten was exit logger.old.out.has_failed
+        → HasWritten was result logger.new.out.has_failed }
 {
     if matches!(exit, Exit::Closed) || logger.out.has_failed() {
         return exit;
