@@ -119,7 +119,8 @@ def groups(table: list[Column]) -> list[list[Column]]:
 def kinds() -> dict[str, tuple[str, str]]:
     """The variants of Type: what each says, and Zeek's name of it."""
     body = TYPES.read_text().split("pub enum Type {\n")[1].split("\n}")[0]
-    texts = {name: text for text, name in re.findall(r"^    /// (.*)\n    (\w+),$", body, re.M)}
+    found = re.findall(r"((?:^    /// .*\n)+)    (\w+),$", body, re.M)
+    texts = {name: " ".join(line.strip().removeprefix("/// ") for line in text.splitlines()) for text, name in found}
     names = {}
     for variants, name in re.findall(r'^ +(Type::.*) => "(.*)",$', ZEEK.read_text(), re.M):
         names |= dict.fromkeys(re.findall(r"Type::(\w+)", variants), name)

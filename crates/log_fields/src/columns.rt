@@ -88,10 +88,13 @@ pub static PARTS: &[Column<Part>] = columns! {
     /// the number of messages of that side before it
     "place": Count = Part::Place;
     /// the type of its record: 20 a ChangeCipherSpec, 21 an alert, 22 a handshake message, 24 a
-    /// heartbeat RFC: 8446, 5.1; 6520, 3
+    /// heartbeat
+    /// RFC: 8446, 5.1; 6520, 3
     "content_type": Count = Part::ContentType;
     /// the name of the handshake message, as `client_hello`; else `change_cipher_spec`, `alert`,
-    /// `heartbeat` RFC: 8446, B.3; 5246, A.4 absent: the handshake type has no name
+    /// `heartbeat`
+    /// RFC: 8446, B.3; 5246, A.4
+    /// absent: the handshake type has no name
     "name": Text = Part::Name;
     /// its fields, by the names in its RFC
     /// RFC: see below

@@ -155,14 +155,15 @@ macro_rules! rows {
             $($words)*
             End {
                 /// the time of the first packet: seconds since 1970-01-01 00:00 UTC, to the
-                /// microsecond Zeek: `ts`
+                /// microsecond
+                /// Zeek: `ts`
                 "ts": Time = Time => |moment| Ok(Some(seconds(moment.time)));
                 /// the connection's identifier ("Identifiers", below)
                 /// Zeek: `uid`, which is random
                 "uid": Text = Uid => |moment| uid_cell(moment);
                 /// address and port of the originator (which opened the connection) and of the
-                /// responder; over UDP the originator is the sender of the first datagram Zeek: the
-                /// same
+                /// responder; over UDP the originator is the sender of the first datagram
+                /// Zeek: the same
                 "id.orig_h": Address =
                     Originator => |moment| Ok(address_cell(moment.summary.originator.end));
                 /// as above
@@ -192,20 +193,29 @@ macro_rules! rows {
                 /// absent: no ServerHello
                 "version": Text = Version => |told| Ok(some_version(told.handshake.version()));
                 /// the cipher suite that the server chose, by its name in IANA's registry, or else
-                /// its number RFC: 8446, 4.1.3 Zeek: `cipher` absent: no ServerHello
+                /// its number
+                /// RFC: 8446, 4.1.3
+                /// Zeek: `cipher`
+                /// absent: no ServerHello
                 "cipher": Text =
                     Cipher => |told| Ok(told.suites.some_text(told.handshake.cipher()));
                 /// the group of the key exchange, from the server's key share or its
-                /// ServerKeyExchange RFC: 8446, 4.2.8; 8422, 5.4 Zeek: `curve` absent: no such
-                /// exchange
+                /// ServerKeyExchange
+                /// RFC: 8446, 4.2.8; 8422, 5.4
+                /// Zeek: `curve`
+                /// absent: no such exchange
                 "curve": Text = Curve => |told| Ok(some_group(told.handshake.curve()));
                 /// the host name that the client asked for: the first name of type host_name in its
-                /// server_name RFC: 6066, 3 Zeek: `server_name` absent: it asked for none
+                /// server_name
+                /// RFC: 6066, 3
+                /// Zeek: `server_name`
+                /// absent: it asked for none
                 "server_name": Text =
                     ServerName => |told| Ok(some_escaped(told.handshake.server_name()));
                 /// the names of other types there, in order, each prefixed by the number of its
-                /// type: `["1:name"]`. No RFC defines such a type RFC: 6066, 3 absent: there are
-                /// none
+                /// type: `["1:name"]`. No RFC defines such a type
+                /// RFC: 6066, 3
+                /// absent: there are none
                 "other_server_names": Texts =
                     OtherServerNames => |told| other_names_cell(told.alloc, told.handshake);
                 /// the application protocol that the server chose
@@ -217,10 +227,13 @@ macro_rules! rows {
             }
             Course {
                 /// `true`: an abbreviated handshake, or in TLS 1.3 a ServerHello with
-                /// pre_shared_key RFC: 5246, 7.3; 8446, 2.2 Zeek: `resumed`
+                /// pre_shared_key
+                /// RFC: 5246, 7.3; 8446, 2.2
+                /// Zeek: `resumed`
                 "resumed": Mark = Resumed => |told| Some(Cell::Mark(told.summary.is_resumed));
                 /// `true`: the readable part of the handshake is complete; in TLS 1.3 that is with
-                /// the ServerHello Zeek: `established`, which in TLS 1.3 waits for data
+                /// the ServerHello
+                /// Zeek: `established`, which in TLS 1.3 waits for data
                 "established": Mark =
                     Established => |told| Some(Cell::Mark(told.summary.is_established));
             }
@@ -237,16 +250,18 @@ macro_rules! rows {
                 "outcome": Text =
                     Outcome => |told| Some(name_cell(outcome_name(told.summary.outcome)));
                 /// the message that ended the handshake without success: `message` (its kind),
-                /// `sender`, and `messages_before` (how many messages came before it) absent: it
-                /// didn't end so
+                /// `sender`, and `messages_before` (how many messages came before it)
+                /// absent: it didn't end so
                 "stop": Fields = Stop => |told| stop_cell(told.summary.stop);
                 /// the sides with missing bytes before others that were captured: `orig`, `resp`,
-                /// `both`; of a side that is no longer read, up to that point Zeek: `missed_bytes`
-                /// counts them absent: no bytes are missing
+                /// `both`; of a side that is no longer read, up to that point
+                /// Zeek: `missed_bytes` counts them
+                /// absent: no bytes are missing
                 "gap": Text = Gap => |told| some_name(told.summary.gap());
                 /// `true`: memory ran short (`--memory`) when no other connection was longer
                 /// without a packet, so the line was printed then. What came later is another
-                /// connection absent: it ended otherwise
+                /// connection
+                /// absent: it ended otherwise
                 "ended_early": Mark = EndedEarly => |told| some_mark(told.summary.is_ended_early);
                 /// a letter for each unencrypted message, alert and ChangeCipherSpec, and over TCP
                 /// each heartbeat and record of data, in order, the client's in upper case: `H`
@@ -257,24 +272,29 @@ macro_rules! rows {
                 /// `Y` certificate_verify, `G` client_key_exchange, `F` finished, `W`
                 /// certificate_url, `U` certificate_status, `A` supplemental_data, `P` key_update,
                 /// `M` message_hash, `Z` another message, `I` change_cipher_spec, `L` alert, `B`
-                /// heartbeat, `D` application data; the first 100 RFC: 5246, 7.4; 8446, 4 Zeek: the
-                /// same absent: there was none
+                /// heartbeat, `D` application data; the first 100
+                /// RFC: 5246, 7.4; 8446, 4
+                /// Zeek: the same
+                /// absent: there was none
                 "ssl_history": Text = History => |told| history_cell(told.summary.history);
             }
             Sent {
                 /// the packets of each side that the other took, or had already, up to the
-                /// connection's end; the last acknowledgement counts Zeek: the same
+                /// connection's end; the last acknowledgement counts
+                /// Zeek: the same
                 "orig_pkts", "resp_pkts": Count =
                     Packets => |sender| Ok(Some(Cell::Number(sender.party.sent.packets)));
                 /// the payload bytes of each side: over TCP by sequence numbers, so missing bytes
-                /// count and retransmitted ones don't; over UDP those of its datagrams RFC: 9293,
-                /// 3.4; 768 Zeek: the same
+                /// count and retransmitted ones don't; over UDP those of its datagrams
+                /// RFC: 9293, 3.4; 768
+                /// Zeek: the same
                 "orig_bytes", "resp_bytes": Count =
                     Bytes => |sender| Ok(Some(Cell::Number(bytes_of(sender))));
                 /// the records of each side, encrypted ones too. Over TCP those whose header was
                 /// captured, up to the first missing bytes; once a side is no longer read, up to
                 /// the first bytes out of order. Over UDP the DTLS records that are whole at the
-                /// front of its datagrams, retransmitted ones too RFC: 8446, 5.1; 6347, 4.1
+                /// front of its datagrams, retransmitted ones too
+                /// RFC: 8446, 5.1; 6347, 4.1
                 "orig_records", "resp_records": Count = Records =>
                     |sender| Ok(Some(Cell::Number(sender.party.records)));
             }
@@ -286,8 +306,10 @@ macro_rules! rows {
             }
             Sent {
                 /// the retransmitted bytes: those at sequence numbers that were captured before, up
-                /// to the first missing bytes RFC: 9293, 3.4 Zeek: `T` in `history` absent: there
-                /// were none; DTLS
+                /// to the first missing bytes
+                /// RFC: 9293, 3.4
+                /// Zeek: `T` in `history`
+                /// absent: there were none; DTLS
                 "orig_repeated_bytes", "resp_repeated_bytes": Count = Repeated =>
                     |sender| Ok(some_count(sender.party.stream.repeated()));
                 /// how many of these differ from the bytes that came first, which are the ones that
@@ -298,28 +320,34 @@ macro_rules! rows {
                 "orig_disagreeing_bytes", "resp_disagreeing_bytes": Count = Disagreeing =>
                     |sender| Ok(some_count(sender.party.stream.disagreeing()));
                 /// the packets of each side of which the other took nothing (docs/CAPTURES.md,
-                /// "Which packets count"). No other field tells of them RFC: 9293, 3.10.7.4; 5961;
-                /// 7323, 5 absent: there were none
+                /// "Which packets count"). No other field tells of them
+                /// RFC: 9293, 3.10.7.4; 5961; 7323, 5
+                /// absent: there were none
                 "orig_dropped_pkts", "resp_dropped_pkts": Count = Dropped =>
                     |sender| Ok(some_count(sender.party.dropped.packets));
                 /// why, each reason once: `checksum`, `no_ack`, `ack`, `window`, `paws`,
-                /// `signature`, `syn`, `rst`, `fin` RFC: the same Zeek: `C` in `history` for
-                /// checksums absent: there were none
+                /// `signature`, `syn`, `rst`, `fin`
+                /// RFC: the same
+                /// Zeek: `C` in `history` for checksums
+                /// absent: there were none
                 "orig_dropped_for", "resp_dropped_for": Texts = DroppedFor =>
                     |sender| reasons_cell(sender.alloc, &sender.party.dropped);
                 /// how many bytes of each side stand in front of its TLS: those of STARTTLS, of a
-                /// proxy, or of another protocol (docs/CAPTURES.md, "Where TLS begins") absent:
-                /// there are none; DTLS
+                /// proxy, or of another protocol (docs/CAPTURES.md, "Where TLS begins")
+                /// absent: there are none; DTLS
                 "orig_preamble_bytes", "resp_preamble_bytes": Count = Preamble =>
                     |sender| Ok(some_count(sender.party.preamble));
             }
             Carried {
                 /// the tunnels that the connection came in, from outside in: `ipv4`, `ipv6`, `gre`,
                 /// `erspan`, `mpls`, `pbb`, `vxlan`, `geneve`, `gtp`, `teredo` (docs/CAPTURES.md,
-                /// "Tunnels") Zeek: `tunnel_parents` has ids absent: it came in none
+                /// "Tunnels")
+                /// Zeek: `tunnel_parents` has ids
+                /// absent: it came in none
                 "tunnels": Texts = Tunnels => |told| tunnels_cell(told.alloc, told.summary.tunnels);
                 /// the number of each of these, 0 where it has none: key, session, label, service,
-                /// network or endpoint absent: it came in none
+                /// network or endpoint
+                /// absent: it came in none
                 "tunnel_ids": Counts =
                     TunnelIds => |told| tunnel_ids_cell(told.alloc, told.summary.tunnels);
             }
@@ -343,7 +371,9 @@ macro_rules! rows {
                     SessionId => |told| some_digits(told.handshake.client_session_id());
                 /// the cipher suites that it offers, in its order, as `cipher`; of a hello in the
                 /// form of SSL 2.0 its CipherSpecs: those of TLS as these, others by 6 digits, as
-                /// `0x010080` RFC: 8446, 4.1.2; 5246, E.2 Zeek: `client_ciphers`
+                /// `0x010080`
+                /// RFC: 8446, 4.1.2; 5246, E.2
+                /// Zeek: `client_ciphers`
                 "client_ciphers": Texts =
                     Ciphers => |told| some_texts(client_suites(told.suites, told.handshake));
                 /// its compression methods, by number
@@ -421,7 +451,9 @@ macro_rules! rows {
                 "delegated_credential": Mark = DelegatedCredentials =>
                     |told| some_mark(told.handshake.offers_delegated_credentials());
                 /// `true`: the ClientHello has the form of SSL 2.0. It has no extensions, and
-                /// neither JA3 nor JA4 RFC: 5246, E.2 absent: it has another form
+                /// neither JA3 nor JA4
+                /// RFC: 5246, E.2
+                /// absent: it has another form
                 "ssl2_hello": Mark =
                     Ssl2Hello => |told| some_mark(told.handshake.ssl2_cipher_specs.is_some());
             }
@@ -502,8 +534,10 @@ macro_rules! rows {
             }
             ServerCertificate {
                 /// the names of the server's own certificate, as RFC 4514 writes them ("What
-                /// certificates say", below) RFC: 5280, 4.1.2.6, 4.1.2.4 Zeek: the same, of the
-                /// script for x509.log absent: none is read (as for the next eleven)
+                /// certificates say", below)
+                /// RFC: 5280, 4.1.2.6, 4.1.2.4
+                /// Zeek: the same, of the script for x509.log
+                /// absent: none is read (as for the next eleven)
                 "subject": Text = Subject;
                 /// as above
                 "issuer": Text = Issuer;
@@ -525,9 +559,10 @@ macro_rules! rows {
                 /// as above
                 "san_ip": Addresses = Addresses;
                 /// its public key: `rsa`, `ecdsa`, `dsa`, `ed25519`, `ed448` or `unknown`; the bits
-                /// of its modulus or its curve; the curve RFC: 3279, 2.3; 5480, 2; 8410, 3 Zeek:
-                /// `certificate.key_type`, `key_length`, `curve` absent: the key can't be read, or
-                /// has no such thing
+                /// of its modulus or its curve; the curve
+                /// RFC: 3279, 2.3; 5480, 2; 8410, 3
+                /// Zeek: `certificate.key_type`, `key_length`, `curve`
+                /// absent: the key can't be read, or has no such thing
                 "key_type": Text = KeyType;
                 /// as above
                 "key_length": Count = KeyLength;
@@ -547,14 +582,21 @@ macro_rules! rows {
             }
             Chain {
                 /// whether the host that the client asked for is one of its DNS names ("What
-                /// certificates say", below) RFC: 9525, 6.3 Zeek: the same absent: no `server_name`
+                /// certificates say", below)
+                /// RFC: 9525, 6.3
+                /// Zeek: the same
+                /// absent: no `server_name`
                 "sni_matches_cert": Mark =
                     NameMatches => |told| Ok(match_cell(told.handshake, told.server.certificate()));
                 /// whether the server's chain is valid: `tlslog` validates no certificate, so this
-                /// is unset, for readers of Zeek's logs Zeek: the same absent: always
+                /// is unset, for readers of Zeek's logs
+                /// Zeek: the same
+                /// absent: always
                 "validation_status": Text = Validation => |_told| Ok(None);
                 /// the server's certificates that aren't read, each by its place in the chain (the
-                /// server's own has 0) and why, as `0:verify` RFC: 5280, 4.1 absent: all are read
+                /// server's own has 0) and why, as `0:verify`
+                /// RFC: 5280, 4.1
+                /// absent: all are read
                 "cert_error": Texts =
                     ServerFaults => |told| faults_cell(told.alloc, server_chain(told));
             }
@@ -574,7 +616,9 @@ macro_rules! rows {
             }
             Print {
                 /// the JA3 of the ClientHello, and the text of which it is the MD5 ("Fingerprints",
-                /// below) Zeek: `ja3` of a package absent: no ClientHello
+                /// below)
+                /// Zeek: `ja3` of a package
+                /// absent: no ClientHello
                 "ja3": Text = Ja3 => |told| ja3_cell(told);
                 /// as above
                 "ja3_string": Text = Ja3Text => |told| Ok(text_cell(ja3_text(told)?));
