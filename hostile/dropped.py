@@ -101,7 +101,7 @@ class Whole:
         if line and line["ts"] != round(begun.time / 1_000_000, 6):
             return f"the line begins at {line['ts']}, and not at {begun.time}"
         if begun.is_udp:
-            # The numbers of messages tell whether the first ones are missing (`lacks_front`); tests/tls_analyzer/associations has rows for that.
+            # The numbers of messages tell whether the first ones are missing (`lacks_front`); tests/units/tls_analyzer/associations has rows for that.
             return None
         is_missing, is_whole, is_told = set(), set(), False
         for source, sender in senders(segments).items():

@@ -127,7 +127,7 @@ def test_dtls():
     assert hello.extensions == bytes.fromhex("00170000") and refusal_of(w.server_hello, body) == (w.Refused, "Tag")
 
 
-CERTIFICATES = pathlib.Path(__file__).resolve().parents[2] / "tests" / "x509"
+CERTIFICATES = pathlib.Path(__file__).resolve().parents[2] / "tests" / "units" / "x509"
 KEYS = {w.KeyKind.ED25519: "ed25519", w.KeyKind.ED448: "ed448", w.KeyKind.REFUSED: "ec without a name"}
 NAMES = {w.NameKind.DNS: "DNS", w.NameKind.EMAIL: "email", w.NameKind.URI: "URI", w.NameKind.IP: "IP Address"}
 
@@ -154,7 +154,7 @@ def elements(content):
 
 
 def name_text(name):
-    """A Name as `tests/x509/make` has it of openssl."""
+    """A Name as `tests/units/x509/make` has it of openssl."""
     sets = []
     for _, attributes, _ in elements(next(elements(bytes(name)))[1]):
         pairs = (list(elements(attribute)) for _, attribute, _ in elements(attributes))

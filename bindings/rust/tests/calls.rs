@@ -185,7 +185,7 @@ fn certificates_are_read() {
 }
 
 fn stored(name: &str) -> Vec<u8> {
-    std::fs::read(format!("{}/../../tests/x509/stored/{name}.der", env!("CARGO_MANIFEST_DIR"))).unwrap()
+    std::fs::read(format!("{}/../../tests/units/x509/stored/{name}.der", env!("CARGO_MANIFEST_DIR"))).unwrap()
 }
 
 #[test]
