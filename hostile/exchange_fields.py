@@ -6,7 +6,7 @@ import re
 from collections.abc import Iterable, Iterator
 from typing import Any
 
-from hostile.shapes import Line
+from tests.support.shapes import Line
 
 # A field of a message is a number, bytes in hexadecimal, or escaped text.
 NUMBERS = {"curve_type", "namedcurve", "algorithm", "obfuscated_ticket_age", "selected_identity", "algorithms"}
@@ -22,7 +22,7 @@ def unescaped(text: str) -> bytes:
 
 
 def leaves(value: Any, name: str | None = None) -> Iterator[str]:
-    """The fields that have values, in their order. What certificates say is none of them (.ci/certificates)."""
+    """The fields that have values, in their order. What certificates say is none of them (tests/tlslog/certificates)."""
     if isinstance(value, dict):
         for field, inner in value.items():
             if field != "certificates":

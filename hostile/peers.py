@@ -8,7 +8,7 @@ import time
 from collections.abc import Iterable
 from pathlib import Path
 
-from hostile import script
+from tests.support import script
 
 HOST = "127.0.0.1"
 

@@ -8,8 +8,9 @@ from collections.abc import Iterator
 from pathlib import Path
 from typing import Any
 
-from hostile import identifiers, log_columns, suite_names, wanted_certificates, wanted_hellos
-from hostile.shapes import Line, Row
+from hostile import wanted_certificates, wanted_hellos
+from tests.support import identifiers, log_columns, suite_names
+from tests.support.shapes import Line, Row
 
 FIELDS = """
     handshake.type handshake.version handshake.random handshake.extensions.supported_version handshake.ciphersuite

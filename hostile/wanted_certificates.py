@@ -10,7 +10,7 @@ import re
 import subprocess
 import time
 
-from hostile.shapes import Line
+from tests.support.shapes import Line
 
 # Of these, false is told too, and an empty name.
 ALWAYS = ["is_ca", "self_issued", "sni_matches_cert", "subject", "issuer", "client_subject", "client_issuer"]

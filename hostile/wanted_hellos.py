@@ -6,8 +6,8 @@ import functools
 import hashlib
 import subprocess
 
-from hostile import log_columns, suite_names
-from hostile.shapes import Line, Row
+from tests.support import log_columns, suite_names
+from tests.support.shapes import Line, Row
 
 FIELDS = """
     handshake.session_id handshake.comp_method handshake.extension.len handshake.extensions_supported_group

@@ -15,7 +15,7 @@ import time
 from dataclasses import dataclass
 from typing import Union
 
-from hostile import packets
+from tests.support import packets
 
 FIN, SYN, RST, PSH, ACK, URG = 1, 2, 4, 8, 16, 32
 LETTERS = "FSRPAU"

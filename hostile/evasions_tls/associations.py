@@ -6,11 +6,12 @@ import time
 from collections.abc import Callable, Collection
 from pathlib import Path
 
-from hostile import packets, peers
+from hostile import peers
+from tests.support import packets
 from hostile.evasions_tls import datagrams, dtls, said
 from hostile.evasions_tls.datagrams import GNUTLS, OPENSSL, SERVERS
 from hostile.evasions_tls.dtls import CLIENT, SERVER, SERVER_PORT
-from hostile.shapes import Line
+from tests.support.shapes import Line
 
 CLIENT_PORT = 40001
 OWN = "-cert ec.pem -key ec.key"

@@ -7,10 +7,11 @@ import time
 from collections.abc import Callable
 from pathlib import Path
 
-from hostile import packets, peers, wanted
+from hostile import peers, wanted
+from tests.support import packets
 from hostile.evasions_tls import around, dtls, said
 from hostile.evasions_tls.dtls import CLIENT, HELLO, RELAY_PORT, SERVER, SERVER_HELLO, SERVER_PORT
-from hostile.shapes import Line
+from tests.support.shapes import Line
 
 OPENSSL, GNUTLS = "openssl", "gnutls"
 NAME, FORGED = "example.test", "forged.test."

@@ -5,8 +5,8 @@ from __future__ import annotations
 import re
 from collections.abc import Iterable
 
-from hostile import packets
-from hostile.shapes import Line
+from tests.support import packets
+from tests.support.shapes import Line
 
 ALERT = 21
 

@@ -8,10 +8,11 @@ import time
 from collections.abc import Callable, Iterable
 from pathlib import Path
 
-from hostile import packets, peers, wanted, wanted_hellos
+from hostile import peers, wanted, wanted_hellos
+from tests.support import packets
 from hostile.evasions_tls import said, tls
 from hostile.evasions_tls.tls import CHANGE, CLIENT, HELLO, RELAY_PORT, SERVER, SERVER_HELLO, SERVER_PORT
-from hostile.shapes import Line
+from tests.support.shapes import Line
 
 OPENSSL, GNUTLS = "openssl", "gnutls"
 NAME, FORGED = b"example.test", b"forged.test."

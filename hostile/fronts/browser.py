@@ -7,9 +7,10 @@ import tempfile
 import time
 from pathlib import Path
 
-from hostile import packets, peers, wanted
+from hostile import peers, wanted
+from tests.support import packets
 from hostile.fronts import told
-from hostile.shapes import Line
+from tests.support.shapes import Line
 
 NAME, SHORT = "browser_dtls13", "browser_dtls13_short"
 PAGE = """<script>

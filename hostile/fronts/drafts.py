@@ -5,9 +5,10 @@ from __future__ import annotations
 from collections.abc import Iterator
 from pathlib import Path
 
-from hostile import packets, wanted
+from hostile import wanted
+from tests.support import packets
 from hostile.fronts import told
-from hostile.shapes import Line
+from tests.support.shapes import Line
 
 STORED = Path(__file__).resolve().parent.parent.parent / "crates" / "tlslog" / "data" / "openssl_tls13.pcap"
 # Up to draft 21 the ServerHello has the form of draft 18 (draft-ietf-tls-tls13-18, section 4.1.3), from 22 on that of RFC 8446.

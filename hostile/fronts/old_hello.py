@@ -14,7 +14,7 @@ from pathlib import Path
 
 from hostile import peers
 from hostile.fronts import told
-from hostile.shapes import Line
+from tests.support.shapes import Line
 
 PORT = 14433
 SUITES = bytes.fromhex("00002f 000035 00003c 0000ff 010080 0700c0")  # Of TLS, its SCSV, and two of SSL 2.0.

@@ -6,9 +6,10 @@ import json
 import time
 from pathlib import Path
 
-from hostile import packets, peers, wanted
+from hostile import peers, wanted
+from tests.support import packets
 from hostile.fronts import told
-from hostile.shapes import Line
+from tests.support.shapes import Line
 
 TOP = Path(__file__).resolve().parent.parent.parent
 STORED = TOP / "crates" / "tlslog" / "data"

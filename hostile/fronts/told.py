@@ -5,8 +5,9 @@ from __future__ import annotations
 from collections.abc import Iterable
 from pathlib import Path
 
-from hostile import packets, suite_names, wanted
-from hostile.shapes import Line
+from hostile import wanted
+from tests.support import packets, suite_names
+from tests.support.shapes import Line
 
 NAMES = {"TLSv1.2": "TLSv12", "TLSv1.3": "TLSv13"}
 

@@ -53,7 +53,7 @@ fn take_event(
 /// were taken before. It answers whether the direction is at fault: then no message follows, whatever is fed.
 ///
 /// `OutOfMemory` where a message or the list could not be held. The list then has the messages that were taken, and the call can
-/// be made again: that is in no clause, and is tried by `.ci/refusals`.
+/// be made again: that is in no clause, and is tried by `tests/faults/refusals/run`.
 pub fn take_messages(
     alloc: Global,
     direction: &mut Direction,
