@@ -7,7 +7,8 @@ import time
 from collections.abc import Callable
 from pathlib import Path
 
-from hostile import peers, wanted
+from hostile import peers
+from tests.oracle import wanted
 from tests.support import packets
 from hostile.evasions_tls import around, dtls, said
 from hostile.evasions_tls.dtls import CLIENT, HELLO, RELAY_PORT, SERVER, SERVER_HELLO, SERVER_PORT

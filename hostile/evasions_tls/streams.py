@@ -8,7 +8,8 @@ import time
 from collections.abc import Callable, Iterable
 from pathlib import Path
 
-from hostile import peers, wanted, wanted_hellos
+from hostile import peers
+from tests.oracle import wanted, wanted_hellos
 from tests.support import packets
 from hostile.evasions_tls import said, tls
 from hostile.evasions_tls.tls import CHANGE, CLIENT, HELLO, RELAY_PORT, SERVER, SERVER_HELLO, SERVER_PORT

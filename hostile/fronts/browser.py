@@ -7,7 +7,8 @@ import tempfile
 import time
 from pathlib import Path
 
-from hostile import peers, wanted
+from hostile import peers
+from tests.oracle import wanted
 from tests.support import packets
 from hostile.fronts import told
 from tests.support.shapes import Line

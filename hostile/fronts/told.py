@@ -5,7 +5,7 @@ from __future__ import annotations
 from collections.abc import Iterable
 from pathlib import Path
 
-from hostile import wanted
+from tests.oracle import wanted
 from tests.support import packets, suite_names
 from tests.support.shapes import Line
 

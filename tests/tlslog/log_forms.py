@@ -16,7 +16,7 @@ from datetime import datetime
 from pathlib import Path
 from typing import Any
 
-from hostile import exchange_fields
+from tests.oracle import exchange_fields
 from tests.support import identifiers, packets, suite_names
 from tests.tlslog import other_formats
 from tests.support.shapes import Ask, Line

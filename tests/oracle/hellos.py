@@ -1,9 +1,10 @@
-#!/usr/bin/env -S python3 -B
-"""Compares tlslog's lines of any captures with what tshark and nDPI read of them: hostile/hellos PROGRAM CAPTURE..
+"""Compares what tlslog prints of any captures with what tshark and nDPI read in them.
 
-Each connection that tshark takes for TLS or DTLS, on any port, is compared in all fields but `gap`; and where ndpiReader is installed, its
-JA3 and JA3S of a connection with those of the line. What differs is printed, and at the end how many values of each field were compared.
-Where something differs the status is 1. hostile/captures says what tshark doesn't tell.
+tests/oracle/compare hellos PROGRAM CAPTURE..
+
+Each connection that tshark takes for TLS or DTLS, on any port, is compared in all fields but `gap`.
+If ndpiReader is installed, its JA3 and JA3S are compared too. At the end it prints how many values of
+each field were compared. `tests/oracle/compare lines --help` has what tshark reads otherwise.
 """
 
 from __future__ import annotations
@@ -14,29 +15,14 @@ import shutil
 import subprocess
 import sys
 from collections import Counter
-from pathlib import Path
-from typing import Any
 
-sys.path.insert(0, str(Path(__file__).resolve().parents[1]))
-from hostile import wanted  # noqa: E402
-from tests.support import script  # noqa: E402
-from tests.support.shapes import Line  # noqa: E402
-
-script.answer_help(__doc__)
+from tests.oracle import wanted
+from tests.oracle.wanted import is_same, key
+from tests.support.shapes import Line
 
 PORTS = "1-65535"
 FLOW = re.compile(r"\t(?:TCP|UDP) (\S+) <?-> (\S+) .*?(?:TLS|DTLS)")
 PRINTS = {"ja3": re.compile(r"\[JA3C: (\w+)\]"), "ja3s": re.compile(r"\[JA3S: (\w+)\]")}
-
-
-def key(line: Line) -> tuple[Any, ...]:
-    return line["id.orig_h"], line["id.orig_p"], line["id.resp_h"], line["id.resp_p"], round(line["ts"], 6)
-
-
-def is_same(field: str, mine: Any, other: Any) -> bool:
-    if field in ("ts", "duration"):
-        return abs(mine - other) < 0.0000015
-    return mine == other
 
 
 def by_tshark(capture: str, lines: list[Line], compared: Counter[str]) -> int:
@@ -84,10 +70,10 @@ def by_ndpi(capture: str, lines: list[Line], compared: Counter[str]) -> int:
     return differ
 
 
-def main() -> None:
-    if len(sys.argv) < 3:
-        sys.exit(__doc__.strip())
-    program, *captures = sys.argv[1:]
+def compare(words: list[str]) -> int:
+    if len(words) < 2:
+        sys.exit(__doc__)
+    program, *captures = words
     compared, differ, count = Counter(), 0, 0
     for capture in captures:
         ran = subprocess.run([program, capture], stdout=subprocess.PIPE, stderr=subprocess.DEVNULL, text=True)
@@ -98,7 +84,4 @@ def main() -> None:
             differ += by_ndpi(capture, lines, compared)
     print(", ".join(f"{field} {number}" for field, number in compared.items()))
     print(f"{count} connections, {sum(compared.values())} values compared, {differ} differ")
-    sys.exit(1 if differ else 0)
-
-
-main()
+    return 1 if differ else 0

@@ -1,25 +1,24 @@
-#!/usr/bin/env -S python3 -B
-"""The lines that are wanted of the captures beside this file, by their names: captures/tunnels/wanted [CAPTURE..]
+"""The expected lines of captures/tunnels, by the captures' names.
 
-Each packet's outer headers are taken off by their lengths, those of Ethernet and IPv4 (14 and 20 bytes) and of the tunnel, and what tshark's fields give of the packets that are
-left is printed, with the tunnel and the number that it was told (captures/tunnels/record).
+tests/oracle/write tunnels [CAPTURE..]
+
+It removes each packet's outer headers by their lengths: Ethernet and IPv4 (14 and 20 bytes), and the
+tunnel's. Then it prints the lines by tshark's fields of what is left, with the tunnel and its number,
+which the recorder chose.
 """
 
 from __future__ import annotations
 
 import json
 import struct
-import sys
 import tempfile
+from collections.abc import Iterable
 from pathlib import Path
 from typing import NamedTuple
 
-HERE = Path(__file__).resolve().parent
-sys.path.insert(0, str(HERE.parents[1]))
-from hostile import wanted  # noqa: E402
-from tests.support import script  # noqa: E402
+from tests.oracle import wanted
 
-script.answer_help(__doc__)
+FOLDER = Path(__file__).resolve().parents[2] / "captures/tunnels"
 
 PORT = "4433"
 
@@ -63,9 +62,11 @@ def lines(capture: Path) -> list[dict[str, object]]:
     return [{**line, "tunnels": [tunnel.name], "tunnel_ids": [tunnel.number]} for line in found]
 
 
-def main() -> None:
-    captures = [Path(word) for word in sys.argv[1:]] or [HERE / f"{name}.pcap" for name in TUNNELS]
-    print(json.dumps({capture.name: lines(capture) for capture in captures}, indent=1))
+def expected(captures: Iterable[Path] = ()) -> dict[str, list[dict[str, object]]]:
+    """The lines of these captures, or of all stored ones, by their names."""
+    some = list(captures) or [FOLDER / f"{name}.pcap" for name in TUNNELS]
+    return {capture.name: lines(capture) for capture in some}
 
 
-main()
+def write(words: list[str]) -> None:
+    print(json.dumps(expected(map(Path, words)), indent=1))

@@ -1,28 +1,28 @@
-#!/usr/bin/env -S python3 -B
-"""The lines of stored captures that the gate compares whole, by tshark's fields: hostile/stored_lines [--write] [FIELD..]
+"""Compares the stored lines with tshark's fields, and writes fields into them.
 
-They are crates/tlslog/stdout, captures/dtls/lines, captures/certificates/wanted.json and captures/tunnels/wanted.json. Without FIELD all fields are compared that
-tshark tells, but for `gap`. A line that differs is printed, and the status is 1. With --write and FIELD these fields of each line become what tshark tells, at the places
-that they have in a line: so a new field comes into all of them. Of a certificate that tshark doesn't know, its chain is left alone.
+tests/oracle/compare stored [FIELD..]
+tests/oracle/write stored FIELD..
+
+The stored lines are those that the gate compares with tlslog's: crates/tlslog/stdout,
+captures/dtls/lines, and wanted.json of captures/certificates and captures/tunnels. Without FIELD all
+fields that tshark has are compared, except `gap`. `write` sets these fields in each line, at their
+places: so a new field comes into all lines. tshark can't read one of the certificates, so the chain
+of that line stays as it is.
 """
 
 from __future__ import annotations
 
 import json
-import subprocess
 import sys
 from collections.abc import Collection
 from pathlib import Path
-from typing import Any
 
-TOP = Path(__file__).resolve().parent.parent
-sys.path.insert(0, str(TOP))
-from hostile import wanted  # noqa: E402
-from tests.support import log_columns, packets, script  # noqa: E402
-from tests.support.shapes import Line  # noqa: E402
+from tests.oracle import recorded_tunnels, wanted
+from tests.oracle.wanted import is_same, key
+from tests.support import log_columns, packets
+from tests.support.shapes import Line
 
-script.answer_help(__doc__)
-
+TOP = Path(__file__).resolve().parents[2]
 LINES = {
     TOP / "crates/tlslog/stdout": (TOP / "crates/tlslog/data", False),
     TOP / "captures/dtls/lines": (TOP / "captures/dtls", True),
@@ -32,17 +32,6 @@ NAMES = log_columns.names()
 # tshark doesn't know the second certificate for one.
 BROKEN = "broken.pcap"
 OF_CHAIN = NAMES[NAMES.index("cert_count") : NAMES.index("ja3")]
-TIMES = ("ts", "duration")
-
-
-def key(line: Line) -> tuple[str, int, str, int, float]:
-    return line["id.orig_h"], line["id.orig_p"], line["id.resp_h"], line["id.resp_p"], round(line["ts"], 6)
-
-
-def is_same(field: str, mine: Any, other: Any) -> bool:
-    if field in TIMES and None not in (mine, other):
-        return abs(mine - other) < 0.0000015
-    return mine == other
 
 
 class Judge:
@@ -89,20 +78,18 @@ def of_certificates(judge: Judge, file: Path) -> str:
 
 
 def of_tunnels(judge: Judge, file: Path) -> str:
-    """The connections of each capture, by what stands beside them."""
-    told = subprocess.run([TUNNELS / "wanted"], stdout=subprocess.PIPE, check=True).stdout
-    all_right, found = json.loads(told), {}
+    """The connections of the captures in tunnels."""
+    all_right, found = recorded_tunnels.expected(), {}
     for name, lines in json.loads(file.read_text()).items():
         right = {key(line): line for line in all_right[name]}
         found[name] = [judge.line(name, line, right[key(line)]) for line in lines]
     return json.dumps(found, indent=1) + "\n"
 
 
-def main() -> None:
-    words = sys.argv[1:]
-    is_written, fields = "--write" in words, [word for word in words if word != "--write"]
+def judge_all(fields: list[str], is_written: bool) -> int:
+    """Compares the fields of all stored lines, or writes them; returns how many values differ."""
     if {*fields} - {*wanted.ORDER} or (is_written and not fields):
-        sys.exit(f"{__doc__.strip()}\n\nFields that tshark tells: {', '.join(wanted.ORDER)}")
+        sys.exit(f"{__doc__.strip()}\n\nFields that tshark has: {', '.join(wanted.ORDER)}")
     judge, made = Judge(fields or [field for field in wanted.ORDER if field != "gap"]), {}
     for file, (folder, udp) in LINES.items():
         made[file] = of_lines(judge, file, folder, udp)
@@ -111,8 +98,13 @@ def main() -> None:
     for file, text in made.items():
         if is_written:
             file.write_text(text)
-    print(f"stored lines: {judge.differ} values {'were' if is_written else 'are'} others than tshark's")
-    sys.exit(1 if judge.differ and not is_written else 0)
+    print(f"stored lines: {judge.differ} values {'differed' if is_written else 'differ'} from tshark's")
+    return judge.differ
 
 
-main()
+def compare(words: list[str]) -> int:
+    return 1 if judge_all(words, False) else 0
+
+
+def write(words: list[str]) -> None:
+    judge_all(words, True)

@@ -1,4 +1,4 @@
-"""The fields that tlslog has of key exchanges, of CertificateVerify, and of some extensions, as `hostile/exchanges` has them from tshark."""
+"""The fields that tlslog has of key exchanges, of CertificateVerify, and of some extensions, as `tests/oracle/write exchanges` has them from tshark."""
 
 from __future__ import annotations
 

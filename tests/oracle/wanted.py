@@ -8,7 +8,7 @@ from collections.abc import Iterator
 from pathlib import Path
 from typing import Any
 
-from hostile import wanted_certificates, wanted_hellos
+from tests.oracle import wanted_certificates, wanted_hellos
 from tests.support import identifiers, log_columns, suite_names
 from tests.support.shapes import Line, Row
 
@@ -51,6 +51,19 @@ UNTOLD = """
     orig_dropped_pkts resp_dropped_pkts orig_dropped_for resp_dropped_for orig_preamble_bytes resp_preamble_bytes tunnels tunnel_ids ssl2_hello ended_early
 """.split()
 ORDER = [name for name in log_columns.names() if name not in UNTOLD]
+TIMES = ("ts", "duration")
+
+
+def key(line: Line) -> tuple[str, int, str, int, float]:
+    """What a connection is known by: its ends and its first packet's time, to a microsecond."""
+    return line["id.orig_h"], line["id.orig_p"], line["id.resp_h"], line["id.resp_p"], round(line["ts"], 6)
+
+
+def is_same(field: str, mine: Any, other: Any) -> bool:
+    """Whether two values of a field are equal; times may differ by a microsecond."""
+    if field in TIMES and None not in (mine, other):
+        return abs(mine - other) < 0.0000015
+    return mine == other
 
 
 def lines(capture: Path | str, port: int | str | None = None, udp: bool = False) -> list[Line]:

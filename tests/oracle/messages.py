@@ -1,8 +1,10 @@
-#!/usr/bin/env -S python3 -B
-"""The handshake messages and alerts in the clear that tshark has in captures: hostile/messages CAPTURE..
+"""The handshake messages and alerts in the clear that tshark reads in captures.
 
-It prints a line for each: the capture, the port of the client, who sent it, when the packet was captured that made it whole, and of a
-handshake message its type and the bytes of its body, of an alert its level and number. `captures/messages` was written so.
+tests/oracle/write messages CAPTURE..
+
+It prints a line for each: the capture, the client's port, who sent it, the time of the packet that
+completed it, and of a handshake message its type and the length of its body, of an alert its level
+and number. captures/messages has these lines.
 """
 
 from __future__ import annotations
@@ -12,10 +14,6 @@ import sys
 from collections.abc import Iterator
 from pathlib import Path
 
-sys.path.insert(0, str(Path(__file__).resolve().parents[1]))
-from tests.support import script  # noqa: E402
-
-script.answer_help(__doc__)
 
 ENDS = ["frame.time_epoch", "tcp.stream", "udp.stream", "tcp.srcport", "udp.srcport"]
 SAID = ["record.content_type", "handshake.type", "handshake.length", "alert_message.level", "alert_message.desc"]
@@ -55,13 +53,10 @@ def messages(capture: str, layer: str, prefix: str) -> Iterator[str]:
             changed.add((stream, port))
 
 
-def main() -> None:
-    if len(sys.argv) < 2:
-        sys.exit(__doc__.strip())
-    for capture in sys.argv[1:]:
+def write(words: list[str]) -> None:
+    if not words:
+        sys.exit(__doc__)
+    for capture in words:
         for layer, prefix in (("tcp", "tls"), ("udp", "dtls")):
             for line in messages(capture, layer, prefix):
                 print(line)
-
-
-main()

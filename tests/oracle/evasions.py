@@ -1,9 +1,10 @@
-#!/usr/bin/env -S python3 -B
-"""Compares the lines that are wanted with tshark's fields: hostile/evasions/check FOLDER [NAME ..]
+"""Compares the expected lines of captures/evasions with tshark's fields.
 
-FOLDER is what hostile/evasions/record wrote. tshark doesn't drop what a host drops, so it reads each capture without the packets that
-wanted.json says were dropped. What differs is printed, and the status is 1. Scenes in which tshark takes other bytes than the host did are named
-with the reason, and aren't compared.
+tests/oracle/compare evasions FOLDER [NAME..]
+
+FOLDER has what the recorder of evasions wrote. tshark doesn't drop the packets that a host drops, so
+it reads each capture without those that wanted.json has as dropped. Scenes in which tshark reads
+other bytes than the host are printed with the reason, and aren't compared.
 """
 
 from __future__ import annotations
@@ -13,11 +14,8 @@ import sys
 import tempfile
 from pathlib import Path
 
-sys.path.insert(0, str(Path(__file__).resolve().parents[2]))
-from hostile import wanted  # noqa: E402
-from tests.support import packets, script  # noqa: E402
-
-script.answer_help(__doc__)
+from tests.oracle import wanted
+from tests.support import packets
 
 PORTS = "14433-45999"
 # Scenes, by the fronts of their names.
@@ -61,10 +59,10 @@ def without(capture: bytes, places: set[int]) -> bytes:
     return capture[: packets.FILE_HEADER] + b"".join(kept)
 
 
-def main() -> None:
-    if len(sys.argv) < 2:
-        sys.exit(__doc__.strip())
-    folder, names = Path(sys.argv[1]), sys.argv[2:]
+def compare(words: list[str]) -> int:
+    if not words:
+        sys.exit(__doc__)
+    folder, names = Path(words[0]), words[1:]
     compared = differ = 0
     for one in json.loads((folder / "wanted.json").read_text())["captures"]:
         name = one["capture"].removesuffix(".pcap")
@@ -90,7 +88,4 @@ def main() -> None:
                         print(f"{name}: {field}: wanted {my[field]!r}, tshark {other.get(field)!r}")
                         differ += 1
     print(f"{compared} values, {differ} differences")
-    sys.exit(1 if differ else 0)
-
-
-main()
+    return 1 if differ else 0

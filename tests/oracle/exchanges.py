@@ -1,9 +1,11 @@
-#!/usr/bin/env -S python3 -B
-"""The fields that tshark has of key exchanges, of CertificateVerify and of pre_shared_key in captures: hostile/exchanges CAPTURE..
+"""The fields of key exchanges, CertificateVerify and pre_shared_key that tshark reads in captures.
 
-It prints a line for each message that has some: the capture, the port of the client, who sent it, the type, and each field, by the name that
-its RFC has, with its number or its bytes. `captures/exchanges` was written so. With `--beside PROGRAM` in front, the messages of `tlslog` are
-compared with these lines, and each that differs is printed.
+tests/oracle/compare exchanges PROGRAM CAPTURE..
+tests/oracle/write exchanges CAPTURE..
+
+`write` prints a line for each message that has some: the capture, the client's port, who sent it, its
+type, and each field, by the RFC's name, with its number or bytes: captures/exchanges has these lines.
+`compare` prints each message of `PROGRAM --messages` that differs from its line.
 """
 
 from __future__ import annotations
@@ -13,14 +15,10 @@ import subprocess
 import sys
 import xml.etree.ElementTree as xml
 from collections import Counter
-from collections.abc import Iterable, Iterator
+from collections.abc import Iterator
 from pathlib import Path
 
-sys.path.insert(0, str(Path(__file__).resolve().parents[1]))
-from hostile import exchange_fields  # noqa: E402
-from tests.support import script  # noqa: E402
-
-script.answer_help(__doc__)
+from tests.oracle import exchange_fields
 
 PORTS = "1024-65535"
 SERVER_KEY_EXCHANGE, CERTIFICATE_VERIFY, CLIENT_KEY_EXCHANGE = 12, 15, 16
@@ -80,7 +78,10 @@ def lines_of_tshark(capture: str) -> Iterator[str]:
                     yield " ".join([Path(capture).stem, client, "client" if port == client else "server", types[0], *values])
 
 
-def beside(program: str, captures: Iterable[str]) -> None:
+def compare(words: list[str]) -> None:
+    if len(words) < 2:
+        sys.exit(__doc__)
+    program, *captures = words
     count = 0
     for capture in captures:
         wanted = Counter(lines_of_tshark(capture))
@@ -95,15 +96,9 @@ def beside(program: str, captures: Iterable[str]) -> None:
     print(f"{count} messages have the fields that tshark has")
 
 
-def main() -> None:
-    if len(sys.argv) < 2:
-        sys.exit(__doc__.strip())
-    if sys.argv[1] == "--beside":
-        beside(sys.argv[2], sys.argv[3:])
-        return
-    for capture in sys.argv[1:]:
+def write(words: list[str]) -> None:
+    if not words:
+        sys.exit(__doc__)
+    for capture in words:
         for line in lines_of_tshark(capture):
             print(line)
-
-
-main()
