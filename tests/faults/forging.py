@@ -12,7 +12,7 @@ from collections.abc import Collection, Iterable, Iterator
 from dataclasses import dataclass, replace
 from typing import Any
 
-from tests.tlslog.dropped import ahead
+from tests.tlslog.missing_packets import ahead
 from tests.support.packets import FILE_HEADER, FIN, LINK_HEADER, PACKET_HEADER, PSH, RST, SYN, UDP, UDP_HEADER
 
 ACK, URG = 16, 32

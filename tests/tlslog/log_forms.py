@@ -249,7 +249,7 @@ def printed(what: str, text: str) -> list[str]:
 def uses(program: Path, files: list[Path], lines: list[Line], room: Path) -> int:
     """The commands of docs/REPORT.md, as they stand there."""
     if not shutil.which("jq"):
-        print("logs: there is no jq: the commands of docs/REPORT.md weren't run")
+        print("tlslog: there is no jq: the commands of docs/REPORT.md weren't run")
         return 0
     rows = re.findall(r"^\| (.*?) \| `(\./tlslog .*)` \|$", (TOP / "docs" / "REPORT.md").read_text(), re.M)
     wanted = wanted_of_uses(lines)
@@ -364,13 +364,13 @@ def check(program: Path, ask: Ask, files: list[Path], lines: list[Line], room: P
     """All of them. `ask` runs the program on arguments: its status, output and error output."""
     count = fields(ask, files, lines)
     suites(ask, files, lines, room)
-    print(f"logs: {count} fields alone, in another order and as comma-separated values, and names of suites, are as they are stored")
+    print(f"tlslog: {count} fields alone, in another order and as comma-separated values, and names of suites, are as they are stored")
     [plain] = [file for file in files if file.stem == "openssl_rsa"]
-    print(f"logs: of {formulas(ask, plain, room)} names those that begin as formulas do are marked as comma-separated values, unless --csv-raw is given")
-    print(f"logs: {told_again(ask, files, lines, room)} hellos and certificates that differ in a number, and all captures, say the same when they come again")
-    print(f"logs: {len(lines)} lines have the identifiers that hashlib makes, and {identified(ask, files, lines)} of messages and certificates that of their connection")
+    print(f"tlslog: of {formulas(ask, plain, room)} names those that begin as formulas do are marked as comma-separated values, unless --csv-raw is given")
+    print(f"tlslog: {told_again(ask, files, lines, room)} hellos and certificates that differ in a number, and all captures, say the same when they come again")
+    print(f"tlslog: {len(lines)} lines have the identifiers that hashlib makes, and {identified(ask, files, lines)} of messages and certificates that of their connection")
     count, with_fields = messages(ask, files)
-    print(f"logs: {count} messages are those that tshark has, with their places, also as comma-separated values; {with_fields} of them have the "
+    print(f"tlslog: {count} messages are those that tshark has, with their places, also as comma-separated values; {with_fields} of them have the "
           "fields of key exchanges, signatures and keys known before that tshark has")
-    print(f"logs: {uses(program, files, lines, room)} commands of docs/REPORT.md print what the stored lines want")
-    print(f"logs: the command of docs/SCALE.md on {many_captures(program, ask, files, room)} captures prints the lines of each")
+    print(f"tlslog: {uses(program, files, lines, room)} commands of docs/REPORT.md print what the stored lines want")
+    print(f"tlslog: the command of docs/SCALE.md on {many_captures(program, ask, files, room)} captures prints the lines of each")
