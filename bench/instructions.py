@@ -15,7 +15,7 @@ from collections import Counter
 from pathlib import Path
 
 sys.path.insert(0, str(Path(__file__).resolve().parents[1]))
-from hostile import script  # noqa: E402
+from tests.support import script  # noqa: E402
 
 script.answer_help(__doc__)
 

@@ -10,7 +10,7 @@ import tempfile
 from pathlib import Path
 
 sys.path.insert(0, str(Path(__file__).resolve().parents[1]))
-from hostile import script  # noqa: E402
+from tests.support import script  # noqa: E402
 
 script.answer_help(__doc__)
 

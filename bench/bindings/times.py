@@ -6,7 +6,7 @@ import time
 from pathlib import Path
 
 sys.path.insert(0, str(Path(__file__).resolve().parents[2]))
-from hostile import script  # noqa: E402
+from tests.support import script  # noqa: E402
 
 script.answer_help(__doc__)
 import dpkt  # noqa: E402

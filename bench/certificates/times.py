@@ -7,7 +7,7 @@ import warnings
 from pathlib import Path
 
 sys.path.insert(0, str(Path(__file__).resolve().parents[2]))
-from hostile import script  # noqa: E402
+from tests.support import script  # noqa: E402
 
 script.answer_help(__doc__)
 from cryptography import x509  # noqa: E402

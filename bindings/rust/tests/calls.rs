@@ -1,4 +1,4 @@
-//! Each call on bytes whose parts are known, those of `bindings/test/calls.c`: RFC 8446's and RFC 6347's structs, written by hand.
+//! Each call on bytes whose parts are known, those of `tests/bindings/calls.c`: RFC 8446's and RFC 6347's structs, written by hand.
 use wispuddera::*;
 
 const NAME: &[u8] = b"\x00\x00\x00\x08\x00\x06\x00\x00\x03a.b";
@@ -145,7 +145,7 @@ fn dtls_is_read() {
     assert_eq!(ServerHello::read_dtls(&text[..38]), incomplete(1));
 }
 
-/// The certificate of `bindings/test/calls.c`, and those that openssl made.
+/// The certificate of `tests/bindings/calls.c`, and those that openssl made.
 #[test]
 fn certificates_are_read() {
     let head = b"\x30\x81\x8a\x30\x7c\xa0\x03\x02\x01\x02\x02\x02\x01\x05\x30\x05\x06\x03\x2b\x65\x70";
@@ -185,7 +185,7 @@ fn certificates_are_read() {
 }
 
 fn stored(name: &str) -> Vec<u8> {
-    std::fs::read(format!("{}/../../tests/x509/stored/{name}.der", env!("CARGO_MANIFEST_DIR"))).unwrap()
+    std::fs::read(format!("{}/../../tests/units/x509/stored/{name}.der", env!("CARGO_MANIFEST_DIR"))).unwrap()
 }
 
 #[test]
@@ -288,7 +288,7 @@ fn outcomes_are_told() {
     assert_eq!(EventKind::of_dtls_message(3), EventKind::HelloVerifyRequest);
 }
 
-/// The ServerHello of `bindings/test/calls.c`, of TLS 1.3 and with pre_shared_key if that is asked for, in two records.
+/// The ServerHello of `tests/bindings/calls.c`, of TLS 1.3 and with pre_shared_key if that is asked for, in two records.
 fn server_records(takes_session: bool) -> Vec<u8> {
     let key = if takes_session { &b"\x00\x29\x00\x02\x00\x00"[..] } else { b"" };
     let body = [&b"\x03\x03"[..], &random(), b"\x00\x13\x01\x00\x00", &[6 + key.len() as u8], b"\x00\x2b\x00\x02\x03\x04", key].concat();
@@ -359,7 +359,7 @@ fn conversations_stop() {
     assert_eq!((NoRoom.to_string(), Fault::Interrupted.to_string().is_empty()), ("the buffer is too short".to_owned(), false));
 }
 
-/// Digests of texts that were written by hand, those of `bindings/test/calls.c`.
+/// Digests of texts that were written by hand, those of `tests/bindings/calls.c`.
 #[test]
 fn fingerprints_are_told() {
     let body = body();

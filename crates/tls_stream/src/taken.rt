@@ -56,7 +56,7 @@ fn take_event(
 /// is fed.
 ///
 /// `OutOfMemory` if there is no memory for a message or the list. `taken` then has the messages
-/// before it, and the call can be repeated. No clause says so; `.ci/refusals` tests it.
+/// before it, and the call can be repeated. No clause says so; `tests/faults/refusals/run` tests it.
 pub fn take_messages(
     alloc: Global,
     direction: &mut Direction,

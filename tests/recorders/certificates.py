@@ -1,0 +1,208 @@
+"""Handshakes of TLS 1.2 with certificates of all fields that tlslog prints.
+
+Both peers are OpenSSL's, in this process (Python's `ssl` over buffers); their bytes are put into
+segments of TCP. wanted.json has the expected lines: of connections by tshark's fields and what
+`openssl x509` prints of the certificates, of certificates by openssl alone. In `broken` a byte of the
+second certificate was changed after the handshake, so its lines are written here by hand.
+It needs `tshark` and `openssl`.
+"""
+
+from __future__ import annotations
+
+import json
+import ssl
+import struct
+import subprocess
+import tempfile
+from collections.abc import Iterable
+from pathlib import Path
+
+from tests.oracle import wanted, wanted_certificates
+from tests.support import packets
+from tests.support.shapes import Line
+
+FOLDER = Path(__file__).resolve().parents[2] / "captures/certificates"
+CLIENT, SERVER = (bytes([192, 0, 2, 1]), 50000), (bytes([192, 0, 2, 2]), 443)
+# When each capture begins, in microseconds since 1970.
+BEGIN = 1_795_700_000_000_000
+STEP = 1000
+EC = ["-newkey", "ec", "-pkeyopt", "ec_paramgen_curve:P-256"]
+LEAF = """subjectAltName = DNS:example.test,DNS:*.wild.test,DNS:*.a.b.test,IP:192.0.2.7,IP:2001:db8::7,email:someone@example.test,URI:https://example.test/path
+basicConstraints = CA:FALSE
+keyUsage = critical, digitalSignature, keyEncipherment
+extendedKeyUsage = serverAuth, clientAuth, 1.2.3.4
+"""
+# The subject, the key and the extensions of each certificate, and who signs it.
+CERTIFICATES = {
+    "root": ("/C=DE/O=Caf\u00e9, Inc./CN=root", ["-newkey", "rsa:2048"], "basicConstraints = critical, CA:TRUE\nkeyUsage = critical, keyCertSign, cRLSign\n", None),
+    "issuer": ("/DC=test/DC=example/CN=issuer+OU=signs", EC, "basicConstraints = critical, CA:TRUE, pathlen:0\nkeyUsage = keyCertSign\n", "root"),
+    "leaf": ("/CN=example.test", ["-newkey", "rsa:2048"], LEAF, "issuer"),
+    "curve": ("/CN=other.test", ["-newkey", "ec", "-pkeyopt", "ec_paramgen_curve:P-384"], "subjectAltName = DNS:other.test\n", "issuer"),
+    "person": ("/O=Caf\u00e9/CN=a person", ["-newkey", "ed25519"], "extendedKeyUsage = clientAuth\n", "root"),
+}
+# The server's certificates, the client's, and the host that is asked for.
+CASES = {
+    "names": (["leaf", "issuer", "root"], [], "example.test"),
+    "wildcard": (["leaf", "issuer"], [], "Host.WILD.test"),
+    "two_labels": (["leaf"], [], "x.a.wild.test"),
+    "client": (["curve", "issuer"], ["person"], "other.test"),
+    "self_signed": (["root"], [], "root"),
+    "broken": (["leaf", "issuer"], [], "example.test"),
+}
+# The case in which the second certificate's SEQUENCE has the tag of a SET: what it is, by hand (RFC 5280, section 4.1: "Tag").
+BROKEN, FAULT = "broken", "tag"
+
+
+def run(*words: str) -> None:
+    subprocess.run(words, stdout=subprocess.DEVNULL, stderr=subprocess.PIPE, check=True)
+
+
+def make(work: Path, name: str) -> None:
+    """Makes a certificate and its key, as name.pem and name.key."""
+    subject, key, extensions, signer = CERTIFICATES[name]
+    conf = work / f"{name}.conf"
+    conf.write_text(f"[req]\ndistinguished_name = dn\nx509_extensions = v3\nstring_mask = utf8only\nutf8 = yes\n[dn]\n[v3]\n{extensions}")
+    words = ["openssl", "req", "-x509", *key, "-nodes", "-utf8", "-multivalue-rdn", "-days", "3650", "-subj", subject, "-config", str(conf)]
+    words += ["-keyout", str(work / f"{name}.key"), "-out", str(work / f"{name}.pem")]
+    if signer:
+        words += ["-CA", str(work / f"{signer}.pem"), "-CAkey", str(work / f"{signer}.key")]
+    run(*words)
+
+
+def context(work: Path, side: int, chain: list[str], other: bool) -> ssl.SSLContext:
+    made = ssl.SSLContext(side)
+    made.maximum_version = ssl.TLSVersion.TLSv1_2
+    made.check_hostname, made.verify_mode = False, ssl.CERT_NONE
+    made.set_ciphers("ALL:@SECLEVEL=0")
+    if chain:
+        file = work / "chain.pem"
+        file.write_text("".join((work / f"{name}.pem").read_text() for name in chain))
+        made.load_cert_chain(file, work / f"{chain[0]}.key")
+    if other:
+        made.verify_mode = ssl.CERT_OPTIONAL
+        made.load_verify_locations(work / "root.pem")
+    return made
+
+
+def talk(work: Path, server: list[str], client: list[str], host: str) -> list[tuple[bool, bytes]]:
+    """The pieces of a handshake in their order, each with whether the client sends it."""
+    buffers = [ssl.MemoryBIO() for _ in range(4)]
+    of_client = context(work, ssl.PROTOCOL_TLS_CLIENT, client, False).wrap_bio(buffers[0], buffers[1], server_hostname=host)
+    of_server = context(work, ssl.PROTOCOL_TLS_SERVER, server, bool(client)).wrap_bio(buffers[2], buffers[3], server_side=True)
+    pieces, done = [], set()
+    for _ in range(20):
+        for one, is_client, out, into in ((of_client, True, buffers[1], buffers[2]), (of_server, False, buffers[3], buffers[0])):
+            try:
+                one.do_handshake()
+                done.add(is_client)
+            except ssl.SSLWantReadError:
+                pass
+            piece = out.read()
+            if piece:
+                pieces.append((is_client, piece))
+                into.write(piece)
+        if len(done) == 2:
+            return pieces
+    raise ValueError("no handshake")
+
+
+class Capture:
+    """Segments of one connection, with the numbers that they should have."""
+
+    def __init__(self) -> None:
+        self.time, self.sent, self.segments = BEGIN, {True: 1000, False: 2000}, []
+
+    def add(self, is_client: bool, flags: int, payload: bytes = b"") -> None:
+        ends = (CLIENT, SERVER) if is_client else (SERVER, CLIENT)
+        ip = struct.pack(">BBHHHBBH4s4s", 0x45, 0, 0, 0, 0x4000, 64, packets.TCP, 0, ends[0][0], ends[1][0])
+        acknowledged = 0 if flags == packets.SYN else self.sent[not is_client]
+        tcp = struct.pack(">HHIIBBHHH", ends[0][1], ends[1][1], self.sent[is_client], acknowledged, 0x50, flags, 65535, 0, 0)
+        self.segments.append(packets.Segment(self.time, bytes(12) + b"\x08\x00" + ip, tcp, payload))
+        self.sent[is_client] += len(payload) + bool(flags & (packets.SYN | packets.FIN))
+        self.time += STEP
+
+    def write(self, file: Path, pieces: Iterable[tuple[bool, bytes]]) -> None:
+        ack = 16
+        self.add(True, packets.SYN)
+        self.add(False, packets.SYN | ack)
+        self.add(True, ack)
+        for is_client, piece in pieces:
+            for at in range(0, len(piece), 1400):
+                self.add(is_client, ack | packets.PSH, piece[at : at + 1400])
+        for is_client in (True, False):
+            self.add(is_client, ack | packets.FIN)
+        self.add(True, ack)
+        file.write_bytes(packets.pcap([(s.time, s.frame()) for s in self.segments]))
+
+
+def der(work: Path, name: str) -> bytes:
+    return ssl.PEM_cert_to_DER_cert((work / f"{name}.pem").read_text())
+
+
+def bent(pieces: Iterable[tuple[bool, bytes]], work: Path) -> list[tuple[bool, bytes]]:
+    """The pieces with another tag at the front of the second certificate."""
+    before = der(work, "issuer")
+    return [(is_client, piece.replace(before, b"\x31" + before[1:])) for is_client, piece in pieces]
+
+
+def detail(one: bytes, fault: str | None) -> Line:
+    """What is wanted of one certificate in a line of its own."""
+    line = {"fingerprint": wanted_certificates.fingerprint(one), "length": len(one)}
+    return line | ({"error": fault} if fault else wanted_certificates.of_line(one))
+
+
+def wanted_of(work: Path, file: Path, case: str) -> dict[str, list[Line]]:
+    server, client, host = CASES[case]
+    [connection] = wanted.lines(file) if case != BROKEN else [wanted_of_broken(work, file)]
+    times = time_of_messages(file)
+    lines = []
+    for is_client, chain in ((False, server), (True, client)):
+        for place, name in enumerate(chain):
+            is_bent = case == BROKEN and place == 1
+            one = der(work, name)
+            one = b"\x31" + one[1:] if is_bent else one
+            line = {"ts": times[is_client], **{field: connection[field] for field in connection if field == "uid" or field.startswith("id.")}, "proto": "tcp"}
+            line |= {"side": "client" if is_client else "server", "place": place, **detail(one, FAULT if is_bent else None)}
+            line |= {"client_cert" if is_client else "host_cert": True} if place == 0 else {}
+            lines.append(line)
+    return {"connections": [connection], "certificates": sorted(lines, key=lambda line: line["ts"])}
+
+
+def wanted_of_broken(work: Path, file: Path) -> Line:
+    """The line of a connection whose second certificate tshark doesn't know for one: that of the whole one, but for what the byte changes."""
+    [found] = wanted.lines(file)
+    chain = [der(work, name) for name in CASES[BROKEN][0]]
+    chain[1] = b"\x31" + chain[1][1:]
+    found |= {"cert_count": len(chain), "cert_lengths": [len(one) for one in chain], "cert_chain_fps": [wanted_certificates.fingerprint(one) for one in chain]}
+    found |= wanted_certificates.of_talk(CASES[BROKEN][2], chain[0], None)
+    found["cert_error"] = [f"1:{FAULT}"]
+    return {field: found[field] for field in wanted.ORDER if wanted.is_told(field, found.get(field))}
+
+
+def time_of_messages(file: Path) -> dict[bool, float]:
+    """When the Certificate of each side is whole."""
+    words = ["tshark", "-r", str(file), "-T", "fields", "-e", "frame.time_epoch", "-e", "tcp.dstport", "-Y", "tls.handshake.type == 11"]
+    text = subprocess.run(words, stdout=subprocess.PIPE, stderr=subprocess.DEVNULL, text=True, check=True).stdout
+    return {port == str(SERVER[1]): round(float(time), 6) for time, port in (line.split("\t") for line in text.splitlines())}
+
+
+def names() -> list[str]:
+    return list(CASES)
+
+
+def record(folder: Path, chosen: list[str]) -> bool:
+    stored = folder / "wanted.json"
+    lines = json.loads(stored.read_text()) if chosen and stored.exists() else {}
+    with tempfile.TemporaryDirectory() as room:
+        work = Path(room)
+        for name in CERTIFICATES:
+            make(work, name)
+        for case in chosen or CASES:
+            server, client, host = CASES[case]
+            pieces = talk(work, server, client, host)
+            file = folder / f"{case}.pcap"
+            Capture().write(file, bent(pieces, work) if case == BROKEN else pieces)
+            lines[file.name] = wanted_of(work, file, case)
+    text = ",\n".join(f' {json.dumps(name)}: {json.dumps(lines[name])}' for name in sorted(lines))
+    stored.write_text(f"{{\n{text}\n}}\n")
+    return True

@@ -1,0 +1,152 @@
+"""Captures of associations of DTLS that a monitor sees in part, or that come one behind the other on the same ports."""
+
+from __future__ import annotations
+
+import time
+from collections.abc import Callable, Collection
+from pathlib import Path
+
+from tests.recorders import peers
+from tests.support import packets
+from tests.recorders.evasions_tls import datagrams, dtls, said
+from tests.recorders.evasions_tls.datagrams import GNUTLS, OPENSSL, SERVERS
+from tests.recorders.evasions_tls.dtls import CLIENT, SERVER, SERVER_PORT
+from tests.support.shapes import Line
+
+CLIENT_PORT = 40001
+OWN = "-cert ec.pem -key ec.key"
+PLAIN_SERVER = f"openssl s_server -accept {peers.HOST}:{SERVER_PORT} -dtls1_2 {OWN} -state"
+FIRST, SECOND = "first.test", "second.test"
+VERSIONS = (0xFE00, 0xFE7F, 0xFEFF, 0xFEFE)
+
+
+class Identity:
+    """Puts nothing in."""
+
+    def __call__(self, sender: str, datagram: bytes) -> list[bytes]:
+        return [datagram]
+
+
+class Version(Identity):
+    """Of the client's first two records, or of the server's records up to its ServerHello, the version is another."""
+
+    def __init__(self, side: str, number: int) -> None:
+        self.side, self.number, self.is_over = side, number, False
+
+    def __call__(self, sender: str, datagram: bytes) -> list[bytes]:
+        if sender != self.side or self.is_over:
+            return [datagram]
+        self.is_over = any(message.number == 1 for _, message in dtls.messages(datagram))
+        return [datagram[:1] + self.number.to_bytes(2, "big") + datagram[3:]]
+
+
+def did(server: str, by_server: str, client: str, by_client: str) -> dict[str, str]:
+    return {
+        "client": "completed" if datagrams.IS_DONE[client] in by_client else said.fault(by_client),
+        "server": "completed" if "CIPHER is" in by_server or "hello from the client" in by_client + by_server else said.fault(by_server),
+    }
+
+
+def full(segments: list[packets.Segment], port: int, of: str, more: Line | None = None, left: Collection[str] = ()) -> Line:
+    """The line of a handshake that both carried through, by tshark."""
+    found = datagrams.line_of(segments, port)
+    fields = {field: value for field, value in found.items() if field not in left} | (more or {})
+    certain = {"version": "DTLSv12", "established": True, "outcome": "full"}
+    if any(fields[field] != value for field, value in certain.items()):
+        raise ValueError(f"tshark says otherwise: {fields}")
+    others = [field for field in fields if field not in certain and field not in (more or {})]
+    absent = ["last_alert"] + ([] if more else ["gap"])
+    return said.line(fields, absent, {"seen": list(certain), of: [*others, *absent]})
+
+
+def lost(work: Path, folder: Path, peer: str) -> tuple[Path, list[Line], Line]:
+    """Of a capture that began late the first hello and its HelloVerifyRequest are missing."""
+    file = folder / f"dtls_first_messages_lost_{peer}.pcap"
+    by_server, by_client = datagrams.run(work, file, OPENSSL, peer, dtls.Relay(Identity()), SERVER_PORT)
+    seen = did(OPENSSL, by_server, peer, by_client)
+    segments = packets.read(file.read_bytes())[2:]
+    file.write_bytes(packets.pcap([(one.time, one.frame()) for one in segments]))
+    [(_, hello)] = dtls.messages(segments[0].payload)
+    if (hello.kind, hello.number) != (dtls.HELLO, 1) or set(seen.values()) != {"completed"}:
+        raise ValueError(f"another beginning: {hello}, {seen}")
+    line = full(segments, SERVER_PORT, "tshark", {"gap": "both"})
+    line["from"]["RFC 6347, 4.2.2: the first message of each side has the number 0"] = ["gap"]
+    return file, [line], seen
+
+
+def version(work: Path, folder: Path, side: str, number: int) -> tuple[Path, list[Line], Line]:
+    """The version in the header of the first records. `peer` reads them."""
+    seen = {}
+    for peer in (GNUTLS, OPENSSL):
+        file = folder / f"dtls_version_{number:04x}_{side}.pcap"
+        server, client = (peer, OPENSSL) if side == CLIENT else (OPENSSL, peer)
+        port = SERVER_PORT if side == CLIENT else dtls.RELAY_PORT
+        relay = dtls.Relay(Version(side, number))
+        by_server, by_client = datagrams.run(work, file, server, client, relay, port)
+        seen[peer] = did(server, by_server, client, by_client)
+    segments = packets.read(file.read_bytes())
+    if set(seen[OPENSSL].values()) != {"completed"}:
+        return file, [], seen
+    taken = datagrams.untouched(segments, relay.handed, side)
+    return file, [full(taken, port, "tshark, with the usual version")], seen
+
+
+def client_of(name: str, more: str = "") -> str:
+    return f"stdbuf -oL openssl s_client -connect {peers.HOST}:{SERVER_PORT} -bind {peers.HOST}:{CLIENT_PORT} -dtls1_2 -servername {name} -state {more}"
+
+
+def second(work: Path, folder: Path, way: str) -> tuple[Path, list[Line], Line]:
+    """Two associations on the same ports. The first one ends by close_notify, without a word, or by an alert in its handshake."""
+    file = folder / f"dtls_second_association_{way}.pcap"
+    gnutls = SERVERS[GNUTLS].replace("--sni-hostname example.test --sni-hostname-fatal", "")
+    command = gnutls if way.endswith("gnutls") else PLAIN_SERVER
+    with peers.Dump(file, f"udp port {SERVER_PORT}"):
+        server = peers.Peer(work, "stdbuf -oL " + command, "server")
+        time.sleep(0.5)
+        parts = []
+        for turn, name in enumerate((FIRST, SECOND)):
+            more = "-cipher ECDHE-RSA-AES128-GCM-SHA256" if way == "broken_off" and turn == 0 else ""
+            client = peers.Peer(work, client_of(name, more), f"client{turn}")
+            client.waits_for([datagrams.IS_DONE[OPENSSL], ":error:"], 5)
+            time.sleep(0.1)
+            client.tell(f"hello of {name}\n".encode())
+            time.sleep(0.2)
+            if turn == 0 and not way.startswith(("closed", "broken_off")):
+                client.kill()
+            else:
+                client.end(1)
+            parts.append((time.time(), client.said()))
+            if turn == 0 and way == "restarted":
+                server.kill()
+                server = peers.Peer(work, "stdbuf -oL " + command, "server")
+                time.sleep(0.5)
+            time.sleep(0.2)
+        server.kill()
+    is_done = [datagrams.IS_DONE[OPENSSL] in text for _, text in parts]
+    seen = {"first": "completed" if is_done[0] else said.fault(parts[0][1]), "second": "completed" if is_done[1] else said.fault(parts[1][1])}
+    border = parts[0][0] * 1_000_000
+    segments = packets.read(file.read_bytes())
+    halves = [one for one in segments if one.time <= border], [one for one in segments if one.time > border]
+    lines = []
+    for name, half, done in zip((FIRST, SECOND), halves, is_done):
+        if done:
+            line = full(half, SERVER_PORT, "tshark, of its datagrams alone")
+            if line["line"]["server_name"] != name:
+                raise ValueError(f"another name: {line}")
+        else:
+            found = datagrams.line_of(half, SERVER_PORT)
+            kept = "id.orig_h id.orig_p id.resp_h id.resp_p proto server_name established last_alert outcome".split()
+            absent = [field for field in ["last_alert"] if field not in found]
+            line = said.line({field: found[field] for field in kept if field in found}, absent, {"tshark, of its datagrams alone": kept})
+        lines.append(line)
+    return file, lines, seen
+
+
+def captures() -> dict[str, Callable[[Path, Path], tuple[Path, list[Line], Line]]]:
+    found = {f"dtls_first_messages_lost_{peer}": lambda work, folder, peer=peer: lost(work, folder, peer) for peer in (OPENSSL, GNUTLS)}
+    for side in (CLIENT, SERVER):
+        for number in VERSIONS:
+            found[f"dtls_version_{number:04x}_{side}"] = lambda work, folder, of=(side, number): version(work, folder, *of)
+    for way in ("closed", "broken_off", "silent", "restarted", "closed_gnutls", "silent_gnutls"):
+        found[f"dtls_second_association_{way}"] = lambda work, folder, way=way: second(work, folder, way)
+    return found

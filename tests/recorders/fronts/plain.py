@@ -1,0 +1,79 @@
+"""A server that speaks plain text first and then TLS (Python's ssl), on the same connection; it counts the bytes in front of TLS."""
+
+from __future__ import annotations
+
+import socket
+import ssl
+import threading
+from collections.abc import Callable
+from pathlib import Path
+
+from tests.recorders import peers
+
+
+class Plain:
+    """The plain text of a connection. It is read byte by byte, so that none of TLS is taken."""
+
+    def __init__(self, connection: socket.socket) -> None:
+        self.connection, self.taken, self.said = connection, b"", b""
+
+    def take(self, count: int) -> bytes:
+        found = b""
+        while len(found) < count:
+            part = self.connection.recv(1)
+            if not part:
+                raise EOFError
+            found += part
+        self.taken += found
+        return found
+
+    def until(self, end: bytes, begin: bytes = b"") -> bytes:
+        """The bytes up to an end, behind a beginning."""
+        found = b""
+        while begin not in found or not found[found.index(begin) :].endswith(end):
+            found += self.take(1)
+        return found
+
+    def line(self) -> bytes:
+        return self.until(b"\n")
+
+    def say(self, text: bytes) -> None:
+        self.said += text
+        self.connection.sendall(text)
+
+
+class Server(threading.Thread):
+    """Serves one connection. `seen` is what it saw. Where `highest` is None there is no TLS behind the plain text."""
+
+    def __init__(self, port: int, talk: Callable[[Plain], None], work: Path, highest: ssl.TLSVersion | None) -> None:
+        super().__init__(daemon=True)
+        self.listener, self.talk, self.seen = peers.listener(port), talk, {}
+        self.has_tls = highest is not None
+        self.context = ssl.SSLContext(ssl.PROTOCOL_TLS_SERVER)
+        self.context.load_cert_chain(work / "ec.pem", work / "ec.key")
+        self.context.maximum_version = highest or ssl.TLSVersion.TLSv1_3
+        self.context.sni_callback = self.note_name
+
+    def note_name(self, _: object, name: str | None, __: object) -> None:
+        self.seen["server_name"] = name
+
+    def run(self) -> None:
+        connection, _ = self.listener.accept()
+        plain = Plain(connection)
+        try:
+            self.talk(plain)
+            if self.has_tls:
+                self.speak_tls(connection)
+        except (OSError, EOFError) as fault:
+            self.seen["fault"] = str(fault)
+        connection.close()
+        self.seen |= {"orig_front": len(plain.taken), "resp_front": len(plain.said), "client": plain.taken, "server": plain.said}
+        self.listener.close()
+
+    def speak_tls(self, connection: socket.socket) -> None:
+        with self.context.wrap_socket(connection, server_side=True) as talk:
+            self.seen |= {"version": talk.version(), "cipher": talk.cipher()[0]}
+            talk.settimeout(2)
+            request = talk.recv(4096)
+            if request.startswith(b"GET "):
+                talk.sendall(b"HTTP/1.0 200 OK\r\nContent-Length: 3\r\n\r\nok\n")

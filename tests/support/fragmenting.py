@@ -1,0 +1,189 @@
+"""Datagrams cut into fragments (RFC 791, section 3.2; RFC 8200, section 4.5), as the checks of tlslog turn them over: in any order, doubled,
+overlapping, disagreeing, behind tags and in tunnels; and such as are to be refused."""
+
+from __future__ import annotations
+
+import struct
+from collections.abc import Callable, Iterator
+
+from tests.support import packets
+from tests.support.packets import ETHER, LINK, LINK_HEADER, Segment
+
+# Of a frame and its number: the frames in its place, and how many bytes disagree.
+Way = Callable[[bytes, int], tuple[list[bytes], int]]
+
+V4_HEADER, V6_HEADER = 20, 40
+FRAGMENT = 44
+# Destination Options of 8 bytes that say nothing but that a Fragment header follows.
+OPTIONS = bytes([FRAGMENT, 0, 1, 4, 0, 0, 0, 0])
+MAX_DATAGRAM = 65_535
+
+
+def parts_of(frame: bytes) -> tuple[bytes, bytes, int, bytes]:
+    """The link's header, that of IP with its options, the protocol behind that, and the rest of a datagram in a frame of Ethernet."""
+    link, ip = frame[:LINK_HEADER], frame[LINK_HEADER:]
+    if ip[0] >> 4 == 6:
+        return link, ip[:V6_HEADER], ip[6], ip[V6_HEADER : V6_HEADER + int.from_bytes(ip[4:6], "big")]
+    length = ip[0] % 16 * 4
+    return link, ip[:length], ip[9], ip[length : int.from_bytes(ip[2:4], "big")]
+
+
+def fragment(frame: bytes, identification: int, offset: int, has_more: bool, payload: bytes, in_front: bytes = b"") -> bytes:
+    """The frame with that fragment in the place of its datagram; in IPv6 behind these headers."""
+    link, header, protocol, _ = parts_of(frame)
+    if header[0] >> 4 == 6:
+        said = struct.pack(">BBHI", protocol, 0, offset | has_more, identification)
+        behind = in_front + said + payload
+        first = OPTIONS and (60 if in_front else FRAGMENT)
+        return link + header[:4] + struct.pack(">HB", len(behind), first) + header[7:] + behind
+    flags = offset // 8 | (0x2000 if has_more else 0)
+    header = header[:2] + struct.pack(">HHH", len(header) + len(payload), identification % 65536, flags) + header[8:10] + b"\0\0" + header[12:]
+    header = header[:10] + packets.checksum(packets.words(header)) + header[12:]
+    return link + header + payload
+
+
+def cut(frame: bytes, size: int, identification: int, in_front: bytes = b"", overlap: int = 0) -> list[bytes]:
+    """The fragments of the frame's datagram, each of so many bytes, which is a multiple of 8, and of so many of the next one's."""
+    _, _, _, payload = parts_of(frame)
+    made = []
+    for offset in range(0, len(payload), size):
+        piece = payload[offset : offset + size + overlap]
+        has_more = offset + size < len(payload)
+        if has_more and offset + len(piece) >= len(payload):
+            piece = payload[offset : offset + size]
+        made.append(fragment(frame, identification, offset, has_more, piece, in_front))
+    return made
+
+
+def changed(frame: bytes, identification: int, made: list[bytes], size: int) -> tuple[list[bytes], int]:
+    """The same fragments, and behind the first of each two a copy of which every second byte is another; and how many that are."""
+    _, _, _, payload = parts_of(frame)
+    count, out = 0, []
+    for number, piece in enumerate(made):
+        out.append(piece)
+        offset = number * size
+        theirs = payload[offset : offset + size]
+        if number % 2 or len(made) < 2 or number == len(made) - 1:
+            continue
+        other = bytes(byte ^ (at % 2) for at, byte in enumerate(theirs))
+        count += sum(a != b for a, b in zip(theirs, other))
+        out.append(fragment(frame, identification, offset, True, other))
+    return out, count
+
+
+def doubled(made: list[bytes]) -> list[bytes]:
+    """All but the last of them twice: what came behind the last would begin another datagram."""
+    return made[:-1] + made[:-1] + made[-1:]
+
+
+def size_for(frame: bytes) -> int:
+    """A size that makes at most some 100 fragments."""
+    _, _, _, payload = parts_of(frame)
+    return max(8, len(payload) // 100 // 8 * 8)
+
+
+def in_vlan(frame: bytes) -> bytes:
+    return frame[:12] + b"\x81\0\0\x07" + frame[12:]
+
+
+def in_vxlan(frame: bytes) -> bytes:
+    payload = packets.ipv4(17, packets.udp(49152, 4789, b"\x08\0\0\0\0\x12\x34\0" + frame))
+    return LINK + ETHER[4] + payload
+
+
+def captures(segments: list[Segment]) -> Iterator[tuple[str, bytes, list[str], dict[tuple[packets.End, packets.End], int]]]:
+    """The capture with each datagram cut, in each way: its name, the capture, the tunnels, and how many bytes disagree, by the packet's source and
+    destination."""
+
+    def made(way: Way) -> tuple[bytes, dict[tuple[packets.End, packets.End], int]]:
+        out, disagreeing = [], {}
+        for number, s in enumerate(segments):
+            frame = s.frame()
+            frames, count = way(frame, number + 1)
+            out += [(s.time, f) for f in frames]
+            if count:
+                way_of = s.source, s.destination
+                disagreeing[way_of] = disagreeing.get(way_of, 0) + count
+        return packets.pcap(out), disagreeing
+
+    def plain(order: Callable[[list[bytes]], list[bytes]]) -> Way:
+        return lambda frame, number: (order(cut(frame, size_for(frame), number)), 0)
+
+    def disagreeing(frame: bytes, number: int) -> tuple[list[bytes], int]:
+        size = size_for(frame)
+        return changed(frame, number, cut(frame, size, number), size)
+
+    def tagged(frame: bytes, number: int) -> tuple[list[bytes], int]:
+        return [in_vlan(f) for f in cut(frame, size_for(frame), number)[::-1]], 0
+
+    def cut_in_vxlan(frame: bytes, number: int) -> tuple[list[bytes], int]:
+        return [in_vxlan(f) for f in cut(frame, size_for(frame), number)[::-1]], 0
+
+    def cut_vxlan(frame: bytes, number: int) -> tuple[list[bytes], int]:
+        outer = in_vxlan(frame)
+        return cut(outer, size_for(outer), number)[::-1], 0
+
+    def cut_both(frame: bytes, number: int) -> tuple[list[bytes], int]:
+        out = []
+        for place, inner in enumerate(cut(frame, max(8, size_for(frame) * 25), number)):
+            outer = in_vxlan(inner)
+            out += cut(outer, 64, 100 * number + place)[::-1]
+        return out, 0
+
+    ways = {
+        "in order": (plain(lambda m: m), []),
+        "reversed": (plain(lambda m: m[::-1]), []),
+        "odd ones first": (plain(lambda m: m[1::2] + m[::2]), []),
+        "doubled": (plain(doubled), []),
+        "overlapping": (lambda f, n: (cut(f, size_for(f), n, overlap=16)[::-1], 0), []),
+        "behind options": (lambda f, n: (cut(f, size_for(f), n, in_front=OPTIONS if f[LINK_HEADER] >> 4 == 6 else b""), 0), []),
+        "disagreeing": (disagreeing, []),
+        "in a VLAN": (tagged, []),
+        "in VXLAN": (cut_in_vxlan, ["vxlan"]),
+        "of VXLAN": (cut_vxlan, ["vxlan"]),
+        "of VXLAN, of fragments": (cut_both, ["vxlan"]),
+    }
+    for name, (way, tunnels) in ways.items():
+        capture, count = made(way)
+        yield name, capture, tunnels, count
+
+
+def bad(segments: list[Segment]) -> Iterator[tuple[str, bytes, dict[str, int]]]:
+    """Captures of which no datagram is whole: the name, the capture, and what is counted, by how many."""
+    s = max(segments, key=lambda s: len(s.payload))
+    frame = s.frame()
+    size = size_for(frame)
+    pieces = cut(frame, size, 7)
+    at = s.time
+    _, header, _, payload = parts_of(frame)
+
+    def told(frames: list[bytes], step: int = 0) -> bytes:
+        return packets.pcap([(at + number * step, f) for number, f in enumerate(frames)])
+
+    missing = "datagrams of which fragments were missing at the end"
+    for number in range(len(pieces)):
+        yield f"without fragment {number}", told(pieces[:number] + pieces[number + 1 :]), {missing: 1}
+    other_end = "fragments with another end than their datagram's"
+    last = fragment(frame, 7, len(payload) // 8 * 8 + 8, False, b"x" * 8)
+    yield "another end behind", told([*pieces[1:], last]), {other_end: 1, missing: 1}
+    early = fragment(frame, 7, 8, False, payload[8:16])
+    yield "another end in front", told([*pieces[1:], early]), {other_end: 1, missing: 1}
+    behind = fragment(frame, 7, len(payload) // 8 * 8 + 16, True, b"x" * 8)
+    yield "bytes behind the end", told([*pieces[1:], behind]), {other_end: 1, missing: 1}
+    uneven = fragment(frame, 9, 0, True, payload[: size - 1])
+    yield "a length that is no multiple of 8", told([uneven]), {"fragments with a length that is no multiple of 8": 1}
+    front = 0 if header[0] >> 4 == 6 else len(header)
+    long = fragment(frame, 9, 65_528, False, b"x" * (8 - front % 8))
+    yield "too long", told([long]), {"fragments of datagrams of more than 65,535 bytes": 1}
+    yield "late", told([*pieces[:-1], pieces[-1]], step=31_000_000 // max(1, len(pieces) - 1) + 1), {"datagrams of which fragments were missing for 30 seconds": 1, missing: 1}
+    many = [fragment(frame, number, 8, True, b"x" * 8) for number in range(30_000)]
+    yield "many that never end", told(many), {missing: WAITING, "datagrams of which fragments were missing, and that had no room": 30_000 - WAITING}
+    same = [fragment(frame, 7, 8, True, payload[8:16])] * 1000
+    yield "the same again and again", told(same), {missing: 1}
+    yield "empty ones", told([fragment(frame, 7, 8 * number, True, b"") for number in range(1000)]), {missing: 1}
+
+
+HELD_LIMIT = 33_554_432
+# A fragment counts for twice its bytes and so many more; of those with 8 bytes so many may wait.
+FRAGMENT_COST = 5120
+WAITING = HELD_LIMIT // (2 * 8 + FRAGMENT_COST)

@@ -1,0 +1,94 @@
+"""Parts that damage a capture: truncated, without some packets, with other bytes."""
+
+from __future__ import annotations
+
+import random
+
+from tests.support import packets
+from tests.support.shapes import Line
+from tests.tlslog import missing_packets
+from tests.tlslog.program import Program, key, stop, without
+from tests.tlslog.stored import Stored
+
+SEED = 2
+# So many choices of packets are dropped from each capture.
+ORDERS = 12
+# So many captures with other bytes are made of each.
+CHANGED = 60
+# Of the second program, only places so near to a packet's end are tried.
+NEAR = 3
+
+
+def cut(program: Program, captures: list[Stored]) -> None:
+    """Each truncated at each byte: the lines of the connections that ended before, and of others no
+    more than there are."""
+    count = 0
+    for capture in captures:
+        behind = dict(zip(packets.ends_of_packets(capture.bytes), capture.ended()))
+        behind[packets.FILE_HEADER] = 0
+        whole, broken, ended = [], [], 0
+        for place in range(len(capture.bytes) + 1):
+            ended = behind.get(place, ended)
+            is_near = any(near in behind for near in range(place - NEAR, place + NEAR + 1))
+            if place in behind:
+                whole.append((place, ended))
+            elif program.is_cut_everywhere or is_near:
+                broken.append((place, ended))
+        for places, status in ((whole, 0), (broken, 1)):
+            fronts = [capture.bytes[:place] for place, _ in places]
+            found = program.each(fronts, {status}, f"{capture.name}, cut")
+            for (place, ended), lines in zip(places, found):
+                judge_cut(capture, place, ended, lines)
+        count += len(whole) + len(broken)
+    print(f"tlslog: {len(captures)} captures, cut at {count} places")
+
+
+def judge_cut(capture: Stored, place: int, ended: int, lines: list[Line]) -> None:
+    others = {key(line) for line in capture.lines[ended:]}
+    is_front = lines[:ended] == capture.lines[:ended] and len(lines) <= len(capture.lines)
+    if not is_front or not {key(line) for line in lines[ended:]} <= others:
+        stop(f"{capture.name}, cut at {place}: {lines}")
+
+
+def dropped(program: Program, captures: list[Stored]) -> None:
+    """Each without some packets: lines of its own connections alone, and each side that lacks bytes
+    in front of others has a gap. Without bare acknowledgements: the stored lines, except counts of
+    packets and times."""
+    chance, counts = random.Random(SEED), []
+    for choose in (missing_packets.choices, missing_packets.acknowledgements):
+        count = 0
+        for capture in captures:
+            whole = missing_packets.Whole(capture.segments, capture.lines)
+            chosen = list(choose(chance, capture.segments, ORDERS))
+            left = [
+                [s for index, s in enumerate(capture.segments) if index not in some]
+                for some in chosen
+            ]
+            made = [packets.pcap([(s.time, s.frame()) for s in some]) for some in left]
+            found = program.each(made, {0}, f"{capture.name}, packets dropped")
+            left_out = ["duration", "orig_pkts", "resp_pkts"]
+            wanted = without(left_out, capture.lines)
+            for some, segments, lines in zip(chosen, left, found):
+                fault = whole.wrong(segments, lines)
+                is_bare = choose == missing_packets.acknowledgements
+                if is_bare and without(left_out, lines) != wanted:
+                    fault = f"other lines: {lines}"
+                if fault:
+                    stop(f"{capture.name} without the packets {sorted(some)}: {fault}")
+            count += len(made)
+        counts.append(count)
+    print(f"tlslog: {counts[0]} captures without some packets: lines of their own, with the gaps")
+    print(f"tlslog: {counts[1]} captures without acknowledgements: the stored lines")
+
+
+def changed(program: Program, captures: list[Stored]) -> None:
+    """Bytes changed at random: the program ends, whatever its lines are."""
+    chance, made = random.Random(SEED), []
+    for capture in captures:
+        for _ in range(CHANGED):
+            found = bytearray(capture.bytes)
+            for _ in range(chance.choice([1, 3, 20, 100])):
+                found[chance.randrange(len(found))] = chance.randrange(256)
+            made.append(bytes(found))
+    program.each(made, {0, 1}, "changed bytes")
+    print(f"tlslog: {len(made)} captures with changed bytes are read to their end")
