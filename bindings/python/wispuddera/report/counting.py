@@ -4,7 +4,6 @@ from __future__ import annotations
 
 from collections.abc import Iterable
 from functools import lru_cache, partial
-from itertools import islice
 from typing import Optional
 
 from . import offers, suites
@@ -14,6 +13,8 @@ from .tallies import UIDS, Entry, Soonest, Tally, Timeline, Values, with_value
 
 # How many suites of a client are kept: a list of nothing but weak ones has fewer.
 OFFERED = 64
+# How many weak suites of a client are kept by name.
+WEAK = 256
 
 # The outcomes of docs/HANDSHAKES.md, as the timeline has them; the others are neither.
 COMPLETED, BROKEN_OFF, OTHER = range(3)
@@ -205,11 +206,8 @@ class Counts:
         self.by_outcome, self.by_version = Timeline(3), Timeline(4)
 
     def add_all(self, connections: Iterable[Connection]) -> None:
-        # In batches: where a connection is read and counted in turns, both take a tenth longer.
-        rest = iter(connections)
-        while batch := list(islice(rest, 64)):
-            for it in batch:
-                self.add(it)
+        for it in connections:
+            self.add(it)
 
     def add(self, it: Connection) -> None:
         outcome, version, uid = it.outcome, it.version, it.uid
@@ -322,8 +320,12 @@ class Counts:
         for version in old:
             offer.versions = with_value(offer.versions, version)
         if weak and len(offer.listed) <= OFFERED:
-            offer.suites.update(dict.fromkeys(weak))
-            offer.listed.update(dict.fromkeys(it.offered_suites))
+            # A hello may offer thousands of suites.
+            for kept, most, offered in ((offer.suites, WEAK, weak), (offer.listed, OFFERED + 1, it.offered_suites)):
+                for one in offered:
+                    if len(kept) >= most:
+                        break
+                    kept[one] = None
         offer.hosts = with_value(offer.hosts, it.host)
         offer.last = _later(offer.last, it.time)
 

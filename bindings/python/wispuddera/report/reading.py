@@ -12,6 +12,8 @@ from . import suites, text
 
 # A longer line isn't read. The lines of tlslog are shorter: what a hello holds is counted in 2 bytes, and each byte takes 5 as text.
 LONGEST_LINE = 4 << 20
+# So many bytes of lines are read before their connections are counted: reading and counting in turns takes a tenth longer.
+BATCH = 256 << 10
 
 
 class Unread:
@@ -158,12 +160,20 @@ class Reader:
     def __iter__(self) -> Iterator[Connection]:
         for log in self._logs:
             lines, unread = self.lines, sum(self.unread.values())
+            batch: list[Connection] = []
+            room = BATCH
             for line in self._lines(log):
                 if self.lines == lines + 1 and (reason := other_format(line)):
                     raise OtherFormat(reason)
                 fields = self._object(line)
-                if fields is not None:
-                    yield self._connection(fields)
+                if fields is None:
+                    continue
+                batch.append(self._connection(fields))
+                room -= len(line)
+                if room < 0:
+                    yield from batch
+                    batch, room = [], BATCH
+            yield from batch
             if self.lines > lines and self.lines - lines == sum(self.unread.values()) - unread:
                 raise OtherFormat(f"no line of it is a connection, and {_TO_JSON}")
 
