@@ -14,6 +14,8 @@ from . import OtherFormat, report
 NAME = "tlslog-report"
 # As tlslog ends: where something can't be read, and where the page can't be written.
 NOT_READ, NOT_WRITTEN = 2, 3
+# Bytes that are read at once.
+_BUFFER = 1 << 16
 EPILOG = """\
 examples:
   tlslog capture.pcap > log
@@ -61,7 +63,9 @@ def _page_of(names: list[str], capture: str) -> str:
             logs = []
             for name in names:
                 at[0] = name
-                logs.append(_Reading(name, sys.stdin.buffer if name == "-" else opened.enter_context(open(name, "rb")), at))
+                source = sys.stdin.fileno() if name == "-" else name
+                log = open(source, "rb", buffering=_BUFFER, closefd=name != "-")
+                logs.append(_Reading(name, opened.enter_context(log), at))
             return report(*logs, names=names, capture=capture)
     except OSError as fault:
         _fail(NOT_READ, f"{_shown(at[0])}: cannot read: {_reason(fault)}")

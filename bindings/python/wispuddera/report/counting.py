@@ -3,7 +3,7 @@
 from __future__ import annotations
 
 from collections.abc import Iterable
-from functools import lru_cache
+from functools import lru_cache, partial
 from typing import Optional
 
 from . import offers, suites
@@ -13,6 +13,8 @@ from .tallies import UIDS, Entry, Soonest, Tally, Timeline, Values, with_value
 
 # How many suites of a client are kept: a list of nothing but weak ones has fewer.
 OFFERED = 64
+# How many weak suites of a client are kept by name.
+WEAK = 256
 
 # The outcomes of docs/HANDSHAKES.md, as the timeline has them; the others are neither.
 COMPLETED, BROKEN_OFF, OTHER = range(3)
@@ -36,14 +38,16 @@ def faults_of(suite: str) -> tuple[suites.Fault, ...]:
 
 
 class Counted(Entry):
-    """The connections of a value, and how many different values of another kind they have; `Counts` sets `others`."""
+    """The connections of a value, and the distinct values of other kinds that they have: `others` are the counters of these."""
 
     __slots__ = ("broken_off", "others")
+    # How many other kinds there are.
+    kinds = 1
 
-    def __init__(self, missed: int) -> None:
+    def __init__(self, room: Room, missed: int) -> None:
         super().__init__(missed)
         self.broken_off = 0
-        self.others: tuple[Distinct, ...] = ()
+        self.others = tuple(Distinct(room) for _ in range(self.kinds))
 
     def release(self) -> None:
         for one in self.others:
@@ -54,9 +58,10 @@ class Host(Counted):
     """The connections of a host; `others` are its clients and its servers."""
 
     __slots__ = ("versions",)
+    kinds = 2
 
-    def __init__(self, missed: int) -> None:
-        super().__init__(missed)
+    def __init__(self, room: Room, missed: int) -> None:
+        super().__init__(room, missed)
         self.versions: Values = ()
 
 
@@ -65,18 +70,18 @@ class Program(Counted):
 
     __slots__ = ("hosts",)
 
-    def __init__(self, missed: int) -> None:
-        super().__init__(missed)
+    def __init__(self, room: Room, missed: int) -> None:
+        super().__init__(room, missed)
         self.hosts: Values = ()
 
 
 class Address(Counted):
-    """The connections of the address of a client, whose servers `others` are, or of a server, whose clients they are."""
+    """The connections of a client's address, whose `others` are its servers, or of a server's, whose `others` are its clients."""
 
     __slots__ = ("hosts", "versions")
 
-    def __init__(self, missed: int) -> None:
-        super().__init__(missed)
+    def __init__(self, room: Room, missed: int) -> None:
+        super().__init__(room, missed)
         self.hosts: Values = ()
         self.versions: Values = ()
 
@@ -185,10 +190,10 @@ class Counts:
         self.versions: Tally[Optional[str], Entry] = Tally(Entry)
         self.suites: Tally[Optional[str], Entry] = Tally(Entry)
         self.groups: Tally[Optional[str], Entry] = Tally(Entry)
-        self.hosts: Tally[str, Host] = Tally(Host)
-        self.programs: Tally[str, Program] = Tally(Program)
-        self.clients: Tally[str, Address] = Tally(Address)
-        self.servers: Tally[Server, Address] = Tally(Address)
+        self.hosts: Tally[str, Host] = Tally(partial(Host, self.room))
+        self.programs: Tally[str, Program] = Tally(partial(Program, self.room))
+        self.clients: Tally[str, Address] = Tally(partial(Address, self.room))
+        self.servers: Tally[Server, Address] = Tally(partial(Address, self.room))
         # By outcome, last alert, the message that ended it, and who sent that.
         self.failures: Tally[Way, Failure] = Tally(Failure)
         self.poor: Tally[Optional[Server], Poor] = Tally(Poor)
@@ -205,55 +210,71 @@ class Counts:
             self.add(it)
 
     def add(self, it: Connection) -> None:
+        outcome, version, uid = it.outcome, it.version, it.uid
         self.connections += 1
-        kind = _OUTCOMES.get(it.outcome or "", OTHER)
-        self.completed += kind == COMPLETED
-        self.broken_off += kind == BROKEN_OFF
-        self.resumed += it.is_resumed is True
-        self.has_uid = self.has_uid or it.uid is not None
-        for tally, value in ((self.outcomes, it.outcome), (self.versions, it.version), (self.suites, it.suite), (self.groups, it.group)):
-            tally.add(value, it.uid)
+        kind = _OUTCOMES.get(outcome, OTHER)
+        if kind == COMPLETED:
+            self.completed += 1
+        elif kind == BROKEN_OFF:
+            self.broken_off += 1
+        if it.is_resumed is True:
+            self.resumed += 1
+        if uid is not None:
+            self.has_uid = True
+        self.outcomes.add(outcome, uid)
+        self.versions.add(version, uid)
+        self.suites.add(it.suite, uid)
+        self.groups.add(it.group, uid)
         if it.time is not None:
-            self._add_time(it.time, kind, it)
+            self._add_time(it.time, kind, version)
         self._add_ends(it)
-        if it.stop is not None or it.outcome in FAILED:
+        if it.stop is not None or outcome in FAILED:
             self._add_failure(it)
         self._judge(it)
         self._judge_offer(it)
-        self._add_certificate(it)
+        if it.has_name is False:
+            self._add_mismatch(it)
+        if it.certificate is not None:
+            self._add_certificate(it, it.certificate)
 
-    def _add_time(self, time: float, kind: int, it: Connection) -> None:
-        self.first = time if self.first is None else min(self.first, time)
-        self.last = time if self.last is None else max(self.last, time)
+    def _add_time(self, time: float, kind: int, version: Optional[str]) -> None:
+        if self.first is None or time < self.first:
+            self.first = time
+        if self.last is None or time > self.last:
+            self.last = time
         self.by_outcome.add(time, kind)
-        self.by_version.add(time, kind_of_version(it.version))
+        self.by_version.add(time, kind_of_version(version))
 
     def _add_ends(self, it: Connection) -> None:
-        server = name_of(it.server)
-        if it.host is not None:
-            host = self.hosts.add(it.host, it.uid)
-            self._count(host, it, it.client, server)
-            host.versions = with_value(host.versions, it.version)
+        uid, host, client, version = it.uid, it.host, it.client, it.version
+        server = it.server.name if it.server is not None else None
+        is_broken = it.outcome == "broken_off"
+        if host is not None:
+            to_host = self.hosts.add(host, uid)
+            clients, servers = to_host.others
+            clients.add(client)
+            servers.add(server)
+            if is_broken:
+                to_host.broken_off += 1
+            if version not in to_host.versions:
+                to_host.versions = with_value(to_host.versions, version)
         if it.ja4 is not None:
-            program = self.programs.add(it.ja4, it.uid)
-            self._count(program, it, it.client)
-            program.hosts = with_value(program.hosts, it.host)
-        if it.client is not None:
-            self._count_address(self.clients.add(it.client, it.uid), it, server)
-        if it.server is not None:
-            self._count_address(self.servers.add(it.server, it.uid), it, it.client)
-
-    def _count(self, entry: Counted, it: Connection, *others: Optional[str]) -> None:
-        entry.broken_off += it.outcome == "broken_off"
-        if not entry.others:
-            entry.others = tuple(Distinct(self.room) for _ in others)
-        for counter, value in zip(entry.others, others):
-            counter.add(value)
-
-    def _count_address(self, entry: Address, it: Connection, other: Optional[str]) -> None:
-        self._count(entry, it, other)
-        entry.hosts = with_value(entry.hosts, it.host)
-        entry.versions = with_value(entry.versions, it.version)
+            program = self.programs.add(it.ja4, uid)
+            program.others[0].add(client)
+            if is_broken:
+                program.broken_off += 1
+            if host not in program.hosts:
+                program.hosts = with_value(program.hosts, host)
+        for tally, key, other in ((self.clients, client, server), (self.servers, it.server, client)):
+            if key is not None:
+                address = tally.add(key, uid)
+                address.others[0].add(other)
+                if is_broken:
+                    address.broken_off += 1
+                if host not in address.hosts:
+                    address.hosts = with_value(address.hosts, host)
+                if version not in address.versions:
+                    address.versions = with_value(address.versions, version)
 
     def _add_failure(self, it: Connection) -> None:
         message, sender = it.stop if it.stop is not None else (None, None)
@@ -262,49 +283,60 @@ class Counts:
 
     def _judge(self, it: Connection) -> None:
         """Counts what the server shouldn't have chosen."""
-        kind = kind_of_version(it.version)
+        version, suite = it.version, it.suite
+        kind = kind_of_version(version)
         is_old = kind == OLD
-        faults = faults_of(it.suite) if it.suite is not None else ()
-        self.versioned += it.version is not None
-        self.newest += kind == V13
-        self.old += is_old
-        self.weak += bool(faults)
-        self.unjudged += it.suite is not None and not suites.is_judged(it.suite)
+        if version is not None:
+            self.versioned += 1
+        if kind == V13:
+            self.newest += 1
+        elif is_old:
+            self.old += 1
+        faults: tuple[suites.Fault, ...] = ()
+        if suite is not None:
+            faults = faults_of(suite)
+            if faults:
+                self.weak += 1
+            elif not suites.is_judged(suite):
+                self.unjudged += 1
         if not is_old and not faults:
             return
         poor = self.poor.add(it.server, it.uid)
         if is_old or any(fault.is_forbidden for fault in faults):
             poor.rank = MUST_NOT
-        poor.versions = with_value(poor.versions, it.version if is_old else None)
-        poor.suites = with_value(poor.suites, it.suite if faults else None)
+        poor.versions = with_value(poor.versions, version if is_old else None)
+        poor.suites = with_value(poor.suites, suite if faults else None)
         poor.hosts = with_value(poor.hosts, it.host)
         poor.last = _later(poor.last, it.time)
 
     def _judge_offer(self, it: Connection) -> None:
         """Counts what the client shouldn't offer."""
         old, weak = offers.old_of(it.offered_versions), offers.weak_of(it.offered_suites)
-        self.old_offers += bool(old)
-        self.weak_offers += bool(weak)
         if not old and not weak:
             return
+        self.old_offers += bool(old)
+        self.weak_offers += bool(weak)
         offer = self.offers.add(it.client, it.uid)
         for version in old:
             offer.versions = with_value(offer.versions, version)
         if weak and len(offer.listed) <= OFFERED:
-            offer.suites.update(dict.fromkeys(weak))
-            offer.listed.update(dict.fromkeys(it.offered_suites))
+            # A hello may offer thousands of suites.
+            for kept, most, offered in ((offer.suites, WEAK, weak), (offer.listed, OFFERED + 1, it.offered_suites)):
+                for one in offered:
+                    if len(kept) >= most:
+                        break
+                    kept[one] = None
         offer.hosts = with_value(offer.hosts, it.host)
         offer.last = _later(offer.last, it.time)
 
-    def _add_certificate(self, it: Connection) -> None:
-        certificate = it.certificate
-        if it.has_name is False:
-            mismatch = self.mismatches.add((it.host, it.server), it.uid)
-            mismatch.subjects = with_value(mismatch.subjects, certificate.subject if certificate is not None else None)
-            for name in certificate.names if certificate is not None else ():
+    def _add_mismatch(self, it: Connection) -> None:
+        mismatch, certificate = self.mismatches.add((it.host, it.server), it.uid), it.certificate
+        if certificate is not None:
+            mismatch.subjects = with_value(mismatch.subjects, certificate.subject)
+            for name in certificate.names:
                 mismatch.names = with_value(mismatch.names, name)
-        if certificate is None:
-            return
+
+    def _add_certificate(self, it: Connection, certificate: Certificate) -> None:
         self.certified += 1
         issued = self.certificates.entry(certificate.key, certificate.not_after, lambda: Issued(certificate))
         if issued is not None:

@@ -4,8 +4,9 @@ from __future__ import annotations
 
 import re
 from functools import lru_cache
+from typing import Optional
 
-from . import suites
+from . import suites, text
 from .reading import Values
 
 # What stands in a list of suites and is none (RFC 5746, section 3.3; RFC 7507).
@@ -16,14 +17,32 @@ _OF_SSL2 = re.compile(r"0x[0-9a-f]{6}")
 
 
 @lru_cache(maxsize=4096)
+def _is_old(version: str) -> bool:
+    return suites.is_old(version)
+
+
 def old_of(versions: Values) -> Values:
     """The old ones of the versions that a client offers."""
-    return tuple(filter(suites.is_old, versions))
+    return tuple([one for one in versions if len(one) <= text.LONGEST and _is_old(one)])
 
 
 @lru_cache(maxsize=4096)
-def weak_of(offered: Values) -> tuple[str, ...]:
-    """The names of the suites that a client offers, if all of them are weak; else nothing, as where one can't be judged."""
-    found = [one for one in offered if one not in _SIGNALS and not _GREASE.fullmatch(one)]
-    names = tuple(map(suites.name_of, found))
-    return names if all(_OF_SSL2.fullmatch(name) or suites.faults_of(name) for name in names) else ()
+def _name_if_weak(offered: str) -> Optional[str]:
+    """The name of a suite, if it is weak; `""` for what isn't a suite, and `None` for a suite that isn't weak or can't be judged."""
+    if offered in _SIGNALS or _GREASE.fullmatch(offered):
+        return ""
+    name = suites.name_of(offered)
+    return name if _OF_SSL2.fullmatch(name) or suites.faults_of(name) else None
+
+
+def weak_of(offered: Values) -> Values:
+    """The names of the suites that a client offers, if all of them are weak; empty if one isn't weak or can't be judged."""
+    names = []
+    # Most lists begin with a suite that isn't weak.
+    for one in offered:
+        name = _name_if_weak(one) if len(one) <= text.LONGEST else None
+        if name is None:
+            return ()
+        if name:
+            names.append(name)
+    return tuple(names)

@@ -12,6 +12,8 @@ from . import suites, text
 
 # A longer line isn't read. The lines of tlslog are shorter: what a hello holds is counted in 2 bytes, and each byte takes 5 as text.
 LONGEST_LINE = 4 << 20
+# So many bytes of lines are read before their connections are counted: reading and counting in turns takes a tenth longer.
+BATCH = 256 << 10
 
 
 class Unread:
@@ -90,7 +92,8 @@ def _refuse(constant: str) -> NoReturn:
 
 
 _DECODER = json.JSONDecoder(parse_constant=_refuse)
-_STR = {str}
+# The white space of JSON (RFC 8259, section 2).
+_JSON_BLANKS = b" \t\n\r"
 # Of how many names a certificate is told.
 NAMES = 4
 # The fields of docs/TLSLOG.md that are read, each once.
@@ -157,26 +160,37 @@ class Reader:
     def __iter__(self) -> Iterator[Connection]:
         for log in self._logs:
             lines, unread = self.lines, sum(self.unread.values())
+            batch: list[Connection] = []
+            room = BATCH
             for line in self._lines(log):
                 if self.lines == lines + 1 and (reason := other_format(line)):
                     raise OtherFormat(reason)
                 fields = self._object(line)
-                if fields is not None:
-                    yield self._connection(fields)
+                if fields is None:
+                    continue
+                batch.append(self._connection(fields))
+                room -= len(line)
+                if room < 0:
+                    yield from batch
+                    batch, room = [], BATCH
+            yield from batch
             if self.lines > lines and self.lines - lines == sum(self.unread.values()) - unread:
                 raise OtherFormat(f"no line of it is a connection, and {_TO_JSON}")
 
     def _lines(self, log: BinaryIO) -> Iterator[bytes]:
         """Each line that isn't too long, but for blank ones."""
         blank = b""
-        while line := log.readline(LONGEST_LINE + 1):
-            # A file of pcapng begins with two blank lines.
-            blank += line if line.isspace() and len(blank) < 4 else b""
-            if blank == _CAPTURES[-1]:
-                raise OtherFormat(_IS_CAPTURE)
+        readline = log.readline
+        while line := readline(LONGEST_LINE + 1):
+            if line.isspace():
+                # A file of pcapng begins with two blank lines.
+                if len(blank) < 4:
+                    blank += line
+                if blank == _CAPTURES[-1]:
+                    raise OtherFormat(_IS_CAPTURE)
             if len(line) > LONGEST_LINE and not line.endswith(b"\n"):
                 while line and not line.endswith(b"\n"):
-                    line = log.readline(LONGEST_LINE + 1)
+                    line = readline(LONGEST_LINE + 1)
                 self.lines += 1
                 self.unread[Unread.TOO_LONG] += 1
             elif not line.isspace():
@@ -184,72 +198,93 @@ class Reader:
                 yield line
 
     def _object(self, line: bytes) -> Optional[dict[str, Any]]:
-        """The fields of a line that tells of a connection."""
+        """The fields of a line that describes a connection."""
         try:
-            fields = _DECODER.decode(line.decode())
+            content = line.strip(_JSON_BLANKS).decode()
+            fields, end = _DECODER.raw_decode(content)
         except (ValueError, RecursionError):
             self.unread[Unread.NO_JSON] += 1
             return None
-        if not isinstance(fields, dict):
+        if end != len(content):
+            self.unread[Unread.NO_JSON] += 1
+        elif type(fields) is not dict:
             self.unread[Unread.NO_OBJECT] += 1
-            return None
-        if not OF_MESSAGES.isdisjoint(fields):
+        elif not fields.keys().isdisjoint(OF_MESSAGES):
             self.unread[Unread.MESSAGE] += 1
-            return None
-        if FIELDS.isdisjoint(fields):
+        elif FIELDS.isdisjoint(fields):
             self.unread[Unread.NO_FIELD] += 1
-            return None
-        return fields
+        else:
+            return fields
+        return None
 
     def _connection(self, fields: dict[str, Any]) -> Connection:
-        # (most texts are short, and need no call)
+        get, longest = fields.get, text.LONGEST
+        # A log has many lines, so values that are absent or fit are taken here, without a call.
         uid, version, suite, group, host, outcome, alert, ja4, client, address = [
-            value if type(value := fields.get(name)) is str and len(value) <= text.LONGEST else self._text(value, name) for name in TEXTS
+            value
+            if (value := get(name)) is None or (type(value) is str and len(value) <= longest)
+            else self._text(value, name)
+            for name in TEXTS
         ]
+        time = get("ts")
+        if time is not None and not _is_time(time):
+            time = self._misfit("ts")
+        server = None
+        if address is not None:
+            port = get("id.resp_p")
+            if port is not None and not _is_port(port):
+                port = self._misfit("id.resp_p")
+            server = _server_at(address, port)
+        is_resumed = get("resumed")
+        if is_resumed is not None and type(is_resumed) is not bool:
+            is_resumed = self._misfit("resumed")
+        stop = self._stop(fields) if "stop" in fields else None
+        if "client_supported_versions" in fields:
+            versions = self._texts(fields, "client_supported_versions")
+        else:
+            only = self._text(get("client_version"), "client_version")
+            versions = (only,) if only is not None else ()
+        offered = self._texts(fields, "client_ciphers")
+        has_name = get("sni_matches_cert")
+        if has_name is not None and type(has_name) is not bool:
+            has_name = self._misfit("sni_matches_cert")
+        certificate = self._certificate(fields) if "not_after" in fields else None
         # Lines with numbers and lines with names count as one.
-        suite = suites.name_of(suite) if suite is not None else None
+        if suite is not None:
+            suite = suites.name_of(suite)
         return Connection(
-            uid, self._value(fields.get("ts"), "ts", _is_time), client, self._server(address, fields) if address is not None else None,
-            version, suite, group, host, outcome, self._value(fields.get("resumed"), "resumed", _is_flag), alert,
-            self._stop(fields) if "stop" in fields else None, ja4, self._versions(fields), self._texts(fields, "client_ciphers"),
-            self._value(fields.get("sni_matches_cert"), "sni_matches_cert", _is_flag),
-            self._certificate(fields) if "not_after" in fields else None,
+            uid, time, client, server, version, suite, group, host, outcome, is_resumed, alert,
+            stop, ja4, versions, offered, has_name, certificate,
         )
 
-    def _versions(self, fields: dict[str, Any]) -> Values:
-        """The versions that the client offers: in its extension, or the one of its hello."""
-        if "client_supported_versions" in fields:
-            return self._texts(fields, "client_supported_versions")
-        version = self._text(fields.get("client_version"), "client_version")
-        return (version,) if version is not None else ()
-
-    def _value(self, value: Any, name: str, fits: Callable[[Any], bool]) -> Any:
-        """What the line has in the field of that name, if it is of the field's type."""
-        if value is None or fits(value):
-            return value
+    def _misfit(self, name: str) -> Any:
+        """Counts a value of another type than the field has. It is taken as absent: returns `None`."""
         self.misfits[name] += 1
         return None
 
+    def _value(self, value: Any, name: str, fits: Callable[[Any], bool]) -> Any:
+        """The value, if it is of the type of the field of that name."""
+        return value if value is None or fits(value) else self._misfit(name)
+
     def _texts(self, fields: dict[str, Any], name: str) -> Values:
         value = fields.get(name)
-        return tuple(self._value(value, name, _are_texts) or ()) if value is not None else ()
+        if value is None:
+            return ()
+        if _are_texts(value):
+            return tuple(value)
+        self._misfit(name)
+        return ()
 
     def _text(self, value: Any, name: str) -> Optional[str]:
         if value is None:
             return None
-        if type(value) is str:
-            return self._within(value) if len(value) > text.LONGEST else value
-        self.misfits[name] += 1
-        return None
+        return self._within(value) if type(value) is str else self._misfit(name)
 
     def _within(self, value: str) -> str:
         if len(value) <= text.LONGEST:
             return value
         self.cut += 1
         return text.cut(value)
-
-    def _server(self, address: str, fields: dict[str, Any]) -> Server:
-        return _server_at(address, self._value(fields.get("id.resp_p"), "id.resp_p", _is_port))
 
     def _stop(self, fields: dict[str, Any]) -> Optional[Stop]:
         value = self._value(fields["stop"], "stop", _is_object)
@@ -258,19 +293,23 @@ class Reader:
         return Stop(self._text(value.get("message"), "stop.message"), self._text(value.get("sender"), "stop.sender"))
 
     def _certificate(self, fields: dict[str, Any]) -> Optional[Certificate]:
-        not_after = self._value(fields["not_after"], "not_after", _is_moment)
+        not_after = fields["not_after"]
         if not_after is None:
             return None
-        end = text.seconds_of(not_after) or 0
-        subject, issuer = [self._text(fields.get(name), name) for name in ("subject", "issuer")]
+        end = text.seconds_of(not_after) if type(not_after) is str else None
+        if end is None:
+            return self._misfit("not_after")
+        get = fields.get
+        subject, issuer = self._text(get("subject"), "subject"), self._text(get("issuer"), "issuer")
         prints = self._texts(fields, "cert_chain_fps")
         fingerprint = text.cut(prints[0]) if prints else None
-        is_self_issued = self._value(fields.get("self_issued"), "self_issued", _is_flag)
-        is_self_signed = is_self_issued if is_self_issued is not None else subject is not None and subject == issuer
-        names = self._value(fields.get("san_dns"), "san_dns", _are_texts) or ()
+        is_self_signed = self._value(get("self_issued"), "self_issued", _is_flag)
+        if is_self_signed is None:
+            is_self_signed = subject is not None and subject == issuer
+        names = self._value(get("san_dns"), "san_dns", _are_texts) or ()
         return Certificate(
-            fingerprint or f"{not_after}\n{subject}\n{issuer}", fingerprint, subject, issuer, not_after, end, is_self_signed,
-            tuple(map(self._within, names[:NAMES])), len(names),
+            fingerprint or f"{not_after}\n{subject}\n{issuer}", fingerprint, subject, issuer, not_after, end,
+            is_self_signed, tuple([self._within(name) for name in names[:NAMES]]), len(names),
         )
 
 
@@ -290,9 +329,12 @@ def _is_port(value: Any) -> bool:
     return type(value) is int and 0 <= value < 1 << 16
 
 
-def _is_moment(value: Any) -> bool:
-    return type(value) is str and text.seconds_of(value) is not None
-
-
 def _are_texts(value: Any) -> bool:
-    return type(value) is list and set(map(type, value)) <= _STR
+    if type(value) is not list:
+        return False
+    try:
+        # (half the time of asking for each type)
+        "".join(value)
+    except TypeError:
+        return False
+    return True

@@ -92,13 +92,9 @@ class Timeline:
 
     def __init__(self, kinds: int) -> None:
         self.kinds = kinds
-        self.at = 0
+        self.at, self.step = 0, self.STEPS[0]
         self.intervals: dict[int, list[int]] = {}
         self.first = self.last = 0
-
-    @property
-    def step(self) -> int:
-        return self.STEPS[self.at]
 
     def add(self, seconds: float, kind: int) -> None:
         place = int(seconds) // self.step
@@ -116,8 +112,9 @@ class Timeline:
         return None
 
     def _widen(self) -> None:
-        factor = self.STEPS[self.at + 1] // self.step
         self.at += 1
+        narrower, self.step = self.step, self.STEPS[self.at]
+        factor = self.step // narrower
         narrow, self.intervals = self.intervals, {}
         for place, counts in narrow.items():
             wide = self.intervals.setdefault(place // factor, [0] * self.kinds)

@@ -6,6 +6,7 @@ import html
 import re
 import unicodedata
 from datetime import datetime, timedelta, timezone
+from functools import lru_cache
 from typing import Optional
 
 # What is longer is cut: a name of the DNS has at most 253 characters.
@@ -98,6 +99,11 @@ _ISO = re.compile(r"(\d{4})-(\d\d)-(\d\d)T(\d\d):(\d\d):(\d\d)Z", re.ASCII)
 
 def seconds_of(iso: str) -> Optional[int]:
     """The time that `2026-11-25T12:00:00Z` says, also before 1970; nothing of what isn't written so."""
+    return _seconds_of(iso) if len(iso) == len("2026-11-25T12:00:00Z") else None
+
+
+@lru_cache(maxsize=4096)
+def _seconds_of(iso: str) -> Optional[int]:
     found = _ISO.fullmatch(iso)
     try:
         return int((datetime.fromisoformat(f"{iso[:-1]}+00:00") - _START).total_seconds()) if found else None
