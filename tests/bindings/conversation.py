@@ -1,7 +1,9 @@
-"""`wispuddera.Conversation` on the recorded conversations of tests/flow_rows: the outcomes of the rows, however the bytes are cut. And
-conversations that follow handshakes of OpenSSL's between two sockets: conversation.py [PROGRAM..]
+"""`wispuddera.Conversation` on the recorded conversations of tests/flow_rows: the outcomes of the
+rows, however the bytes are cut. And conversations that follow handshakes of OpenSSL's between two
+sockets: conversation.py [PROGRAM..]
 
-Each PROGRAM takes the numbers of two sockets, and prints what it made of the conversation: those of tests/bindings/relay.c and relay.rs."""
+Each PROGRAM takes the numbers of two sockets, and prints what it made of the conversation: those of
+tests/bindings/relay.c and relay.rs."""
 
 import doctest
 import functools
@@ -35,7 +37,8 @@ OUTCOMES = {
 
 
 def recorded():
-    """The pieces of each recorded conversation of TLS, and its outcome; those of DTLS are left out."""
+    """The pieces of each recorded conversation of TLS, and its outcome; those of DTLS are left
+    out."""
     pieces = []
     for line in (TOP / "tests/flow_rows/rows").read_text().splitlines():
         if line[:2] in ("> ", "< "):
@@ -94,7 +97,8 @@ def test_faults():
     assert ended("client", "140301 0001 02") == [("UNKNOWN", "Verify")]
     assert ended("client", "160301 0004 01 000065") == [("UNKNOWN", "TooLarge")]
     assert ended("client", "160301 0002 0100", "150301 0002 0228") == [("UNKNOWN", "Interrupted")]
-    # Nothing is read behind a fault; an alert that is none is encrypted; and all is, behind a ChangeCipherSpec.
+    # Nothing is read behind a fault; an alert that is none is encrypted; and all is, behind a
+    # ChangeCipherSpec.
     assert ended("client", "474554202f", "150301 0002 0228") == [("UNKNOWN", "Switch")]
     assert ended("server", "150301 0002 0328") == [("ENCRYPTED", None)]
     assert ended("server", "140301 0001 01 150301 0002 0228") == [("CHANGE_CIPHER_SPEC", None), ("ENCRYPTED", None)]
@@ -115,7 +119,8 @@ def relay_of_the_page():
     return names["relay"]
 
 
-# What is printed of an outcome, whether it is established and resumed: by C, which has numbers, by Rust and by Python.
+# What is printed of an outcome, whether it is established and resumed: by C, which has numbers, by
+# Rust and by Python.
 PRINTED = {
     "FULL": {"1 1 0", "Full true false"},
     "RESUMED": {"2 1 1", "Resumed true true"},

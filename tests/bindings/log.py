@@ -1,6 +1,8 @@
-"""`wispuddera.log`: its objects have the fields of docs/TLSLOG.md and the values of the stored lines, and its errors say what went wrong.
+"""`wispuddera.log`: its objects have the fields of docs/TLSLOG.md and the values of the stored
+lines, and its errors say what went wrong.
 
-A program of a few lines stands in for tlslog, and writes the stored lines; where `rt ci` has built tlslog, that is run on the stored captures too.
+A program of a few lines stands in for tlslog, and writes the stored lines; where `rt ci` has built
+tlslog, that is run on the stored captures too.
 """
 
 import dataclasses
@@ -135,7 +137,8 @@ def test_options():
 
 
 def test_streams():
-    """What is open comes to the program as its input, however much it is, and from where it stands."""
+    """What is open comes to the program as its input, however much it is, and from where it
+    stands."""
     with tempfile.TemporaryDirectory() as folder:
         program = stand_in(folder, "print('{\"bytes\":%d}' % len(sys.stdin.buffer.read()))")
         capture = pathlib.Path(folder) / "capture"
@@ -156,7 +159,8 @@ def test_streams():
 
 
 def test_interrupts():
-    """Ctrl-C ends a stream: what is open then comes, and the loop ends. Where a file is read it is raised."""
+    """Ctrl-C ends a stream: what is open then comes, and the loop ends. Where a file is read it is
+    raised."""
     with tempfile.TemporaryDirectory() as folder:
         line = LINES[0].decode()
         program = stand_in(folder, f"print({line!r}, flush=True)\nsys.stdin.buffer.read()\nprint({line!r})\nsys.exit(1)")

@@ -1,4 +1,5 @@
-"""What the Python module names: all of `__all__`, its version, and the numbers of the protocol by name. It needs no library."""
+"""What the Python module names: all of `__all__`, its version, and the numbers of the protocol by
+name. It needs no library."""
 
 import re
 import sys

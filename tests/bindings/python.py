@@ -1,4 +1,5 @@
-"""What no row says of the Python module: sizes of structs, buffers that are taken and refused, streams in pieces, threads, DTLS, names.
+"""What no row says of the Python module: sizes of structs, buffers that are taken and refused,
+streams in pieces, threads, DTLS, names.
 
 The bytes and their places are those that tests/bindings/calls.c counts by hand.
 """
@@ -211,7 +212,8 @@ def test_certificates():
         certificate = w.read_x509(text)
         assert [*lines_of(text, certificate)] == wanted, name
         assert certificate.next == len(text) and w.read_x509(bytearray(text + b"x")).next == len(text)
-        # Cut at each byte it is incomplete: behind the first four bytes, which have tag and length, by all that is missing.
+        # Cut at each byte it is incomplete: behind the first four bytes, which have tag and length,
+        # by all that is missing.
         for count in range(len(text)):
             kind, missing = refusal_of(w.read_x509, text[:count])
             assert kind is w.Incomplete and (count < 4 or missing == len(text) - count), (name, count)
@@ -242,7 +244,8 @@ TOP = pathlib.Path(__file__).resolve().parents[2]
 
 
 def payloads(capture):
-    """The payloads of a stored capture, each with its ends and, over TCP, its sequence number. It reads Ethernet, IP and no fragments."""
+    """The payloads of a stored capture, each with its ends and, over TCP, its sequence number. It
+    reads Ethernet, IP and no fragments."""
     data, place = capture.read_bytes(), 24
     order = "<" if data[:4] in (b"\xd4\xc3\xb2\xa1", b"\x4d\x3c\xb2\xa1") else ">"
     while place < len(data):
@@ -266,7 +269,8 @@ def payloads(capture):
 
 
 def streams(capture):
-    """What each side of the connections of a capture sent over TCP, in the order of its bytes; and over UDP its datagrams."""
+    """What each side of the connections of a capture sent over TCP, in the order of its bytes; and
+    over UDP its datagrams."""
     segments, datagrams = {}, {}
     for protocol, ends, number, payload in payloads(capture):
         if protocol == "udp":

@@ -1,4 +1,5 @@
-"""The parts of wispuddera.report, each by itself: what is read of a line, tallies that forget, intervals that grow, the rule for suites, text.
+"""The parts of wispuddera.report, each by itself: what is read of a line, tallies that forget,
+intervals that grow, the rule for suites, text.
 
 It needs no library. `tests/report/run` compares whole pages with their logs.
 """
@@ -150,7 +151,8 @@ def test_tally():
 
 
 def test_tally_is_near():
-    """Beside an exact count: none is told too high, none is short by more than it says, and nothing frequent lacks."""
+    """Beside an exact count: none is told too high, none is short by more than it says, and nothing
+    frequent lacks."""
     chance = random.Random(2)
     for most in (1, 2, 7, 50):
         tally, exact = tallies.Tally(tallies.Entry, most), Counter()
@@ -175,7 +177,8 @@ def test_soonest():
     soonest = tallies.Soonest(2)
     for end in (5, 9, 3, 8, 1, 7, 2, 9):
         soonest.entry(f"ends {end}", end, lambda: end)
-    # The fifth had those two forgotten that end last; what ends later than the rest then isn't taken.
+    # The fifth had those two forgotten that end last; what ends later than the rest then isn't
+    # taken.
     assert [item for _, item in soonest.ranked()] == [1, 2, 3, 5] and soonest.latest == 5
 
 

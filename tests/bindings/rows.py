@@ -1,14 +1,17 @@
-"""The rows of tests/rows/data (docs/TESTING.md, "Rows"), and those of certificates beside this file, through the Python module: values, places, kinds of refusals, and missing counts.
+"""The rows of tests/rows/data (docs/TESTING.md, "Rows"), and those of certificates beside this
+file, through the Python module: values, places, kinds of refusals, and missing counts.
 
     rows.py [PROGRAM]
 
-PROGRAM, if it is named, is asked the same: `answers`, which tests/bindings/answers.rs is, over the Rust crate.
+PROGRAM, if it is named, is asked the same: `answers`, which tests/bindings/answers.rs is, over the
+Rust crate.
 
-What a row says of a call is compared with what the module answers where both tell the same: a whole value, made into the row's
-text here; or where more is decoded than the module does, what stands in front of it: the rest, and how many bytes are missing. A row of
-an extension, or of a list of them, also says what is found in these bytes as a block (names, versions, groups, contents), and in a
-hello and a record that are put around the block; one that frames a number and bytes says it of a key share.
-Each row is asked on `bytes`, on a `bytearray` and on a `memoryview` of either.
+What a row says of a call is compared with what the module answers where both tell the same: a whole
+value, made into the row's text here; or where more is decoded than the module does, what stands in
+front of it: the rest, and how many bytes are missing. A row of an extension, or of a list of them,
+also says what is found in these bytes as a block (names, versions, groups, contents), and in a
+hello and a record that are put around the block; one that frames a number and bytes says it of a
+key share. Each row is asked on `bytes`, on a `bytearray` and on a `memoryview` of either.
 """
 
 import functools
@@ -150,7 +153,8 @@ def some(value):
 
 
 def of_extension(kind, read):
-    """What a reader of contents makes of the first extension of that type; nothing where there is none."""
+    """What a reader of contents makes of the first extension of that type; nothing where there is
+    none."""
     def ask(block):
         content = w.find_extension(block, kind)
         return some(None if content is None else read(content)[1])
@@ -271,7 +275,8 @@ def x509_names(data):
     return None, f"[{', '.join(map(name_of_x509, whole(w.x509_names(data))))}]"
 
 
-# Calls whose answer the module tells whole: the end of what was read (None where that isn't told), and the value.
+# Calls whose answer the module tells whole: the end of what was read (None where that isn't told),
+# and the value.
 WHOLE = {
     "parse_tls_raw_record": raw_record,
     "parse_tls_handshake_client_hello": client_hello,
@@ -286,11 +291,13 @@ WHOLE = {
     "read_x509_name": read_x509_name,
     "x509_names": x509_names,
 }
-# Bodies of DTLS's messages, by type, of which the rows of the call on whole messages tell the cuts, and in part the value.
+# Bodies of DTLS's messages, by type, of which the rows of the call on whole messages tell the cuts,
+# and in part the value.
 BODIES = {1: "dtls_client_hello", 2: "dtls_server_hello"}
 WHOLE.update({"dtls_client_hello": dtls_client_hello, "dtls_server_hello": dtls_server_hello})
 WHOLE["parse_dtls_message_handshake.is_fragment"] = is_fragment
-# Calls that decode what the module leaves as it stands: the front of the value, as far as the module tells it.
+# Calls that decode what the module leaves as it stands: the front of the value, as far as the
+# module tells it.
 FRONT = {
     "parse_tls_plaintext": record,
     "parse_tls_message_handshake": lambda data: (w.message(data).next, ""),
@@ -310,7 +317,8 @@ FOUND = {
     16: {"protocols": protocols},
     43: {"versions": of_extension(43, versions), "best_version": lambda block: some(w.best_version(OWN_VERSION, block))},
 }
-# Its extension, in a value; and the rows of an extension that say nothing of one by its number alone.
+# Its extension, in a value; and the rows of an extension that say nothing of one by its number
+# alone.
 NAMES = {"SNI": 0, "EllipticCurves": 10, "SignatureAlgorithms": 13, "ALPN": 16, "SupportedVersions": 43}
 EXTENSIONS = {
     f"parse_tls_extension{name}"
@@ -398,7 +406,8 @@ def ask_body(data, clauses, where):
 
 
 def ask_found(kind, block, wanted, where):
-    """Compares what is found of the extension of that type in a block: the row's value, None, or its refusal."""
+    """Compares what is found of the extension of that type in a block: the row's value, None, or
+    its refusal."""
     for name in FOUND.get(kind, {}):
         if len(block) <= MOST_IN_HELLO or name not in ("server_name_of_hello", "server_name_of_record"):
             ask(name, block, wanted if wanted.startswith(("Inc", "Err")) else f"Ok rest _, {found_by(name, wanted)}", where)
@@ -467,7 +476,8 @@ def ask_extensions(data, clauses, where):
 
 
 def ask_framed(data, clauses, where):
-    """What a row on a number and bytes behind their length says of a key share, which is one too (RFC 8446, section 4.2.8)."""
+    """What a row on a number and bytes behind their length says of a key share, which is one too
+    (RFC 8446, section 4.2.8)."""
     for clause, text in clauses:
         if clause == "=>":
             wanted = re.sub(r"Unknown\(TlsExtensionType\((\d+)\), (.*)\)$", r"KeyShareEntry { group: NamedGroup(\1), kx: \2 }", plain(text))

@@ -1,5 +1,7 @@
-"""Packets whose headers are broken, in front of the capture that they come from, as the checks of tlslog turn them over: in tunnels and in fragments,
-cut at each byte, with other lengths, and in too many tunnels."""
+"""Packets with broken headers, in front of the capture that they come from.
+
+In tunnels and in fragments, cut at each byte, with other lengths, and in too many tunnels.
+"""
 
 from __future__ import annotations
 
@@ -13,7 +15,8 @@ V4_HEADER, V6_HEADER, UDP_HEADER = 20, 40, 8
 LENGTHS = {
     "GENEVE": [0], "GENEVE with options": [0], "GTP-U": [2, 3], "GTP-U with extensions": [2, 3], "AH in IPv4": [1], "AH in IPv6": [1],
 }
-# And where those stand of one header of several, which are only made less: with a greater one it may end where a later header ends.
+# And where those stand of one header of several, which are only made less: with a greater one it
+# may end where a later header ends.
 LESS = {"GTP-U with extensions": [12], "Teredo with both": [2, 3]}
 # How deep a packet is wrapped that is to have no end.
 DEEP = 100
@@ -28,7 +31,8 @@ def cut(frame: bytes, end: int) -> list[bytes]:
 
 
 def lengths(name: str, frame: bytes) -> list[tuple[int, range]]:
-    """Where lengths stand in the outer headers of a wrapped frame, and what is put there. The header of IPv4, whose length shares a byte with the version, is only made shorter, too."""
+    """Where lengths stand in the outer headers of a wrapped frame, and what is put there. The
+    header of IPv4, whose length shares a byte with the version, is only made shorter, too."""
     everything = range(256)
     kind = frame[LINK_HEADER - 2 : LINK_HEADER]
     if kind == ETHER[4]:
@@ -47,7 +51,8 @@ def lengths(name: str, frame: bytes) -> list[tuple[int, range]]:
 
 
 def is_open(frame: bytes) -> bool:
-    """Whether the outer header of IPv4 has the length 0, of which all captured bytes are read: so look segments that a network card is to cut."""
+    """Whether the outer header of IPv4 has the length 0, of which all captured bytes are read: so
+    look segments that a network card is to cut."""
     return frame[LINK_HEADER - 2 : LINK_HEADER] == ETHER[4] and frame[LINK_HEADER + 2 : LINK_HEADER + 4] == b"\0\0"
 
 
@@ -73,7 +78,8 @@ def deep(frame: bytes) -> Iterator[bytes]:
 
 
 def captures(segments: list[Segment]) -> Iterator[tuple[str, bytes, int, Told]]:
-    """The capture in each kind of tunnel, and cut into fragments, behind broken copies of its longest packet: the name, the capture, how many packets it has more, and the tunnels."""
+    """The capture in each kind of tunnel, and cut into fragments, behind broken copies of its
+    longest packet: the name, the capture, how many packets it has more, and the tunnels."""
     longest = max(segments, key=lambda s: len(s.payload))
     begin = segments[0].time
 

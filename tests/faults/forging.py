@@ -1,7 +1,8 @@
-"""Packets that their receiver drops, put into captures between those that it took (RFC 9293, section 3.10.7.4; RFC 5961; RFC 7323; RFC 768).
+"""Forged packets that their receiver drops, put into captures.
 
-A place is in front of a packet of the capture. What was captured up to there of both ends of a connection says which kinds of packets the
-receiver of a forged one drops there, whatever it says.
+The rules are of RFC 9293, section 3.10.7.4, RFC 5961, RFC 7323 and RFC 768. A place is in front of
+a packet of the capture. What was captured before it, of both ends of a connection, decides which
+kinds of forged packets the receiver drops there, whatever they carry.
 """
 
 from __future__ import annotations
@@ -19,7 +20,8 @@ ACK, URG = 16, 32
 TCP, TCP_HEADER = 6, 20
 ALL = 2**32
 QUARTER = 2**30
-# What a host dropped and begins so far in front of the number behind all that was sent goes on with it, or repeats it.
+# What a host dropped and begins so far in front of the number behind all that was sent goes on with
+# it, or repeats it.
 NEAR = 65536
 # A connection ends by so many seconds without packets.
 IDLE = 299 * 1_000_000
@@ -29,7 +31,8 @@ RIGHT, PARTIAL, WRONG, NONE = "right", "partial", "wrong", "none"
 
 
 def words(data: bytes) -> int:
-    """The sum of the words of 16 bits, or a number that leaves the same behind when divided by 65,535."""
+    """The sum of the words of 16 bits, or a number that leaves the same behind when divided by
+    65,535."""
     return (int.from_bytes(data, "big") << (len(data) % 2 * 8)) % 65535
 
 
@@ -39,7 +42,8 @@ def complement(total: int) -> int:
 
 
 class Packet:
-    """A packet of a capture that holds a whole segment of TCP, or a datagram of UDP, in Ethernet. The time is in microseconds."""
+    """A packet of a capture that holds a whole segment of TCP, or a datagram of UDP, in Ethernet.
+    The time is in microseconds."""
 
     def __init__(self, time: int, frame: bytes, protocol: int, begin: int, end: int) -> None:
         self.time, self.is_udp = time, protocol == UDP
@@ -113,7 +117,8 @@ def packet_of(time: int, frame: bytes) -> Packet | None:
 
 @dataclass(frozen=True)
 class End:
-    """What was captured of an end of a connection: the variables of RFC 9293, section 3.3.1, as far as they show."""
+    """What was captured of an end of a connection: the variables of RFC 9293, section 3.3.1, as far
+    as they show."""
 
     packet: Packet = None  # Its last one, whose headers a forged one has.
     first: int = None  # The number behind its SYN.
@@ -165,7 +170,8 @@ def sent(end: End, other: End, packet: Packet) -> End:
     shift = 0 if flags & SYN or end.scale is None or other.scale is None else end.scale
     clock = options.get(8, end.clock)
     is_noted = other.acknowledged is None or ahead(packet.first, other.acknowledged) <= 0
-    # (nothing is noted of a SYN that comes again, nor of what ends in front of what the other acknowledged)
+    # (nothing is noted of a SYN that comes again, nor of what ends in front of what the other
+    # acknowledged)
     is_noted &= not (flags & SYN and end.first == packet.first)
     is_noted &= other.acknowledged is None or ahead(other.acknowledged, packet.behind + bool(flags & FIN)) <= 0
     recent = later(end.recent, clock) if is_noted and 8 in options else end.recent
@@ -191,7 +197,8 @@ def checksums(end: End, packet: Packet) -> dict[str, Any]:
 
 
 def heard(other: End, packet: Packet) -> End:
-    """What is known of the other end behind a segment that it took: it sent what that acknowledges."""
+    """What is known of the other end behind a segment that it took: it sent what that
+    acknowledges."""
     if not packet.flags & ACK or other.next is None:
         return other
     came = (other.reached + (other.reached == other.fin)) % ALL
@@ -200,14 +207,16 @@ def heard(other: End, packet: Packet) -> End:
 
 
 def expecting(end: End, other: End) -> End:
-    """An end that only asked for the connection waits for what follows the other's SYN, within the window of its own."""
+    """An end that only asked for the connection waits for what follows the other's SYN, within the
+    window of its own."""
     if end.acknowledged is not None or other.first is None or end.edge is None:
         return end
     return replace(end, acknowledged=other.first, edge=(other.first + end.edge) % ALL)
 
 
 class Connection:
-    """What was captured between two ends, up to a place. It is over where both said their last, or one broke it off."""
+    """What was captured between two ends, up to a place. It is over where both said their last, or
+    one broke it off."""
 
     def __init__(self, packet: Packet, is_first: bool) -> None:
         self.ends, self.is_first, self.is_over = {packet.source: End(), packet.destination: End()}, is_first, False
@@ -231,7 +240,8 @@ class Connection:
             self.ends[source] = replace(end, next=later(end.next, number))
 
     def note_dropped(self, packet: Packet) -> None:
-        """What goes on behind what was sent, or repeats it, was sent too: it may be acknowledged."""
+        """What goes on behind what was sent, or repeats it, was sent too: it may be
+        acknowledged."""
         end = self.ends.get(packet.source)
         if end and not packet.is_udp and end.next is not None and 0 <= ahead(end.next, packet.first) < NEAR:
             self.note_sent(packet.source, [packet.behind])
@@ -268,7 +278,8 @@ class Slot:
     source: tuple
 
     def in_the_end(self) -> Slot:
-        """Which kinds it has once all was captured: what acknowledges more than was sent may be taken where other bytes weren't captured."""
+        """Which kinds it has once all was captured: what acknowledges more than was sent may be
+        taken where other bytes weren't captured."""
         lacks = self.connection.ends[self.source].lacks
         return replace(self, kinds=tuple(kind for kind in self.kinds if not lacks or kind not in ("ack_of_unsent", "ack_far_ahead")))
 
@@ -412,7 +423,8 @@ def behind_fin(draft: Draft) -> None:
     draft.place_behind(draft.sender.fin + draft.chance.choice((0, 1, 2, 100)))
 
 
-# Of TCP. Those of SYN aren't put in before the opening is over, since a host that waits for its end ends it by some of them.
+# Of TCP. Those of SYN aren't put in before the opening is over, since a host that waits for its end
+# ends it by some of them.
 KINDS = {
     kind.__name__: kind
     for kind in (
@@ -547,8 +559,8 @@ def frame(chance: random.Random, slot: Slot, kind: str) -> bytes:
 
 
 class Capture:
-    """A capture as tcpdump writes it on this machine, and its slots. The numbers of packets that were dropped, from 1 on, are left out of
-    what is known."""
+    """A capture as tcpdump writes it on this machine, and its slots. The numbers of packets that
+    were dropped, from 1 on, are left out of what is known."""
 
     def __init__(self, data: bytes, dropped: Collection[int] = ()) -> None:
         if data[:4] != b"\xd4\xc3\xb2\xa1" or data[20:24] != b"\1\0\0\0":

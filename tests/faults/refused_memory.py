@@ -1,4 +1,4 @@
-"""Requests for memory that are refused: a heap that refuses the Nth of a program's requests, and what it tells of them."""
+"""A heap that refuses the Nth request for memory of a program, and counts its requests."""
 
 from __future__ import annotations
 
@@ -8,7 +8,8 @@ import sys
 from pathlib import Path
 
 HEAP = Path(__file__).resolve().parent / "refusing_heap.c"
-# All by which a program asks the C library or the system for memory. The heap stands over the first two.
+# All by which a program asks the C library or the system for memory. The heap stands over the first
+# two.
 COVERED = {"malloc", "realloc"}
 REQUESTS = COVERED | {"calloc", "reallocarray", "aligned_alloc", "memalign", "posix_memalign", "mmap", "mmap64", "brk", "sbrk"}
 
@@ -29,12 +30,14 @@ def ask_by_the_covered(program: Path) -> None:
 
 
 def environment(heap: str, number: int, told: str) -> dict[str, str]:
-    """The environment of a run of which this request is refused, none where it is 0, and which tells its requests in a file."""
+    """The environment of a run of which this request is refused, none where it is 0, and which
+    tells its requests in a file."""
     return {"LD_PRELOAD": heap, "REFUSED": str(number), "TOLD": told}
 
 
 def requests_told(told: str) -> int:
-    """How many requests the last run made. The file is taken away, so that the next run's is its own."""
+    """How many requests the last run made. The file is taken away, so that the next run's is its
+    own."""
     said = Path(told).read_bytes()
     os.remove(told)
     if len(said) != 8:

@@ -1,8 +1,8 @@
-// A heap that refuses one request for memory. It is laid over malloc and realloc of a program by LD_PRELOAD, and takes the
-// memory of all other requests from the C library.
+// A heap that refuses one request for memory. LD_PRELOAD puts it in place of malloc and realloc; it
+// takes the memory of all other requests from the C library.
 //
-// REFUSED: the number of the request that is refused, counted from 1; none is where there is no such request.
-// TOLD: a file, to which the number of the requests that were made is written when the program ends.
+// REFUSED: the number of the request to refuse, counted from 1; 0 refuses none.
+// TOLD: a file that gets the number of requests when the program ends.
 
 #include <errno.h>
 #include <fcntl.h>

@@ -1,8 +1,8 @@
-// Reads and writes that fail. It is laid over read and write of a program by LD_PRELOAD.
+// Reads and writes that fail. LD_PRELOAD puts them in place of the C library's.
 //
-// REFUSED: the number of the read or write that fails, counted from 1; none does where there is no such one.
-// SHORT: where it is given, each of them moves one byte at most.
-// TOLD: a file, to which the number of the reads and writes that were asked for is written when the program ends.
+// REFUSED: the number of the read or write that fails, counted from 1; 0 lets none fail.
+// SHORT: if it is set, each of them moves one byte at most.
+// TOLD: a file that gets the number of reads and writes when the program ends.
 
 #include <errno.h>
 #include <fcntl.h>

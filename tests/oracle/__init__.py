@@ -1,1 +1,2 @@
-"""Expected values from other programs: tshark, openssl, nDPI. `compare` and `write` run the modules."""
+"""Expected values from other programs: tshark, openssl, nDPI. `compare` and `write` run the
+modules."""

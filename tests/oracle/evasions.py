@@ -2,8 +2,8 @@
 
 tests/oracle/compare evasions FOLDER [NAME..]
 
-FOLDER has what the recorder of evasions wrote. tshark doesn't drop the packets that a host drops, so
-it reads each capture without those that wanted.json has as dropped. Scenes in which tshark reads
+FOLDER has what the recorder of evasions wrote. tshark doesn't drop the packets that a host drops,
+so it reads each capture without those that wanted.json has as dropped. Scenes in which tshark reads
 other bytes than the host are printed with the reason, and aren't compared.
 """
 
@@ -37,7 +37,8 @@ LEFT_OUT = {
     "keep_alive_": "without the keep-alive tshark's originator is another",
     "data_beyond_the_window_opening_missing": "without the first packet tshark's originator is the server",
 }
-# Fields that tshark counts by a stale ACK, by a part or a FIN that waits, or up to an RST that the peer doesn't take.
+# Fields that tshark counts by a stale ACK, by a part or a FIN that waits, or up to an RST that the
+# peer doesn't take.
 FEWER = {
     "half_open_recovery": ["resp_bytes"],
     "stale_ack_to_a_syn": ["orig_bytes", "resp_bytes"],

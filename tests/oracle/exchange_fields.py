@@ -1,4 +1,5 @@
-"""The fields that tlslog has of key exchanges, of CertificateVerify, and of some extensions, as `tests/oracle/write exchanges` has them from tshark."""
+"""The fields that tlslog has of key exchanges, of CertificateVerify, and of some extensions, as
+`tests/oracle/write exchanges` has them from tshark."""
 
 from __future__ import annotations
 
@@ -22,7 +23,8 @@ def unescaped(text: str) -> bytes:
 
 
 def leaves(value: Any, name: str | None = None) -> Iterator[str]:
-    """The fields that have values, in their order. What certificates say is none of them (tests/tlslog/certificates)."""
+    """The fields that have values, in their order. What certificates say is none of them
+    (tests/tlslog/certificates)."""
     if isinstance(value, dict):
         for field, inner in value.items():
             if field != "certificates":

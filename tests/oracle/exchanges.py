@@ -3,9 +3,9 @@
 tests/oracle/compare exchanges PROGRAM CAPTURE..
 tests/oracle/write exchanges CAPTURE..
 
-`write` prints a line for each message that has some: the capture, the client's port, who sent it, its
-type, and each field, by the RFC's name, with its number or bytes: captures/exchanges has these lines.
-`compare` prints each message of `PROGRAM --messages` that differs from its line.
+`write` prints a line for each message that has some: the capture, the client's port, who sent it,
+its type, and each field, by the RFC's name, with its number or bytes: captures/exchanges has these
+lines. `compare` prints each message of `PROGRAM --messages` that differs from its line.
 """
 
 from __future__ import annotations

@@ -2,9 +2,9 @@
 
 tests/oracle/compare fragments CAPTURE..
 
-tests/support/fragmenting.py cuts the datagrams. Compared are the fields of records and handshakes, in
-order, and the innermost ports. Fragments that overlap or disagree aren't compared: tshark skips such
-datagrams, or keeps other bytes.
+tests/support/fragmenting.py cuts the datagrams. Compared are the fields of records and handshakes,
+in order, and the innermost ports. Fragments that overlap or disagree aren't compared: tshark skips
+such datagrams, or keeps other bytes.
 """
 
 from __future__ import annotations

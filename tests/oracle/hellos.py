@@ -3,8 +3,8 @@
 tests/oracle/compare hellos PROGRAM CAPTURE..
 
 Each connection that tshark takes for TLS or DTLS, on any port, is compared in all fields but `gap`.
-If ndpiReader is installed, its JA3 and JA3S are compared too. At the end it prints how many values of
-each field were compared. `tests/oracle/compare lines --help` has what tshark reads otherwise.
+If ndpiReader is installed, its JA3 and JA3S are compared too. At the end it prints how many values
+of each field were compared. `tests/oracle/compare lines --help` has what tshark reads otherwise.
 """
 
 from __future__ import annotations
@@ -50,7 +50,8 @@ def by_tshark(capture: str, lines: list[Line], compared: Counter[str]) -> int:
 
 
 def by_ndpi(capture: str, lines: list[Line], compared: Counter[str]) -> int:
-    """How many fingerprints differ, of those that nDPI has. It joins connections between the same two ends, and tells one hello of them."""
+    """How many fingerprints differ, of those that nDPI has. It joins connections between the same
+    two ends, and tells one hello of them."""
     command = ["ndpiReader", "-i", str(capture), "-v", "2"]
     text = subprocess.run(command, stdout=subprocess.PIPE, stderr=subprocess.DEVNULL, text=True, check=True).stdout
     ours, differ = {}, 0

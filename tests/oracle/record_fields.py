@@ -1,4 +1,5 @@
-"""The fields of records and handshakes that tshark reads in a capture, in tunnels and fragments too."""
+"""The fields of records and handshakes that tshark reads in a capture, in tunnels and fragments
+too."""
 
 from __future__ import annotations
 
@@ -13,8 +14,8 @@ FIELDS = """
 
 
 def rows(file: Path | str, options: Sequence[str], is_udp: bool) -> list[list[str]]:
-    """Returns the FIELDS of each packet with TLS or DTLS. Ports are the innermost ones; over TCP the
-    column of UDP's is empty, since it has that of a tunnel."""
+    """Returns the FIELDS of each packet with TLS or DTLS. Ports are the innermost ones; over TCP
+    the column of UDP's is empty, since it has that of a tunnel."""
     fields = [word for field in FIELDS for word in ("-e", field)]
     words = ["tshark", "-r", str(file), *options, "-Y", "tls or dtls", "-T", "fields", *fields]
     words += ["-E", "occurrence=a", "-E", "separator=;"]

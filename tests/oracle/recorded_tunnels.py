@@ -2,9 +2,9 @@
 
 tests/oracle/write tunnels [CAPTURE..]
 
-It removes each packet's outer headers by their lengths: Ethernet and IPv4 (14 and 20 bytes), and the
-tunnel's. Then it prints the lines by tshark's fields of what is left, with the tunnel and its number,
-which the recorder chose.
+It removes each packet's outer headers by their lengths: Ethernet and IPv4 (14 and 20 bytes), and
+the tunnel's. Then it prints the lines by tshark's fields of what is left, with the tunnel and its
+number, which the recorder chose.
 """
 
 from __future__ import annotations
@@ -42,7 +42,8 @@ TUNNELS = {
 
 
 def inner(data: bytes, outer: int) -> bytes:
-    """The capture without the outer headers: a pcap of microseconds, in the order of this machine's bytes."""
+    """The capture without the outer headers: a pcap of microseconds, in the order of this machine's
+    bytes."""
     found, at = [data[:24]], 24
     while at < len(data):
         seconds, micro, length, whole = struct.unpack_from("<IIII", data, at)

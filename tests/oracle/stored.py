@@ -4,10 +4,10 @@ tests/oracle/compare stored [FIELD..]
 tests/oracle/write stored FIELD..
 
 The stored lines are those that the gate compares with tlslog's: crates/tlslog/stdout,
-captures/dtls/lines, and wanted.json of captures/certificates and captures/tunnels. Without FIELD all
-fields that tshark has are compared, except `gap`. `write` sets these fields in each line, at their
-places: so a new field comes into all lines. tshark can't read one of the certificates, so the chain
-of that line stays as it is.
+captures/dtls/lines, and wanted.json of captures/certificates and captures/tunnels. Without FIELD
+all fields that tshark has are compared, except `gap`. `write` sets these fields in each line, at
+their places: so a new field comes into all lines. tshark can't read one of the certificates, so the
+chain of that line stays as it is.
 """
 
 from __future__ import annotations

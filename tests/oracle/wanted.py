@@ -67,8 +67,9 @@ def is_same(field: str, mine: Any, other: Any) -> bool:
 
 
 def lines(capture: Path | str, port: int | str | None = None, udp: bool = False) -> list[Line]:
-    """The lines in the order of the connections' ends: those of TLS, or of DTLS. tshark takes a port for TLS by its number; `port` is
-    another one. Each connection is over with an RST, with the acknowledgement of the FINs of both of its sides, or at the end; a capture in which one is idle
+    """The lines in the order of the connections' ends: those of TLS, or of DTLS. tshark takes a
+    port for TLS by its number; `port` is another one. Each connection is over with an RST, with the
+    acknowledgement of the FINs of both of its sides, or at the end; a capture in which one is idle
     for 300 seconds, or segments come out of order, isn't for this."""
     talks, ended = {}, []
     for row in rows(capture, port, udp):
@@ -118,7 +119,8 @@ def first(row: Row, *fields: str) -> str | None:
 
 
 def is_told(field: str, value: Any) -> bool:
-    """Whether a line has the field: it is there, and if it is a mark, a list or a text of hellos, it isn't empty."""
+    """Whether a line has the field: it is there, and if it is a mark, a list or a text of hellos,
+    it isn't empty."""
     if field in wanted_hellos.ORDER and field not in ALWAYS:
         return bool(value)
     return value is not None
@@ -133,7 +135,8 @@ def is_set(row: Row, flag: str) -> bool:
 
 
 class Sent:
-    """What one side of a connection sends. Of bytes that are sent again none are missing in front."""
+    """What one side of a connection sends. Of bytes that are sent again none are missing in
+    front."""
 
     def __init__(self) -> None:
         self.packets, self.bytes, self.records, self.repeated, self.behind, self.fin = 0, 0, 0, 0, None, None
@@ -150,7 +153,8 @@ class Sent:
                 self.fin = begin + count
 
     def note_segment(self, begin: int, count: int) -> None:
-        """By the numbers of its bytes, in the circle of 2^32. Behind a FIN, which has a number of its own, there are none."""
+        """By the numbers of its bytes, in the circle of 2^32. Behind a FIN, which has a number of
+        its own, there are none."""
         self.behind = begin if self.behind is None else self.behind
         end = begin + count
         if self.fin is not None and (end - self.fin) % 2**32 < 2**31:
@@ -236,12 +240,14 @@ class Analyzer:
         self.said["other_server_names"] = [f"{kind}:{name}" for kind, name in names if kind != HOST_NAME] or None
 
     def note_names(self, row: Row, side: bool) -> None:
-        """Adds the letters of what a packet says, by tshark's column of names. Of fragments the last one counts."""
+        """Adds the letters of what a packet says, by tshark's column of names. Of fragments the
+        last one counts."""
         names = re.sub(r" [(]Level: [^)]*[)]", "", ";".join(row["_ws.col.Info"]))
         for name in re.split(", ", names.replace(" (Reassembled)", "")):
             letter = LETTERS.get(name, "")
             is_again = letter == "i" and self.layer == "udp"
-            # Where the bytes of an encrypted alert happen to be a level and a name, tshark takes them for these.
+            # Where the bytes of an encrypted alert happen to be a level and a name, tshark takes
+            # them for these.
             if side in self.changed and not self.is_13 and (is_again or letter == "l"):
                 continue
             self.history += letter.upper() if side else letter
@@ -270,7 +276,8 @@ class Analyzer:
         self.is_13 |= is_13
 
     def note_alerts(self, row: Row, side: bool) -> None:
-        # Where the bytes of an encrypted one happen to be a level and a name, tshark takes them for these.
+        # Where the bytes of an encrypted one happen to be a level and a name, tshark takes them for
+        # these.
         if side in self.changed and not self.is_13:
             return
         for level, name in zip(row["alert_message.level"], row["alert_message.desc"]):

@@ -1,4 +1,5 @@
-"""The fields of certificates that are wanted of a connection, from what openssl tells of their DER."""
+"""The fields of certificates that are wanted of a connection, from what openssl tells of their
+DER."""
 
 from __future__ import annotations
 
@@ -60,7 +61,8 @@ def of_certificate(der: bytes) -> Line:
 
 
 def is_name_of(host: str, name: str) -> bool:
-    """Whether a name stands for a host (RFC 9525, section 6.3): it is the same, or a `*` stands for the first label alone."""
+    """Whether a name stands for a host (RFC 9525, section 6.3): it is the same, or a `*` stands for
+    the first label alone."""
     host, name = (text.lower().rstrip(".") for text in (host, name))
     if name.startswith("*."):
         first, _, rest = host.partition(".")
@@ -69,7 +71,8 @@ def is_name_of(host: str, name: str) -> bool:
 
 
 def of_talk(host: str | None, server: bytes | None, client: bytes | None) -> Line:
-    """The fields of a connection by its server's own certificate and its client's, each in DER or None."""
+    """The fields of a connection by its server's own certificate and its client's, each in DER or
+    None."""
     said = {}
     if server:
         said |= of_certificate(server)

@@ -1,4 +1,5 @@
-"""The fields of hellos and certificates that are wanted of a connection, from tshark's fields of a packet."""
+"""The fields of hellos and certificates that are wanted of a connection, from tshark's fields of a
+packet."""
 
 from __future__ import annotations
 
@@ -41,7 +42,8 @@ LATER_EXTENSIONS = {
     60: "sequence_number_encryption_algorithms", 61: "rrc", 62: "tls_flags", 0xFD00: "ech_outer_extensions", 0xFE0D: "encrypted_client_hello",
     0x44CD: "application_settings", 0xCA34: "trust_anchors",
 }
-# RFC 8446, 4.2.3, without the mark that they are reserved; pairs of RFC 5246, 7.4.1.4.1, that it leaves out, in the same form; draft-ietf-tls-mldsa.
+# RFC 8446, 4.2.3, without the mark that they are reserved; pairs of RFC 5246, 7.4.1.4.1, that it
+# leaves out, in the same form; draft-ietf-tls-mldsa.
 LATER_SCHEMES = {
     0x0202: "dsa_sha1", 0x0402: "dsa_sha256", 0x0502: "dsa_sha384", 0x0602: "dsa_sha512",
     0x0101: "rsa_pkcs1_md5", 0x0301: "rsa_pkcs1_sha224", 0x0302: "dsa_sha224", 0x0303: "ecdsa_sha224",
@@ -59,7 +61,8 @@ LATER_GROUPS = {
 
 @functools.lru_cache(maxsize=None)
 def registries() -> tuple[dict[int, str], dict[int, str], dict[int, str]]:
-    """The names of extensions, signature schemes and groups. Schemes for private use have none in the registry."""
+    """The names of extensions, signature schemes and groups. Schemes for private use have none in
+    the registry."""
     extensions, schemes, groups = names_of(
         "tls.handshake.extension.type", "tls.handshake.sig_hash_alg", "tls.handshake.extensions_supported_group"
     )

@@ -1,1 +1,2 @@
-"""Recorders of captures. A group is a module with FOLDER, `names` and `record`; `record` runs them."""
+"""Recorders of captures. A group is a module with FOLDER, `names` and `record`; `record` runs
+them."""

@@ -2,9 +2,9 @@
 
 Both peers are OpenSSL's, in this process (Python's `ssl` over buffers); their bytes are put into
 segments of TCP. wanted.json has the expected lines: of connections by tshark's fields and what
-`openssl x509` prints of the certificates, of certificates by openssl alone. In `broken` a byte of the
-second certificate was changed after the handshake, so its lines are written here by hand.
-It needs `tshark` and `openssl`.
+`openssl x509` prints of the certificates, of certificates by openssl alone. In `broken` a byte of
+the second certificate was changed after the handshake, so its lines are written here by hand. It
+needs `tshark` and `openssl`.
 """
 
 from __future__ import annotations
@@ -49,7 +49,8 @@ CASES = {
     "self_signed": (["root"], [], "root"),
     "broken": (["leaf", "issuer"], [], "example.test"),
 }
-# The case in which the second certificate's SEQUENCE has the tag of a SET: what it is, by hand (RFC 5280, section 4.1: "Tag").
+# The case in which the second certificate's SEQUENCE has the tag of a SET: what it is, by hand (RFC
+# 5280, section 4.1: "Tag").
 BROKEN, FAULT = "broken", "tag"
 
 
@@ -169,7 +170,8 @@ def wanted_of(work: Path, file: Path, case: str) -> dict[str, list[Line]]:
 
 
 def wanted_of_broken(work: Path, file: Path) -> Line:
-    """The line of a connection whose second certificate tshark doesn't know for one: that of the whole one, but for what the byte changes."""
+    """The line of a connection whose second certificate tshark doesn't know for one: that of the
+    whole one, but for what the byte changes."""
     [found] = wanted.lines(file)
     chain = [der(work, name) for name in CASES[BROKEN][0]]
     chain[1] = b"\x31" + chain[1][1:]

@@ -1,7 +1,7 @@
 """Handshakes of this machine's OpenSSL and GnuTLS, through a relay on 127.0.0.1, as lines.
 
-Each conversation becomes NAME.lines, with a line for each piece that the relay saw, in order: '>' (to
-the server) or '<', a blank, and the piece in hexadecimal. Of DTLS a line is a datagram.
+Each conversation becomes NAME.lines, with a line for each piece that the relay saw, in order: '>'
+(to the server) or '<', a blank, and the piece in hexadecimal. Of DTLS a line is a datagram.
 `tests/flow_rows/make` reads these files. It needs `openssl`, `gnutls-cli` and `gnutls-serv`.
 """
 

@@ -1,7 +1,8 @@
 """Handshakes of this machine's OpenSSL and GnuTLS, captured by tcpdump.
 
-Each conversation of the group `handshakes` becomes a capture with all connections of its clients. The
-name of the group alone records those of crates/tlslog/data and captures/dtls. It needs `openssl`, `gnutls-cli`, `gnutls-serv`, `tcpdump`, `unshare` and `ip`.
+Each conversation of the group `handshakes` becomes a capture with all connections of its clients.
+The name of the group alone records those of crates/tlslog/data and captures/dtls. It needs
+`openssl`, `gnutls-cli`, `gnutls-serv`, `tcpdump`, `unshare` and `ip`.
 """
 
 from __future__ import annotations
@@ -48,7 +49,8 @@ def conversations() -> dict[str, Any]:
 
 def capture(work: Path, folder: Path, name: str, server: str, clients: list[str | None], udp: bool = False) -> None:
     mtu = 576 if name in SMALL else 65536
-    # The device cuts no segment that is longer than a packet, and IPv6 comes back with a new beginning.
+    # The device cuts no segment that is longer than a packet, and IPv6 comes back with a new
+    # beginning.
     for words in (["down"], ["mtu", str(mtu), "gso_max_segs", "1"], ["up"]):
         subprocess.run(["ip", "link", "set", "dev", "lo", *words], check=True)
     words = ["tcpdump", "-q", "-i", "lo", "--immediate-mode", "-U", "-w", str(folder / f"{name}.pcap"), f"port {handshakes.SERVER}"]

@@ -1,4 +1,5 @@
-"""Handshakes of this machine's OpenSSL and GnuTLS, by what is run, and a relay on 127.0.0.1 that keeps what they say."""
+"""Handshakes of this machine's OpenSSL and GnuTLS, by what is run, and a relay on 127.0.0.1 that
+keeps what they say."""
 
 from __future__ import annotations
 
@@ -18,7 +19,8 @@ def sh(work: Path, command: str) -> None:
 
 
 def make_keys(work: Path) -> None:
-    """A CA, and certificates of it: RSA and EC for the server, EC for the client; and a certificate status of each of the server's."""
+    """A CA, and certificates of it: RSA and EC for the server, EC for the client; and a certificate
+    status of each of the server's."""
     new = "openssl req -x509 -nodes -days 3650 -subj /CN="
     curve = "-newkey ec -pkeyopt ec_paramgen_curve:P-256"
     sh(work, f"{new}ca.test {curve} -keyout ca.key -out ca.pem")
@@ -121,7 +123,8 @@ def converse(work: Path, client: str, wait: float) -> None:
 
 
 def record(work: Path, folder: Path, name: str, server: str, clients: list[str | None], udp: bool = False, wait: float = 1.5) -> None:
-    """The last client's conversation is kept. Where a client is None, the server is started again."""
+    """The last client's conversation is kept. Where a client is None, the server is started
+    again."""
     relay = Relay(udp)
     relay.start()
 

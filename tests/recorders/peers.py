@@ -14,7 +14,8 @@ HOST = "127.0.0.1"
 
 
 def enter_own_network() -> None:
-    """Starts the script again in a network of its own, in which nothing else is captured and any port is free."""
+    """Starts the script again in a network of its own, in which nothing else is captured and any
+    port is free."""
     script.enter_own_network()
     for words in (["gso_max_segs", "1"], ["up"]):
         subprocess.run(["ip", "link", "set", "dev", "lo", *words], check=True)

@@ -1,7 +1,7 @@
 """Handshakes in tunnels between two network namespaces, and their expected lines.
 
-A kernel makes VXLAN; Open vSwitch makes GENEVE, GRE with a sequence number, GRE with a checksum, and
-ERSPAN of types II and III. All are recorded together. It needs root, `ip`, `dumpcap`, `tshark`,
+A kernel makes VXLAN; Open vSwitch makes GENEVE, GRE with a sequence number, GRE with a checksum,
+and ERSPAN of types II and III. All are recorded together. It needs root, `ip`, `dumpcap`, `tshark`,
 `openssl`, and Open vSwitch (Debian's openvswitch-switch; its service need not run). The expected
 lines are tshark's, of the same packets without their outer headers.
 """

@@ -1,4 +1,5 @@
-"""The entries of captures/evasions_tls/wanted.json and captures/fronts/wanted.json: one for each capture."""
+"""The entries of captures/evasions_tls/wanted.json and captures/fronts/wanted.json: one for each
+capture."""
 
 from __future__ import annotations
 
@@ -8,7 +9,8 @@ from typing import Any
 
 
 def keep(folder: Path, name: str, entry: dict[str, Any]) -> None:
-    """Writes a capture's entry into the folder's wanted.json. Members that a recorder doesn't give (`is`, `rule`, `why`) stay as they were."""
+    """Writes a capture's entry into the folder's wanted.json. Members that a recorder doesn't give
+    (`is`, `rule`, `why`) stay as they were."""
     file = folder / "wanted.json"
     known = json.loads(file.read_text()) if file.exists() else {}
     known[name] = {**known.get(name, {}), **entry}
@@ -16,7 +18,8 @@ def keep(folder: Path, name: str, entry: dict[str, Any]) -> None:
 
 
 def text(entry: dict[str, Any]) -> str:
-    """An entry as JSON: a line for each member and for each of its log lines, so that a change is read in the lines that differ."""
+    """An entry as JSON: a line for each member and for each of its log lines, so that a change is
+    read in the lines that differ."""
     notes = [f"  {json.dumps(member)}: {json.dumps(value)},\n" for member, value in entry.items() if member != "lines"]
     lines = ",\n".join("   " + json.dumps(line) for line in entry["lines"])
     return "{\n" + "".join(notes) + ('  "lines": [\n' + lines + "\n  ]\n }" if lines else '  "lines": []\n }')

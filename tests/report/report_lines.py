@@ -1,8 +1,9 @@
 #!/usr/bin/env -S python3 -B
-"""Lines of a log for the tests of the report: those that are stored, any number that are made of them, and hostile ones.
+"""Lines of logs for the tests of the report: stored, made and hostile ones.
 
-tests/report/report_lines.py COUNT           prints so many made lines: three days of a network, which exists nowhere
-tests/report/report_lines.py COUNT distinct  the same, each second one with a name, an address and a certificate of its own
+tests/report/report_lines.py COUNT           prints COUNT made lines: three days of no real network
+tests/report/report_lines.py COUNT distinct  the same, with another name, address and certificate in
+each second line
 """
 
 from __future__ import annotations
@@ -63,7 +64,8 @@ def _time(chance: random.Random) -> float:
 
 
 def _certificate(name: str, number: int) -> Line:
-    """What a server sends: 90 days, of which some end soon. Some are self-signed, and some have another name."""
+    """What a server sends: 90 days, of which some end soon. Some are self-signed, and some have
+    another name."""
     left = 5 + number * 37 % 85 if number % 29 else -3
     print_of = f"{random.Random(name).getrandbits(256):064x}"
     names = [name, f"www.{name}", *(f"alias-{place}.{name}" for place in range(number % 7))]
@@ -136,7 +138,8 @@ NAMES = [
 
 
 def hostile_fields() -> Iterator[Line]:
-    """Objects with values of any type in each field that is read, and names that do harm where they aren't escaped."""
+    """Objects with values of any type in each field that is read, and names that do harm where they
+    aren't escaped."""
     names = [
         "ts", "uid", "client_version", "client_supported_versions", "client_ciphers", "sni_matches_cert", "self_issued", "id.orig_h", "id.orig_p", "id.resp_h", "id.resp_p", "version", "cipher", "curve", "server_name", "outcome", "resumed", "last_alert", "stop",
         "ja4", "subject", "issuer", "not_after", "san_dns", "cert_chain_fps",

@@ -1,4 +1,6 @@
-"""What a page of wispuddera.report says, read from its HTML, and what it should say, counted from the lines of the log in another way."""
+"""The numbers of a page of wispuddera.report, from its HTML, and those that follow from the log's
+lines.
+"""
 
 from __future__ import annotations
 
@@ -22,12 +24,14 @@ COMPLETED = ("full", "resumed", "tls13")
 VERSIONS = {"SSLv3": "SSL 3.0", "TLSv10": "TLS 1.0", "TLSv11": "TLS 1.1", "TLSv12": "TLS 1.2", "TLSv13": "TLS 1.3"}
 VERSIONS |= {"DTLSv10": "DTLS 1.0", "DTLSv12": "DTLS 1.2", "DTLSv13": "DTLS 1.3"}
 OLD = {"SSLv3", "TLSv10", "TLSv11", "DTLSv10", "0x0100"}
-# The suites of the logs that are tried, judged by hand: a log with another one has it added to either.
+# The suites of the logs that are tried, judged by hand: a log with another one has it added to
+# either.
 WEAK = {"0x0000", "0x0004", "0x0005", "0x000a", "0x0018", "0x002f", "0x0035", "0x009c", "0xc00a", "0xc014"}
 FORBIDDEN = {"0x0000", "0x0004", "0x0005", "0x0018"}
 STRONG = {"0x1301", "0x1302", "0x1303", "0x009e", "0x009f", "0xc02b", "0xc02c", "0xc02f", "0xc030", "0xcca8", "0xcca9"}
-# The lists of suites of the stored lines with nothing but weak ones, judged by hand: of SSL 2.0, of RSA key transport, of CBC with SHA-1. Each other
-# list has a suite of TLS 1.3, or one with forward secrecy and GCM, CCM or CBC with SHA-256.
+# The lists of suites of the stored lines with nothing but weak ones, judged by hand: of SSL 2.0, of
+# RSA key transport, of CBC with SHA-1. Each other list has a suite of TLS 1.3, or one with forward
+# secrecy and GCM, CCM or CBC with SHA-256.
 WEAK_LISTS = (
     {"0x002f"}, {"0x010080", "0x0700c0"}, {"0x009c", "0x00ff"}, {"0x002f", "0x0035", "0x003c", "0x00ff", "0x010080", "0x0700c0"},
     {"0xc00a", "0xc014", "0x0039", "0xc009", "0xc013", "0x0033", "0x0035", "0x002f", "0x00ff"},
@@ -45,7 +49,8 @@ def want(is_so: object, *words: object) -> None:
 
 
 class Page(HTMLParser):
-    """The tables of a page, by their ids, the texts with an id, the titles of pictures, and which elements and attributes there are."""
+    """The tables of a page, by their ids, the texts with an id, the titles of pictures, and which
+    elements and attributes there are."""
 
     def __init__(self, text: str) -> None:
         super().__init__()
@@ -352,8 +357,9 @@ def check_times(page: Page, lines: list[Line]) -> None:
 
 
 def check_commands(page: Page, log: Path, step: int = 1) -> int:
-    """The command of each row, or of each so many, prints the `uid`s of as many connections as the row counts, and those that the row shows.
-    All are asked at once, since a command reads the whole log; the first of each table is run as it is written, too."""
+    """The command of each row, or of each so many, prints the `uid`s of as many connections as the
+    row counts, and those that the row shows. All are asked at once, since a command reads the whole
+    log; the first of each table is run as it is written, too."""
     rows = []
     for name, commands in page.commands.items():
         body = page.rows[name]["tbody"]
@@ -391,7 +397,8 @@ CHECKS = (
 
 
 def check(page: Page, lines: list[Line]) -> int:
-    """Whether a page says what the lines want; all lines have the fields of tlslog, and few enough different values for exact counts."""
+    """Whether a page says what the lines want; all lines have the fields of tlslog, and few enough
+    different values for exact counts."""
     for one in CHECKS:
         one(page, lines)
     want("unread" not in page.ids, "lines weren't read:", page.ids.get("unread"))

@@ -1,7 +1,8 @@
-"""The program of tests/rows, which makes calls on bytes and compares rows (docs/TESTING.md, "Rows"): compiled once, and kept in tests/rows/out.
+"""The program of tests/rows, which makes calls on bytes and compares rows: compiled once, and kept.
 
-It is put as one crate beside a copy of the others, with the callers of tests/uses as a module, and compiled by packaging/quick-build, which
-proves nothing. It is compiled again when its sources, those of a crate below it, or the toolchain changed.
+It is one more crate beside a copy of the others, with the callers of tests/uses as a module.
+packaging/quick-build compiles it into tests/rows/out, with nothing proved; again after a change of
+its sources, of a crate below it, or of the toolchain.
 """
 
 from __future__ import annotations

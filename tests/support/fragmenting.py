@@ -1,5 +1,8 @@
-"""Datagrams cut into fragments (RFC 791, section 3.2; RFC 8200, section 4.5), as the checks of tlslog turn them over: in any order, doubled,
-overlapping, disagreeing, behind tags and in tunnels; and such as are to be refused."""
+"""Datagrams cut into fragments (RFC 791, section 3.2; RFC 8200, section 4.5).
+
+In any order, doubled, overlapping, disagreeing, behind tags and in tunnels; and fragments that have
+to be refused.
+"""
 
 from __future__ import annotations
 
@@ -20,7 +23,8 @@ MAX_DATAGRAM = 65_535
 
 
 def parts_of(frame: bytes) -> tuple[bytes, bytes, int, bytes]:
-    """The link's header, that of IP with its options, the protocol behind that, and the rest of a datagram in a frame of Ethernet."""
+    """The link's header, that of IP with its options, the protocol behind that, and the rest of a
+    datagram in a frame of Ethernet."""
     link, ip = frame[:LINK_HEADER], frame[LINK_HEADER:]
     if ip[0] >> 4 == 6:
         return link, ip[:V6_HEADER], ip[6], ip[V6_HEADER : V6_HEADER + int.from_bytes(ip[4:6], "big")]
@@ -43,7 +47,8 @@ def fragment(frame: bytes, identification: int, offset: int, has_more: bool, pay
 
 
 def cut(frame: bytes, size: int, identification: int, in_front: bytes = b"", overlap: int = 0) -> list[bytes]:
-    """The fragments of the frame's datagram, each of so many bytes, which is a multiple of 8, and of so many of the next one's."""
+    """The fragments of the frame's datagram, each of so many bytes, which is a multiple of 8, and
+    of so many of the next one's."""
     _, _, _, payload = parts_of(frame)
     made = []
     for offset in range(0, len(payload), size):
@@ -56,7 +61,8 @@ def cut(frame: bytes, size: int, identification: int, in_front: bytes = b"", ove
 
 
 def changed(frame: bytes, identification: int, made: list[bytes], size: int) -> tuple[list[bytes], int]:
-    """The same fragments, and behind the first of each two a copy of which every second byte is another; and how many that are."""
+    """The same fragments, and behind the first of each two a copy of which every second byte is
+    another; and how many that are."""
     _, _, _, payload = parts_of(frame)
     count, out = 0, []
     for number, piece in enumerate(made):
@@ -92,8 +98,8 @@ def in_vxlan(frame: bytes) -> bytes:
 
 
 def captures(segments: list[Segment]) -> Iterator[tuple[str, bytes, list[str], dict[tuple[packets.End, packets.End], int]]]:
-    """The capture with each datagram cut, in each way: its name, the capture, the tunnels, and how many bytes disagree, by the packet's source and
-    destination."""
+    """The capture with each datagram cut, in each way: its name, the capture, the tunnels, and how
+    many bytes disagree, by the packet's source and destination."""
 
     def made(way: Way) -> tuple[bytes, dict[tuple[packets.End, packets.End], int]]:
         out, disagreeing = [], {}
@@ -149,7 +155,8 @@ def captures(segments: list[Segment]) -> Iterator[tuple[str, bytes, list[str], d
 
 
 def bad(segments: list[Segment]) -> Iterator[tuple[str, bytes, dict[str, int]]]:
-    """Captures of which no datagram is whole: the name, the capture, and what is counted, by how many."""
+    """Captures of which no datagram is whole: the name, the capture, and what is counted, by how
+    many."""
     s = max(segments, key=lambda s: len(s.payload))
     frame = s.frame()
     size = size_for(frame)

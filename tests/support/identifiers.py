@@ -1,4 +1,4 @@
-"""The identifiers of a connection, made anew by Python's hashlib from what stands in a line: docs/TLSLOG.md says how ("Identifiers")."""
+"""A connection's identifiers, by hashlib from a line's fields (docs/TLSLOG.md, "Identifiers")."""
 
 from __future__ import annotations
 

@@ -1,4 +1,6 @@
-"""The fields of the log, by the tables of crates/log_fields/src/fields.rt and columns.rt: name, type and the text of each."""
+"""The fields of the log, with their types and texts, from fields.rt and columns.rt of
+crates/log_fields.
+"""
 
 from __future__ import annotations
 
@@ -15,7 +17,8 @@ LABELS = ("RFC", "Zeek", "absent")
 ABOVE = "as above"
 TABLE = re.compile(r"^pub static (\w+): &\[Column<\w+>\] = columns! \{\n(.*?)^\};\n", re.M | re.S)
 ROW = re.compile(r'"([^"]+)": (\w+) = .+;')
-# Of the fields of a connection: the blocks of rows, and a row, which has two names where each side has the field.
+# Of the fields of a connection: the blocks of rows, and a row, which has two names where each side
+# has the field.
 BLOCKS = re.compile(r"^macro_rules! rows \{\n.*?^ {12}\$\(\$words\)\*\n(.*?)^ {8}\}\n", re.M | re.S)
 BLOCK = re.compile(r"^ {12}\w+ \{\n(.*?)^ {12}\}\n", re.M | re.S)
 FIELD = re.compile(r'"([^"]+)"(?:, "([^"]+)")?: (\w+) = \w+(?: => \|\w+\| .+)?;')

@@ -1,4 +1,6 @@
-"""Captures of TCP and UDP as the checks of tlslog turn them over: read, cut, put into other orders, and written in each form."""
+"""Captures of TCP and UDP: read, cut, reordered, in tunnels, on other links, and written in each
+form.
+"""
 
 from __future__ import annotations
 
@@ -14,13 +16,15 @@ TCP, UDP = 6, 17
 End = tuple[bytes, bytes]
 # A frame, with its time in microseconds.
 Timed = tuple[int, bytes]
-# What wraps a frame: what stands behind the outer link's type then, and which tunnels these are, with the number of each.
+# What wraps a frame: what stands behind the outer link's type then, and which tunnels these are,
+# with the number of each.
 Wrap = Callable[[bytes], tuple[bytes, list[str], list[int]]]
 
 
 @dataclass(frozen=True)
 class Segment:
-    """A packet of Ethernet with a segment of TCP, or a datagram of UDP. The time is in microseconds."""
+    """A packet of Ethernet with a segment of TCP, or a datagram of UDP. The time is in
+    microseconds."""
 
     time: int
     front: bytes  # The link's header and that of IP.
@@ -71,7 +75,8 @@ class Segment:
         return replace(self, tcp=tcp, payload=self.payload[begin:end])
 
     def frame(self) -> bytes:
-        """Its bytes, with the lengths and the checksums that they should have: hosts drop others."""
+        """Its bytes, with the lengths and the checksums that they should have: hosts drop
+        others."""
         front, behind = bytearray(self.front), len(self.tcp) + len(self.payload)
         if self.is_v6:
             front[LINK_HEADER + 4 : LINK_HEADER + 6] = (len(front) - LINK_HEADER - 40 + behind).to_bytes(2, "big")
@@ -92,7 +97,8 @@ def words(data: bytes) -> int:
 
 
 def checksum(total: int) -> bytes:
-    """That of words with this sum; over UDP 0 says that there is none, and 0xffff stands for it (RFC 768)."""
+    """That of words with this sum; over UDP 0 says that there is none, and 0xffff stands for it
+    (RFC 768)."""
     return (-total % 65535 or 65535).to_bytes(2, "big")
 
 
@@ -105,7 +111,8 @@ def segment(time: int, frame: bytes) -> Segment:
 
 
 def read(capture: bytes) -> list[Segment]:
-    """The segments of a capture as tcpdump writes it on this machine: pcap of little order, microseconds, Ethernet."""
+    """The segments of a capture as tcpdump writes it on this machine: pcap of little order,
+    microseconds, Ethernet."""
     if capture[:4] != b"\xd4\xc3\xb2\xa1" or capture[20:24] != b"\1\0\0\0":
         raise ValueError("another form")
     found, at = [], FILE_HEADER
@@ -141,8 +148,8 @@ def block(order: str, kind: int, body: bytes) -> bytes:
 
 
 def pcapng(packets: Iterable[Timed], order: str = "<", nano: bool = False, is_obsolete: bool = False, link: int = ETHERNET, offset: int = 0) -> bytes:
-    """A capture in blocks (draft-ietf-opsawg-pcapng), with a block of names that no one reads. All times are that many seconds
-    behind those of its packets where its interface says an offset."""
+    """A capture in blocks (draft-ietf-opsawg-pcapng), with a block of names that no one reads. All
+    times are that many seconds behind those of its packets where its interface says an offset."""
     options = struct.pack(order + "HHBxxx", 9, 1, 9) if nano else b""
     options += struct.pack(order + "HHq", 14, 8, offset) if offset else b""
     options += struct.pack(order + "HH", 0, 0) if options else b""
@@ -173,7 +180,8 @@ def forms(segments: list[Segment]) -> Iterator[tuple[str, bytes]]:
 
 
 def links(segments: list[Segment]) -> Iterator[tuple[str, bytes]]:
-    """The capture as it would be of other links, by the name of the link (tcpdump.org/linktypes.html)."""
+    """The capture as it would be of other links, by the name of the link
+    (tcpdump.org/linktypes.html)."""
     kind = {False: b"\x08\x00", True: b"\x86\xdd"}
 
     def of(link: int, front: Callable[[Segment], bytes]) -> bytes:
@@ -230,8 +238,9 @@ def udp(source: int, destination: int, payload: bytes) -> bytes:
 
 
 def wrappings() -> Iterator[tuple[str, Wrap, bytes | None]]:
-    """What wraps a packet, by name: makes of an Ethernet frame the bytes behind the outer link's type, that type, and which tunnels these are, with
-    the number of each (0 where it has none). The headers are those of the RFCs that crates/tunnels names."""
+    """What wraps a packet, by name: makes of an Ethernet frame the bytes behind the outer link's
+    type, that type, and which tunnels these are, with the number of each (0 where it has none). The
+    headers are those of the RFCs that crates/tunnels names."""
 
     def datagram(frame: bytes) -> tuple[bytes, int]:
         """What the frame carries, and of which version of IP that is."""
@@ -337,7 +346,8 @@ def wrappings() -> Iterator[tuple[str, Wrap, bytes | None]]:
 
 
 def tunnels(segments: list[Segment]) -> Iterator[tuple[str, bytes, dict[bool, tuple[list[str], list[int]]]]]:
-    """The capture wrapped in each way: its name, the capture, and by whether a packet is of IPv6 the tunnels and their numbers."""
+    """The capture wrapped in each way: its name, the capture, and by whether a packet is of IPv6
+    the tunnels and their numbers."""
     for name, wrap, kind in wrappings():
         made, told = [], {}
         for s in segments:
@@ -353,10 +363,12 @@ InNetwork = tuple[Put, tuple[list[str], list[int]]]
 
 
 def networks() -> Iterator[tuple[str, InNetwork, InNetwork]]:
-    """Pairs of networks, by name: each puts a frame of Ethernet into its own, where the addresses are the same, and has the names and the numbers of its tunnels."""
+    """Pairs of networks, by name: each puts a frame of Ethernet into its own, where the addresses
+    are the same, and has the names and the numbers of its tunnels."""
 
     def tagged(*vlans: int) -> Put:
-        """In VLANs, from outside in. A tag's priority (IEEE 802.1Q, section 9.6) is another from packet to packet."""
+        """In VLANs, from outside in. A tag's priority (IEEE 802.1Q, section 9.6) is another from
+        packet to packet."""
 
         def put(frame: bytes) -> bytes:
             tags = [b"\x81\0" + struct.pack(">H", (frame[-1] & 7) << 13 | vlan) for vlan in vlans]

@@ -1,4 +1,4 @@
-"""Builds and runs the programs of this folder by `rt try`, which proves nothing.
+"""Builds and runs programs of tests/faults by `rt try`, which proves nothing.
 
 Their sources end in .rt.unproved, since `rt ci` refuses a .rt file that no proof reads.
 """
@@ -17,8 +17,8 @@ MORE = "tls_parser tls_flow"
 
 
 def tree(room: Path, name: str, keeps: bool = False) -> Path:
-    """Copies the crates into the folder, with the program's sources in place of tlsview's, of which those that it doesn't have stay
-    where it keeps them."""
+    """Copies the crates into the folder, with the program's sources in place of tlsview's, of which
+    those that it doesn't have stay where it keeps them."""
     crates = room / "crates"
     crates.mkdir()
     (room / "HANDLES").write_bytes((TOP / "HANDLES").read_bytes())
@@ -44,7 +44,8 @@ def tree(room: Path, name: str, keeps: bool = False) -> Path:
 
 
 def run(crate: Path, words: Iterable[str], given: str = "") -> str:
-    """What the program prints, and what is said of its runs. Nothing else is known of a run that has no end."""
+    """What the program prints, and what is said of its runs. Nothing else is known of a run that
+    has no end."""
     ran = subprocess.run(
         ["rt", "try", *words],
         cwd=crate,
@@ -58,7 +59,8 @@ def run(crate: Path, words: Iterable[str], given: str = "") -> str:
 
 
 def runs(said: str) -> dict[str, list[str]]:
-    """What each run of `rt try --cases` printed, in lines, by its name. A run that failed is missing."""
+    """What each run of `rt try --cases` printed, in lines, by its name. A run that failed is
+    missing."""
     found, lines = {}, []
     for line in said.splitlines():
         ended = re.fullmatch(r"case=(\w+) run=ended status=0 runners=[12] proved=no", line)

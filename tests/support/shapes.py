@@ -1,4 +1,4 @@
-"""What scripts hand each other, as types."""
+"""Types that several scripts share."""
 
 from __future__ import annotations
 

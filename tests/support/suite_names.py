@@ -1,4 +1,4 @@
-"""Names of cipher suites, by the file cipher_suites beside this one: they are tshark's, and not of the log's own table."""
+"""Names of cipher suites by tshark, from the file cipher_suites: not from the log's own table."""
 
 from __future__ import annotations
 

@@ -1,4 +1,4 @@
-"""What `--format ecs` prints, beside the lines of JSON: each name of the Elastic Common Schema, by docs/TLSLOG.md ("Elastic Common Schema")."""
+"""Compares `--format ecs` with the lines (docs/TLSLOG.md, "Elastic Common Schema")."""
 
 from __future__ import annotations
 
@@ -119,7 +119,8 @@ def unique(pairs: list[tuple[str, Any]]) -> Line:
 
 
 def check_one(ask: Ask, file: Path, told: set[str]) -> int:
-    """Each event of a capture says what the lines of the connection and of its certificates say, in that order; each of its names is told on the page."""
+    """Each event of a capture says what the lines of the connection and of its certificates say, in
+    that order; each of its names is told on the page."""
     lines = [json.loads(line) for line in ask([file])[1].splitlines()]
     certificates = own_certificates([json.loads(line) for line in ask(["--certificates", file])[1].splitlines()])
     status, text, error = ask(["--format", "ecs", file])

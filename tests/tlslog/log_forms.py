@@ -1,4 +1,6 @@
-"""The checks of tlslog's options on its stored captures: fields, comma-separated values, names of suites, messages, and the commands of docs/REPORT.md and SCALE.md."""
+"""Compares tlslog's options, and the commands of docs/REPORT.md and SCALE.md, with the stored
+lines.
+"""
 
 from __future__ import annotations
 
@@ -77,7 +79,8 @@ def own_name(suite: str) -> str:
 
 
 def as_text(value: Any, is_raw: bool = False) -> str:
-    """A value as comma-separated values have it: a text that a spreadsheet takes for a formula has a mark in front, if it isn't asked for as it is."""
+    """A value as comma-separated values have it: a text that a spreadsheet takes for a formula has
+    a mark in front, if it isn't asked for as it is."""
     if not isinstance(value, str):
         return json.dumps(value, separators=(",", ":"))
     return f"'{value}" if value.startswith(FORMULA) and not is_raw else value
@@ -88,7 +91,8 @@ def records(text: str) -> list[list[str]]:
 
 
 def fields(ask: Ask, files: list[Path], lines: list[Line]) -> int:
-    """Each field alone, all in another order, and all as comma-separated values: the values are those of the lines. Each is in docs/TLSLOG.md."""
+    """Each field alone, all in another order, and all as comma-separated values: the values are
+    those of the lines. Each is in docs/TLSLOG.md."""
     status, text, _ = ask(["--format", "csv", *files])
     names, *rows = records(text)
     want(status == 0 and len(rows) == len(lines), "csv:", status, len(rows))
@@ -109,7 +113,8 @@ def fields(ask: Ask, files: list[Path], lines: list[Line]) -> int:
 
 
 def suites(ask: Ask, files: list[Path], lines: list[Line], room: Path) -> None:
-    """A list of suites, with numbers and with names for the others, numbers alone, also of messages, which no list names, and what is no list."""
+    """A list of suites, with numbers and with names for the others, numbers alone, also of messages,
+    which no list names, and what is no list."""
     good, bad = room / "suites", room / "no-suites"
     good.write_text(SUITES)
     bad.write_text("TLS_AES_128_GCM_SHA256\n")
@@ -135,7 +140,8 @@ def suites(ask: Ask, files: list[Path], lines: list[Line], room: Path) -> None:
 
 
 def formulas(ask: Ask, file: Path, room: Path) -> int:
-    """Names that a spreadsheet takes for formulas have a mark in front as comma-separated values, but with --csv-raw; no other name has one, nor a number."""
+    """Names that a spreadsheet takes for formulas have a mark in front as comma-separated values,
+    but with --csv-raw; no other name has one, nor a number."""
     files = []
     for number, name in enumerate(NAMES):
         files.append(room / f"formula-{number}.pcap")
@@ -158,9 +164,10 @@ def key(message: Line) -> tuple[int, str]:
 
 
 def messages(ask: Ask, files: list[Path]) -> tuple[int, int]:
-    """The messages are those that tshark has, which `captures/messages` says, at their times; each has its place, and all have their fields
-    as comma-separated values too. Key exchanges, signatures and keys known before have the fields that tshark has, which
-    `captures/exchanges` says."""
+    """The messages are those that tshark has, which `captures/messages` says, at their times; each
+    has its place, and all have their fields as comma-separated values too. Key exchanges,
+    signatures and keys known before have the fields that tshark has, which `captures/exchanges`
+    says."""
     wanted = Counter((TOP / "captures" / "messages").read_text().splitlines())
     fields_wanted = Counter((TOP / "captures" / "exchanges").read_text().splitlines())
     found, fields_found, places, rows = Counter(), Counter(), Counter(), []
@@ -197,7 +204,8 @@ def ends(line: Line) -> tuple[Any, ...]:
 
 
 def identified(ask: Ask, files: list[Path], lines: list[Line]) -> int:
-    """Each stored line has the identifiers that hashlib makes, and those of messages and certificates have the uid of their connection."""
+    """Each stored line has the identifiers that hashlib makes, and those of messages and
+    certificates have the uid of their connection."""
     for line in lines:
         want(list(line.items()) == list(identifiers.of_connection(line).items()), "identifiers:", line, "wanted are", identifiers.of_connection(line))
     uids = Counter((*ends(line), line["uid"]) for line in lines)
@@ -314,7 +322,8 @@ def suites_of(payload: bytes) -> int:
 
 
 def with_suite(s: packets.Segment, number: int) -> packets.Segment:
-    """The segment, where it begins with a ClientHello with another suite in the place of the first."""
+    """The segment, where it begins with a ClientHello with another suite in the place of the
+    first."""
     if not begins_with_hello(s):
         return s
     at = suites_of(s.payload)
@@ -331,7 +340,8 @@ def with_compression(s: packets.Segment, number: int) -> packets.Segment:
 
 
 def others(ask: Ask, file: Path, room: Path, change: Callable[[packets.Segment, int], packets.Segment]) -> list[Line]:
-    """The lines of a capture of one connection that is changed by each of so many numbers, twice in one run."""
+    """The lines of a capture of one connection that is changed by each of so many numbers, twice in
+    one run."""
     made = []
     for number in range(MANY):
         made.append(room / f"{number}.pcap")
@@ -344,8 +354,9 @@ def others(ask: Ask, file: Path, room: Path, change: Callable[[packets.Segment, 
 
 
 def told_again(ask: Ask, files: list[Path], lines: list[Line], room: Path) -> int:
-    """What a line says of a list or a certificate of which a line before told: all captures twice in one run, fields of certificates apart from one another, and
-    more suites, compression methods and certificates than are kept."""
+    """What a line says of a list or a certificate of which a line before told: all captures twice
+    in one run, fields of certificates apart from one another, and more suites, compression methods
+    and certificates than are kept."""
     status, text, _ = ask([*files, *files])
     want(status == 0 and [json.loads(row) for row in text.splitlines()] == [*lines, *lines], "twice in one run:", status, text[-300:])
     for names in (

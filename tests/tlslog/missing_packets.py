@@ -1,5 +1,7 @@
-"""What a capture of which packets were dropped still has to say of each connection: judged by the packets that are left, and by what the
-whole capture has of it."""
+"""Captures without some packets: which to drop, and what their lines have to be.
+
+A line is judged by the packets that are left, and by the whole capture's line.
+"""
 
 from __future__ import annotations
 
@@ -39,7 +41,8 @@ def first(s: packets.Segment) -> int:
 
 
 class Sender:
-    """What one side of a connection sent over TCP, by the segments that are there. Places are counted from its first."""
+    """What one side of a connection sent over TCP, by the segments that are there. Places are
+    counted from its first."""
 
     def __init__(self, segments: list[packets.Segment]) -> None:
         self.begin = first(segments[0])
@@ -66,7 +69,8 @@ class Sender:
 
 
 def clear(stream: bytes) -> int:
-    """How many bytes stand in front of a side's first record that may be encrypted: up to there it is read, whatever else came."""
+    """How many bytes stand in front of a side's first record that may be encrypted: up to there it
+    is read, whatever else came."""
     at, has_changed = 0, False
     while at + HEADER <= len(stream):
         if has_changed or stream[at] == APPLICATION_DATA:
@@ -101,7 +105,8 @@ class Whole:
         if line and line["ts"] != round(begun.time / 1_000_000, 6):
             return f"the line begins at {line['ts']}, and not at {begun.time}"
         if begun.is_udp:
-            # The numbers of messages tell whether the first ones are missing (`lacks_front`); tests/units/tls_analyzer/associations has rows for that.
+            # The numbers of messages tell whether the first ones are missing (`lacks_front`);
+            # tests/units/tls_analyzer/associations has rows for that.
             return None
         is_missing, is_whole, is_told = set(), set(), False
         for source, sender in senders(segments).items():
@@ -110,8 +115,8 @@ class Whole:
                 is_told |= in_text_both(ends) in self.lines and end >= HEADER
                 if end < clear(whole.bytes()) and sender.has_more(end, lambda s: not s.says_nothing()):
                     is_missing.add(source)
-            # A packet that acknowledges behind its sender's FIN stands one place further than the last byte: where the FIN is missing, as if
-            # that were a byte.
+            # A packet that acknowledges behind its sender's FIN stands one place further than the
+            # last byte: where the FIN is missing, as if that were a byte.
             if not sender.has_more(end):
                 is_whole.add(source)
         if not line:
@@ -128,8 +133,8 @@ class Whole:
 
 
 def acknowledges_missing(segments: list[packets.Segment]) -> bool:
-    """Whether one with data acknowledges bytes of the other side that weren't captured. It may be forged, so it waits, and counts as dropped
-    where it isn't acknowledged itself."""
+    """Whether one with data acknowledges bytes of the other side that weren't captured. It may be
+    forged, so it waits, and counts as dropped where it isn't acknowledged itself."""
     behind = {}
     for s in segments:
         other = behind.get(s.destination, s.acknowledgment)
@@ -160,7 +165,8 @@ def senders(segments: list[packets.Segment]) -> dict[packets.End, Sender]:
 
 
 def choices(chance: random.Random, segments: list[packets.Segment], orders: int) -> Iterator[set[int]]:
-    """Sets of the indices of packets to drop: each alone, and so many times a few and about half of all."""
+    """Sets of the indices of packets to drop: each alone, and so many times a few and about half of
+    all."""
     yield from ({index} for index in range(len(segments)))
     for _ in range(orders):
         yield set(chance.sample(range(len(segments)), chance.randrange(2, 6)))
@@ -169,7 +175,8 @@ def choices(chance: random.Random, segments: list[packets.Segment], orders: int)
 
 
 def acknowledgements(chance: random.Random, segments: list[packets.Segment], orders: int) -> Iterator[set[int]]:
-    """The same of packets that only acknowledge: all, and some of them. Those behind their sender's FIN stay."""
+    """The same of packets that only acknowledge: all, and some of them. Those behind their sender's
+    FIN stay."""
     ended, indices = set(), []
     for index, s in enumerate(segments):
         if s.flags & packets.FIN:

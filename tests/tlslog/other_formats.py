@@ -1,4 +1,4 @@
-"""What `--format zeek` and `--format suricata` print, beside the lines of JSON: each field, by docs/TLSLOG.md ("Formats")."""
+"""Compares `--format zeek` and `--format suricata` with the lines (docs/TLSLOG.md, "Formats")."""
 
 from __future__ import annotations
 
@@ -37,7 +37,8 @@ CUT = r"""BEGIN { FS = OFS = "\t" } /^#fields/ { for (i = 2; i <= NF; i++) at[$i
 VERSION_NUMBERS = {
     "SSLv3": 0x0300, "TLSv10": 0x0301, "TLSv11": 0x0302, "TLSv12": 0x0303, "TLSv13": 0x0304, "DTLSv10": 0xFEFF, "DTLSv12": 0xFEFD, "DTLSv13": 0xFEFC,
 }
-# What Zeek has as a name, and JSON as a number (RFC 3749, 2, and RFC 3943, 3; RFC 8422, 5.1.2; RFC 8446, 4.2.9).
+# What Zeek has as a name, and JSON as a number (RFC 3749, 2, and RFC 3943, 3; RFC 8422, 5.1.2; RFC
+# 8446, 4.2.9).
 METHODS = {0: "NULL", 1: "DEFLATE", 64: "LZS"}
 NAMED = {
     "comp_method": METHODS, "client_comp_methods": METHODS,
@@ -52,7 +53,8 @@ VERSIONS = {
 }
 
 
-# Names that could be taken for something else, cut a line or a column, or are orders for a terminal.
+# Names that could be taken for something else, cut a line or a column, or are orders for a
+# terminal.
 NAMES = [b"\x1b[31m\x1b]0;title\x07", "\u202e\u0430pple.example".encode(), b"\x9b2J", b"-", b"(empty)", b"#close", b"#fields\ta", b"a,b", b"\t\n\r\0\x7f\xff", b"\\x2d", b"\\", b"\"'", b"--", b"(empty),", b" ", b","]
 
 
@@ -102,7 +104,8 @@ def rows(ask: Ask, *words: object) -> str:
 
 
 def zeek(ask: Ask, files: list[Path]) -> int:
-    """Each log has the fields and the values of the lines of JSON; chosen fields stand in their order, and awk cuts as zeek-cut does."""
+    """Each log has the fields and the values of the lines of JSON; chosen fields stand in their
+    order, and awk cuts as zeek-cut does."""
     count = 0
     for words, path in PATHS.items():
         lines = [json.loads(line) for line in rows(ask, *words, *files).splitlines()]
@@ -131,7 +134,8 @@ def counted(size: int, content: bytes) -> bytes:
 
 
 def hello(name: bytes, protocols: list[bytes]) -> bytes:
-    """A record with a ClientHello that asks for this name and these protocols (RFC 8446, 4.1.2; RFC 6066, 3; RFC 7301, 3.1)."""
+    """A record with a ClientHello that asks for this name and these protocols (RFC 8446, 4.1.2; RFC
+    6066, 3; RFC 7301, 3.1)."""
     extensions = [(0, counted(2, b"\0" + counted(2, name))), (16, counted(2, b"".join(counted(1, one) for one in protocols)))]
     block = b"".join(kind.to_bytes(2, "big") + counted(2, content) for kind, content in extensions)
     body = b"\3\3" + bytes(32) + b"\0" + counted(2, b"\xc0\x2f") + b"\1\0" + counted(2, block)
@@ -147,7 +151,8 @@ def with_hello(capture: Path, record: bytes) -> bytes:
 
 
 def hostile_captures(capture: Path, room: Path) -> list[Path]:
-    """A capture for each name, in whose hello it is the host, and stands in the list of protocols. The capture is one of which a hello is the first payload."""
+    """A capture for each name, in whose hello it is the host, and stands in the list of protocols.
+    The capture is one of which a hello is the first payload."""
     files = []
     for number, name in enumerate(NAMES):
         files.append(room / f"name-{number}.pcap")
@@ -213,7 +218,8 @@ def serial_of(digits: str | None) -> str | None:
 
 
 def event_of(line: Line, sent: dict[str, bytes], certificates: dict[str, Line]) -> Line:
-    """The event that is wanted of a connection. A client's certificate is told by its line, by the SHA-256."""
+    """The event that is wanted of a connection. A client's certificate has its line, by the
+    SHA-256."""
     print_of = lambda chain: chain and colons(hashlib.sha1(sent[chain[0]]).hexdigest())  # noqa: E731
     texts = lambda chain: [base64.b64encode(sent[one]).decode() for one in chain or ()] or None  # noqa: E731
     first = lambda texts: texts and texts[0]  # noqa: E731
@@ -262,7 +268,8 @@ def chains(ask: Ask, files: list[Path]) -> None:
 
 
 def suricata(ask: Ask, files: list[Path]) -> int:
-    """Each event says what the line of JSON says; SHA-1 and base64 are Python's, of the certificates whose SHA-256 the line has."""
+    """Each event says what the line of JSON says. SHA-1 and base64 are Python's, of the certificates
+    whose SHA-256 the line has."""
     lines = [json.loads(line) for line in rows(ask, *files).splitlines()]
     sent = sent_certificates(json.loads(line) for line in rows(ask, "--messages", *files).splitlines())
     events = [json.loads(line) for line in rows(ask, "--format", "suricata", *files).splitlines()]

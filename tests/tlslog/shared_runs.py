@@ -1,4 +1,4 @@
-"""Which part of several a connection falls to, and captures that were cut into files, for the checks of `tlslog --part` and `--join`."""
+"""Captures cut into files for --join, and the part of a connection for --part."""
 
 from __future__ import annotations
 
@@ -29,7 +29,8 @@ def part_of(line: Line, count: int) -> int:
 
 
 def rotated(segments: list[packets.Segment], count: int) -> Iterator[bytes]:
-    """So many captures, one behind the other, each with a header of its own: of pcap and pcapng in turn."""
+    """So many captures, one behind the other, each with a header of its own: of pcap and pcapng in
+    turn."""
     step = -(-len(segments) // count)
     for number, at in enumerate(range(0, len(segments), step)):
         some = segments[at : at + step]

@@ -1,4 +1,4 @@
-"""What `--format text` prints, beside the lines of JSON: each column, by docs/TLSLOG.md ("Text")."""
+"""Compares `--format text` with the lines (docs/TLSLOG.md, "Text")."""
 
 from __future__ import annotations
 
@@ -58,7 +58,8 @@ def row(texts: dict[str, str]) -> str:
 
 
 def check(ask: Ask, files: list[Path]) -> int:
-    """The header and each line are those that the lines of JSON want, in printable ASCII and no wider than a window of 160 columns."""
+    """The header and each line are those that the lines of JSON want, in printable ASCII and no
+    wider than a window of 160 columns."""
     status, text, told = ask([*files])
     lines = [json.loads(line) for line in text.splitlines()]
     status, text, told = ask(["--format", "text", *files])

@@ -1,4 +1,7 @@
-"""A reader of the logs of Zeek in tab-separated values, written from its documentation (docs.zeek.org, "Zeek Log Formats and Inspection")."""
+"""A reader of Zeek's logs in tab-separated values, written from its documentation.
+
+docs.zeek.org, "Zeek Log Formats and Inspection".
+"""
 
 from __future__ import annotations
 
@@ -42,7 +45,8 @@ KINDS = {"time": seconds, "interval": seconds, "addr": str, "port": number, "enu
 
 
 class Log:
-    """A log: its name, the fields by name and type, and the rows, each with the fields that it has."""
+    """A log: its name, the fields by name and type, and the rows, each with the fields that it
+    has."""
 
     def __init__(self, text: str) -> None:
         if not text.endswith("\n"):

@@ -46,12 +46,14 @@ BODIES = {
     "key_update": 24,
     "next_protocol": 67,
 }
-# Extensions of one kind, and contents of them, which end in this; and those of the latter that have another name.
+# Extensions of one kind, and contents of them, which end in this; and those of the latter that have
+# another name.
 EXTENSION, CONTENT = "parse_tls_extension_", "_content"
 NO_EXTENSIONS = "parse_tls_extension_sni_hostname parse_tls_extension_encrypted_server_name"
 # The types of the contents that are read in place.
 CONTENTS = {"sni": 0, "elliptic_curves": 10, "ec_point_formats": 11, "signature_algorithms": 13, "alpn": 16, "psk_key_exchange_modes": 45}
-# The same by their types, and those that have no call of their own: the bytes of the length in front of each of their lists.
+# The same by their types, and those that have no call of their own: the bytes of the length in
+# front of each of their lists.
 WIDTHS = {0: 2, 10: 2, 11: 1, 13: 2, 16: 2, 43: 1, 45: 1, 48: 2, 51: 2}
 
 
@@ -86,7 +88,8 @@ class Groups:
         self.found[group].setdefault(one._replace(row=""), one)
 
     def add_of_call(self, name: str, one: rows.Input) -> None:
-        """Adds an input of the call of that name, which may end in numbers, or in another use of it."""
+        """Adds an input of the call of that name, which may end in numbers, or in another use of
+        it."""
         call = name.partition(".")[0]
         if call in COUNTED:
             group, width = COUNTED[call]

@@ -1,7 +1,8 @@
-"""Rows of tests/rows/data (docs/TESTING.md, "Rows"), read as inputs of groups of calls, and written as a source of text.
+"""Rows of tests/rows/data (docs/TESTING.md, "Rows") as inputs of groups of calls, in Rattle's
+source.
 
-An input is the bytes of a row of a call that reads the group's layout, or a part of them that does: the body of a message, the
-content of an extension.
+An input is the bytes of a row whose call reads the group's layout, or a part of them that does: the
+body of a message, the content of an extension.
 """
 
 from __future__ import annotations
@@ -52,7 +53,8 @@ class Input(NamedTuple):
         return self._replace(data=front + self.data, within=tuple(w.moved(len(front)) for w in self.within))
 
     def counted(self, width: int, start: int = 0) -> Input:
-        """The same, to be cut within the length of so many bytes that stands at `start`, if that is one."""
+        """The same, to be cut within the length of so many bytes that stands at `start`, if that is
+        one."""
         behind = start + width
         end = behind + number(self.data, start, width)
         if not behind < end <= len(self.data):
@@ -142,7 +144,8 @@ def parts(data: bytes) -> list[tuple[bytes, int]]:
 
 
 def repeated(data: bytes, start: int) -> tuple[int, int]:
-    """How many bytes at `start` are repeated, and how often they stand there; 0 where they are few."""
+    """How many bytes at `start` are repeated, and how often they stand there; 0 where they are
+    few."""
     for period in (1, 2, 4):
         end = start + period
         while end < len(data) and data[end] == data[end - period]:
@@ -168,7 +171,8 @@ def is_long(one: Input) -> bool:
 
 
 def count_of(inputs: list[Input]) -> int:
-    """How many inputs are compared: each whole, its fronts, and those with a length that is cut, with and without what is behind."""
+    """How many inputs are compared: each whole, its fronts, and those with a length that is cut,
+    with and without what is behind."""
     count = 0
     for one in inputs:
         count += 1 + (len(places(one.data)) if is_long(one) else len(one.data))
@@ -190,7 +194,8 @@ pub static INPUTS: &str = "{lines}";
 
 
 def written(one: Input) -> str:
-    """A line: the row, the kind, the parts, where it is cut, and what is cut with its length; `-` is none."""
+    """A line: the row, the kind, the parts, where it is cut, and what is cut with its length; `-`
+    is none."""
     told = ",".join(f"{marked(part, '.')}*{times}" for part, times in parts(one.data))
     fronts = marked(places(one.data), ",") if is_long(one) else ""
     within = "" if is_long(one) else ",".join(f"{marked(w.places, '.')}/{w.start}/{w.end}" for w in one.within)

@@ -1,4 +1,5 @@
-"""Packets in front of a real ClientHello that the host drops: of flags, acknowledgements, places and timestamps that it doesn't take."""
+"""Packets in front of a real ClientHello that the host drops: of flags, acknowledgements, places
+and timestamps that it doesn't take."""
 
 from __future__ import annotations
 

@@ -1,4 +1,5 @@
-"""Packets that the host's client drops, in front of the server's real messages; and what it says to answers to its SYN."""
+"""Packets that the host's client drops, in front of the server's real messages; and what it says to
+answers to its SYN."""
 
 from __future__ import annotations
 
@@ -17,7 +18,8 @@ SUITE, OTHER = bytes.fromhex("c02b"), bytes.fromhex("c02c")
 
 
 def begin_served(room: Room, **more: Any) -> tuple[End, Analyzer, bytes, bytes]:
-    """A connection from the host's client, whose hello is heard; with the server's messages, and the same with another suite."""
+    """A connection from the host's client, whose hello is heard; with the server's messages, and
+    the same with another suite."""
     end = host_connects(room, **more)
     end.accept()
     talk = Analyzer(end, is_server=True, work=room.work)

@@ -1,4 +1,5 @@
-"""What the scenes share: their list, how a connection with OpenSSL's server begins and ends, and the lines that are wanted."""
+"""What the scenes share: their list, how a connection with OpenSSL's server begins and ends, and
+the lines that are wanted."""
 
 from __future__ import annotations
 
@@ -19,9 +20,11 @@ SCENES = []
 ORIG, RESP = "orig", "resp"
 # Why a segment is dropped whose connection is over. It isn't counted in a line.
 CLOSED = "closed"
-# What the kernel's reasons are also called here: what it calls a segment of LISTEN, a place outside the window, and no new data.
+# What the kernel's reasons are also called here: what it calls a segment of LISTEN, a place outside
+# the window, and no new data.
 ALSO = {"no_ack": ("ack", "syn", CLOSED), "window": ("old", "syn", "rst"), "syn": ("rst",), "old": ("syn", "rst", "fin"), "ack": ("rst",)}
-# The messages of a full handshake of TLS 1.2 without tickets, as `ssl_history` has them; and where the server warns of another name.
+# The messages of a full handshake of TLS 1.2 without tickets, as `ssl_history` has them; and where
+# the server warns of another name.
 FULL, WARNED = "CsxknGIi", {"ssl_history": "ClsxknGIi", "last_alert": "unrecognized_name"}
 # A field that the line mustn't have, which is null in what is written.
 ABSENT = object()
@@ -70,8 +73,8 @@ def begin(
 def forge(
     room: rooms.Room, end: End, why: str, what: str, payload: bytes = b"", wait: float = SOON, flags: int = PSH | ACK, **more: Any
 ) -> list[Packet]:
-    """A packet that the host drops, for the reason `why`; what it says to it is noted. Where the kernel names its reason, this is one
-    that is called so."""
+    """A packet that the host drops, for the reason `why`; what it says to it is noted. Where the
+    kernel names its reason, this is one that is called so."""
     found = room.try_packet(end, what, wait, flags=flags, payload=payload, **more)
     sending = room.sendings[-1]
     words = {rooms.WORDS.get(reason) for reason in sending["reasons"]} - {None}
@@ -84,7 +87,8 @@ def take(
     room: rooms.Room, end: End, what: str, payload: bytes, wait: float = SOON, flags: int = PSH | ACK, number: int | None = None,
     upto: int | None = None, **more: Any
 ) -> list[Packet]:
-    """A packet that the host takes: it acknowledges up to its end, or up to the number that is given. Moves to there."""
+    """A packet that the host takes: it acknowledges up to its end, or up to the number that is
+    given. Moves to there."""
     number = end.next if number is None else number
     found = room.try_packet(end, what, wait, flags=flags, payload=payload, number=number, **more)
     wanted = (number + len(payload) if upto is None else upto) % 2**32
@@ -106,7 +110,8 @@ def finish(room: rooms.Room, end: End, talk: Analyzer, rest: bytes = b"", name: 
 
 
 def took(room: rooms.Room, talk: Analyzer, name: str = REAL, certificate: str | None = None) -> None:
-    """The host took the hello with this name: its server says so, and answers with the certificate of it."""
+    """The host took the hello with this name: its server says so, and answers with the certificate
+    of it."""
     room.await_text("server", HOSTNAME_LINE.format(name))
     printed = HOSTNAME.findall(room.printed("server"))
     expect(printed and printed[-1] == name, f"the server says {printed}")
@@ -116,7 +121,8 @@ def took(room: rooms.Room, talk: Analyzer, name: str = REAL, certificate: str | 
 
 
 def serve(room: rooms.Room, end: End, asked: str = REAL, client: str = "client", is_orig: bool = False, **fields: Any) -> None:
-    """The server's part of a handshake with the host's client and of the connection; and its line."""
+    """The server's part of a handshake with the host's client and of the connection; and its
+    line."""
     talk = Analyzer(end, is_server=True, work=room.work)
     talk.give(end.hear())
     close_served(room, end, talk.answer(), asked, client, is_orig, **fields)
@@ -136,7 +142,8 @@ def fingerprint(file: Path) -> str:
 
 
 def line(room: rooms.Room, end: End, talk: Analyzer | None = None, is_orig: bool = True, drops: bool = True, **fields: Any) -> None:
-    """Adds a line that is wanted. A field that is given as None is left out, since it isn't known for certain."""
+    """Adds a line that is wanted. A field that is given as None is left out, since it isn't known
+    for certain."""
     ours, other = (str(end.address), end.port), (str(end.to_address), end.to_port)
     orig, resp = (ours, other) if is_orig else (other, ours)
     wanted = {"id.orig_h": orig[0], "id.orig_p": orig[1], "id.resp_h": resp[0], "id.resp_p": resp[1], "server_name": REAL}

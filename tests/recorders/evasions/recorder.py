@@ -1,8 +1,8 @@
 """Captures of TLS with packets that a host drops, or takes in its own way.
 
-In a network namespace this machine's kernel is one end of a wire, with OpenSSL's s_server or s_client
-on it; the other end is in this program. Each scene becomes a capture, and an item of wanted.json. A
-scene in which the host does something else is printed with the reason.
+In a network namespace this machine's kernel is one end of a wire, with OpenSSL's s_server or
+s_client on it; the other end is in this program. Each scene becomes a capture, and an item of
+wanted.json. A scene in which the host does something else is printed with the reason.
 """
 
 from __future__ import annotations

@@ -1,5 +1,5 @@
-"""A network of its own with one host, which is the kernel of this machine: its settings, OpenSSL's server and client on it, and why the
-kernel drops what we send."""
+"""A network of its own with one host, which is the kernel of this machine: its settings, OpenSSL's
+server and client on it, and why the kernel drops what we send."""
 
 from __future__ import annotations
 
@@ -18,7 +18,8 @@ from tests.recorders.evasions.end import End
 HOST = {4: ipaddress.ip_address("192.0.2.1"), 6: ipaddress.ip_address("2001:db8::1")}
 OURS = {4: ipaddress.ip_address("192.0.2.2"), 6: ipaddress.ip_address("2001:db8::2")}
 SERVER_PORT, CLIENT_PORT = 14433, 50000
-# Our ports are these and the number of the scene; the last is that of a connection which isn't recorded.
+# Our ports are these and the number of the scene; the last is that of a connection which isn't
+# recorded.
 OUR_PORT, OUR_SERVER_PORT, FIRST_PORT = 40000, 44000, 39000
 TRACING = Path("/sys/kernel/tracing")
 REASON = re.compile(r"kfree_skb: .* reason: (\w+)")
@@ -49,7 +50,8 @@ def prepare() -> None:
 
 
 def setting(name: str, value: object = None) -> str | None:
-    """A setting of the kernel below net/ipv4, or None where it has none of that name. A value is set."""
+    """A setting of the kernel below net/ipv4, or None where it has none of that name. A value is
+    set."""
     file = Path("/proc/sys/net/ipv4") / name
     if not file.exists():
         return None
@@ -71,7 +73,8 @@ def counters() -> dict[str, int]:
 
 
 class Reasons:
-    """The kernel's reasons for dropping packets, from its tracepoint kfree_skb, of those that we send."""
+    """The kernel's reasons for dropping packets, from its tracepoint kfree_skb, of those that we
+    send."""
 
     def __init__(self) -> None:
         self.folder = TRACING / "instances" / f"wire_{os.getpid()}"
@@ -196,7 +199,8 @@ class Room:
         return found
 
     def told(self) -> list[str]:
-        """In short what the host did with the packets of interest: the kernel's reason, and its answers."""
+        """In short what the host did with the packets of interest: the kernel's reason, and its
+        answers."""
         found = []
         for one in self.sendings:
             if "answers" in one:

@@ -1,4 +1,5 @@
-"""Checksums of TCP, UDP and IPv4's header that are wrong, or not there; and those, and the lengths, that a sender leaves to its network card."""
+"""Checksums of TCP, UDP and IPv4's header that are wrong, or not there; and those, and the lengths,
+that a sender leaves to its network card."""
 
 from __future__ import annotations
 
@@ -196,7 +197,8 @@ def finish_large(room: rooms.Room) -> None:
 
 
 def note_partial(room: rooms.Room, end: End, names: Iterable[str] = ()) -> None:
-    """The host's checksums are the sums of their pseudo headers alone; those of packets of these names are right."""
+    """The host's checksums are the sums of their pseudo headers alone; those of packets of these
+    names are right."""
     room.wire.drain()
     found = {True: [], False: []}
     for _, one in room.wire.recorded:

@@ -1,4 +1,5 @@
-"""The edge of the host's window, probes of it, and bytes that stand apart from the stream: of keep-alives and urgent ones."""
+"""The edge of the host's window, probes of it, and bytes that stand apart from the stream: of
+keep-alives and urgent ones."""
 
 from __future__ import annotations
 
@@ -27,7 +28,8 @@ def other_protocol(hello: bytes) -> bytes:
 
 
 def begin_small(room: Room) -> tuple[subprocess.Popen[bytes], End, Analyzer, bytes, int]:
-    """A connection whose server is stopped, so that its window closes; with a hello whose last protocol is beyond the window."""
+    """A connection whose server is stopped, so that its window closes; with a hello whose last
+    protocol is beyond the window."""
     server = room.server(f"-alpn {REAL_ONE},{FAKE_ONE}")
     end = room.end()
     end.open()

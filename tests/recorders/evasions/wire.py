@@ -1,6 +1,8 @@
-"""A wire between this program and the kernel of this machine: an Ethernet device (TAP) of which the kernel has one end and we the other.
+"""A wire between this program and the kernel of this machine: an Ethernet device (TAP) of which the
+kernel has one end and we the other.
 
-All that crosses it is recorded. Frames are made and read here, with the checksums of IP, TCP and UDP.
+All that crosses it is recorded. Frames are made and read here, with the checksums of IP, TCP and
+UDP.
 """
 
 from __future__ import annotations
@@ -127,9 +129,10 @@ def frame(
     source: Address, destination: Address, protocol: int, upper: bytes, spoilt: tuple[str, ...] = (), place: int = 16,
     macs: bytes = HOST_MAC + OUR_MAC,
 ) -> bytes:
-    """A frame around a segment, to the host where no other addresses of Ethernet are given, whose checksum at `place` is filled in.
-    `spoilt` has the names of checksums that are made wrong: "sum" that of TCP or UDP, "ip" that of IPv4's header; "none" leaves that of TCP or
-    UDP as 0, and "partial" as what a sender leaves to its network card."""
+    """A frame around a segment, to the host where no other addresses of Ethernet are given, whose
+    checksum at `place` is filled in. `spoilt` has the names of checksums that are made wrong: "sum"
+    that of TCP or UDP, "ip" that of IPv4's header; "none" leaves that of TCP or UDP as 0, and
+    "partial" as what a sender leaves to its network card."""
     if "none" not in spoilt:
         value = checksum(front_of_sum(source, destination, protocol, len(upper)), upper)
         value ^= 0x5555 if "sum" in spoilt else 0
@@ -144,12 +147,13 @@ def frame(
 
 
 class Wire:
-    """Both directions in the order in which they crossed it. What the kernel sent is read and recorded before anything is sent.
+    """Both directions in the order in which they crossed it. What the kernel sent is read and
+    recorded before anything is sent.
 
     What isn't from or to one of our `ports` is left over from before, and is left out.
 
-    With `offloads` the kernel leaves checksums and cutting to the device, which is us, and what is recorded is what is seen on the kernel's
-    own machine: its packets before that."""
+    With `offloads` the kernel leaves checksums and cutting to the device, which is us, and what is
+    recorded is what is seen on the kernel's own machine: its packets before that."""
 
     def __init__(self, ports: set[int], offloads: bool = False, device: str = DEVICE) -> None:
         self.file = os.open("/dev/net/tun", os.O_RDWR | os.O_NONBLOCK)

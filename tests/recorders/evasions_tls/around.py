@@ -1,6 +1,7 @@
-"""What is put around a datagram of a handshake, by the name of each. A function takes the datagram, its first record, and the message (or
-fragment) of that, and gives the datagrams that go in its place, from the same side. A hello that is put in has another name (forged.test.),
-a ServerHello a random of zeros. Sections are those of RFC 6347 where no other is named."""
+"""What is put around a datagram of a handshake, by the name of each. A function takes the datagram,
+its first record, and the message (or fragment) of that, and gives the datagrams that go in its
+place, from the same side. A hello that is put in has another name (forged.test.), a ServerHello a
+random of zeros. Sections are those of RFC 6347 where no other is named."""
 
 from __future__ import annotations
 
@@ -42,7 +43,8 @@ def cut_behind(datagram: bytes, record: Record, message: Message) -> list[bytes]
 
 
 def cut_alone(datagram: bytes, record: Record, message: Message) -> list[bytes]:
-    """a datagram of a record without its last 20 bytes in front, and again behind (4.1.1: a record fits within a datagram)"""
+    """a datagram of a record without its last 20 bytes in front, and again behind (4.1.1: a record
+    fits within a datagram)"""
     cut = later(record, other(message)).bytes()[:-20]
     return [cut, datagram, cut]
 
@@ -58,7 +60,8 @@ def in_two_datagrams(datagram: bytes, record: Record, message: Message) -> list[
 
 
 def empty_alone(datagram: bytes, record: Record, message: Message) -> list[bytes]:
-    """a handshake record of no bytes in front; one of each type behind, each a datagram (5246, 6.2.1: only of data)"""
+    """a handshake record of no bytes in front; one of each type behind, each a datagram (5246,
+    6.2.1: only of data)"""
     made = [Record(kind, 0, record.number + AHEAD + kind - CHANGE, b"").bytes() for kind in KINDS]
     return [made[2], datagram, *made]
 
@@ -101,7 +104,8 @@ def next_message(datagram: bytes, record: Record, message: Message) -> list[byte
 
 
 def unbegun_epoch(datagram: bytes, record: Record, message: Message) -> list[bytes]:
-    """records of handshake and data of the epochs 1, 2 and 5 with random bytes, in front and behind (4.1)"""
+    """records of handshake and data of the epochs 1, 2 and 5 with random bytes, in front and behind
+    (4.1)"""
     made = [Record(kind, epoch, 0, JUNK * 3).bytes() for kind, epoch in ((HANDSHAKE, 1), (DATA, 1), (HANDSHAKE, 2), (DATA, 5))]
     return [*made, datagram, *made]
 
@@ -162,13 +166,15 @@ def halves_other_type_first(datagram: bytes, record: Record, message: Message) -
 
 
 def halves_other_length(datagram: bytes, record: Record, message: Message) -> list[bytes]:
-    """the message in two fragments; between them the second one with a message's length that is 10 more (4.2.3)"""
+    """the message in two fragments; between them the second one with a message's length that is 10
+    more (4.2.3)"""
     one, two = in_halves(record, message)
     return [one.bytes(), changed(one, length=message.length + 10, **second_half(two)), two.bytes() + rest(datagram, record)]
 
 
 def halves_other_length_first(datagram: bytes, record: Record, message: Message) -> list[bytes]:
-    """the message in two fragments; in front of them the first one with a message's length that is 10 more (4.2.3)"""
+    """the message in two fragments; in front of them the first one with a message's length that is
+    10 more (4.2.3)"""
     one, two = in_halves(record, message)
     return [changed(one, length=message.length + 10), one.bytes(), two.bytes() + rest(datagram, record)]
 

@@ -1,4 +1,5 @@
-"""Captures of associations of DTLS that a monitor sees in part, or that come one behind the other on the same ports."""
+"""Captures of associations of DTLS that a monitor sees in part, or that come one behind the other
+on the same ports."""
 
 from __future__ import annotations
 
@@ -28,7 +29,8 @@ class Identity:
 
 
 class Version(Identity):
-    """Of the client's first two records, or of the server's records up to its ServerHello, the version is another."""
+    """Of the client's first two records, or of the server's records up to its ServerHello, the
+    version is another."""
 
     def __init__(self, side: str, number: int) -> None:
         self.side, self.number, self.is_over = side, number, False
@@ -96,7 +98,8 @@ def client_of(name: str, more: str = "") -> str:
 
 
 def second(work: Path, folder: Path, way: str) -> tuple[Path, list[Line], Line]:
-    """Two associations on the same ports. The first one ends by close_notify, without a word, or by an alert in its handshake."""
+    """Two associations on the same ports. The first one ends by close_notify, without a word, or by
+    an alert in its handshake."""
     file = folder / f"dtls_second_association_{way}.pcap"
     gnutls = SERVERS[GNUTLS].replace("--sni-hostname example.test --sni-hostname-fatal", "")
     command = gnutls if way.endswith("gnutls") else PLAIN_SERVER

@@ -1,4 +1,5 @@
-"""Captures of DTLS 1.2 with other datagrams beside those of two live peers, which carry their handshake through all the same, or don't."""
+"""Captures of DTLS 1.2 with other datagrams beside those of two live peers, which carry their
+handshake through all the same, or don't."""
 
 from __future__ import annotations
 
@@ -28,7 +29,8 @@ CLIENTS = {
 }
 IS_DONE = {OPENSSL: "SSL_connect:SSLv3/TLS read finished", GNUTLS: "Handshake was completed"}
 HAS_FAILED = ["errno=", ":error:", "Fatal error", "failed"]
-# Where both peers carry the handshake through in spite of it, the capture has GnuTLS's client, else OpenSSL's; the server is OpenSSL's.
+# Where both peers carry the handshake through in spite of it, the capture has GnuTLS's client, else
+# OpenSSL's; the server is OpenSSL's.
 ENDS_GNUTLS = {
     "cut_alone", "cut_in_header", "empty_datagram", "halves_other_type_first", "halves_other_length", "halves_other_length_first",
     "halves_other_bytes", "other_version",
@@ -66,8 +68,8 @@ class Placed:
         self.datagram, self.left, self.is_taken = datagram, list(parts), False
 
     def takes(self, is_answered: bool) -> bool:
-        """Whether the next part is where the datagram was taken: the one that has it, or where it was cut into fragments the last one, or
-        the one that was answered."""
+        """Whether the next part is where the datagram was taken: the one that has it, or where it
+        was cut into fragments the last one, or the one that was answered."""
         part = self.left.pop(0)
         if self.is_taken or not (self.datagram in part or (not any(self.datagram in other for other in self.left) and (is_answered or not self.left))):
             return False
@@ -76,7 +78,8 @@ class Placed:
 
 
 def untouched(segments: list[packets.Segment], handed: list[tuple[str, bytes, list[bytes]]], side: str) -> list[packets.Segment]:
-    """The segments without what the relay put in: in place of what went on for a datagram stands that datagram."""
+    """The segments without what the relay put in: in place of what went on for a datagram stands
+    that datagram."""
     found, waiting = [], {CLIENT: [], SERVER: []}
     port = (SERVER_PORT if side == CLIENT else RELAY_PORT).to_bytes(2, "big")
     for sender, datagram, parts in handed:
@@ -117,7 +120,8 @@ def line_of(segments: list[packets.Segment], port: int) -> Line:
 
 
 def wanted_of(segments: list[packets.Segment], handed: list[tuple[str, bytes, list[bytes]]], side: str, seen: Line) -> list[Line]:
-    """The lines: where both carried the handshake through, that of the datagrams that they took; else what is certain all the same."""
+    """The lines: where both carried the handshake through, that of the datagrams that they took;
+    else what is certain all the same."""
     port = SERVER_PORT if side == CLIENT else RELAY_PORT
     taken = without_repeats(untouched(segments, handed, side))
     found = line_of(taken, port)
@@ -141,7 +145,8 @@ def wanted_of(segments: list[packets.Segment], handed: list[tuple[str, bytes, li
 
 
 def run(work: Path, file: Path, server: str, client: str, relay: dtls.Relay, port: int, words: bytes = b"hello from the client\n") -> tuple[str, str]:
-    """One connection. Gives what the server and the client printed, and whether the client's handshake was completed."""
+    """One connection. Gives what the server and the client printed, and whether the client's
+    handshake was completed."""
     with peers.Dump(file, f"udp port {port}"):
         other = peers.Peer(work, "stdbuf -oL " + SERVERS[server], "server")
         time.sleep(0.5)

@@ -1,4 +1,5 @@
-"""The parts of a datagram of DTLS (RFC 6347, sections 4.1 and 4.2), and a relay that puts other datagrams beside those of two peers."""
+"""The parts of a datagram of DTLS (RFC 6347, sections 4.1 and 4.2), and a relay that puts other
+datagrams beside those of two peers."""
 
 from __future__ import annotations
 
@@ -32,7 +33,8 @@ class Record:
         return b"".join(value.to_bytes(count, "big") for value, count in parts) + self.fragment
 
     def message(self) -> Message | None:
-        """The message, or the fragment of one, that a record of epoch 0 holds alone; None where there is none."""
+        """The message, or the fragment of one, that a record of epoch 0 holds alone; None where
+        there is none."""
         at = self.fragment
         if self.kind != HANDSHAKE or self.epoch or len(at) < 12:
             return None
@@ -45,7 +47,8 @@ class Record:
 
 @dataclass(frozen=True)
 class Message:
-    """A fragment of a handshake message. Where it is whole its offset is 0, and its bytes are as many as its length says."""
+    """A fragment of a handshake message. Where it is whole its offset is 0, and its bytes are as
+    many as its length says."""
 
     kind: int
     length: int
@@ -84,8 +87,8 @@ def renamed(hello: bytes, old: bytes = b"example.test", new: bytes = b"forged.te
 
 
 class Relay(threading.Thread):
-    """Hands datagrams on between one client and a server. A rule says what goes on in place of each: it is called with the sender and
-    the datagram, and gives the datagrams."""
+    """Hands datagrams on between one client and a server. A rule says what goes on in place of
+    each: it is called with the sender and the datagram, and gives the datagrams."""
 
     def __init__(self, rule: Callable[[str, bytes], list[bytes]]) -> None:
         super().__init__(daemon=True)

@@ -19,7 +19,8 @@ FOLDER = Path(__file__).resolve().parents[3] / "captures/evasions_tls"
 
 
 def captures() -> dict[str, Callable[[Path, Path], tuple[Path, list[Any], Any]]]:
-    """By name, a function that records a scene and returns its expected lines and what the peers did."""
+    """By name, a function that records a scene and returns its expected lines and what the peers
+    did."""
     found = {}
     for module in (datagrams, streams, associations):
         for name, make in module.captures().items():

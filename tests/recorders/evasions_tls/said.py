@@ -25,7 +25,8 @@ def host(text: str) -> str | None:
 
 
 def alerts(segments: list[packets.Segment]) -> list[tuple[int, ...]]:
-    """The alerts in the clear of datagrams: the port of the sender, the level and the description."""
+    """The alerts in the clear of datagrams: the port of the sender, the level and the
+    description."""
     found = []
     for one in segments:
         at, bytes_ = 0, one.payload

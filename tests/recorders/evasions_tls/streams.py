@@ -1,4 +1,5 @@
-"""Captures of TLS with other bytes in the stream of one of two live peers: hellos that nobody asked for, and versions in record headers."""
+"""Captures of TLS with other bytes in the stream of one of two live peers: hellos that nobody asked
+for, and versions in record headers."""
 
 from __future__ import annotations
 
@@ -62,7 +63,8 @@ class Rule:
         return made
 
     def forged(self, version: bytes = b"\3\3") -> bytes:
-        """The hello with another name, in a record whose header has that version: the one that both versions have behind the hellos."""
+        """The hello with another name, in a record whose header has that version: the one that both
+        versions have behind the hellos."""
         if NAME not in self.hello:
             raise ValueError("no name")
         return self.hello[:1] + version + self.hello[3:].replace(NAME, FORGED)
@@ -159,7 +161,8 @@ def line_of(segments: list[packets.Segment], port: int) -> Line:
 
 
 def to_the_answer(segments: list[packets.Segment], put: Iterable[bytes]) -> list[packets.Segment]:
-    """The segments up to the server's first data, without the bytes that were put in: the hello that was answered, and its answer."""
+    """The segments up to the server's first data, without the bytes that were put in: the hello
+    that was answered, and its answer."""
     found = []
     for one in segments:
         kept = one

@@ -1,4 +1,5 @@
-"""The records of a stream of TLS (RFC 8446, section 5.1), and a relay that puts other bytes beside those of two peers."""
+"""The records of a stream of TLS (RFC 8446, section 5.1), and a relay that puts other bytes beside
+those of two peers."""
 
 from __future__ import annotations
 
@@ -14,7 +15,8 @@ CHANGE, ALERT, HANDSHAKE, DATA = 20, 21, 22, 23
 HELLO, SERVER_HELLO = 1, 2
 CLIENT, SERVER = "client", "server"
 RELAY_PORT, SERVER_PORT = 14434, 14433
-# A ServerHello of TLS 1.2 that nobody made (RFC 5246, section 7.4.1.3): no session, the suite 0xc02b, no extensions.
+# A ServerHello of TLS 1.2 that nobody made (RFC 5246, section 7.4.1.3): no session, the suite
+# 0xc02b, no extensions.
 STRAY_SERVER_HELLO = bytes.fromhex("16 03 03 00 2a 02 00 00 26 03 03") + b"\x5a" * 32 + bytes.fromhex("00 c0 2b 00")
 
 
@@ -33,8 +35,9 @@ def is_message(record: bytes, kind: int) -> bool:
 
 
 class Relay(threading.Thread):
-    """Hands one connection on, record by record. A rule is called with the sender, and a record, and gives the bytes that go in its
-    place: a list, each of which is sent alone, with the rule's pause behind it."""
+    """Hands one connection on, record by record. A rule is called with the sender, and a record,
+    and gives the bytes that go in its place: a list, each of which is sent alone, with the rule's
+    pause behind it."""
 
     def __init__(self, rule: Any) -> None:
         super().__init__(daemon=True)

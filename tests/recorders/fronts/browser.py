@@ -1,4 +1,5 @@
-"""A capture of DTLS 1.3 as a browser speaks it: a data channel of WebRTC from headless Chromium to itself, beside the STUN of ICE."""
+"""A capture of DTLS 1.3 as a browser speaks it: a data channel of WebRTC from headless Chromium to
+itself, beside the STUN of ICE."""
 
 from __future__ import annotations
 
@@ -36,7 +37,8 @@ PAGE = """<script>
 """
 BROWSER = "chromium --headless --no-sandbox --disable-gpu --enable-logging=stderr --user-data-dir=room page.html"
 BROWSER += " --disable-features=WebRtcHideLocalIpsWithMdns"
-# The browser offers no address of the device `lo`: another one is made, and what goes to its own address still passes `lo`.
+# The browser offers no address of the device `lo`: another one is made, and what goes to its own
+# address still passes `lo`.
 DEVICE = ["link add d0 type veth peer name d1", "addr add 192.0.2.1/24 dev d0", "link set d0 up", "link set d1 up", "route add default dev d0"]
 HANDSHAKES = range(20, 27)
 
@@ -46,7 +48,8 @@ KEPT = {"dtls13_chromium": 0, "dtls13_wolfssl_connection_ids": 2}
 
 
 def count(datagram: bytes, connection_id: int) -> int:
-    """The records of a datagram (RFC 9147, section 4): with the header of 13 bytes, or the unified one; connection ids have that length."""
+    """The records of a datagram (RFC 9147, section 4): with the header of 13 bytes, or the unified
+    one; connection ids have that length."""
     found = 0
     while datagram:
         first = datagram[0]
@@ -81,7 +84,8 @@ def record(folder: Path) -> list[Line]:
 
 
 def shortened(datagram: bytes) -> bytes:
-    """Its unified records with a sequence number of 1 byte, and the last one without a length. What is encrypted isn't decrypted again then."""
+    """Its unified records with a sequence number of 1 byte, and the last one without a length. What
+    is encrypted isn't decrypted again then."""
     found = b""
     while datagram and datagram[0] >> 2 == 0b001011:
         end = 5 + int.from_bytes(datagram[3:5], "big")
@@ -114,7 +118,8 @@ def lines(file: Path, connection_id: int = 0) -> list[Line]:
         by_hand["ssl_history"] = "CjCs"
     if any(found[field] != value for field, value in certain.items()):
         raise ValueError(f"tshark says otherwise: {found}")
-    # JA4 of DTLS 1.3 depends on which version counts as the highest; tshark has the unified records as no records.
+    # JA4 of DTLS 1.3 depends on which version counts as the highest; tshark has the unified records
+    # as no records.
     fields = {field: value for field, value in found.items() if field not in ("ja4",)} | by_hand
     others = [field for field in fields if field not in certain and field not in by_hand]
     sources = {"seen": list(certain), "RFC 9147, 4, by hand": list(by_hand), "tshark": [*others, "last_alert"]}

@@ -1,4 +1,5 @@
-"""A server that speaks plain text first and then TLS (Python's ssl), on the same connection; it counts the bytes in front of TLS."""
+"""A server that speaks plain text first and then TLS (Python's ssl), on the same connection; it
+counts the bytes in front of TLS."""
 
 from __future__ import annotations
 
@@ -43,7 +44,8 @@ class Plain:
 
 
 class Server(threading.Thread):
-    """Serves one connection. `seen` is what it saw. Where `highest` is None there is no TLS behind the plain text."""
+    """Serves one connection. `seen` is what it saw. Where `highest` is None there is no TLS behind
+    the plain text."""
 
     def __init__(self, port: int, talk: Callable[[Plain], None], work: Path, highest: ssl.TLSVersion | None) -> None:
         super().__init__(daemon=True)

@@ -20,9 +20,11 @@ from tests.support.shapes import Line
 FOLDER = Path(__file__).resolve().parents[3] / "captures/fronts"
 V12, V13 = ssl.TLSVersion.TLSv1_2, ssl.TLSVersion.TLSv1_3
 NAME = "example.test"
-# Version 2: a signature, version and command, TCP over IPv4, 12 bytes: addresses and ports (the PROXY protocol, section 2.2).
+# Version 2: a signature, version and command, TCP over IPv4, 12 bytes: addresses and ports (the
+# PROXY protocol, section 2.2).
 PROXY_2 = bytes.fromhex("0d 0a 0d 0a 00 0d 0a 51 55 49 54 0a 21 11 00 0c c0 00 02 01 c6 33 64 01 d6 d8 01 bb")
-# Connection Request with the cookie that clients of RDP send, and the negotiation's request for PROTOCOL_SSL ([MS-RDPBCGR], section 2.2.1.1).
+# Connection Request with the cookie that clients of RDP send, and the negotiation's request for
+# PROTOCOL_SSL ([MS-RDPBCGR], section 2.2.1.1).
 RDP = bytes.fromhex("03 00 00 2a 25 e0 00 00 00 00 00") + b"Cookie: mstshash=user\r\n" + bytes.fromhex("01 00 08 00 01 00 00 00")
 
 
@@ -35,7 +37,8 @@ def curl(port: int, words: str, version: str = "") -> str:
 
 
 class ByHand:
-    """A client that sends some bytes, reads as many as are said, and speaks TLS then (Python's ssl)."""
+    """A client that sends some bytes, reads as many as are said, and speaks TLS then (Python's
+    ssl)."""
 
     def __init__(self, port: int, front: bytes, answer: int) -> None:
         self.port, self.front, self.answer = port, front, answer

@@ -1,4 +1,5 @@
-"""Captures made of others: connections whose beginning wasn't captured, DTLS behind CAPWAP's header; and DTLS of the version 0x0100."""
+"""Captures made of others: connections whose beginning wasn't captured, DTLS behind CAPWAP's
+header; and DTLS of the version 0x0100."""
 
 from __future__ import annotations
 
@@ -14,7 +15,8 @@ from tests.support.shapes import Line
 
 TOP = Path(__file__).resolve().parents[3]
 STORED = TOP / "crates" / "tlslog" / "data"
-# Of which capture, and how many packets in front weren't captured: all up to the client's last records of the handshake.
+# Of which capture, and how many packets in front weren't captured: all up to the client's last
+# records of the handshake.
 CUT = {
     "late_alerts_tls10": ("openssl_tls10", 10), "late_alerts_tls11": ("openssl_tls11", 10), "late_alerts_tls12": ("openssl_ecdhe", 10),
     "late_alerts_gnutls": ("gnutls_ecdhe", 12),
@@ -68,7 +70,8 @@ def cut(folder: Path, name: str) -> list[Line]:
 
 
 def capwap(folder: Path, name: str) -> list[Line]:
-    """Each datagram of a stored capture behind the header, and the server's port is that of CAPWAP."""
+    """Each datagram of a stored capture behind the header, and the server's port is that of
+    CAPWAP."""
     file = folder / f"{name}.pcap"
 
     def wrapped(one: packets.Segment) -> packets.Segment:
@@ -92,7 +95,8 @@ def capwap(folder: Path, name: str) -> list[Line]:
 
 
 def old(work: Path, folder: Path) -> list[Line]:
-    """GnuTLS's peers in the version 0x0100, which they call DTLS 0.9, and tshark DTLS 1.0 of OpenSSL before 0.9.8f."""
+    """GnuTLS's peers in the version 0x0100, which they call DTLS 0.9, and tshark DTLS 1.0 of
+    OpenSSL before 0.9.8f."""
     file = folder / f"{OLD}.pcap"
     server = f"gnutls-serv -p {PORT} --udp --nocookie --echo --priority {OLD_PRIORITY} {OLD_KEYS}"
     client = f"gnutls-cli -p {PORT} --udp --insecure --sni-hostname example.test --priority {OLD_PRIORITY} {peers.HOST}"

@@ -1,5 +1,6 @@
-"""What a server says before TLS begins on a connection, by the protocol (STARTTLS and its like). A talk reads and writes the plain text,
-and returns when the next byte of the client is that of TLS."""
+"""What a server says before TLS begins on a connection, by the protocol (STARTTLS and its like). A
+talk reads and writes the plain text, and returns when the next byte of the client is that of
+TLS."""
 
 from __future__ import annotations
 
@@ -74,19 +75,22 @@ def ldap(plain: Plain) -> None:
 
 
 def postgres(plain: Plain) -> None:
-    """The SSLRequest of PostgreSQL's protocol (its documentation, chapter 55): 8 bytes, answered by one."""
+    """The SSLRequest of PostgreSQL's protocol (its documentation, chapter 55): 8 bytes, answered by
+    one."""
     plain.take(8)
     plain.say(b"S")
 
 
 def mysql(plain: Plain) -> None:
-    """The SSLRequest of MySQL's protocol: a packet of 32 bytes behind a header of 4, by which the greeting is answered."""
+    """The SSLRequest of MySQL's protocol: a packet of 32 bytes behind a header of 4, by which the
+    greeting is answered."""
     plain.say(len(MYSQL_GREETING).to_bytes(3, "little") + b"\0" + MYSQL_GREETING)
     plain.take(int.from_bytes(plain.take(4)[:3], "little"))
 
 
 def rdp(plain: Plain) -> None:
-    """X.224's Connection Request and Confirm in TPKT (RFC 1006), with the negotiation of [MS-RDPBCGR], section 2.2.1.2: PROTOCOL_SSL."""
+    """X.224's Connection Request and Confirm in TPKT (RFC 1006), with the negotiation of
+    [MS-RDPBCGR], section 2.2.1.2: PROTOCOL_SSL."""
     plain.take(int.from_bytes(plain.take(4)[2:], "big") - 4)
     plain.say(bytes.fromhex("03 00 00 13 0e d0 00 00 12 34 00 02 00 08 00 01 00 00 00"))
 
@@ -97,7 +101,8 @@ def proxy_header(plain: Plain) -> None:
 
 
 def proxy_header_2(plain: Plain) -> None:
-    """The PROXY header of version 2 (section 2.2): 16 bytes, the last two of which are the length of what follows."""
+    """The PROXY header of version 2 (section 2.2): 16 bytes, the last two of which are the length
+    of what follows."""
     plain.take(int.from_bytes(plain.take(16)[14:], "big"))
 
 

@@ -1,4 +1,5 @@
-"""What is wanted of a capture of fronts: the line by tshark's fields where tshark finds the TLS, beside what the peers saw."""
+"""What is wanted of a capture of fronts: the line by tshark's fields where tshark finds the TLS,
+beside what the peers saw."""
 
 from __future__ import annotations
 
@@ -13,7 +14,8 @@ NAMES = {"TLSv1.2": "TLSv12", "TLSv1.3": "TLSv13"}
 
 
 def line(fields: Line, sources: dict[str, list[str]], absent: Iterable[str] = ()) -> Line:
-    """A wanted line. `from` has, for each source, the fields that it gives; fields in `absent` aren't in the line."""
+    """A wanted line. `from` has, for each source, the fields that it gives; fields in `absent`
+    aren't in the line."""
     given = {source: [name for name in names if name in fields or name in absent] for source, names in sources.items()}
     missing = {*fields, *absent} - {name for names in given.values() for name in names}
     if missing:
@@ -61,14 +63,16 @@ def of_none(file: Path) -> list[Line]:
 
 
 def suites_of(hello: bytes) -> list[str]:
-    """The suites of a hello in SSL 2.0's form, by its bytes: those of TLS have a first byte of 0 (RFC 5246, appendix E.2)."""
+    """The suites of a hello in SSL 2.0's form, by its bytes: those of TLS have a first byte of 0
+    (RFC 5246, appendix E.2)."""
     behind = hello[11 : 11 + int.from_bytes(hello[5:7], "big")]
     parts = [behind[at : at + 3] for at in range(0, len(behind), 3)]
     return [suite_names.named("0x" + (part[1:] if part[0] == 0 else part).hex()) for part in parts]
 
 
 def of_old_hello(file: Path, hello: bytes, fault: str) -> list[Line]:
-    """One line: of the client by the bytes of its hello, of the server by tshark's fields, which has none of the client's records."""
+    """One line: of the client by the bytes of its hello, of the server by tshark's fields, which
+    has none of the client's records."""
     [found] = wanted.lines(file)
     session = int.from_bytes(hello[7:9], "big")
     at = 11 + int.from_bytes(hello[5:7], "big")
