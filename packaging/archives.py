@@ -1,4 +1,4 @@
-"""Archives of a folder, the same byte for byte where the folder's files are: names in order, root's files, one time."""
+"""Reproducible archives of a folder: files in the order of their names, owned by root, all of one time."""
 
 import gzip
 import hashlib
@@ -11,7 +11,7 @@ import release
 
 
 def settle(folder):
-    """Gives all below the folder its mode and time."""
+    """Sets the modes and times of all files in the folder."""
     for path in sorted([folder, *folder.rglob("*")], reverse=True):
         if not path.is_symlink():
             path.chmod(0o755 if path.is_dir() or path.stat().st_mode & 0o100 else 0o644)
@@ -19,7 +19,7 @@ def settle(folder):
 
 
 def write_tarball(folder, name, target):
-    """A tarball of the folder under the name."""
+    """Writes a tarball of the folder, in which the folder has this name."""
     settle(folder)
     packed = io.BytesIO()
     with tarfile.open(fileobj=packed, mode="w", format=tarfile.PAX_FORMAT) as tar:
@@ -41,7 +41,10 @@ def gzipped(data):
 
 
 def write_deb(folder, fields, target, control=None):
-    """A Debian package of the folder's files, with these fields, and these further control files. They are written into the folder."""
+    """Writes a Debian package of the folder's files, with these fields and further control files.
+
+    It adds the control files to the folder.
+    """
     files = sorted(path for path in folder.rglob("*") if path.is_file() and not path.is_symlink())
     kilobytes = sum((path.stat().st_size + 1023) // 1024 if not path.is_symlink() else 1 for path in folder.rglob("*"))
     sums = "".join(f"{hashlib.md5(path.read_bytes()).hexdigest()}  {path.relative_to(folder)}\n" for path in files)

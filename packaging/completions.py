@@ -1,10 +1,10 @@
-"""Completions of tlslog for bash, zsh and fish, from what its --help lists and the names of fields that it prints itself."""
+"""Completions of tlslog for bash, zsh and fish, from its --help and the names of its fields."""
 
 import re
 import shlex
 from dataclasses import dataclass
 
-# A line of an option, and what clap writes behind its help.
+# The line of an option, and the notes that clap puts behind its help.
 OPTION = re.compile(r"^ +(?:(-\w), )?(--[\w-]+)(?: <([^>]+)>)?(?: {2,}(.*))?$")
 CHOICES = re.compile(r"\[possible values: ([^]]*)\]")
 NOTES = re.compile(r" *\[(?:possible values|default): [^]]*\]")
@@ -20,7 +20,7 @@ class Option:
 
     @property
     def is_list(self):
-        """Its value is a list of fields."""
+        """Whether its value is a list of fields."""
         return "," in self.value
 
     @property
@@ -29,7 +29,7 @@ class Option:
 
 
 def options_of(text):
-    """The options of the program's --help."""
+    """The options in the text of --help."""
     found = []
     for line in text.partition("\nOptions:\n")[2].splitlines():
         if match := OPTION.match(line):
@@ -61,7 +61,7 @@ _tlslog_files() {
     compopt -o filenames 2> /dev/null
     mapfile -t COMPREPLY < <(compgen -f -- "$word")
 }
-# The fields that can stand behind the last comma.
+# The fields that can follow the last comma.
 _tlslog_fields() {
     fields='@FIELDS@'
     [[ " ${COMP_WORDS[*]} " == *' --messages '* ]] && fields='@MESSAGE_FIELDS@'
@@ -148,7 +148,7 @@ def _filled(text, **parts):
 
 
 def completions_of(text, fields, message_fields, certificate_fields):
-    """The file for each shell, of the program's --help and the fields of its three kinds of lines."""
+    """By shell: its completion file, for the text of --help and the fields of the three kinds of lines."""
     options = options_of(text)
     names = {"FIELDS": " ".join(fields), "MESSAGE_FIELDS": " ".join(message_fields), "CERTIFICATE_FIELDS": " ".join(certificate_fields)}
     cases = "\n".join(

@@ -1,4 +1,4 @@
-"""What a program or a library asks of the system that it runs on."""
+"""What a program or a shared library needs of its system, and what it exports."""
 
 import re
 import subprocess
@@ -12,10 +12,10 @@ def _said(*words):
 
 
 def glibc_of(file):
-    """The least version of the GNU C library that has what the file asks for. It may ask for nothing else."""
+    """The oldest GNU C library that the file runs with. Exits if the file needs another library."""
     needed = set(re.findall(r"^ +NEEDED +(\S+)$", _said("objdump", "-p", str(file)), re.M))
     if others := needed - C_LIBRARY:
-        raise SystemExit(f"packaging: {file} asks for {', '.join(sorted(others))}")
+        raise SystemExit(f"packaging: {file} needs {', '.join(sorted(others))}")
     versions = re.findall(r"GLIBC_([\d.]+)", _said("objdump", "-T", str(file)))
     return max((tuple(map(int, version.split("."))) for version in versions), default=(2, 2, 5))
 
@@ -25,11 +25,11 @@ def text_of(version):
 
 
 def exported(file):
-    """The names that a shared library gives."""
+    """The names that a shared library exports."""
     return sorted(line.split()[-1] for line in _said("nm", "-D", "--defined-only", str(file)).splitlines())
 
 
 def stripped(file, target, *words):
-    """A copy without what a debugger alone reads. What runs is the same."""
+    """Writes a copy of the file without debugging information."""
     target.parent.mkdir(parents=True, exist_ok=True)
     subprocess.run(["strip", "--enable-deterministic-archives", *words, "-o", str(target), str(file)], check=True)

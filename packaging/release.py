@@ -1,4 +1,4 @@
-"""The version that is packed, and what CHANGELOG.md says of it."""
+"""The version that is packed, and its section of CHANGELOG.md."""
 
 import calendar
 import os
@@ -9,30 +9,30 @@ from pathlib import Path
 
 TOP = Path(__file__).resolve().parent.parent
 VERSION = (TOP / "VERSION").read_text().strip()
-# The version of Debian's packages; what stands behind the hyphen counts packings of one version.
+# The version of the Debian packages; the number behind the hyphen counts the packagings of a version.
 DEBIAN_VERSION = f"{VERSION}-1"
 SOURCE = "wispuddera"
 MAINTAINER = "Wispuddera maintainers <maintainers@users.noreply.wispuddera.example>"
 
 
 def _section():
-    """The day and the text of this version in CHANGELOG.md."""
+    """The day and the text of this version's section in CHANGELOG.md."""
     text = (TOP / "CHANGELOG.md").read_text()
     found = re.search(rf"^## \[{re.escape(VERSION)}\] - (\d+-\d+-\d+)\n(.*?)(?=^## |\Z)", text, re.M | re.S)
     if not found:
-        raise SystemExit(f"packaging: CHANGELOG.md has nothing of {VERSION}")
+        raise SystemExit(f"packaging: CHANGELOG.md has no section for {VERSION}")
     return found.groups()
 
 
 def epoch():
-    """The time that all files have: SOURCE_DATE_EPOCH, or the day of the version."""
+    """The time of all packed files: SOURCE_DATE_EPOCH, or the day of the version."""
     if given := os.environ.get("SOURCE_DATE_EPOCH"):
         return int(given)
     return calendar.timegm(time.strptime(_section()[0], "%Y-%m-%d"))
 
 
 def debian_changelog(version: str) -> str:
-    """The changelog in Debian's form, for that version of the packages."""
+    """The changelog in Debian's format, for this version of the packages."""
     items = re.sub(r"\n {2}(?=\S)", " ", _section()[1])
     lines = "\n".join(_folded(item) for item in re.findall(r"^- (.*)$", items, re.M))
     date = formatdate(epoch(), usegmt=False).replace("-0000", "+0000")
@@ -40,7 +40,7 @@ def debian_changelog(version: str) -> str:
 
 
 def _folded(item):
-    """A line of the changelog, in lines of at most 80 characters."""
+    """An item of the changelog, wrapped at 80 columns."""
     lines = ["  *"]
     for word in item.split():
         if len(lines[-1]) + len(word) >= 80:

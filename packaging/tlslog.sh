@@ -1,10 +1,13 @@
 #!/bin/sh
-# tlslog [ARGUMENT..], as packages install it. The program is in libexec beside this command's folder, or where TLSLOG_PROGRAM says.
+# The command tlslog of the packages. It runs ../libexec/tlslog/tlslog, or the program at
+# TLSLOG_PROGRAM.
 #
-# Ctrl-C goes to every program of a pipeline. If the capture comes by a pipe, it is left to the program that writes: that one ends, so the
-# pipe does, and the lines of the connections that are still open are printed. At a terminal it says what is waited for.
+# Ctrl-C reaches every program of a pipeline. If the capture comes through a pipe, tlslog ignores it:
+# the program that writes ends, so the pipe does, and tlslog prints the connections that are open.
+# If standard input is a terminal, a message says that a capture is expected there.
 
-# Whether standard input is read: no capture is named, or - is. Where an option isn't known, the program says so, and reads nothing.
+# Whether standard input is read: no capture is named, or - is. After an unknown option nothing is
+# read, and the program reports it.
 reads_input() {
     has_capture=
     while [ $# -gt 0 ]; do

@@ -1,6 +1,6 @@
-"""Prints the server name of each ClientHello of a client's stream of records: names.py < STREAM
+"""Prints the host name of each ClientHello in a client's stream of records: names.py < STREAM
 
-The stream may come in pieces of any length, and a hello may stand in several records.
+The stream is read in pieces of any length, and a hello may be split over several records.
 """
 
 import sys

@@ -1,6 +1,6 @@
-"""Where a proxy sends a connection, by the name that its client asks for: route.py NAME=PLACE.. < STREAM
+"""Prints where a proxy would send a connection, by its host name: route.py NAME=PLACE.. < STREAM
 
-It prints the place, `-` where no name fits, and reads no more than the client's first hello.
+It prints the place of the name, or `-` if none matches, and reads only the client's first message.
 """
 
 import sys
@@ -17,7 +17,7 @@ LIMIT = 65536
 
 
 def name_asked(records: wispuddera.RecordStream, messages: wispuddera.MessageStream, piece: bytes) -> tuple[bool, Optional[bytes]]:
-    """Whether the first message is whole with this piece, and the name that it asks for."""
+    """Whether the first message is complete with this piece, and the host name in it."""
     for record in records.feed(piece):
         if record.content_type != HANDSHAKE:
             return True, None

@@ -1,10 +1,10 @@
 #!/usr/bin/env python3
-"""Logs captures by parts on the workers of a Dask cluster, and prints one log, sorted by time.
+"""Logs captures on the workers of a Dask cluster, and prints one log, sorted by time.
 
     shared_log.py [--scheduler ADDRESS] [--workers N] [--parts N] [--program PATH] CAPTURE..
 
-Each task is one part of one capture. Without --scheduler the workers are processes of this machine. The program and the captures have the same paths
-on all of them.
+Each task is one part of one capture (tlslog --part). Without --scheduler the workers are processes
+of this machine. The program and the captures must have the same paths on all workers.
 """
 
 import argparse
@@ -20,7 +20,7 @@ def order(line):
 
 
 def part_of(program, capture, number, count):
-    """The lines of one part of a capture, in order, and what was left out."""
+    """The status, the sorted lines and the standard error of tlslog for one part of a capture."""
     ran = subprocess.run([program, "--part", f"{number}/{count}", capture], stdout=subprocess.PIPE, stderr=subprocess.PIPE, text=True)
     if ran.returncode not in (0, 1):
         raise RuntimeError(f"{program}, part {number} of {count}: status {ran.returncode}: {ran.stderr}")
@@ -28,11 +28,11 @@ def part_of(program, capture, number, count):
 
 
 def arguments():
-    parser = argparse.ArgumentParser(description="Logs captures by parts on the workers of a Dask cluster, and prints one log, sorted by time.")
-    parser.add_argument("--scheduler", help="the address of the cluster's scheduler; without it, workers of this machine")
-    parser.add_argument("--workers", type=int, default=os.cpu_count(), help="how many of this machine")
-    parser.add_argument("--parts", type=int, default=4, help="in how many parts each capture is logged")
-    parser.add_argument("--program", default="tlslog", help="the program tlslog")
+    parser = argparse.ArgumentParser(description="Logs captures on the workers of a Dask cluster, and prints one log, sorted by time.")
+    parser.add_argument("--scheduler", help="the address of the cluster's scheduler (default: start workers on this machine)")
+    parser.add_argument("--workers", type=int, default=os.cpu_count(), help="the number of workers on this machine (default: its cores)")
+    parser.add_argument("--parts", type=int, default=4, help="the parts that each capture is split into (default: %(default)s)")
+    parser.add_argument("--program", default="tlslog", help="the path of tlslog (default: %(default)s)")
     parser.add_argument("captures", nargs="+")
     return parser.parse_args()
 

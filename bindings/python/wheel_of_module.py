@@ -1,4 +1,4 @@
-"""Makes the wheel of the module, so that pip needs no network and no other package (PEP 517, PEP 427)."""
+"""The module's build backend (PEP 517, PEP 427), so that pip needs no network and no other package."""
 
 import base64
 import hashlib
@@ -15,17 +15,17 @@ LIBRARY = HERE / NAME / "libwispuddera.so"
 PROJECT = (HERE / "pyproject.toml").read_text()
 VERSION = re.search(r'^version = "(.*)"$', PROJECT, re.MULTILINE)[1]
 INFO = f"{NAME}-{VERSION}.dist-info"
-# The licence, and those of what the library is linked with.
+# The licence, and those of the libraries that are linked in.
 LICENSES = [file for file in (HERE.parents[1] / "LICENSE", HERE.parents[1] / "packaging/THIRD_PARTY") if file.is_file()]
 
 
 def _list_of(name):
-    """A list of texts in pyproject.toml, which Python reads by itself from 3.11 on alone."""
+    """A list of strings in pyproject.toml. (Python 3.9 and 3.10 have no tomllib.)"""
     return re.findall(r'"(.*?)"', re.search(rf"^{name} = \[(.*?)\]$", PROJECT, re.MULTILINE | re.DOTALL)[1])
 
 
 def metadata():
-    """The wheel's description, from pyproject.toml and the readme beside it."""
+    """The wheel's METADATA, from pyproject.toml and README.md."""
     summary = re.search(r'^description = "(.*)"$', PROJECT, re.MULTILINE)[1]
     lines = ["Metadata-Version: 2.1", f"Name: {NAME}", f"Version: {VERSION}", f"Summary: {summary}", "License: MIT"]
     lines += [f"License-File: {file.name}" for file in LICENSES]
@@ -35,24 +35,24 @@ def metadata():
 
 
 def entry_points():
-    """The commands that an installer makes."""
+    """The wheel's entry_points.txt: the commands that pip installs."""
     found = re.search(r"^\[project\.scripts\]\n(.*?)(?=^\[|\Z)", PROJECT, re.MULTILINE | re.DOTALL)[1]
     return "[console_scripts]\n" + "".join(f"{name} = {call}\n" for name, call in re.findall(r'^(\S+) = "(.*)"$', found, re.MULTILINE))
 
 
-# The first time that a zip file can tell.
+# The earliest time that a zip file can have.
 FIRST = 315532800
 
 
 def build_wheel(wheel_directory, config_settings=None, metadata_directory=None):
     if not LIBRARY.exists():
-        raise SystemExit(f"{LIBRARY} isn't there: bindings/build makes it")
+        raise SystemExit(f"there is no {LIBRARY}: run bindings/build")
     platform = re.sub(r"[-.]", "_", sysconfig.get_platform())
     return write_wheel(wheel_directory, LIBRARY, platform, int(os.environ.get("SOURCE_DATE_EPOCH", FIRST)))
 
 
 def write_wheel(folder, library, platform, epoch):
-    """Writes the wheel with this library, for systems that are named so, its files of this time. It is the same where these are."""
+    """Writes a reproducible wheel with this library, for this platform tag, with files of this time."""
     sources = [file for file in sorted((HERE / NAME).rglob("*")) if file.suffix in {".py", ".typed", ".css", ".js"}]
     files = {file.relative_to(HERE).as_posix(): file.read_bytes() for file in sources}
     files[f"{NAME}/{LIBRARY.name}"] = library.read_bytes()

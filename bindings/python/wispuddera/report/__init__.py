@@ -1,7 +1,8 @@
-"""Makes a page about logs of tlslog: `python3 -m wispuddera.report LOG.. > report.html`, which is the command `tlslog-report`, too.
+"""Makes an HTML page of logs of tlslog: `python3 -m wispuddera.report LOG.. > report.html`.
 
-`report` reads the lines of logs, which are open in binary, and returns the page as HTML. It needs neither the network nor the library
-of this package, and its memory doesn't grow with the logs (docs/REPORT.md).
+That is also the command `tlslog-report`. `report` reads logs, opened in binary, and returns the
+page. It needs neither the network nor the library of this package, and its memory is bounded
+(docs/REPORT.md).
 """
 
 from .page import report

@@ -1,4 +1,4 @@
-"""The command tlslog-report, and python3 -m wispuddera.report: LOG.. > report.html"""
+"""The command tlslog-report, also python3 -m wispuddera.report."""
 
 from __future__ import annotations
 
@@ -12,7 +12,7 @@ from typing import BinaryIO, NoReturn
 from . import OtherFormat, report
 
 NAME = "tlslog-report"
-# As tlslog ends: where something can't be read, and where the page can't be written.
+# Exit statuses: a log can't be read, the page can't be written.
 NOT_READ, NOT_WRITTEN = 2, 3
 # Bytes that are read at once.
 _BUFFER = 1 << 16
@@ -33,7 +33,7 @@ docs/REPORT.md describes the page.
 
 
 class _Reading:
-    """A log, which knows its name where a fault ends the reading."""
+    """A log that notes its name when it is read, for the message about a failure."""
 
     def __init__(self, name: str, log: BinaryIO, at: list[str]) -> None:
         self.name, self._log, self._at = name, log, at
@@ -74,12 +74,12 @@ def _page_of(names: list[str], capture: str) -> str:
 
 
 def _write(page: str) -> None:
-    """Writes the page. If its reader ends first, that is no fault."""
+    """Writes the page. It is no failure if the reader of a pipe ends first."""
     try:
         sys.stdout.buffer.write(page.encode())
         sys.stdout.buffer.flush()
     except OSError as fault:
-        # Nothing is left to be written where Python ends.
+        # Python flushes standard output once more when it exits.
         os.dup2(os.open(os.devnull, os.O_WRONLY), sys.stdout.fileno())
         if not isinstance(fault, BrokenPipeError):
             _fail(NOT_WRITTEN, f"standard output: cannot write: {_reason(fault)}")
@@ -87,16 +87,16 @@ def _write(page: str) -> None:
 
 def main() -> None:
     parser = argparse.ArgumentParser(
-        prog=NAME, description="Writes a page of HTML about logs of tlslog to standard output.", epilog=EPILOG,
+        prog=NAME, description="Writes an HTML page of logs of tlslog to standard output.", epilog=EPILOG,
         formatter_class=argparse.RawDescriptionHelpFormatter,
     )
-    parser.add_argument("logs", metavar="LOG", nargs="+", help="lines that tlslog printed, as JSON; - is standard input")
-    parser.add_argument("--capture", metavar="NAME", default="", help="the name of the capture, for the page's title; otherwise that of the log")
+    parser.add_argument("logs", metavar="LOG", nargs="+", help="JSON lines of tlslog; - is standard input")
+    parser.add_argument("--capture", metavar="NAME", default="", help="the capture's name, for the title (default: the name of the log)")
     asked = parser.parse_args()
     if asked.logs.count("-") > 1:
         parser.error("standard input is named twice")
     if sys.stdin.isatty() and "-" in asked.logs:
-        print(f"{NAME}: reads standard input, a terminal: end it by Ctrl-D", file=sys.stderr)
+        print(f"{NAME}: reading the log from the terminal; Ctrl-D ends it", file=sys.stderr)
     try:
         _write(_page_of(asked.logs, Path(asked.capture).name))
     except KeyboardInterrupt:

@@ -1,4 +1,4 @@
-"""The `jq` command that lists the connections of a row."""
+"""The `jq` commands that list the connections of a row."""
 
 from __future__ import annotations
 
@@ -11,14 +11,14 @@ from typing import Optional
 from . import text
 from .reading import Certificate, Server
 
-# A name that jq takes behind a dot.
+# A name that needs no quotes after a dot in jq.
 _PLAIN = re.compile(r"[A-Za-z_]\w*(\.[A-Za-z_]\w*)*", re.ASCII)
-# Fields of a line whose names have a dot; a dot in another name leads to a field of a field.
+# Fields of a line whose names have a dot. In other names a dot leads to a nested field.
 _DOTTED = re.compile(r"id\.(orig|resp)_[hp]")
 
 
 def value_of(value: object) -> str:
-    """A value as jq has it, without an apostrophe, so that the shell needs no escape."""
+    """A value as a jq literal, without apostrophes, so that the shell needs no escapes."""
     return json.dumps(value).replace("'", "\\u0027")
 
 
@@ -27,7 +27,7 @@ def field(name: str) -> str:
 
 
 def equals(name: str, value: Optional[object]) -> str:
-    """Whether a field has the value. Of one that was cut its front is compared."""
+    """The condition that a field has the value. If the value was cut, its front is compared."""
     if isinstance(value, str) and len(value) == text.LONGEST and value.endswith("…"):
         return f'({field(name)} // "" | startswith({value_of(value[:-1])}))'
     return f"{field(name)} == {value_of(value)}"
@@ -40,7 +40,7 @@ def is_one_of(name: str, values: Sequence[str]) -> str:
 
 
 def has_one_of(name: str, values: Iterable[str]) -> str:
-    """Whether a list, which may be written as an expression, has one of the values."""
+    """The condition that a list, given as a jq expression, has one of the values."""
     return f"({name} | any(IN({', '.join(map(value_of, values))})))"
 
 
@@ -67,14 +67,15 @@ def of_certificate(certificate: Certificate) -> str:
 
 
 def _word(name: str) -> str:
-    """The name of a log as a word of the shell; that of standard input is a stand-in."""
+    """The name of a log, quoted for the shell; `LOG` for standard input."""
     if name == "-":
         return "LOG"
     return shlex.quote(f"./{name}" if name.startswith("-") else name)
 
 
 class Commands:
-    """The commands over the logs of these names: they print the `uid` of each connection, or whole lines where the logs have none."""
+    """Makes commands for logs of these names. They print the `uid` of each connection, or whole lines
+    if the logs have no `uid`."""
 
     def __init__(self, names: Sequence[str], has_uid: bool) -> None:
         self._files = " ".join(map(_word, names))

@@ -1,4 +1,4 @@
-"""What is counted of the connections of a log, in memory that doesn't grow with them."""
+"""Counts the connections of a log, in bounded memory."""
 
 from __future__ import annotations
 
@@ -11,16 +11,16 @@ from .distinct import Distinct, Room
 from .reading import Certificate, Connection, Server
 from .tallies import UIDS, Entry, Soonest, Tally, Timeline, Values, with_value
 
-# How many suites of a client are kept: a list of nothing but weak ones has fewer.
+# At most so many offered suites of a client are kept; a list of only weak ones is usually shorter.
 OFFERED = 64
-# How many weak suites of a client are kept by name.
+# At most so many weak suites of a client are kept by name.
 WEAK = 256
 
-# The outcomes of docs/HANDSHAKES.md, as the timeline has them; the others are neither.
+# The kinds of outcomes (docs/HANDSHAKES.md) in the timeline.
 COMPLETED, BROKEN_OFF, OTHER = range(3)
 _OUTCOMES = {"full": COMPLETED, "resumed": COMPLETED, "tls13": COMPLETED, "broken_off": BROKEN_OFF}
 FAILED = {"broken_off", "unknown", "no_handshake"}
-# The versions, as the timeline has them.
+# The kinds of versions in the timeline.
 V13, V12, OLD, NO_VERSION = range(4)
 _VERSIONS = {"TLSv13": V13, "DTLSv13": V13, "TLSv12": V12, "DTLSv12": V12}
 
@@ -38,10 +38,10 @@ def faults_of(suite: str) -> tuple[suites.Fault, ...]:
 
 
 class Counted(Entry):
-    """The connections of a value, and the distinct values of other kinds that they have: `others` are the counters of these."""
+    """Counts the connections of a value, and in `others` the distinct values that go with it."""
 
     __slots__ = ("broken_off", "others")
-    # How many other kinds there are.
+    # How many counters `others` has.
     kinds = 1
 
     def __init__(self, room: Room, missed: int) -> None:
@@ -55,7 +55,7 @@ class Counted(Entry):
 
 
 class Host(Counted):
-    """The connections of a host; `others` are its clients and its servers."""
+    """A host; `others` counts its clients and its servers."""
 
     __slots__ = ("versions",)
     kinds = 2
@@ -66,7 +66,7 @@ class Host(Counted):
 
 
 class Program(Counted):
-    """The connections of a client program; `others` are its addresses."""
+    """A client program; `others` counts its addresses."""
 
     __slots__ = ("hosts",)
 
@@ -76,7 +76,7 @@ class Program(Counted):
 
 
 class Address(Counted):
-    """The connections of a client's address, whose `others` are its servers, or of a server's, whose `others` are its clients."""
+    """The address of a client or of a server; `others` counts its servers, or its clients."""
 
     __slots__ = ("hosts", "versions")
 
@@ -87,14 +87,14 @@ class Address(Counted):
 
 
 class Offer(Entry):
-    """The connections in which a client offered an old version, or no suite but weak ones."""
+    """A client that offered an old version, or only weak suites."""
 
     __slots__ = ("versions", "suites", "listed", "hosts", "last")
 
     def __init__(self, missed: int) -> None:
         super().__init__(missed)
         self.versions: Values = ()
-        # The names of the weak ones, and all that stood in these lists.
+        # The names of the weak ones, and everything in these lists.
         self.suites: dict[str, None] = {}
         self.listed: dict[str, None] = {}
         self.hosts: Values = ()
@@ -102,7 +102,7 @@ class Offer(Entry):
 
 
 class Mismatch(Entry):
-    """The connections to a host with a certificate that doesn't have its name."""
+    """A host and a server whose certificate lacks the host's name."""
 
     __slots__ = ("subjects", "names")
 
@@ -130,7 +130,7 @@ def name_of(server: Optional[Server]) -> Optional[str]:
 
 
 class Poor(Entry):
-    """The connections of a server for which it chose an old version, or a weak suite. Its rank is the worst grade of these."""
+    """A server that chose an old version or a weak suite; `rank` is the worst grade."""
 
     __slots__ = ("versions", "suites", "hosts", "last", "rank")
 
@@ -144,7 +144,7 @@ class Poor(Entry):
 
 
 class Issued:
-    """A certificate, and the connections in which it was sent."""
+    """A certificate, and the connections in which a server sent it."""
 
     __slots__ = ("certificate", "count", "missed", "servers", "uids")
 
@@ -161,7 +161,7 @@ class Issued:
 
 
 class SelfSigned(Entry):
-    """The connections with a certificate whose subject is its issuer."""
+    """A certificate whose subject is its issuer."""
 
     __slots__ = ("certificate", "servers", "hosts")
 
@@ -176,11 +176,11 @@ Way = tuple[Optional[str], Optional[str], Optional[str], Optional[str]]
 
 
 class Counts:
-    """All that the page has of the connections."""
+    """All counts that the page shows."""
 
     def __init__(self) -> None:
         self.connections = self.completed = self.broken_off = self.resumed = 0
-        # The connections in which the server told a version, and those with 1.3 and with an old one.
+        # The connections with a version, with 1.3, and with an old version.
         self.versioned = self.newest = self.old = 0
         self.first: Optional[float] = None
         self.last: Optional[float] = None
@@ -194,7 +194,7 @@ class Counts:
         self.programs: Tally[str, Program] = Tally(partial(Program, self.room))
         self.clients: Tally[str, Address] = Tally(partial(Address, self.room))
         self.servers: Tally[Server, Address] = Tally(partial(Address, self.room))
-        # By outcome, last alert, the message that ended it, and who sent that.
+        # By outcome, last alert, the message that ended the handshake, and its sender.
         self.failures: Tally[Way, Failure] = Tally(Failure)
         self.poor: Tally[Optional[Server], Poor] = Tally(Poor)
         self.offers: Tally[Optional[str], Offer] = Tally(Offer)
@@ -282,7 +282,7 @@ class Counts:
         failure.servers = with_value(failure.servers, it.host or name_of(it.server))
 
     def _judge(self, it: Connection) -> None:
-        """Counts what the server shouldn't have chosen."""
+        """Counts old versions and weak suites that the server chose."""
         version, suite = it.version, it.suite
         kind = kind_of_version(version)
         is_old = kind == OLD
@@ -310,7 +310,7 @@ class Counts:
         poor.last = _later(poor.last, it.time)
 
     def _judge_offer(self, it: Connection) -> None:
-        """Counts what the client shouldn't offer."""
+        """Counts old versions and lists of only weak suites that the client offers."""
         old, weak = offers.old_of(it.offered_versions), offers.weak_of(it.offered_suites)
         if not old and not weak:
             return

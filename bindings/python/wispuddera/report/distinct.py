@@ -1,4 +1,4 @@
-"""How many different values there are: exact up to a limit, and beyond it by HyperLogLog."""
+"""Counts distinct values: exactly up to a limit, and beyond it by HyperLogLog."""
 
 from __future__ import annotations
 
@@ -7,11 +7,13 @@ import math
 from functools import lru_cache
 from typing import Optional
 
-# Up to so many different values the number is exact.
+# Up to so many distinct values the count is exact.
 EXACT = 10000
-# How many values all counters together hold, some 80 MB of addresses. Where they are taken, a counter becomes a sketch before its limit.
+# All counters together hold so many values, about 80 MB of addresses. When these are used up, a
+# counter becomes a sketch before it reaches its limit.
 ROOM = 500000
-# HyperLogLog (Flajolet, Fusy, Gandouet, Meunier, 2007): 4,096 registers, whose standard error is 1.04 / 64, or 1.6 percent.
+# HyperLogLog (Flajolet, Fusy, Gandouet, Meunier, 2007) with 4,096 registers: the standard error is
+# 1.04 / 64, or 1.6 percent.
 BITS = 12
 REGISTERS = 1 << BITS
 ERROR = 1.04 / math.sqrt(REGISTERS)
@@ -20,25 +22,25 @@ _ALPHA = 0.7213 / (1 + 1.079 / REGISTERS)
 
 @lru_cache(maxsize=65536)
 def _hash(value: str) -> int:
-    """64 bits that are the same in each run."""
+    """A 64-bit hash, the same in each run."""
     return int.from_bytes(hashlib.blake2b(value.encode(errors="surrogatepass"), digest_size=8).digest(), "big")
 
 
 @lru_cache(maxsize=65536)
 def _same(value: str) -> str:
-    """The first of equal texts, so that sets share it."""
+    """The first of equal strings, so that sets share one object."""
     return value
 
 
 class Room:
-    """What a group of counters may hold of exact values."""
+    """How many values a group of counters may still hold."""
 
     def __init__(self, most: int = ROOM) -> None:
         self.free = most
 
 
 class Distinct:
-    """Counts different values."""
+    """Counts distinct values."""
 
     __slots__ = ("_room", "_values", "_registers")
 
@@ -69,7 +71,7 @@ class Distinct:
         assert self._registers is not None
         bits = _hash(value)
         register, rest = bits >> (64 - BITS), bits & ((1 << (64 - BITS)) - 1)
-        # The place of the first bit of the rest that is 1.
+        # The position of the first 1 bit of the rest.
         rank = 64 - BITS - rest.bit_length() + 1
         if rank > self._registers[register]:
             self._registers[register] = rank
@@ -84,6 +86,6 @@ class Distinct:
         empty = self._registers.count(0)
         estimate = _ALPHA * REGISTERS**2 / math.fsum(2.0**-rank for rank in self._registers)
         if estimate <= 2.5 * REGISTERS and empty:
-            # Linear counting, as HyperLogLog's authors have it for few values.
+            # Linear counting, which HyperLogLog uses for few values.
             estimate = REGISTERS * math.log(REGISTERS / empty)
         return round(estimate)

@@ -1,4 +1,4 @@
-"""The pictures of the page, as SVG that stands in it."""
+"""The charts of the page, as inline SVG."""
 
 from __future__ import annotations
 
@@ -16,19 +16,20 @@ class Series(NamedTuple):
     style: str
 
 
-# The height of a timeline in pixels, and the room above and below its bars. Places along it are in percent, so that it fits any width.
+# The height of a timeline in pixels, and the space above and below its bars. Its x coordinates are
+# percentages, so that it fits any width.
 HEIGHT = 190
 TOP, BOTTOM = 12, 26
-# The fewest bars for which there is room: less would be blocks.
+# A timeline has room for at least so many bars; fewer would be too wide.
 FEWEST = 24
-# Seconds between marks of the time axis, of which there are at most so many.
+# Seconds between marks of the time axis, and the most marks.
 _MARKS: tuple[int, ...] = (1, 5, 10, 15, 30, 60, 120, 300, 600, 900, 1800, 3600, 7200, 10800, 21600, 43200, 86400, 172800, 345600, 604800, 1209600)
 _MARKS += (2419200, 4838400, 15724800, 31449600, 62899200, 314496000, 628992000, 3144960000, 62899200000)
 MOST_MARKS, MOST_ON_NARROW = 7, 3
 
 
 def bar(part: int, whole: int, title: str, style: str = "share") -> str:
-    """A bar that is as long as the part."""
+    """A bar whose length is the share of the whole."""
     width = 100 * part / whole if whole else 0
     return (
         f'<svg class="bar" viewBox="0 0 100 10" preserveAspectRatio="none" role="img"><title>{text.escaped(title)}</title>'
@@ -46,7 +47,7 @@ def legend(series: tuple[Series, ...]) -> str:
 
 
 def timeline(name: str, title: str, line: Timeline, series: tuple[Series, ...]) -> str:
-    """Bars over time, one for each interval, its parts on one another; the name tells this picture from others on the page."""
+    """Stacked bars over time, one for each interval. The name distinguishes charts of the page."""
     first, count = line.first, max(line.last - line.first + 1, FEWEST)
     highest = max(sum(counts) for counts in line.intervals.values())
     top, marks = scale(highest)
@@ -61,7 +62,8 @@ def timeline(name: str, title: str, line: Timeline, series: tuple[Series, ...]) 
 
 
 def scale(highest: int) -> tuple[int, list[int]]:
-    """The top of an axis up to that number, and its marks: at most six steps of 1, 2 or 5 times a power of ten."""
+    """The top of an axis that reaches this number, and its marks: at most six steps of 1, 2 or 5
+    times a power of ten."""
     step, factors = 1, (2, 2.5, 2)
     turn = 0
     while highest > 6 * step:
@@ -80,7 +82,7 @@ def _height_of(mark: int, top: int) -> str:
 
 
 def _axis(top: int, marks: list[int]) -> str:
-    """The numbers in front of the bars."""
+    """The labels of the vertical axis."""
     told = "".join(f'<text x="100%" y="{_height_of(mark, top)}" dy="4">{text.number(mark)}</text>' for mark in marks)
     return f'<svg class="axis" aria-hidden="true">{told}</svg>'
 
@@ -92,7 +94,7 @@ def _grid(top: int, marks: list[int]) -> Iterator[str]:
 
 
 def _times(start: int, span: int, most: int) -> Iterator[str]:
-    """Marks at whole multiples of their distance, so many at most; a day is written where it begins, and at the first one."""
+    """Marks at multiples of their distance. The first mark, and the first of each day, have the date."""
     distance = next((mark for mark in _MARKS if span // mark < most), _MARKS[-1])
     days: set[str] = set()
     for at in range(-(-start // distance) * distance, min(start + span, text.END_OF_TIME), distance):
@@ -103,14 +105,14 @@ def _times(start: int, span: int, most: int) -> Iterator[str]:
             words.append(time if distance % 60 else time[:5])
         days.add(day)
         yield f'<line class="mark" x1="{x:.2f}%" x2="{x:.2f}%" y1="{HEIGHT - BOTTOM}" y2="{HEIGHT - BOTTOM + 4}"/>'
-        # A text at an end stays in the picture.
+        # Keep a label at an end inside the chart.
         edge = 12 if most > MOST_ON_NARROW else 30
         anchor = "start" if x < edge / 2 else "end" if x > 100 - edge / 2 else "middle"
         yield f'<text text-anchor="{anchor}" x="{x:.2f}%" y="{HEIGHT - 6}">{" ".join(words)}</text>'
 
 
 def _bar(x: float, room: float, start: int, step: int, counts: list[int], top: int, series: tuple[Series, ...]) -> str:
-    """The bar of an interval, and its counts as a title."""
+    """The bar of an interval; its title has the counts."""
     told = ", ".join(f"{text.number(count)} {one.name.lower()}" for one, count in zip(series, counts))
     parts = [f"<g><title>{text.time(start)}, {text.duration(step)}: {text.escaped(told)}</title>"]
     y = float(HEIGHT - BOTTOM)

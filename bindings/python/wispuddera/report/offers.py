@@ -1,4 +1,4 @@
-"""What a client offers that it shouldn't: old versions, and nothing but weak suites."""
+"""What a client shouldn't offer: old versions, and only weak suites."""
 
 from __future__ import annotations
 
@@ -9,7 +9,7 @@ from typing import Optional
 from . import suites, text
 from .reading import Values
 
-# What stands in a list of suites and is none (RFC 5746, section 3.3; RFC 7507).
+# Signalling values in a list of suites (RFC 5746, section 3.3; RFC 7507).
 _SIGNALS = {"0x00ff", "0x5600", "TLS_EMPTY_RENEGOTIATION_INFO_SCSV", "TLS_FALLBACK_SCSV"}
 # GREASE (RFC 8701, section 2), and a CipherSpec of SSL 2.0 (RFC 6176), each of which is weak.
 _GREASE = re.compile(r"0x([0-9a-f]a)\1")
@@ -22,13 +22,14 @@ def _is_old(version: str) -> bool:
 
 
 def old_of(versions: Values) -> Values:
-    """The old ones of the versions that a client offers."""
+    """The old versions among those that a client offers."""
     return tuple([one for one in versions if len(one) <= text.LONGEST and _is_old(one)])
 
 
 @lru_cache(maxsize=4096)
 def _name_if_weak(offered: str) -> Optional[str]:
-    """The name of a suite, if it is weak; `""` for what isn't a suite, and `None` for a suite that isn't weak or can't be judged."""
+    """The name of a weak suite, `""` for a value that is no suite, and `None` for a suite that isn't
+    weak or can't be judged."""
     if offered in _SIGNALS or _GREASE.fullmatch(offered):
         return ""
     name = suites.name_of(offered)
@@ -36,7 +37,7 @@ def _name_if_weak(offered: str) -> Optional[str]:
 
 
 def weak_of(offered: Values) -> Values:
-    """The names of the suites that a client offers, if all of them are weak; empty if one isn't weak or can't be judged."""
+    """The names of the offered suites if all are weak; empty if one isn't, or can't be judged."""
     names = []
     # Most lists begin with a suite that isn't weak.
     for one in offered:

@@ -1,4 +1,4 @@
-"""The page: one file of HTML with its style, its pictures and its script in it, which loads nothing."""
+"""The page: one HTML file with style, charts and script inline, which loads nothing."""
 
 from __future__ import annotations
 
@@ -21,8 +21,11 @@ _BY_VERSION = (Series("1.3", "newest"), Series("1.2", "newer"), Series("Older", 
 
 
 def report(*logs: BinaryIO, names: Sequence[str] = (), capture: str = "") -> str:
-    """The page of logs, which are open in binary. `names` are those of the logs, for the commands on the page, and `capture` is that of the
-    capture, for its title: without it the title has the names of the logs. `OtherFormat` where a log isn't the JSON of connections."""
+    """Returns the page of logs that are open in binary.
+
+    The commands on the page have the logs' `names`. The title has the name `capture`, or else the
+    names of the logs. `OtherFormat` is raised if a log isn't JSON lines of connections.
+    """
     reader, counts = Reader(*logs), Counts()
     counts.add_all(reader)
     return _Page(reader, counts, names or ["-"] * len(logs), capture).text()
@@ -37,7 +40,7 @@ def _source(name: str) -> str:
 
 
 class _Page:
-    """What the parts of the page are made of."""
+    """The data that the parts of the page are made from."""
 
     def __init__(self, reader: Reader, counts: Counts, names: Sequence[str], capture: str) -> None:
         self.reader, self.counts = reader, counts
@@ -144,7 +147,7 @@ def _failures(counts: Counts, commands: Commands) -> str:
 
 
 def _kinds(tally: Tally[Any, Any], noun: str) -> str:
-    """How many different ones there are, as far as that is known."""
+    """How many distinct values there are: `12 different hosts`, `More than 10,000 different hosts`."""
     return f"{'More than ' if tally.missed else ''}{text.counted(len(tally.entries), 'different ' + noun)}"
 
 
@@ -238,7 +241,7 @@ def _about(reader: Reader, counts: Counts) -> str:
 
 
 def _limits(counts: Counts) -> Iterator[str]:
-    """Which limits were reached, and what that does to the counts."""
+    """The limits that were reached, and what they mean for the counts."""
     tallies: tuple[tuple[str, Tally[Any, Any]], ...] = (
         ("hosts", counts.hosts), ("client programs", counts.programs), ("clients", counts.clients), ("servers", counts.servers),
         ("servers with old versions or weak suites", counts.poor), ("clients with old versions or weak suites", counts.offers),

@@ -1,4 +1,4 @@
-"""Reads the lines of logs one at a time: what the report takes of each, and why others aren't read."""
+"""Reads the lines of logs: the fields that the report uses, and why lines are skipped."""
 
 from __future__ import annotations
 
@@ -10,14 +10,15 @@ from typing import Any, BinaryIO, NamedTuple, NoReturn, Optional
 
 from . import suites, text
 
-# A longer line isn't read. The lines of tlslog are shorter: what a hello holds is counted in 2 bytes, and each byte takes 5 as text.
+# Longer lines are skipped. Those of tlslog are shorter: a hello's lists have lengths of 2 bytes, and
+# a byte takes at most 5 as text.
 LONGEST_LINE = 4 << 20
-# So many bytes of lines are read before their connections are counted: reading and counting in turns takes a tenth longer.
+# Connections are counted once so many bytes of lines are read. Counting each line takes a tenth longer.
 BATCH = 256 << 10
 
 
 class Unread:
-    """Why a line isn't read."""
+    """The reasons why a line is skipped."""
 
     NO_JSON = "no JSON, or cut short"
     NO_OBJECT = "JSON, but no object"
@@ -27,7 +28,7 @@ class Unread:
 
 
 class OtherFormat(ValueError):
-    """The log is no JSON of `tlslog`. The text names what it is and the command that makes one that can be read."""
+    """The log isn't JSON of `tlslog`. The text says what it is, and which command makes JSON."""
 
 
 class Stop(NamedTuple):
@@ -38,24 +39,24 @@ class Stop(NamedTuple):
 
 
 class Server(NamedTuple):
-    """The address of a server, and its port where the line has it."""
+    """The address of a server, and its port if the line has it."""
 
     address: str
     port: Optional[int]
-    name: str  # both, as a page has them
+    name: str  # both, as the page shows them
 
     def __str__(self) -> str:
         return self.name
 
 
 class Certificate(NamedTuple):
-    """The server's certificate, as far as the line has it."""
+    """The fields of the server's certificate that the line has."""
 
-    key: str  # its fingerprint where the line has that, else what tells it from others
+    key: str  # the fingerprint, or else not_after, subject and issuer
     fingerprint: Optional[str]
     subject: Optional[str]
     issuer: Optional[str]
-    end: str  # `not_after`, and the same in seconds
+    end: str  # `not_after`; the next field has it in seconds
     not_after: int
     is_self_signed: bool
     names: tuple[str, ...]  # the first ones of `san_dns`
@@ -66,7 +67,7 @@ Values = tuple[str, ...]
 
 
 class Connection(NamedTuple):
-    """What the report takes of a line; `None` is what the line doesn't have."""
+    """The fields of a line that the report uses; absent ones are `None`."""
 
     uid: Optional[str]
     time: Optional[float]
@@ -94,22 +95,22 @@ def _refuse(constant: str) -> NoReturn:
 _DECODER = json.JSONDecoder(parse_constant=_refuse)
 # The white space of JSON (RFC 8259, section 2).
 _JSON_BLANKS = b" \t\n\r"
-# Of how many names a certificate is told.
+# The most names of a certificate that the page shows.
 NAMES = 4
-# The fields of docs/TLSLOG.md that are read, each once.
+# The fields of docs/TLSLOG.md that are read.
 TEXTS = ("uid", "version", "cipher", "curve", "server_name", "outcome", "last_alert", "ja4", "id.orig_h", "id.resp_h")
 FIELDS = {"ts", "resumed", "stop", "not_after", "sni_matches_cert", "client_version", "client_supported_versions", "client_ciphers", *TEXTS}
 # Fields of a message that no connection has.
 OF_MESSAGES = {"content_type", "side", "place"}
-# The first bytes of captures: pcap in either order of bytes, in microseconds and nanoseconds, and pcapng.
+# The magic numbers of captures: pcap in either byte order, with microseconds or nanoseconds, and pcapng.
 _CAPTURES = (b"\xd4\xc3\xb2\xa1", b"\xa1\xb2\xc3\xd4", b"\x4d\x3c\xb2\xa1", b"\xa1\xb2\x3c\x4d", b"\x0a\x0d\x0d\x0a")
 _IS_CAPTURE = "this is a capture: run tlslog CAPTURE | tlslog-report -"
 _TO_JSON = "the report reads JSON: run tlslog CAPTURE > LOG"
 
 
 def other_format(line: bytes) -> Optional[str]:
-    """What the first line of a log is where that isn't the JSON of connections, and what to run; nothing of a line that could be in such a
-    log, too."""
+    """What the log is, judged by its first line, and what to run instead. `None` if the line can be part of a
+    log of connections."""
     if line.startswith(_CAPTURES):
         return _IS_CAPTURE
     if line.startswith(b"#"):
@@ -147,8 +148,11 @@ def _server_at(address: str, port: Optional[int]) -> Server:
 
 
 class Reader:
-    """The connections of logs. What was left out is counted: lines that aren't read, by reason; values of another type than the field
-    has, by field; and values that were cut. `OtherFormat` where a log isn't the JSON of connections."""
+    """Iterates over the connections of logs.
+
+    It counts the skipped lines by reason (`unread`), the values of a wrong type by field (`misfits`),
+    and the values that were cut (`cut`). `OtherFormat` is raised if a log isn't JSON of connections.
+    """
 
     def __init__(self, *logs: BinaryIO) -> None:
         self._logs = logs
@@ -178,7 +182,7 @@ class Reader:
                 raise OtherFormat(f"no line of it is a connection, and {_TO_JSON}")
 
     def _lines(self, log: BinaryIO) -> Iterator[bytes]:
-        """Each line that isn't too long, but for blank ones."""
+        """The lines that are neither blank nor too long."""
         blank = b""
         readline = log.readline
         while line := readline(LONGEST_LINE + 1):
@@ -198,7 +202,7 @@ class Reader:
                 yield line
 
     def _object(self, line: bytes) -> Optional[dict[str, Any]]:
-        """The fields of a line that describes a connection."""
+        """The fields of a line, or `None` if it isn't a connection's."""
         try:
             content = line.strip(_JSON_BLANKS).decode()
             fields, end = _DECODER.raw_decode(content)
@@ -219,7 +223,7 @@ class Reader:
 
     def _connection(self, fields: dict[str, Any]) -> Connection:
         get, longest = fields.get, text.LONGEST
-        # A log has many lines, so values that are absent or fit are taken here, without a call.
+        # This runs for each line, so values that are absent or valid are taken without a call.
         uid, version, suite, group, host, outcome, alert, ja4, client, address = [
             value
             if (value := get(name)) is None or (type(value) is str and len(value) <= longest)
@@ -249,7 +253,7 @@ class Reader:
         if has_name is not None and type(has_name) is not bool:
             has_name = self._misfit("sni_matches_cert")
         certificate = self._certificate(fields) if "not_after" in fields else None
-        # Lines with numbers and lines with names count as one.
+        # Suites by number count as those by name.
         if suite is not None:
             suite = suites.name_of(suite)
         return Connection(
@@ -258,12 +262,12 @@ class Reader:
         )
 
     def _misfit(self, name: str) -> Any:
-        """Counts a value of another type than the field has. It is taken as absent: returns `None`."""
+        """Counts a value of the wrong type. Returns `None`: the field is taken as absent."""
         self.misfits[name] += 1
         return None
 
     def _value(self, value: Any, name: str, fits: Callable[[Any], bool]) -> Any:
-        """The value, if it is of the type of the field of that name."""
+        """The value if it has the field's type, else `None`."""
         return value if value is None or fits(value) else self._misfit(name)
 
     def _texts(self, fields: dict[str, Any], name: str) -> Values:
@@ -333,7 +337,7 @@ def _are_texts(value: Any) -> bool:
     if type(value) is not list:
         return False
     try:
-        # (half the time of asking for each type)
+        # This takes half the time of a look at each type.
         "".join(value)
     except TypeError:
         return False

@@ -1,4 +1,4 @@
-"""The tables of what was negotiated, what failed, and who spoke, each from what was counted."""
+"""The tables of what was negotiated, what failed, and which hosts, programs and addresses there are."""
 
 from __future__ import annotations
 
@@ -31,8 +31,8 @@ OUTCOMES = {
 
 
 class Ranking(NamedTuple):
-    """A table of the most frequent values: its name and title, which of them are shown where not all are, what one is called, and the
-    number of connections of which it tells the shares."""
+    """A table of the most frequent values: its name, its title, which rows are shown if there are more,
+    the noun for a value, and the number of connections that shares refer to."""
 
     name: str
     title: str
@@ -47,7 +47,7 @@ class Ranking(NamedTuple):
         return table(self.name, caption, self.columns, rows, self._others(tally))
 
     def _others(self, tally: Tally[Any, Any]) -> list[Cell]:
-        """The last row: the connections of what has no row of its own."""
+        """The last row: the connections of all values without a row."""
         shown = tally.ranked()[:ROWS]
         rest = tally.total - sum(entry.count for _, entry in shown)
         if not rest:
@@ -57,12 +57,12 @@ class Ranking(NamedTuple):
         return cells + [Cell("")] * (len(self.columns) - len(cells))
 
     def counts(self, entry: Entry) -> list[Cell]:
-        """The cells of the connections and of their share."""
+        """The cells with the count of connections and its share."""
         return [counted(entry), share(entry.count, self.whole)]
 
 
 def of_entry(entry: Any, commands: Commands, *conditions: str) -> Cell:
-    """The connections of an entry: those that meet all the conditions."""
+    """The cell that lists an entry's connections: those that meet all the conditions."""
     return behind(entry.uids, entry.count + entry.missed, commands.of(jq.all_of(*conditions)))
 
 
@@ -116,7 +116,7 @@ def suite_table(counts: Counts, commands: Commands) -> str:
 
 
 def spellings(names: Sequence[str]) -> list[str]:
-    """The suites by name and by number, as a log may have either."""
+    """Each suite by name and by number, since a log may have either."""
     return [one for name in names for one in (name, suites.number_of_suite(name)) if one is not None]
 
 
@@ -161,7 +161,7 @@ def programs(counts: Counts, commands: Commands) -> str:
     ranking = Ranking("programs", "Client programs", "seen most often", "client program", counts.connections, columns)
 
     def row(key: str, entry: Program) -> list[Cell]:
-        # A JA4 is shorter; a log may have anything there.
+        # A JA4 is shorter, but a log may have any text.
         told = f'<code class="whole">{text.escaped(key)}</code>' if len(key) <= 40 else f"<code>{breakable(key)}</code>"
         name = Cell(told) if key else words(key)
         broken_off = number(entry.broken_off, entry.missed)

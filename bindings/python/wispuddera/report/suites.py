@@ -1,4 +1,4 @@
-"""Names of cipher suites, and what is wrong with a suite by its name."""
+"""Names of cipher suites, and which suites are weak, judged by name."""
 
 from __future__ import annotations
 
@@ -13,17 +13,17 @@ _BY_NAME = {name: number for number, name in _BY_NUMBER.items()}
 
 
 def name_of(suite: str) -> str:
-    """The name of a suite that the log has by its number, as `--numbers` prints it; any other text stays as it is."""
+    """The name of a suite given by number, as `--numbers` prints it. Other text is returned unchanged."""
     return _BY_NUMBER.get(suite, suite)
 
 
 def number_of_suite(suite: str) -> Optional[str]:
-    """The number of a suite by its name, as `0x1301`; `None` where the registry hasn't the name."""
+    """The number of a suite by its name, as `0x1301`; `None` if the registry doesn't have the name."""
     return _BY_NAME.get(suite)
 
 
 class Fault(NamedTuple):
-    """What is wrong with suites whose name fits the pattern, and who says so."""
+    """A reason why suites whose names match the pattern are weak, and the RFC that has it."""
 
     pattern: str
     told: str
@@ -32,7 +32,7 @@ class Fault(NamedTuple):
     reference: str
 
 
-# The first word that tells the key exchange is behind TLS_; in front of _WITH_ stands nothing else.
+# The key exchange is the first word behind TLS_. Nothing else precedes _WITH_.
 _STATIC = r"^TLS_(RSA|RSA_PSK|DH_DSS|DH_RSA|ECDH_ECDSA|ECDH_RSA|PSK|KRB5)(_EXPORT(1024)?)?_WITH_"
 FAULTS = (
     Fault(r"_NULL(_|$)|^TLS_SHA\d+_SHA\d+$", "NULL; TLS_SHA256_SHA256, TLS_SHA384_SHA384", "no encryption", True, "RFC 9325, 4.1"),
@@ -49,17 +49,17 @@ FAULTS = (
 
 
 def is_judged(name: str) -> bool:
-    """Whether the rule can be asked: it reads names in the form of the registry."""
+    """Whether the suite can be judged: the rule needs a name in the registry's form."""
     return name.startswith("TLS_")
 
 
 def faults_of(name: str) -> tuple[Fault, ...]:
-    """What is wrong with the suite of this name, in the order of the rule; nothing of a name in another form."""
+    """Why the suite of this name is weak, in the order of the rule; empty for a name in another form."""
     return tuple(fault for fault in FAULTS if re.search(fault.pattern, name)) if is_judged(name) else ()
 
 
 def faults_in(names: tuple[str, ...]) -> tuple[Fault, ...]:
-    """What is wrong with any of these suites, in the order of the rule."""
+    """Why any of these suites is weak, in the order of the rule."""
     found = {fault for name in names for fault in faults_of(name)}
     return tuple(fault for fault in FAULTS if fault in found)
 
@@ -71,12 +71,12 @@ _TLS12 = 0x0303
 
 
 def name_of_version(version: str) -> str:
-    """The version in words; a number that has none stays as it is."""
+    """The version in words. A number without a name is returned unchanged."""
     return _VERSIONS.get(version, version)
 
 
 def in_order(versions: Iterable[str]) -> list[str]:
-    """The versions in words, TLS in front of DTLS, each from the newest, and last what has no name."""
+    """The versions in words: TLS, then DTLS, each newest first, then numbers without a name."""
     found = set(versions)
     return [name for version, name in _VERSIONS.items() if version in found] + sorted(found - set(_VERSIONS))
 
@@ -86,6 +86,7 @@ def number_of(version: str) -> Optional[int]:
 
 
 def is_old(version: str) -> bool:
-    """Below TLS 1.2 or DTLS 1.2 (RFC 8996), also where the version is a number without a name. Drafts of TLS 1.3 have higher numbers."""
+    """Whether the version is below TLS 1.2 or DTLS 1.2 (RFC 8996), by name or by number. (Drafts of
+    TLS 1.3 have higher numbers.)"""
     number = number_of(version)
     return version in _OLD or (number is not None and number < _TLS12)

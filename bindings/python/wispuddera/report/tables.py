@@ -1,4 +1,4 @@
-"""Tables of the page, which its script can sort."""
+"""The tables of the page. Its script sorts them."""
 
 from __future__ import annotations
 
@@ -9,26 +9,26 @@ from . import drawing, text
 from .distinct import Distinct
 from .tallies import FEW, Entry, Values
 
-# How many rows a table has at most.
+# The most rows of a table.
 ROWS = 100
 
 
 class Column(NamedTuple):
     title: str
     is_number: bool = False
-    # By which the rows are in order at first: `ascending` or `descending`.
+    # The order of the rows by this column at first: `ascending`, `descending` or none.
     order: str = ""
 
 
 class Cell(NamedTuple):
-    """HTML, and the number by which the row is put in order where that isn't the text."""
+    """HTML, and the number that the column is sorted by, if that isn't the text."""
 
     html: str
     place: Optional[Union[int, float]] = None
 
 
 def words(value: Optional[str], none: str = "–") -> Cell:
-    """A text of the log. What isn't there, or is empty, is told in other letters."""
+    """A text of the log. An absent or empty one shows a note in another style."""
     return Cell(text.escaped(value) if value else aside(none if value is None else "empty"))
 
 
@@ -37,7 +37,7 @@ def aside(told: str) -> str:
 
 
 def number(value: int, missed: int = 0) -> Cell:
-    """A count, which may be short by what was missed."""
+    """A count; `≥` if some connections may be missing from it."""
     return Cell(f"{'≥ ' if missed else ''}{text.number(value)}", value)
 
 
@@ -51,12 +51,12 @@ def share(part: int, whole: int) -> Cell:
 
 
 def how_many(values: Distinct) -> Cell:
-    """How many different values there are; `≈` where that is an estimate."""
+    """The number of distinct values; `≈` if it is an estimate."""
     return Cell(f"{'' if values.is_exact else '≈ '}{text.number(len(values))}", len(values))
 
 
 def behind(uids: Values, count: int, command: str) -> Cell:
-    """The connections of a row: the `uid` of the first ones, and the command that lists them all."""
+    """A row's connections: the `uid` of the first ones, and the command that lists all."""
     first, *others = uids or ("list",)
     more = count - len(uids)
     told = "".join(f"<br/><code>{text.escaped(one)}</code>" for one in others) + (f"<br/>{aside(f'and {text.number(more)} more')}" if uids and more > 0 else "")
@@ -67,12 +67,12 @@ def behind(uids: Values, count: int, command: str) -> Cell:
 
 
 def breakable(name: str) -> str:
-    """A name as HTML, which a narrow column may break behind an underscore."""
+    """A name as HTML. A line may break after each underscore."""
     return text.escaped(name).replace("_", "_<wbr/>")
 
 
 def some(values: Sequence[str], most: int = 3, count: int = 0) -> Cell:
-    """The first of these texts, and how many more there are. `count` is how many there are, if more than are given."""
+    """The first of these texts, and how many more there are. `count` is their number, if not all are given."""
     if not values:
         return Cell(aside("–"))
     shown = [breakable(value) for value in values[:most]]
@@ -83,8 +83,8 @@ def some(values: Sequence[str], most: int = 3, count: int = 0) -> Cell:
 
 
 def table(name: str, caption: str, columns: Sequence[Column], rows: Iterable[Sequence[Cell]], foot: Sequence[Cell] = ()) -> str:
-    """A table whose first column names its rows; the foot stays below, however they are put in order. The caption is in front of what
-    scrolls, so that it can be read on a narrow screen."""
+    """A table whose first column has the row headers. Sorting leaves the foot at the end. The caption is
+    outside of the part that scrolls, so that it can be read on a narrow screen."""
     head = "".join(_head(column) for column in columns)
     body = "".join(f"<tr>{_row(columns, row)}</tr>" for row in rows)
     end = f"<tfoot><tr>{_row(columns, foot)}</tr></tfoot>" if foot else ""

@@ -1,24 +1,24 @@
-"""Counts of what a log may have any number of, in bounded memory."""
+"""Counts of values, over time, and of the soonest ones, in bounded memory."""
 
 from __future__ import annotations
 
 from collections.abc import Callable
 from typing import Generic, Optional, TypeVar
 
-# Of how many different values a tally keeps counts at least, and of twice as many at most.
+# A tally keeps counts of at least so many distinct values, and of at most twice as many.
 MOST = 5000
-# How many different values are kept beside a value.
+# How many distinct values are kept for an entry, such as the hosts of an address.
 FEW = 16
-# How many connections are named beside a value.
+# How many connections of an entry are listed.
 UIDS = 3
 
 
 class Entry:
-    """How often a value was counted since it was entered (`count`), and how often at most before that (`missed`); and the `uid` of the
-    first connections."""
+    """How often a value was counted since it was entered (`count`), how often at most before that
+    (`missed`), and the `uid` of its first connections."""
 
     __slots__ = ("count", "missed", "uids")
-    # What has a lower one stands in front of others in a table.
+    # Entries with a lower rank come first in a table.
     rank = 0
 
     def __init__(self, missed: int) -> None:
@@ -26,7 +26,7 @@ class Entry:
         self.uids: Values = ()
 
     def release(self) -> None:
-        """Frees what the entry holds of memory that is shared. Called once, when the entry is forgotten."""
+        """Gives back the entry's share of common memory. Called once, when the entry is dropped."""
 
 
 Values = tuple[str, ...]
@@ -37,10 +37,12 @@ Item = TypeVar("Item")
 
 
 class Tally(Generic[Key, E]):
-    """How often each value came. Where there are more than twice `most` different ones, those that came least often are forgotten.
+    """Counts each value. Beyond twice `most` distinct values, the rarest are dropped.
 
-    That is the algorithm Space-Saving, which forgets many at once: a value that came more often than one in `most` isn't lacking, and
-    no count is short by more than `missed`, which is at most that. Values that were never forgotten have their whole count."""
+    This is the algorithm Space-Saving, dropping many at once. A value that makes up more than one in
+    `most` is present. No count is short by more than `missed`, which is at most that many. Values
+    that were never dropped have exact counts.
+    """
 
     def __init__(self, kind: Callable[[int], E], most: int = MOST) -> None:
         self.kind, self.most = kind, most
@@ -49,7 +51,7 @@ class Tally(Generic[Key, E]):
         self.missed = 0
 
     def add(self, key: Key, uid: Optional[str] = None) -> E:
-        """Counts the value once, of the connection that is named, and returns its entry."""
+        """Counts the value once, for the connection with this `uid`, and returns its entry."""
         self.total += 1
         entry = self.entries.get(key)
         if entry is None:
@@ -62,7 +64,7 @@ class Tally(Generic[Key, E]):
         return entry
 
     def _forget(self) -> None:
-        """Those that came least often, as far as that is known; of equals those that came first stay."""
+        """Drops the entries with the lowest counts; among equals the first ones stay."""
         ranked = sorted(self.entries.items(), key=lambda item: item[1].count + item[1].missed, reverse=True)
         first_out = ranked[self.most][1]
         self.missed = first_out.count + first_out.missed
@@ -71,23 +73,24 @@ class Tally(Generic[Key, E]):
             entry.release()
 
     def ranked(self) -> list[tuple[Key, E]]:
-        """All that is kept: by rank, the most frequent first, equals by their names."""
+        """The entries by rank, then the most frequent first, then by name."""
         return sorted(self.entries.items(), key=lambda item: (item[1].rank, -item[1].count, str(item[0])))
 
 
 def with_value(values: Values, value: Optional[str]) -> Values:
-    """The first different values, and one more than `FEW` where there are more."""
+    """Adds a value to the first distinct ones; at most one more than `FEW` are kept."""
     if len(values) > FEW or value is None or value in values:
         return values
     return (*values, value)
 
 
 class Timeline:
-    """How many connections of each kind began in each interval. Intervals grow with the time that the log spans, so that there are never
-    more than `MOST` from the first to the last."""
+    """Counts how many connections of each kind began in each interval. Intervals grow with the time that
+    the log spans, so that it has at most `MOST` of them."""
 
     MOST = 180
-    # In seconds: each is a multiple of the one before, so that intervals are joined whole. The last ones are 4, 52, 520 and 5200 weeks.
+    # Lengths in seconds. Each is a multiple of the one before, so that whole intervals are joined. The
+    # last ones are 4, 52, 520 and 5200 weeks.
     STEPS = (1, 5, 15, 60, 300, 900, 3600, 10800, 43200, 86400, 604800, 2419200, 31449600, 314496000, 3144960000)
 
     def __init__(self, kinds: int) -> None:
@@ -124,17 +127,17 @@ class Timeline:
 
 
 class Soonest(Generic[Key, Item]):
-    """The entries that end first, of any number that come: at least `most` of them, and twice as many at most."""
+    """Keeps the entries with the earliest ends: at least `most` of them, and at most twice as many."""
 
     def __init__(self, most: int = MOST) -> None:
         self.most = most
         self.entries: dict[Key, Item] = {}
         self.ends: dict[Key, int] = {}
-        # What ends later is no longer taken.
+        # Entries that end later are no longer added.
         self.latest: Optional[int] = None
 
     def entry(self, key: Key, end: int, make: Callable[[], Item]) -> Optional[Item]:
-        """The entry of the key, made where it is new; nothing where it ends too late to be kept."""
+        """The entry of the key, made if it is new. `None` if it ends too late to be kept."""
         found = self.entries.get(key)
         if found is not None:
             return found

@@ -1,4 +1,4 @@
-"""Text as the page has it: what a peer sent made harmless, numbers, and times in UTC."""
+"""Text for the page: escapes for what a peer sent, numbers, and times in UTC."""
 
 from __future__ import annotations
 
@@ -9,16 +9,16 @@ from datetime import datetime, timedelta, timezone
 from functools import lru_cache
 from typing import Optional
 
-# What is longer is cut: a name of the DNS has at most 253 characters.
+# Longer text is cut. A DNS name has at most 253 characters.
 LONGEST = 256
-# Times are from 1970 up to the end of the year 9999.
+# Times range from 1970 to the end of 9999.
 END_OF_TIME = 253402300800
 _START = datetime(1970, 1, 1, tzinfo=timezone.utc)
 DAY = 86400
 
 
 def cut(value: str) -> str:
-    """At most `LONGEST` characters, the last of which tells where more are left out."""
+    """The text, cut at `LONGEST` characters with an ellipsis."""
     return value if len(value) <= LONGEST else value[: LONGEST - 1] + "…"
 
 
@@ -30,8 +30,8 @@ def _shown(character: str) -> str:
 
 
 def plain(value: str) -> str:
-    """The text with an escape for each character that can't be seen, that moves others, or that is drawn over its neighbour; blanks are
-    seen but at the ends."""
+    """The text with escapes for characters that are invisible, that reorder text, or that combine with
+    their neighbours, and for blanks at its ends."""
     inner = value.strip(" ")
     shown = inner if inner.isascii() and inner.isprintable() else "".join(map(_shown, inner))
     if len(inner) == len(value):
@@ -41,12 +41,12 @@ def plain(value: str) -> str:
 
 
 def escaped(value: str) -> str:
-    """The text as HTML, in an element or in an attribute with quotes."""
+    """The text as HTML, for an element or a quoted attribute."""
     return html.escape(plain(value), quote=True)
 
 
 def escaped_line(value: str) -> str:
-    """A line of ASCII as HTML, as a command is, with no other escape."""
+    """A command, a line of ASCII, as HTML."""
     return html.escape(value, quote=True)
 
 
@@ -55,12 +55,12 @@ def number(value: int) -> str:
 
 
 def counted(value: int, one: str, more: Optional[str] = None) -> str:
-    """How many there are of a thing: `1 line`, `2 lines`."""
+    """A count with its noun: `1 line`, `2 lines`."""
     return f"{number(value)} {one if value == 1 else more or one + 's'}"
 
 
 def share(part: int, whole: int) -> str:
-    """A part in percent, with one digit behind the point. What isn't nothing, or isn't all, isn't printed as if it were."""
+    """A part in percent, with one decimal. A small part isn't shown as 0, nor a large one as 100."""
     if not whole:
         return "–"
     percent = 100 * part / whole
@@ -84,7 +84,7 @@ def time(seconds: float) -> str:
 
 
 def duration(seconds: float) -> str:
-    """In the two largest units."""
+    """The duration in its two largest units: `2 d 3 h`."""
     parts: list[str] = []
     left = int(seconds)
     for name, size in (("d", DAY), ("h", 3600), ("min", 60), ("s", 1)):
@@ -98,7 +98,8 @@ _ISO = re.compile(r"(\d{4})-(\d\d)-(\d\d)T(\d\d):(\d\d):(\d\d)Z", re.ASCII)
 
 
 def seconds_of(iso: str) -> Optional[int]:
-    """The time that `2026-11-25T12:00:00Z` says, also before 1970; nothing of what isn't written so."""
+    """Seconds since 1970 of a time written as `2026-11-25T12:00:00Z`, below 0 if it is earlier. `None`
+    for any other text."""
     return _seconds_of(iso) if len(iso) == len("2026-11-25T12:00:00Z") else None
 
 

@@ -1,4 +1,4 @@
-"""The tables of what is weak: old versions, weak suites, and certificates."""
+"""The tables of old versions, weak suites, and certificates."""
 
 from __future__ import annotations
 
@@ -13,12 +13,12 @@ from .reading import Certificate, Server
 from .sections import BEHIND, CONNECTIONS, Ranking, faults, of_entry, spellings
 from .tables import ROWS, Cell, Column, aside, counted, number, some, table, words
 
-# A certificate that expires within so many days expires soon.
+# A certificate expires soon if at most so many days are left.
 SOON = 30
 _NO_ADDRESS = "no address in the line"
 _LAST_SEEN = Column("Last seen (UTC)")
 _FINGERPRINT = Column("SHA-256")
-# A fingerprint may be broken behind so many digits.
+# A line may break after so many digits of a fingerprint.
 _DIGITS = 16
 
 
@@ -60,11 +60,11 @@ def poor_servers(counts: Counts, commands: Commands) -> str:
 
 
 def _of_offer(entry: Offer) -> str:
-    """The connections of a client in which it offered what it shouldn't."""
+    """The condition that a client's connection offers an old version or only weak suites."""
     versions = "client_supported_versions // [.client_version]"
     old = jq.has_one_of(f".{versions}", entry.versions) if entry.versions else ""
     weak = f"(.client_ciphers // [0] | all(IN({', '.join(map(jq.value_of, entry.listed))})))" if entry.listed else ""
-    # A list that was cut says nothing: then the client's address alone does.
+    # If the list was cut, only the client's address is compared.
     return jq.any_of(old, weak) if len(entry.listed) <= OFFERED else ""
 
 
@@ -146,7 +146,7 @@ def self_signed(counts: Counts, commands: Commands) -> str:
 
 
 def rule() -> str:
-    """The rule for weak suites, as the suites module has it."""
+    """The table of the rule for weak suites."""
     columns = (Column("The name has"), Column("Told as"), Column("Grade"), Column("From"))
 
     def row(one: suites.Fault) -> list[Cell]:
